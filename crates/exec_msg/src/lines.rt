@@ -1,0 +1,47 @@
+use crate::line::Line;
+use crate::memory::Memory;
+use std::alloc::Global;
+use std::marker::Model;
+use std::slice;
+
+/// The lines of a transcript in their order.
+#[derive(Debug, Drop)]
+pub struct LineList {
+    items: Vec<Line>,
+}
+
+impl Model for LineList {
+    ghost use Rattle.std.specs.Prelude.{List};
+    ghost use Rattle.exec_msg.specs.declared.line.Line.{Line};
+
+    ghost Value = { List Line };
+
+    ghost view = { λ lines. lines.items.items };
+}
+
+impl LineList {
+    ghost use Rattle.std.specs.Prelude.{◌≡◌, [], ◌∷◌, ◌++◌, OnOk, OnErr};
+
+    pub fn new(alloc: Global) -> LineList
+        ensures { result ≡ [] }
+    {
+        LineList {
+            items: Vec::new(alloc),
+        }
+    }
+
+    /// Adds a line at the end. Where memory is refused, the list stays as it was.
+    pub fn push(&mut self, line: Line) -> Result<(), Memory>
+        ensures ok { OnOk result (self.new ≡ self.old ++ line ∷ []) }
+        ensures err { OnErr result (self.new ≡ self.old) }
+    {
+        self.items.extend_from_slice(slice::from_ref(&line))?;
+        Ok(())
+    }
+
+    pub fn as_slice(&self) -> &[Line]
+        ensures { result.now ≡ self.now }
+    {
+        self.items.as_slice()
+    }
+}

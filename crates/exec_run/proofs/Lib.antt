@@ -1,0 +1,9 @@
+mod Each
+mod KnownBytes
+mod Lists
+mod Naming
+mod Nodes
+mod Rounds
+mod Running
+mod Sound
+mod Taking

@@ -1,0 +1,10 @@
+use Rattle.std.proofs.Common.{arith}
+use Rattle.std.proofs.lemmas.List.{take_rest}
+use Rattle.exec_run.proofs.KnownBytes.{Appends-more}
+use Rattle.exec_run.proofs.program.streams.write_text.Goals as goal
+
+pub loop-written-preserved : goal.loop-written-preserved
+loop-written-preserved g c = record {
+  within = omega (arith, c.in-Ok.ensures.bound);
+  front = Appends-more _ _ _ c.args.text.now c.loop-written.written c.in-Ok.count c.loop-written.invariant.front (rw take_rest at c.in-Ok.ensures.bytes);
+}

@@ -1,0 +1,8 @@
+use Rattle.std.proofs.Common.{◌≡◌, take}
+use Rattle.std.specs.List.{fold}
+use Rattle.exec_run.specs.World.{give}
+use Rattle.exec_run.proofs.world.World.give_all.Given as goal
+
+-- the effects so far are given
+abbrev pub invariant-loop-effect : goal.invariant-loop-effect
+invariant-loop-effect l = l.self ≡ fold (λ world effect. give l.entity effect world) l.initial.self (take l.effect-index l.effects)

@@ -1,0 +1,44 @@
+-- What the program says where it writes no whole transcript, and which status it ends with.
+use Rattle.std.specs.Prelude.{ℕ, List, [], ◌∷◌, ◌++◌, codes, map, string_bytes, String, Result, IsOkAnd}
+use Rattle.std.specs.declared.alloc.Global.{Global}
+use Rattle.std.specs.Global.{Vec}
+use Rattle.exec_run.specs.Words.{AreSettings}
+use Rattle.exec_run.specs.declared.fault.AloneFault.TheVariants as fault
+use Rattle.exec_run.specs.declared.program.Failure.{Failure}
+use Rattle.exec_run.specs.declared.program.Failure.TheVariants as failure
+use Rattle.exec_run.specs.declared.program.Status.{Status}
+use Rattle.exec_run.specs.declared.program.Status.TheVariants as status
+use Rattle.exec_run.specs.declared.program.words.WordsFault.{WordsFault}
+use Rattle.exec_run.specs.declared.program.words.WordsFault.TheVariants as words
+use Rattle.exec_run.specs.declared.program.streams.ReadFault.{ReadFault}
+use Rattle.exec_run.specs.declared.program.streams.ReadFault.TheVariants as reading
+
+-- words that are text, and two numbers in their ranges
+abbrev pub AreLawful : Result (Vec (String Global)) WordsFault → Type 0
+AreLawful given = IsOkAnd given (λ words. AreSettings (map string_bytes words.items))
+
+-- the line on standard error, with its line feed
+abbrev pub failure_line : Failure → List ℕ
+failure_line (failure.Refused fault.Memory) = codes "refused 10" ++ 10 ∷ []
+failure_line (failure.Refused fault.Later) = codes "refused 11" ++ 10 ∷ []
+failure_line failure.Usage = codes "usage: exec_run <workers 1-64> <quantum 1-1024>" ++ 10 ∷ []
+failure_line failure.WriteFailed = codes "write failed" ++ 10 ∷ []
+failure_line failure.ReadFailed = codes "read failed" ++ 10 ∷ []
+
+-- the status of a failure
+abbrev pub status_of : Failure → Status
+status_of (failure.Refused _) = status.Refused
+status_of failure.Usage = status.Usage
+status_of failure.WriteFailed = status.WriteFailed
+status_of failure.ReadFailed = status.ReadFailed
+
+-- a growth that was refused while the words were read refuses the document; words that aren't text are wrong
+abbrev pub failure_of_words : WordsFault → Failure
+failure_of_words words.Memory = failure.Refused fault.Memory
+failure_of_words words.NotText = failure.Usage
+
+-- so does one while the document was read; the reader's own failures are one
+abbrev pub failure_of_read : ReadFault → Failure
+failure_of_read reading.Memory = failure.Refused fault.Memory
+failure_of_read reading.Failed = failure.ReadFailed
+failure_of_read reading.TooLong = failure.ReadFailed

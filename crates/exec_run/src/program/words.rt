@@ -1,0 +1,81 @@
+ghost use Rattle.std.specs.Prelude.{◌≡◌, ◌↔◌, IsSome, IfSome, map, string_bytes, slice_index_or, []};
+ghost use Rattle.std.specs.Str.Parse.{digits_value};
+ghost use Rattle.exec_run.specs.Words.{IsNumber, AreSettings};
+
+use std::alloc::Global;
+use std::env;
+use std::env::Env;
+use std::io::{Error, ErrorKind};
+
+/// Why the program's words aren't there.
+#[derive(Clone, Copy, Debug, PartialEq, Eq)]
+pub enum WordsFault {
+    /// A growth was refused.
+    Memory,
+    /// A word isn't text.
+    NotText,
+}
+
+/// What the program's words say.
+#[derive(Clone, Copy, Debug, PartialEq, Eq)]
+pub struct Settings {
+    /// How many workers run callbacks, 1 to 64.
+    pub workers: u16,
+    /// How many callbacks a worker claims at a time at most, 1 to 1,024.
+    pub quantum: u16,
+}
+
+impl Settings {
+    /// The most workers.
+    pub const MOST_WORKERS: u16 = 64;
+
+    /// The greatest quantum.
+    pub const MOST_QUANTUM: u16 = 1024;
+
+    /// Reads two words, the workers and the quantum, each of one to four decimal digits.
+    pub fn from_words(words: &[String]) -> Option<Settings>
+        ensures lawful { IsSome result ↔ AreSettings (map string_bytes words.now) }
+        ensures workers { IfSome result (λ settings. settings.workers
+            ≡ digits_value 10 (slice_index_or (map string_bytes words.now) 0 [])) }
+        ensures quantum { IfSome result (λ settings. settings.quantum
+            ≡ digits_value 10 (slice_index_or (map string_bytes words.now) 1 [])) }
+    {
+        let [workers, quantum] = words else {
+            return None;
+        };
+        Some(Settings {
+            workers: number_to(Self::MOST_WORKERS, workers)?,
+            quantum: number_to(Self::MOST_QUANTUM, quantum)?,
+        })
+    }
+}
+
+// The number from 1 to `most` that a word of one to four decimal digits writes.
+fn number_to(most: u16, word: &str) -> Option<u16>
+    ensures lawful { IsSome result ↔ IsNumber most word.now }
+    ensures value { IfSome result (λ number. number ≡ digits_value 10 word.now) }
+{
+    if word.len() > 4 || word.as_bytes().first() == Some(&b'+') {
+        return None;
+    }
+    let number = word.parse::<u16>().ok()?;
+    if number >= 1 && number <= most {
+        Some(number)
+    } else {
+        None
+    }
+}
+
+/// The words that the program was started with, without its own name.
+pub fn read_words<R: Env + AllocGlobal>(rt: &R) -> Result<Vec<String>, WordsFault> {
+    let mut words = env::args(rt).map_err(|fault| words_fault(&fault))?;
+    let _name = words.next();
+    words.collect(rt.alloc()).map_err(|_| WordsFault::Memory)
+}
+
+fn words_fault(fault: &Error) -> WordsFault {
+    match fault.kind() {
+        ErrorKind::OutOfMemory => WordsFault::Memory,
+        _ => WordsFault::NotText,
+    }
+}

@@ -1,0 +1,9 @@
+use Rattle.std.proofs.Common.{◌≡◌, ◌++◌, map, drop, Ok}
+use Rattle.exec_script.specs.Spelling.{◌>>=◌, script_of}
+use Rattle.exec_script.proofs.spelling.decode.Given as goal
+
+-- what is decoded so far, and then what is left, is the whole script
+abbrev pub invariant-loop-words : goal.invariant-loop-words
+invariant-loop-words g l =
+    (script_of (map (λ words. words.items) (drop l.words-index l.spelled)) >>= (λ rest. Ok (l.script.items ++ rest)))
+    ≡ script_of (map (λ words. words.items) l.spelled)

@@ -1,0 +1,4 @@
+pub mod Legality
+pub mod Script
+pub mod Spelling
+pub mod Zeros

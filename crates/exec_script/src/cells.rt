@@ -1,0 +1,151 @@
+use std::marker::Model;
+
+/// The place of one of eight integers, from 0 to 7.
+#[derive(Clone, Copy, Debug, PartialEq, Eq)]
+pub struct Slot(u8);
+
+impl Model for Slot {
+    ghost use Rattle.std.specs.Prelude.{ℕ, ◌<◌};
+
+    ghost Value = { ℕ };
+
+    ghost view = { λ slot. slot.0 };
+
+    ghost invariant = { λ slot. slot.0 < 8 };
+
+    ghost inverse = { λ index. record { 0 = index } };
+}
+
+impl Slot {
+    ghost use Rattle.std.specs.Prelude.{◌≡◌, ◌<◌, SomeIff};
+
+    /// The slot of a place, or `None` beyond 7.
+    pub fn new(index: u8) -> Option<Slot>
+        ensures { SomeIff result (index < 8) index }
+    {
+        if index < 8 { Some(Slot(index)) } else { None }
+    }
+
+    /// The place, from 0 to 7.
+    pub fn index(self) -> usize
+        ensures value { result ≡ self }
+        ensures bound { result < 8 }
+    {
+        self.0 as usize
+    }
+}
+
+// Eight integers, all 0 at first.
+#[derive(Clone, Copy, Debug, PartialEq, Eq)]
+struct Cells {
+    values: [i64; 8],
+}
+
+impl Model for Cells {
+    ghost use Rattle.std.specs.Prelude.{◌≡◌, ℤ, List, length};
+
+    ghost Value = { List ℤ };
+
+    ghost view = { λ cells. cells.values };
+
+    ghost invariant = { λ cells. length cells.values ≡ 8 };
+
+    ghost inverse = { λ values. record { values = values } };
+}
+
+impl Cells {
+    ghost use Rattle.std.specs.Prelude.{◌≡◌, pos, length, slice_index_or, slice_set};
+    ghost use Rattle.exec_script.specs.Zeros.{zeros};
+
+    fn new() -> Cells
+        ensures { result ≡ zeros }
+    {
+        Cells { values: [0; 8] }
+    }
+
+    fn get(&self, slot: Slot) -> i64
+        ensures { result ≡ slice_index_or self.now slot (pos 0) }
+    {
+        self.values[slot.index()]
+    }
+
+    fn set(&mut self, slot: Slot, value: i64)
+        ensures { self.new ≡ slice_set self.old slot value }
+    {
+        self.values[slot.index()] = value;
+    }
+}
+
+/// The registers `r0` to `r7`, all 0 at first.
+#[derive(Clone, Copy, Debug, PartialEq, Eq)]
+pub struct Regs(Cells);
+
+impl Model for Regs {
+    ghost use Rattle.std.specs.Prelude.{ℤ, List};
+
+    ghost Value = { List ℤ };
+
+    ghost view = { λ regs. regs.0 };
+
+    ghost inverse = { λ values. record { 0 = values } };
+}
+
+impl Regs {
+    ghost use Rattle.std.specs.Prelude.{◌≡◌, pos, slice_index_or, slice_set};
+    ghost use Rattle.exec_script.specs.Zeros.{zeros};
+
+    pub fn new() -> Regs
+        ensures { result ≡ zeros }
+    {
+        Regs(Cells::new())
+    }
+
+    pub fn get(&self, slot: Slot) -> i64
+        ensures { result ≡ slice_index_or self.now slot (pos 0) }
+    {
+        self.0.get(slot)
+    }
+
+    pub fn set(&mut self, slot: Slot, value: i64)
+        ensures { self.new ≡ slice_set self.old slot value }
+    {
+        self.0.set(slot, value);
+    }
+}
+
+/// The variables `g0` to `g7` of a mutually exclusive callback group, all 0 at first.
+#[derive(Clone, Copy, Debug, PartialEq, Eq)]
+pub struct Bank(Cells);
+
+impl Model for Bank {
+    ghost use Rattle.std.specs.Prelude.{ℤ, List};
+
+    ghost Value = { List ℤ };
+
+    ghost view = { λ bank. bank.0 };
+
+    ghost inverse = { λ values. record { 0 = values } };
+}
+
+impl Bank {
+    ghost use Rattle.std.specs.Prelude.{◌≡◌, pos, slice_index_or, slice_set};
+    ghost use Rattle.exec_script.specs.Zeros.{zeros};
+
+    pub fn new() -> Bank
+        ensures { result ≡ zeros }
+    {
+        Bank(Cells::new())
+    }
+
+    pub fn get(&self, slot: Slot) -> i64
+        ensures { result ≡ slice_index_or self.now slot (pos 0) }
+    {
+        self.0.get(slot)
+    }
+
+    pub fn set(&mut self, slot: Slot, value: i64)
+        ensures { self.new ≡ slice_set self.old slot value }
+    {
+        self.0.set(slot, value);
+    }
+}

@@ -1,0 +1,80 @@
+ghost use Rattle.std.specs.Prelude.{◌≡◌};
+ghost use Rattle.std.specs.List.{list_any};
+ghost use Rattle.exec_script.specs.Legality.{skips_end_within, names_variable, is_variable, goes_to_variable, legality_of};
+
+use crate::fault::ScriptFault;
+use crate::instr::{Destination, Instr, Operand};
+
+/// What kind of callback a script is for.
+#[derive(Clone, Copy, Debug, PartialEq, Eq)]
+pub enum Role {
+    /// A callback that answers nothing, as a timer's.
+    Callback,
+}
+
+/// Where a script stands.
+#[derive(Clone, Copy, Debug, PartialEq, Eq)]
+pub struct Place {
+    /// Whether its callback group is reentrant.
+    pub reentrant: bool,
+    pub role: Role,
+}
+
+/// Whether the script is allowed in its place, and if not the least of its faults.
+pub fn check(script: &[Instr], place: Place) -> Result<(), ScriptFault>
+    ensures { result ≡ legality_of script.now place }
+{
+    if !skips_end_within(script) {
+        return Err(ScriptFault::Skip);
+    }
+    if place.reentrant && names_any_variable(script) {
+        return Err(ScriptFault::GroupVariable);
+    }
+    Ok(())
+}
+
+fn skips_end_within(script: &[Instr]) -> bool
+    ensures { result ≡ skips_end_within script.now }
+{
+    for (i, instr) in script.iter().enumerate() {
+        if let Instr::Skip { count, .. } = *instr {
+            if count > (script.len() - i - 1) as u64 {
+                return false;
+            }
+        }
+    }
+    true
+}
+
+fn names_any_variable(script: &[Instr]) -> bool
+    ensures { result ≡ list_any names_variable script.now }
+{
+    script.iter().any(names_variable)
+}
+
+fn names_variable(instr: &Instr) -> bool
+    ensures { result ≡ names_variable instr.now }
+{
+    match *instr {
+        Instr::Set {
+            destination,
+            left,
+            right,
+            ..
+        } => goes_to_variable(destination) || is_variable(left) || is_variable(right),
+        Instr::Skip { condition, .. } => is_variable(condition),
+        Instr::Log { value } => is_variable(value),
+    }
+}
+
+fn goes_to_variable(destination: Destination) -> bool
+    ensures { result ≡ goes_to_variable destination }
+{
+    matches!(destination, Destination::Variable(_))
+}
+
+fn is_variable(operand: Operand) -> bool
+    ensures { result ≡ is_variable operand }
+{
+    matches!(operand, Operand::Variable(_))
+}

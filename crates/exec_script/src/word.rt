@@ -1,0 +1,36 @@
+use std::marker::Model;
+
+/// A text, seen by contracts as its bytes.
+#[derive(Debug, Drop)]
+pub struct WordText(String);
+
+impl Model for WordText {
+    ghost use Rattle.std.specs.Prelude.{ℕ, List, string_bytes};
+
+    ghost Value = { List ℕ };
+
+    ghost view = { λ text. string_bytes text.0 };
+}
+
+impl WordText {
+    ghost use Rattle.std.specs.Prelude.{◌≡◌, string_bytes};
+
+    pub fn of(text: String) -> WordText
+        ensures { result ≡ string_bytes text }
+    {
+        WordText(text)
+    }
+
+    pub fn as_str(&self) -> &str
+        ensures { result.now ≡ self.now }
+    {
+        self.0.as_str()
+    }
+}
+
+/// A part of an instruction as a document spells it.
+#[derive(Debug, Drop)]
+pub enum Word {
+    Text(WordText),
+    Number(i64),
+}
