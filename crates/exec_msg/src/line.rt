@@ -11,6 +11,7 @@ use uuid::Uuid;
 /// What a callback is for.
 #[derive(Clone, Copy, Debug, PartialEq, Eq)]
 pub enum Kind {
+    /// A timer is due.
     Timer,
 }
 

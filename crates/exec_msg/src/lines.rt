@@ -22,6 +22,7 @@ impl Model for LineList {
 impl LineList {
     ghost use Rattle.std.specs.Prelude.{◌≡◌, [], ◌∷◌, ◌++◌, OnOk, OnErr};
 
+    /// No lines. It takes no memory.
     pub fn new(alloc: Global) -> LineList
         ensures { result ≡ [] }
     {
@@ -39,6 +40,7 @@ impl LineList {
         Ok(())
     }
 
+    /// The lines in their order.
     pub fn as_slice(&self) -> &[Line]
         ensures { result.now ≡ self.now }
     {

@@ -16,6 +16,7 @@ use Rattle.exec_script.specs.declared.word.Word.{Word}
 use Rattle.exec_script.specs.declared.word.Word.TheVariants.{Text, Number}
 use Rattle.exec_run.specs.Plan.{TimerData, PlanData}
 
+-- something, and what is made of it
 infixl 10 ◌>>=◌
 abbrev pub ◌>>=◌ : {A B : Type 0} → Option A → (A → Option B) → Option B
 o >>= f = option_and_then f o
@@ -45,9 +46,11 @@ abbrev pub list_in : Option Data → Option (List Data)
 list_in None = Some []
 list_in (Some value) = option_map values_of (as_array value)
 
+-- the list in a field
 abbrev pub list_field : List ℕ → Data → Option (List Data)
 list_field name holder = list_in (get name holder)
 
+-- a list, with nothing in it
 abbrev pub is_empty_list : Option (List Data) → Bool
 is_empty_list None = false
 is_empty_list (Some []) = true
@@ -61,6 +64,7 @@ is_without holder name = is_empty_list (list_field name holder)
 abbrev pub count_in : Data → Option ℕ
 count_in value = as_number value >>= as_u64
 
+-- the count in a field
 abbrev pub count_field : List ℕ → Data → Option ℕ
 count_field name holder = get name holder >>= count_in
 
@@ -72,9 +76,11 @@ is_name_byte byte = (nat_le 65 byte && nat_le byte 90) || (nat_le 97 byte && nat
 abbrev pub is_name : List ℕ → Bool
 is_name text = nat_le 1 (length text) && nat_le (length text) 64 && list_all is_name_byte text
 
+-- a text that is a name
 abbrev pub name_in : List ℕ → Option (List ℕ)
 name_in text = only_if (is_name text) (Some text)
 
+-- the name of a node or a timer
 abbrev pub name_of : Data → Option (List ℕ)
 name_of holder = get (codes "name") holder >>= as_str >>= name_in
 
@@ -97,6 +103,7 @@ words_of value = as_array value >>= (λ values. each word_of (values_of values))
 abbrev pub timer_place : Place
 timer_place = record { reentrant = false; role = Callback }
 
+-- whether a script is legal
 abbrev pub unless_refused : {E : Type 0} → Result (Unit {0}) E → Bool
 unless_refused (Ok u) = true
 unless_refused (Err fault) = false
@@ -116,6 +123,7 @@ script_in values = only_if (nat_le (length values) 64) (each words_of values >>=
 abbrev pub period_in : ℕ → Option ℕ
 period_in period = only_if (nat_le 1 period && nat_le period (2 ^ 62)) (Some period)
 
+-- a timer of these parts
 abbrev pub timer_with : ℕ → List ℕ → ℕ → List Instr → TimerData
 timer_with group name period script = record { name = name; period = period; group = group; script = script }
 
@@ -173,6 +181,7 @@ timers_in nodes = only_if (nat_le (length nodes) 64) (do
   timers ← all_timers 0 nodes
   only_if (are_distinct names && nat_le (length timers) 512 && are_distinct (map (λ timer. timer.name) timers)) (Some timers))
 
+-- a count of 1
 abbrev pub is_one : Option ℕ → Bool
 is_one None = false
 is_one (Some n) = n == 1
@@ -195,3 +204,7 @@ pub record Says (bytes : List ℕ) (plan : PlanData) : Type 0 where
   pub value : Data
   pub value_is : read bytes ≡ Some value
   pub plan_is : plan_of value ≡ Some plan
+
+-- these bytes are no document of timers alone
+abbrev pub IsRefused : List ℕ → Type 0
+IsRefused bytes = (plan : PlanData) → ¬ Says bytes plan

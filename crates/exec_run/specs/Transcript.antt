@@ -12,7 +12,8 @@ use Rattle.exec_run.specs.World.{WorldState, due, Ready, add_line, run_all}
 abbrev pub timer_ready : ℕ → TimerData → ℕ → Ready
 timer_ready moment timer entity = record { entity = entity; group = timer.group; cause = due moment; script = timer.script }
 
--- the places of the timers that are due at a moment, the first of which has this place
+-- the places of the timers that are due at a moment, the first of which has this place; the clause on taking
+-- them says it, and the transcript doesn't rest on it
 abbrev pub due_places : ℕ → ℕ → List TimerState → List ℕ
 due_places moment place [] = []
 due_places moment place (state ∷ states) = if is_due state moment then place ∷ due_places moment (place + 1) states else due_places moment (place + 1) states

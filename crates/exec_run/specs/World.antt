@@ -32,6 +32,7 @@ pub record Ready : Type 0 where
 abbrev pub input_of : ℕ → Cause → CallInput
 input_of moment (due at) = record { first = pos at; aux = pos 0; moment = moment }
 
+-- the world with one more line
 abbrev pub add_line : Line → WorldState → WorldState
 add_line line world = record world { lines = world.lines ++ line ∷ [] }
 
@@ -47,6 +48,7 @@ give entity (effect.Log value) world = add_line (line.Log entity value) world
 abbrev pub variables_of : ℕ → WorldState → List ℤ
 variables_of group world = slice_index_or world.variables group zeros
 
+-- the world with other variables of a callback group
 abbrev pub with_variables : ℕ → List ℤ → WorldState → WorldState
 with_variables group variables world = record world { variables = slice_set world.variables group variables }
 

@@ -1,7 +1,7 @@
 ghost use Rattle.std.specs.Prelude.{◌≡◌, IfOk, MatchResult};
 ghost use Rattle.std.specs.List.{All};
 ghost use Rattle.exec_msg.specs.Line.{IsNamed, transcript_text};
-ghost use Rattle.exec_run.specs.Document.{Says};
+ghost use Rattle.exec_run.specs.Document.{Says, IsRefused};
 ghost use Rattle.exec_run.specs.Plan.{PlanData};
 ghost use Rattle.exec_run.specs.Transcript.{text_of};
 
@@ -16,7 +16,7 @@ pub fn run_alone(alloc: Global, document: &[u8]) -> Result<Vec<u8>, AloneFault>
     ensures text { IfOk result (λ text. (plan : PlanData) × Says document.now plan × (text.items ≡ text_of plan)) }
     ensures all { (plan : PlanData) → Says document.now plan
         → MatchResult result (λ text. text.items ≡ text_of plan) (λ fault. fault ≡ AloneFault.Memory) }
-    ensures later { result ≡ Err AloneFault.Later → (plan : PlanData) → ¬ Says document.now plan }
+    ensures later { result ≡ Err AloneFault.Later → IsRefused document.now }
 {
     let plan = read_plan(alloc, document)?;
     let mut world = World::new(alloc, &plan)?;

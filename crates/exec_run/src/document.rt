@@ -3,7 +3,7 @@ ghost use Rattle.std.specs.Option.{option_map};
 ghost use Rattle.std.specs.List.{All, list_all, list_any};
 ghost use Rattle.std.specs.Str.{bytes_eq};
 ghost use Rattle.serde_json.specs.View.{view};
-ghost use Rattle.exec_run.specs.Document.{list_field, is_without, count_field, is_name_byte, is_name, name_of, word_of, words_of, script_in, each, timer_of, has_timers_alone, timers_of, all_timers, timers_in, moment_in, moments_in, is_ascending, are_distinct, has_nodes_alone, plan_of, Says};
+ghost use Rattle.exec_run.specs.Document.{list_field, is_without, count_field, is_name_byte, is_name, name_of, word_of, words_of, script_in, each, timer_of, has_timers_alone, timers_of, all_timers, timers_in, moment_in, moments_in, is_ascending, are_distinct, has_nodes_alone, plan_of, Says, IsRefused};
 ghost use Rattle.exec_run.specs.Plan.{PlanData, IsTimerOf};
 ghost use Rattle.exec_run.specs.Reading.{Gives};
 
@@ -27,7 +27,7 @@ const NAME_LENGTH: usize = 64;
 /// Reads a document of timers alone.
 pub fn read_plan(alloc: Global, bytes: &[u8]) -> Result<Plan, AloneFault>
     ensures plan { IfOk result (λ plan. Says bytes.now plan) }
-    ensures later { result ≡ Err AloneFault.Later → (plan : PlanData) → ¬ Says bytes.now plan }
+    ensures later { result ≡ Err AloneFault.Later → IsRefused bytes.now }
 {
     match Value::from_slice(alloc, bytes) {
         Ok(document) => plan_of(alloc, &document),

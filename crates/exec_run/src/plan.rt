@@ -5,11 +5,13 @@ use std::marker::Model;
 /// A timer as its node declares it.
 #[derive(Debug, Drop)]
 pub struct TimerEntity {
+    /// Its name, of 1 to 64 characters.
     pub name: String,
     /// In ticks.
     pub period: u64,
     /// The number of its callback group, from 0.
     pub group: usize,
+    /// What its callback does.
     pub script: Vec<Instr>,
 }
 
@@ -27,6 +29,7 @@ impl Model for TimerEntity {
 pub struct Plan {
     /// The names of the timers at their places.
     pub names: Names,
+    /// The timers in the order of their declaration.
     pub timers: Vec<TimerEntity>,
     /// How many callback groups there are.
     pub groups: usize,

@@ -6,7 +6,7 @@ mod words;
 ghost use Rattle.std.specs.Prelude.{◌≡◌, ◌≢◌, ◌⊎◌, ℕ, ◌+◌, ◌<◌, ◌≤◌, List, ◌↔◌, take, length, IfSome, OnOk, OnErr};
 ghost use Rattle.std.specs.Io.KnownBytes.{Keeps, Appends, Consumes, IsAtEnd};
 ghost use Rattle.exec_run.specs.Program.{failure_line, status_of, failure_of_words, failure_of_read, AreLawful};
-ghost use Rattle.exec_run.specs.Document.{Says};
+ghost use Rattle.exec_run.specs.Document.{Says, IsRefused};
 ghost use Rattle.exec_run.specs.Plan.{PlanData};
 ghost use Rattle.exec_run.specs.Transcript.{text_of};
 ghost use Rattle.exec_run.specs.declared.program.Failure.TheVariants.{Refused, WriteFailed};
@@ -140,7 +140,8 @@ pub fn execute<R: Read, O: Write, E: Write>(
         → Keeps (O.contents output.old) (O.contents output.new) }
     ensures silent { result ≡ Status.Written → Keeps (E.contents errors.old) (E.contents errors.new) }
     ensures told { result ≢ Status.Written → (failure : Failure) × (count : ℕ) × (status_of failure ≡ result)
-        × Appends (E.contents errors.old) (E.contents errors.new) (take count (failure_line failure)) }
+        × Appends (E.contents errors.old) (E.contents errors.new) (take count (failure_line failure))
+        × (failure ≡ Failure.Refused AloneFault.Later → AreLawful words × IfSome (R.remaining input.old) IsRefused) }
 {
     match transcribe(alloc, words, input, output) {
         Ok(()) => Status::Written,
@@ -170,6 +171,8 @@ fn transcribe<R: Read, O: Write>(
     ensures cut_off { result ≡ Err Failure.WriteFailed → IfSome (R.remaining input.old) (λ document. (plan : PlanData)
         × (count : ℕ) × Says document plan
         × Appends (O.contents output.old) (O.contents output.new) (take count (text_of plan))) }
+    ensures later { result ≡ Err (Failure.Refused AloneFault.Later)
+        → AreLawful words × IfSome (R.remaining input.old) IsRefused }
     ensures unwritten { OnErr result (result ≢ Err Failure.WriteFailed
         → Keeps (O.contents output.old) (O.contents output.new)) }
 {

@@ -22,6 +22,7 @@ abbrev pub skips_end_within : List Instr → Bool
 skips_end_within [] = true
 skips_end_within (instruction ∷ rest) = nat_le (reach_of instruction) (length rest) && skips_end_within rest
 
+-- one of g0 to g7
 abbrev pub is_variable : Operand → Bool
 is_variable (operand.Value value) = false
 is_variable (operand.Register slot) = false
@@ -30,6 +31,7 @@ is_variable operand.In = false
 is_variable operand.Aux = false
 is_variable operand.Now = false
 
+-- to one of g0 to g7
 abbrev pub goes_to_variable : Destination → Bool
 goes_to_variable (destination.Register slot) = false
 goes_to_variable (destination.Variable slot) = true

@@ -34,6 +34,7 @@ abbrev pub cell_named : List ℕ → Option Destination
 cell_named (letter ∷ digit ∷ []) = option_and_then (cell_in letter) (slot_named digit)
 cell_named _ = None
 
+-- what stands in a register or a group variable
 abbrev pub operand_at : Destination → Operand
 operand_at (destination.Register slot) = operand.Register slot
 operand_at (destination.Variable slot) = operand.Variable slot
@@ -51,10 +52,12 @@ abbrev pub operand_of : Word → Option Operand
 operand_of (Number value) = Some (operand.Value value)
 operand_of (Text text) = operand_named text
 
+-- a destination is named by a text
 abbrev pub destination_of : Word → Option Destination
 destination_of (Number value) = None
 destination_of (Text text) = cell_named text
 
+-- the operation that a text names
 abbrev pub operation_named : List ℕ → Option Operation
 operation_named text =
     if bytes_eq text (codes "add") then Some operation.Add else
@@ -65,6 +68,7 @@ operation_named text =
     (if bytes_eq text (codes "lt") then Some operation.Lt else
     (if bytes_eq text (codes "eq") then Some operation.Eq else None))))))
 
+-- an operation is named by a text
 abbrev pub operation_of : Word → Option Operation
 operation_of (Number value) = None
 operation_of (Text text) = operation_named text
@@ -79,6 +83,7 @@ count_of (Text text) = None
 abbrev pub taken : {A : Type 0} → Option A → Result A ScriptFault
 taken item = ok_or item fault.Operand
 
+-- set: a destination, an operation and two operands
 abbrev pub set_of : List Word → Result Instr ScriptFault
 set_of (d ∷ o ∷ a ∷ b ∷ []) = do
   destination ← taken (destination_of d)
@@ -88,6 +93,7 @@ set_of (d ∷ o ∷ a ∷ b ∷ []) = do
   Ok (instr.Set destination operation left right)
 set_of _ = Err fault.Count
 
+-- skip: an operand and a count
 abbrev pub skip_of : List Word → Result Instr ScriptFault
 skip_of (a ∷ n ∷ []) = do
   condition ← taken (operand_of a)
@@ -95,6 +101,7 @@ skip_of (a ∷ n ∷ []) = do
   Ok (instr.Skip condition count)
 skip_of _ = Err fault.Count
 
+-- log: an operand
 abbrev pub log_of : List Word → Result Instr ScriptFault
 log_of (a ∷ []) = do
   value ← taken (operand_of a)

@@ -94,18 +94,21 @@ impl Regs {
     ghost use Rattle.std.specs.Prelude.{◌≡◌, pos, slice_index_or, slice_set};
     ghost use Rattle.exec_script.specs.Zeros.{zeros};
 
+    /// Eight zeros.
     pub fn new() -> Regs
         ensures { result ≡ zeros }
     {
         Regs(Cells::new())
     }
 
+    /// The integer at a slot.
     pub fn get(&self, slot: Slot) -> i64
         ensures { result ≡ slice_index_or self.now slot (pos 0) }
     {
         self.0.get(slot)
     }
 
+    /// Writes the integer at a slot.
     pub fn set(&mut self, slot: Slot, value: i64)
         ensures { self.new ≡ slice_set self.old slot value }
     {
@@ -131,18 +134,21 @@ impl Bank {
     ghost use Rattle.std.specs.Prelude.{◌≡◌, pos, slice_index_or, slice_set};
     ghost use Rattle.exec_script.specs.Zeros.{zeros};
 
+    /// Eight zeros.
     pub fn new() -> Bank
         ensures { result ≡ zeros }
     {
         Bank(Cells::new())
     }
 
+    /// The integer at a slot.
     pub fn get(&self, slot: Slot) -> i64
         ensures { result ≡ slice_index_or self.now slot (pos 0) }
     {
         self.0.get(slot)
     }
 
+    /// Writes the integer at a slot.
     pub fn set(&mut self, slot: Slot, value: i64)
         ensures { self.new ≡ slice_set self.old slot value }
     {

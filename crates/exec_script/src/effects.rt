@@ -34,6 +34,7 @@ impl Model for EffectList {
 impl EffectList {
     ghost use Rattle.std.specs.Prelude.{◌≡◌, [], ◌∷◌, ◌++◌, OnOk, OnErr};
 
+    /// No effects. It takes no memory.
     pub fn new(alloc: Global) -> EffectList
         ensures { result ≡ [] }
     {
@@ -51,6 +52,7 @@ impl EffectList {
         Ok(())
     }
 
+    /// The effects in their order.
     pub fn as_slice(&self) -> &[Effect]
         ensures { result.now ≡ self.now }
     {
@@ -61,6 +63,8 @@ impl EffectList {
 /// All that a callback does outside itself.
 #[derive(Debug, Drop)]
 pub struct Effects {
+    /// The effects of its script.
     pub list: EffectList,
+    /// What closes it.
     pub close: Close,
 }

@@ -29,12 +29,17 @@ pub enum Destination {
 /// What `set` does with its two operands. The first three wrap in two's complement at 64 bits.
 #[derive(Clone, Copy, Debug, PartialEq, Eq)]
 pub enum Operation {
+    /// The sum.
     Add,
+    /// The difference.
     Sub,
+    /// The product.
     Mul,
+    /// The lesser, as signed numbers.
     Min,
+    /// The greater, as signed numbers.
     Max,
-    /// 1 where the first is below the second, else 0.
+    /// 1 where the first is below the second as signed numbers, else 0.
     Lt,
     /// 1 where the two are equal, else 0.
     Eq,

@@ -17,6 +17,7 @@ pub enum Role {
 pub struct Place {
     /// Whether its callback group is reentrant.
     pub reentrant: bool,
+    /// What kind of callback it is for.
     pub role: Role,
 }
 

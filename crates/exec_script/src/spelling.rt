@@ -18,15 +18,19 @@ pub trait Scope {
 
     ghost servers: { Self → List ℕ → Option ℕ };
 
+    /// The topic of this name.
     fn topic(&self, name: &str) -> Option<EntityNo>
         ensures { result ≡ topics self.now name.now };
 
+    /// The service client of this name.
     fn client(&self, name: &str) -> Option<EntityNo>
         ensures { result ≡ clients self.now name.now };
 
+    /// The action client of this name.
     fn action_client(&self, name: &str) -> Option<EntityNo>
         ensures { result ≡ action_clients self.now name.now };
 
+    /// The action server of this name.
     fn server(&self, name: &str) -> Option<EntityNo>
         ensures { result ≡ servers self.now name.now };
 }

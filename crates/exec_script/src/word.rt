@@ -15,12 +15,14 @@ impl Model for WordText {
 impl WordText {
     ghost use Rattle.std.specs.Prelude.{◌≡◌, string_bytes};
 
+    /// A word of this text.
     pub fn of(text: String) -> WordText
         ensures { result ≡ string_bytes text }
     {
         WordText(text)
     }
 
+    /// The text.
     pub fn as_str(&self) -> &str
         ensures { result.now ≡ self.now }
     {
@@ -31,6 +33,8 @@ impl WordText {
 /// A part of an instruction as a document spells it.
 #[derive(Debug, Drop)]
 pub enum Word {
+    /// A text.
     Text(WordText),
+    /// A value.
     Number(i64),
 }

@@ -2,9 +2,10 @@ mod documents;
 mod fakes;
 
 use super::{Status, WordsFault, execute, read_words};
-use documents::{EXAMPLES, REFUSED, TWO_TIMERS};
+use documents::{ACCEPTED, EXAMPLES, REFUSED, TWO_TIMERS};
 use fakes::{Arguments, End, Sink, Source, Spaces};
 use std::alloc::{AllocError, Global};
+use std::fmt::Write;
 use std::io::Read;
 use std::test::Fail;
 
@@ -71,6 +72,67 @@ fn writes_the_transcripts(rt: HostRuntime) -> Result<(), Fail> {
 }
 
 #[test]
+fn writes_what_the_rules_say(rt: HostRuntime) -> Result<(), Fail> {
+    let alloc = rt.alloc();
+    for (document, transcript) in ACCEPTED {
+        let words = words(alloc, &["1", "1"])?;
+        let run = run(alloc, Ok(words), &mut document.as_bytes());
+        let is_written = run.is(Status::Written, transcript.as_bytes(), "");
+        assert!(rt; is_written, "{run:?} at {document}");
+    }
+    Ok(())
+}
+
+// A document of so many nodes with so many timers each, and so many instructions in each script.
+fn large(alloc: Global, nodes: u32, timers: u32, instructions: u32) -> Result<String, AllocError> {
+    let mut document = String::from_str(alloc, "{\"version\":1,\"nodes\":[")?;
+    for node in 0..nodes {
+        let comma = if node > 0 { "," } else { "" };
+        write!(document, "{comma}{{\"name\":\"n{node}\",\"timers\":[")?;
+        for timer in 0..timers {
+            let comma = if timer > 0 { "," } else { "" };
+            write!(
+                document,
+                "{comma}{{\"name\":\"t{node}/{timer}\",\"period\":1,\"script\":["
+            )?;
+            for instruction in 0..instructions {
+                document.push_str(if instruction > 0 { "," } else { "" })?;
+                document.push_str("[\"log\",1]")?;
+            }
+            document.push_str("]}")?;
+        }
+        document.push_str("]}")?;
+    }
+    document.push_str("]}")?;
+    Ok(document)
+}
+
+#[test]
+fn takes_as_much_as_the_limits_say(rt: HostRuntime) -> Result<(), Fail> {
+    let alloc = rt.alloc();
+    for (nodes, timers, instructions, is_accepted) in [
+        (64, 8, 0, true),
+        (65, 1, 0, false),
+        (1, 512, 0, true),
+        (1, 513, 0, false),
+        (27, 19, 0, false),
+        (1, 1, 64, true),
+        (1, 1, 65, false),
+    ] {
+        let document = large(alloc, nodes, timers, instructions)?;
+        let words = words(alloc, &["1", "1"])?;
+        let run = run(alloc, Ok(words), &mut document.as_bytes());
+        let is_right = if is_accepted {
+            run.is(Status::Written, b"end 0\n", "")
+        } else {
+            run.is(Status::Refused, b"", "refused 11\n")
+        };
+        assert!(rt; is_right, "{run:?} at {nodes}, {timers}, {instructions}");
+    }
+    Ok(())
+}
+
+#[test]
 fn refuses_wrong_words_before_it_reads(rt: HostRuntime) -> Result<(), Fail> {
     let alloc = rt.alloc();
     let tables: [&[&str]; 14] = [
@@ -101,9 +163,10 @@ fn refuses_wrong_words_before_it_reads(rt: HostRuntime) -> Result<(), Fail> {
 #[test]
 fn reads_the_words_as_text(rt: HostRuntime) {
     let alloc = rt.alloc();
-    let tables: [(&[&[u8]], Status, &str); 4] = [
+    let tables: [(&[&[u8]], Status, &str); 5] = [
         (&[b"exec_run", b"2", b"\xff"], Status::Usage, USAGE),
         (&[b"\xc3", b"2", b"1"], Status::Usage, USAGE),
+        (&[b"exec_run", b"2", b"1", b"1"], Status::Usage, USAGE),
         (&[b"exec_run", b"2", b"1"], Status::Refused, "refused 11\n"),
         (&[], Status::Usage, USAGE),
     ];

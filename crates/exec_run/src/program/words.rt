@@ -1,5 +1,6 @@
-ghost use Rattle.std.specs.Prelude.{◌≡◌, ◌↔◌, IsSome, IfSome, map, string_bytes, slice_index_or, []};
+ghost use Rattle.std.specs.Prelude.{◌≡◌, ◌≢◌, ◌↔◌, IsSome, IfSome, map, string_bytes, slice_index_or, []};
 ghost use Rattle.std.specs.Str.Parse.{digits_value};
+ghost use Rattle.std.specs.IoError.{error_kind};
 ghost use Rattle.exec_run.specs.Words.{IsNumber, AreSettings};
 
 use std::alloc::Global;
@@ -73,7 +74,10 @@ pub fn read_words<R: Env + AllocGlobal>(rt: &R) -> Result<Vec<String>, WordsFaul
     words.collect(rt.alloc()).map_err(|_| WordsFault::Memory)
 }
 
-fn words_fault(fault: &Error) -> WordsFault {
+fn words_fault(fault: &Error) -> WordsFault
+    ensures memory { error_kind fault.now ≡ ErrorKind.OutOfMemory → result ≡ WordsFault.Memory }
+    ensures not_text { error_kind fault.now ≢ ErrorKind.OutOfMemory → result ≡ WordsFault.NotText }
+{
     match fault.kind() {
         ErrorKind::OutOfMemory => WordsFault::Memory,
         _ => WordsFault::NotText,
