@@ -115,3 +115,14 @@ IsNextCall-from_least timer now found p =
 pub next_call_least : (timer : TimerState) (now : ℕ) → 1 ≤ timer.period → IsLeastFrom (timer.next + timer.period) timer.period now (next_call timer now)
 next_call_least timer now positive =
     first_reached_least now (timer.next + timer.period) timer.period now (omega (arith, mul-le-mul_right now positive))
+
+-- the definition's next call is the least of its times
+pub next_call-is : (timer : TimerState) (now : ℕ) → 1 ≤ timer.period → IsNextCall timer now (next_call timer now)
+next_call-is timer now positive = IsNextCall-from_least timer now _ (next_call_least timer now positive)
+
+-- and after the time of the call before it
+pub next_call-later : (timer : TimerState) (now : ℕ) → 1 ≤ timer.period → timer.next < next_call timer now
+next_call-later timer now positive =
+    let found = next_call_least timer now positive in
+    let e = found.reached in
+    omega arith

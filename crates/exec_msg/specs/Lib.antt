@@ -1,2 +1,4 @@
+pub mod Goal
+pub mod KeepLast
 pub mod Line
 pub mod Timer

@@ -4,17 +4,29 @@ use Rattle.std.specs.Int.{to_be_bytes, w128}
 use Rattle.std.specs.Fmt.{signed_decimal}
 use Rattle.std.specs.List.{flat_map}
 use Rattle.uuid.specs.Text.{hyphenated_text, lower}
-use Rattle.exec_msg.specs.declared.line.Kind.{Kind}
-use Rattle.exec_msg.specs.declared.line.Kind.TheVariants.{Timer}
+use Rattle.exec_msg.specs.Goal.{status_number, code_number}
+use Rattle.exec_msg.specs.declared.kind.Kind.{Kind}
+use Rattle.exec_msg.specs.declared.kind.Kind.TheVariants as kind
 use Rattle.exec_msg.specs.declared.line.Line.{Line}
-use Rattle.exec_msg.specs.declared.line.Line.TheVariants.{Round, Run, Log, End}
+use Rattle.exec_msg.specs.declared.line.Line.TheVariants as line
 
 -- the word of a kind of callback
 abbrev pub word_of : Kind → List ℕ
-word_of Timer = codes "timer"
+word_of kind.Timer = codes "timer"
+word_of kind.Message = codes "message"
+word_of kind.Request = codes "request"
+word_of kind.Reply = codes "reply"
+word_of kind.Goal = codes "goal"
+word_of kind.Cancel = codes "cancel"
+word_of kind.Ask = codes "ask"
+word_of kind.Poll = codes "poll"
+word_of kind.Response = codes "response"
+word_of kind.Code = codes "code"
+word_of kind.Feedback = codes "feedback"
+word_of kind.Result = codes "result"
 
 -- the text of an identifier: RFC 9562, section 4, hyphenated and in lower case
-abbrev pub id_text : ℕ → List ℕ
+unfoldable pub id_text : ℕ → List ℕ
 id_text id = hyphenated_text lower (to_be_bytes w128 id)
 
 -- each field with one space before it
@@ -37,10 +49,24 @@ id_field (Some id) = id_text id ∷ []
 
 -- the fields of a line
 abbrev pub fields_of : List (List ℕ) → Line → List (List ℕ)
-fields_of names (Round number moment) = codes "round" ∷ decimal number ∷ decimal moment ∷ []
-fields_of names (Run entity kind input aux id) = codes "run" ∷ name_at names entity ∷ word_of kind ∷ signed_decimal input ∷ signed_decimal aux ∷ id_field id
-fields_of names (Log entity value) = codes "log" ∷ name_at names entity ∷ signed_decimal value ∷ []
-fields_of names (End rounds) = codes "end" ∷ decimal rounds ∷ []
+fields_of names (line.Round number moment) = codes "round" ∷ decimal number ∷ decimal moment ∷ []
+fields_of names (line.Expire server id) = codes "expire" ∷ name_at names server ∷ id_text id ∷ []
+fields_of names (line.Run entity kind input aux id) = codes "run" ∷ name_at names entity ∷ word_of kind ∷ signed_decimal input ∷ signed_decimal aux ∷ id_field id
+fields_of names (line.Drop entity kind input) = codes "drop" ∷ name_at names entity ∷ word_of kind ∷ signed_decimal input ∷ []
+fields_of names (line.Pub topic value) = codes "pub" ∷ name_at names topic ∷ signed_decimal value ∷ []
+fields_of names (line.Call client number value) = codes "call" ∷ name_at names client ∷ decimal number ∷ signed_decimal value ∷ []
+fields_of names (line.Reply service value) = codes "reply" ∷ name_at names service ∷ signed_decimal value ∷ []
+fields_of names (line.Goal client id value) = codes "goal" ∷ name_at names client ∷ id_text id ∷ signed_decimal value ∷ []
+fields_of names (line.Cancel client id stamp) = codes "cancel" ∷ name_at names client ∷ id_text id ∷ decimal stamp ∷ []
+fields_of names (line.Log entity value) = codes "log" ∷ name_at names entity ∷ signed_decimal value ∷ []
+fields_of names (line.Feedback server id value) = codes "feedback" ∷ name_at names server ∷ id_text id ∷ signed_decimal value ∷ []
+fields_of names (line.Decide server id decision) = codes "decide" ∷ name_at names server ∷ id_text id ∷ decimal decision ∷ []
+fields_of names (line.State server id status) = codes "state" ∷ name_at names server ∷ id_text id ∷ decimal (status_number status) ∷ []
+fields_of names (line.Code server code moved) = codes "code" ∷ name_at names server ∷ decimal (code_number code) ∷ decimal moved ∷ []
+fields_of names (line.Ask client id) = codes "ask" ∷ name_at names client ∷ id_text id ∷ []
+fields_of names (line.Result server id status value) = codes "result" ∷ name_at names server ∷ id_text id ∷ decimal (status_number status) ∷ signed_decimal value ∷ []
+fields_of names (line.Pending client calls) = codes "pending" ∷ name_at names client ∷ decimal calls ∷ []
+fields_of names (line.End rounds) = codes "end" ∷ decimal rounds ∷ []
 
 -- the text of a line: its fields with one space between them, and a line feed
 abbrev pub line_text : List (List ℕ) → Line → List ℕ
@@ -50,9 +76,23 @@ line_text names line = joined (fields_of names line) ++ 10 ∷ []
 abbrev pub transcript_text : List (List ℕ) → List Line → List ℕ
 transcript_text names lines = flat_map (line_text names) lines
 
--- each entity that a line names has a name
+-- what a line names has a name
 abbrev pub IsNamed : List (List ℕ) → Line → Type 0
-IsNamed names (Round number moment) = Unit {0}
-IsNamed names (Run entity kind input aux id) = entity < length names
-IsNamed names (Log entity value) = entity < length names
-IsNamed names (End rounds) = Unit {0}
+IsNamed names (line.Round number moment) = Unit {0}
+IsNamed names (line.Expire server id) = server < length names
+IsNamed names (line.Run entity kind input aux id) = entity < length names
+IsNamed names (line.Drop entity kind input) = entity < length names
+IsNamed names (line.Pub topic value) = topic < length names
+IsNamed names (line.Call client number value) = client < length names
+IsNamed names (line.Reply service value) = service < length names
+IsNamed names (line.Goal client id value) = client < length names
+IsNamed names (line.Cancel client id stamp) = client < length names
+IsNamed names (line.Log entity value) = entity < length names
+IsNamed names (line.Feedback server id value) = server < length names
+IsNamed names (line.Decide server id decision) = server < length names
+IsNamed names (line.State server id status) = server < length names
+IsNamed names (line.Code server code moved) = server < length names
+IsNamed names (line.Ask client id) = client < length names
+IsNamed names (line.Result server id status value) = server < length names
+IsNamed names (line.Pending client calls) = client < length names
+IsNamed names (line.End rounds) = Unit {0}

@@ -1,16 +1,23 @@
 //! What the executor's callbacks and its transcript are made of: moments, names, timers and lines.
 #![tactic(auto)]
 
+mod goal;
+mod kind;
+pub mod laws;
 mod line;
 mod lines;
 mod memory;
 mod names;
 mod numbers;
+mod text;
 mod timer;
 
-pub use line::{Kind, Line, write_line};
+pub use goal::{Event, GoalStatus, ReturnCode};
+pub use kind::Kind;
+pub use line::Line;
 pub use lines::LineList;
 pub use memory::Memory;
 pub use names::Names;
 pub use numbers::{EntityNo, GoalId, Moment};
+pub use text::write_line;
 pub use timer::Timer;

@@ -1,8 +1,9 @@
+ghost use Rattle.std.specs.Prelude.{◌≡◌, [], ◌∷◌, ◌++◌, OnOk, OnErr};
+
 use crate::line::Line;
 use crate::memory::Memory;
 use std::alloc::Global;
 use std::marker::Model;
-use std::slice;
 
 /// The lines of a transcript in their order.
 #[derive(Debug, Drop)]
@@ -36,8 +37,7 @@ impl LineList {
         ensures ok { OnOk result (self.new ≡ self.old ++ line ∷ []) }
         ensures err { OnErr result (self.new ≡ self.old) }
     {
-        self.items.extend_from_slice(slice::from_ref(&line))?;
-        Ok(())
+        push_copy(&mut self.items, &line)
     }
 
     /// The lines in their order.
@@ -46,4 +46,15 @@ impl LineList {
     {
         self.items.as_slice()
     }
+}
+
+// A line is pushed behind a reference, and is written field by field so: one that is handed on as a
+// slice of its own is copied as a whole just after it was made, for which a processor waits.
+#[inline(always)]
+fn push_copy<T: Copy + Drop>(items: &mut Vec<T>, item: &T) -> Result<(), Memory>
+    ensures ok { OnOk result (items.new.items ≡ items.old.items ++ item.now ∷ []) }
+    ensures err { OnErr result (items.new.items ≡ items.old.items) }
+{
+    items.push(*item)?;
+    Ok(())
 }

@@ -42,14 +42,47 @@ impl Moment {
 
 /// The identifier of a goal, an RFC 9562 UUID as one number with its first byte the highest.
 #[derive(Clone, Copy, Debug, PartialEq, Eq, PartialOrd, Ord, Hash)]
-pub struct GoalId(pub u128);
+pub struct GoalId {
+    // Two halves, since a `u128` would widen each line by its alignment.
+    high: u64,
+    low: u64,
+}
 
 impl Model for GoalId {
+    ghost use Rattle.std.specs.Prelude.{ℕ, ◌+◌, ◌*◌, ◌/◌, ◌%◌, ◌<◌, ◌^◌};
+    ghost use Rattle.std.proofs.lemmas.Nat.{div-mul-add, mod-mul-add};
+
     ghost Value = { ℕ };
 
-    ghost view = { λ id. id.0 };
+    ghost view = { λ id. id.high * 2 ^ 64 + id.low };
 
-    ghost inverse = { λ number. record { 0 = number } };
+    ghost invariant = { λ id. id.low < 2 ^ 64 };
+
+    ghost inverse = { λ number. record { high = number / 2 ^ 64; low = number % 2 ^ 64 } };
+
+    ghost inverse_ok = { λ id h i. record {
+      high = div-mul-add id.high (2 ^ 64) id.low h i;
+      low = mod-mul-add id.high (2 ^ 64) id.low h i;
+    } };
+}
+
+impl GoalId {
+    /// The identifier of a number.
+    pub fn new(number: u128) -> GoalId
+        ensures { result ≡ number }
+    {
+        GoalId {
+            high: (number >> 64) as u64,
+            low: (number & 0xffff_ffff_ffff_ffff) as u64,
+        }
+    }
+
+    /// The identifier as a number.
+    pub fn number(self) -> u128
+        ensures { result ≡ self }
+    {
+        self.high as u128 * 0x1_0000_0000_0000_0000 + self.low as u128
+    }
 }
 
 /// The number of an entity: its place among the names of a graph, from 0.

@@ -4,7 +4,8 @@ use Rattle.std.specs.List.{list_any}
 use Rattle.serde_json.specs.Data.{Data}
 use Rattle.serde_json.specs.View.{items_of}
 use Rattle.std.specs.Str.{bytes_eq}
-use Rattle.exec_run.specs.Document.{values_of, is_ascending, are_distinct}
+use Rattle.exec_graph.specs.Names.{are_distinct}
+use Rattle.exec_run.specs.Document.{values_of, is_ascending}
 use Rattle.std.proofs.lemmas.List.{take_all}
 use Rattle.exec_run.proofs.Each.{at_place}
 

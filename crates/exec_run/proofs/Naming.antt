@@ -21,6 +21,7 @@ AreNamed names world = All (IsNamed names) world.lines
 -- an effect of a named entity gives a named line
 give_named : (names : List (List ℕ)) (entity : ℕ) (effect : Effect) (world : WorldState) → entity < length names → AreNamed names world → AreNamed names (give entity effect world)
 give_named names entity (Log value) world here named = All-push (IsNamed names) world.lines (line.Log entity value) named here
+give_named names entity _ world here named = named
 
 -- and so do its effects
 give_all_named : (names : List (List ℕ)) (entity : ℕ) (effects : List Effect) (world : WorldState) → entity < length names → AreNamed names world → AreNamed names (give_all (give entity) world effects)

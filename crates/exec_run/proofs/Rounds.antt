@@ -4,7 +4,7 @@ use Rattle.std.specs.List.{All}
 use Rattle.std.proofs.lemmas.List.{length-map, length-replicate, length-drop, drop_more, drop_all}
 use Rattle.std.proofs.lemmas.List.Elements.{All-nil, All-cons}
 use Rattle.exec_msg.specs.Timer.{TimerState, is_due, called}
-use Rattle.exec_msg.specs.declared.line.Kind.TheVariants.{Timer}
+use Rattle.exec_msg.specs.declared.kind.Kind.TheVariants.{Timer}
 use Rattle.exec_msg.specs.declared.line.Line.{Line}
 use Rattle.exec_msg.specs.declared.line.Line.TheVariants as line
 use Rattle.exec_script.specs.Zeros.{zeros}

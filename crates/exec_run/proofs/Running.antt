@@ -1,5 +1,5 @@
 -- A ready callback's run is a call of its script, and then each effect of the call given to the world.
-use Rattle.std.proofs.Common.{◌≡◌, ℕ, zero, suc, ℤ, List, [], ◌∷◌, ◌++◌, length, refl, sym, ap, ◌∙◌}
+use Rattle.std.proofs.Common.{◌≡◌, ℕ, zero, suc, ℤ, List, [], ◌∷◌, ◌++◌, length, None, refl, sym, ap, ◌∙◌}
 use Rattle.std.specs.List.{fold}
 use Rattle.std.proofs.lemmas.List.{length-set}
 use Rattle.exec_script.specs.Script.{ScriptState, CallInput, follow, listed, step_of, passed_by, after_step, call_of}
@@ -8,7 +8,8 @@ use Rattle.exec_script.specs.declared.effects.Effect.{Effect}
 use Rattle.exec_script.specs.declared.effects.Effect.TheVariants.{Log}
 use Rattle.exec_script.specs.declared.instr.Instr.{Instr}
 use Rattle.exec_script.specs.declared.step.Step.{Step}
-use Rattle.exec_script.specs.declared.step.Step.TheVariants.{Store, Pass, Give}
+use Rattle.exec_script.specs.declared.step.Stop.TheVariants as stop
+use Rattle.exec_script.specs.declared.step.Step.TheVariants.{Store, Pass, Give, Answer, Wait, Yield, End}
 use Rattle.exec_run.specs.World.{WorldState, Ready, input_of, add_line, run_line, give, variables_of, with_variables, run_ready}
 
 -- effects given one after another
@@ -17,7 +18,7 @@ give_all give given effects = fold (λ given effect. give effect given) given ef
 
 -- where a script stands that listed its effects, once these are given
 abbrev pub later : {S : Type 0} → (Effect → S → S) → S → ScriptState (List Effect) → ScriptState S
-later give given state = record { registers = state.registers; variables = state.variables; given = give_all give given state.given }
+later give given state = record { registers = state.registers; variables = state.variables; answer = state.answer; given = give_all give given state.given; stop = state.stop }
 
 -- one more effect is given last
 give_all_more : {S : Type 0} (give : Effect → S → S) (given : S) (effects : List Effect) (effect : Effect) → give effect (give_all give given effects) ≡ give_all give given (effects ++ effect ∷ [])
@@ -25,24 +26,29 @@ give_all_more give given [] effect = refl
 give_all_more give given (first ∷ effects) effect = give_all_more give (give first given) effects effect
 
 -- a step whose effect is given at once
-step_later : {S : Type 0} (give : Effect → S → S) (given : S) (step : Step) (state : ScriptState (List Effect)) → after_step give step (later give given state) ≡ later give given (after_step listed step state)
-step_later give given (Store destination value) state = refl
-step_later give given (Pass count) state = refl
-step_later {S} give given (Give effect) state =
-    ap (λ (after : S). record { registers = state.registers; variables = state.variables; given = after }) (give_all_more give given state.given effect)
+step_later : {S : Type 0} (give : Effect → S → S) (given : S) (place : ℕ) (step : Step) (state : ScriptState (List Effect)) → after_step give place step (later give given state) ≡ later give given (after_step listed place step state)
+step_later give given place (Store destination value) state = refl
+step_later give given place (Pass count) state = refl
+step_later {S} give given place (Give effect) state =
+    ap (λ (after : S). record { registers = state.registers; variables = state.variables; answer = state.answer; given = after; stop = state.stop }) (give_all_more give given state.given effect)
+step_later give given place (Answer value) state = refl
+step_later give given place (Wait ticks) state = refl
+step_later give given place Yield state = refl
+step_later give given place (End event value) state = refl
 
 -- effects that are given at once do what effects do that are given later
-pub follow_later : {S : Type 0} (give : Effect → S → S) (given : S) (input : CallInput) (script : List Instr) (over : ℕ) (state : ScriptState (List Effect)) → follow give input script over (later give given state) ≡ later give given (follow listed input script over state)
-follow_later give given input [] over state = refl
-follow_later give given input (instruction ∷ rest) (suc over) state = follow_later give given input rest over state
-follow_later {S} give given input (instruction ∷ rest) zero state =
+pub follow_later : {S : Type 0} (give : Effect → S → S) (given : S) (input : CallInput) (script : List Instr) (place over : ℕ) (state : ScriptState (List Effect)) → follow give input script place over (later give given state) ≡ later give given (follow listed input script place over state)
+follow_later give given input [] place over state = refl
+follow_later give given input (instruction ∷ rest) place (suc over) state = follow_later give given input rest (suc place) over state
+follow_later {S} give given input (instruction ∷ rest) place zero state =
     let step : Step = step_of instruction state.registers state.variables input in
-    ap (λ (after : ScriptState S). follow give input rest (passed_by step) after) (step_later give given step state)
-    ∙ follow_later give given input rest (passed_by step) (after_step listed step state)
+    ap (λ (after : ScriptState S). follow give input rest (suc place) (passed_by step (length rest)) after) (step_later give given (suc place) step state)
+    ∙ follow_later give given input rest (suc place) (passed_by step (length rest)) (after_step listed (suc place) step state)
 
 -- an effect doesn't see the variables of a group
 give_with : (entity : ℕ) (effect : Effect) (group : ℕ) (variables : List ℤ) (world : WorldState) → give entity effect (with_variables group variables world) ≡ with_variables group variables (give entity effect world)
 give_with entity (Log value) group variables world = refl
+give_with entity _ group variables world = refl
 
 -- nor do effects
 give_all_with : (entity : ℕ) (effects : List Effect) (group : ℕ) (variables : List ℤ) (world : WorldState) → give_all (give entity) (with_variables group variables world) effects ≡ with_variables group variables (give_all (give entity) world effects)
@@ -64,12 +70,13 @@ pub run_by_call : (moment : ℕ) (ready : Ready) (world : WorldState) → give_a
 run_by_call moment ready world =
     give_all_with ready.entity (call_at moment ready world).given ready.group (call_at moment ready world).variables (add_line (run_line ready.entity moment ready.cause) world)
     ∙ ap (λ (after : ScriptState WorldState). with_variables ready.group after.variables after.given)
-    (sym (follow_later (give ready.entity) (add_line (run_line ready.entity moment ready.cause) world) (input_of moment ready.cause) ready.script 0
-    (record { registers = zeros; variables = variables_of ready.group world; given = [] })))
+    (sym (follow_later (give ready.entity) (add_line (run_line ready.entity moment ready.cause) world) (input_of moment ready.cause) ready.script 0 0
+    (record { registers = zeros; variables = variables_of ready.group world; answer = None; given = []; stop = stop.End })))
 
 -- an effect leaves the timers and the groups as they are
 give_keeps : (entity : ℕ) (effect : Effect) (world : WorldState) → ((give entity effect world).timers ≡ world.timers) × ((give entity effect world).variables ≡ world.variables)
 give_keeps entity (Log value) world = (refl, refl)
+give_keeps entity _ world = (refl, refl)
 
 -- and so do effects
 give_all_keeps : (entity : ℕ) (effects : List Effect) (world : WorldState) → ((give_all (give entity) world effects).timers ≡ world.timers) × ((give_all (give entity) world effects).variables ≡ world.variables)

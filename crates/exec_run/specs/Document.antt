@@ -1,13 +1,14 @@
 -- Which JSON value is a document of timers alone, and which plan it says.
-use Rattle.std.specs.Prelude.{◌≡◌, ℕ, ◌+◌, ◌^◌, List, [], ◌∷◌, ◌++◌, length, map, codes, Bool, true, false, not, ◌&&◌, ◌||◌, ◌==◌, nat_le, Option, None, Some, is_none, option_and_then, Result, Ok, Err}
+use Rattle.std.specs.Prelude.{◌≡◌, ℕ, ◌+◌, ◌^◌, List, [], ◌∷◌, ◌++◌, length, map, codes, Bool, true, false, ◌&&◌, ◌==◌, nat_le, Option, None, Some, is_none, option_and_then, Result, Ok, Err}
 use Rattle.std.specs.Option.{option_map}
-use Rattle.std.specs.List.{list_all, list_any}
-use Rattle.std.specs.Str.{bytes_eq, IsUtf8}
+use Rattle.std.specs.Str.{IsUtf8}
 use Rattle.serde_json.specs.Data.{Data, null, boolean, number, string, array, object, Items, no_items, item}
 use Rattle.serde_json.specs.Find.{get, as_number, as_str, as_array, as_i64, as_u64}
 use Rattle.serde_json.specs.Read.{read}
+use Rattle.exec_graph.specs.Names.{is_name, are_distinct}
+use Rattle.exec_graph.specs.declared.limits.TheConstants.{NODES, ENTITIES, INSTRUCTIONS, MOMENTS}
 use Rattle.exec_script.specs.Legality.{legality_of}
-use Rattle.exec_script.specs.Spelling.{script_of}
+use Rattle.exec_script.specs.Spelling.{ScopeNames, script_of}
 use Rattle.exec_script.specs.declared.fault.ScriptFault.{ScriptFault}
 use Rattle.exec_script.specs.declared.instr.Instr.{Instr}
 use Rattle.exec_script.specs.declared.place.Place.{Place}
@@ -68,14 +69,6 @@ count_in value = as_number value >>= as_u64
 abbrev pub count_field : List ℕ → Data → Option ℕ
 count_field name holder = get name holder >>= count_in
 
--- `A-Z a-z 0-9 _ /`
-abbrev pub is_name_byte : ℕ → Bool
-is_name_byte byte = (nat_le 65 byte && nat_le byte 90) || (nat_le 97 byte && nat_le byte 122) || (nat_le 48 byte && nat_le byte 57) || (byte == 95) || (byte == 47)
-
--- a name has 1 to 64 of these characters
-abbrev pub is_name : List ℕ → Bool
-is_name text = nat_le 1 (length text) && nat_le (length text) 64 && list_all is_name_byte text
-
 -- a text that is a name
 abbrev pub name_in : List ℕ → Option (List ℕ)
 name_in text = only_if (is_name text) (Some text)
@@ -103,6 +96,10 @@ words_of value = as_array value >>= (λ values. each word_of (values_of values))
 abbrev pub timer_place : Place
 timer_place = record { reentrant = false; role = Callback }
 
+-- a script of timers alone knows no names
+abbrev pub no_names : ScopeNames
+no_names = record { topic = λ name. None; client = λ name. None; action_client = λ name. None; server = λ name. None }
+
 -- whether a script is legal
 abbrev pub unless_refused : {E : Type 0} → Result (Unit {0}) E → Bool
 unless_refused (Ok u) = true
@@ -115,7 +112,7 @@ legal_script (Err fault) = None
 
 -- a script has at most 64 instructions
 abbrev pub script_in : List Data → Option (List Instr)
-script_in values = only_if (nat_le (length values) 64) (each words_of values >>= (λ spelled. legal_script (script_of spelled)))
+script_in values = only_if (nat_le (length values) INSTRUCTIONS) (each words_of values >>= (λ spelled. legal_script (script_of no_names spelled)))
 
 -- ---- timers and nodes
 
@@ -167,19 +164,14 @@ is_ascending (moment ∷ later ∷ others) = nat_le moment later && is_ascending
 
 -- at most 65,536 moments in order
 abbrev pub moments_in : List Data → Option (List ℕ)
-moments_in values = only_if (nat_le (length values) 65536) (each moment_in values >>= (λ moments. only_if (is_ascending moments) (Some moments)))
-
--- no name stands twice
-abbrev pub are_distinct : List (List ℕ) → Bool
-are_distinct [] = true
-are_distinct (name ∷ names) = not (list_any (λ other. bytes_eq other name) names) && are_distinct names
+moments_in values = only_if (nat_le (length values) MOMENTS) (each moment_in values >>= (λ moments. only_if (is_ascending moments) (Some moments)))
 
 -- at most 64 nodes with names of their own, and at most 512 timers with names of their own
 abbrev pub timers_in : List Data → Option (List TimerData)
-timers_in nodes = only_if (nat_le (length nodes) 64) (do
+timers_in nodes = only_if (nat_le (length nodes) NODES) (do
   names ← each name_of nodes
   timers ← all_timers 0 nodes
-  only_if (are_distinct names && nat_le (length timers) 512 && are_distinct (map (λ timer. timer.name) timers)) (Some timers))
+  only_if (are_distinct names && nat_le (length timers) ENTITIES && are_distinct (map (λ timer. timer.name) timers)) (Some timers))
 
 -- a count of 1
 abbrev pub is_one : Option ℕ → Bool

@@ -1,6 +1,6 @@
 -- Worked examples: plans, each with the transcript that it has.
 use Rattle.std.specs.Prelude.{ℕ, pos, negsuc, List, [], ◌∷◌, codes, None}
-use Rattle.exec_msg.specs.declared.line.Kind.TheVariants.{Timer}
+use Rattle.exec_msg.specs.declared.kind.Kind.TheVariants.{Timer}
 use Rattle.exec_msg.specs.declared.line.Line.{Line}
 use Rattle.exec_msg.specs.declared.line.Line.TheVariants.{Round, Run, Log, End}
 use Rattle.exec_script.specs.declared.instr.Destination.TheVariants as destination

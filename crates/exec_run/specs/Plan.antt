@@ -1,6 +1,7 @@
 -- What a document says, once it is read.
 use Rattle.std.specs.Prelude.{◌≡◌, ℕ, ◌<◌, ◌≤◌, List, [], length, map, slice_index_or}
 use Rattle.std.specs.List.{All}
+use Rattle.exec_graph.specs.declared.limits.TheConstants.{ENTITIES}
 use Rattle.exec_msg.specs.Timer.{IsPeriod}
 use Rattle.exec_script.specs.declared.instr.Instr.{Instr}
 
@@ -33,7 +34,7 @@ pub record IsTimerOf (groups : ℕ) (timer : TimerData) : Type 0 where
 
 -- at most 512 timers, each with a period and a group
 pub record IsSound (plan : PlanData) : Type 0 where
-  pub few : length plan.timers ≤ 512
+  pub few : length plan.timers ≤ ENTITIES
   pub timers : All (IsTimerOf plan.groups) plan.timers
 
 -- the names beside a plan are those of its timers, and the plan is sound

@@ -1,10 +1,10 @@
 -- What changes while a plan is run, and what a callback does to it.
 use Rattle.std.specs.Prelude.{ℕ, ℤ, pos, List, [], ◌∷◌, ◌++◌, None, slice_index_or, slice_set}
 use Rattle.exec_msg.specs.Timer.{TimerState}
-use Rattle.exec_msg.specs.declared.line.Kind.TheVariants.{Timer}
+use Rattle.exec_msg.specs.declared.kind.Kind.TheVariants.{Timer}
 use Rattle.exec_msg.specs.declared.line.Line.{Line}
 use Rattle.exec_msg.specs.declared.line.Line.TheVariants as line
-use Rattle.exec_script.specs.Script.{CallInput, ScriptState, follow}
+use Rattle.exec_script.specs.Script.{CallInput, ScriptState, called}
 use Rattle.exec_script.specs.Zeros.{zeros}
 use Rattle.exec_script.specs.declared.effects.Effect.{Effect}
 use Rattle.exec_script.specs.declared.effects.Effect.TheVariants as effect
@@ -40,9 +40,10 @@ add_line line world = record world { lines = world.lines ++ line ∷ [] }
 abbrev pub run_line : ℕ → ℕ → Cause → Line
 run_line entity moment (due at) = line.Run entity Timer (pos at) (pos 0) None
 
--- what an effect of an entity's callback does to the world
+-- what an effect of an entity's callback does to the world; a timer's script that knows no names gives no other effect
 abbrev pub give : ℕ → Effect → WorldState → WorldState
 give entity (effect.Log value) world = add_line (line.Log entity value) world
+give entity _ world = world
 
 -- the variables of a callback group
 abbrev pub variables_of : ℕ → WorldState → List ℤ
@@ -55,8 +56,7 @@ with_variables group variables world = record world { variables = slice_set worl
 -- a ready callback runs: its line, and then its script instruction by instruction, each effect given to the world at its instruction
 abbrev pub script_run : ℕ → Ready → WorldState → ScriptState WorldState
 script_run moment ready world =
-    follow (give ready.entity) (input_of moment ready.cause) ready.script 0
-    (record { registers = zeros; variables = variables_of ready.group world; given = add_line (run_line ready.entity moment ready.cause) world })
+    called (give ready.entity) ready.script (variables_of ready.group world) (input_of moment ready.cause) (add_line (run_line ready.entity moment ready.cause) world)
 
 -- the world after a ready callback has run
 abbrev pub run_ready : ℕ → Ready → WorldState → WorldState

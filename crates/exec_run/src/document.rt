@@ -3,26 +3,18 @@ ghost use Rattle.std.specs.Option.{option_map};
 ghost use Rattle.std.specs.List.{All, list_all, list_any};
 ghost use Rattle.std.specs.Str.{bytes_eq};
 ghost use Rattle.serde_json.specs.View.{view};
-ghost use Rattle.exec_run.specs.Document.{list_field, is_without, count_field, is_name_byte, is_name, name_of, word_of, words_of, script_in, each, timer_of, has_timers_alone, timers_of, all_timers, timers_in, moment_in, moments_in, is_ascending, are_distinct, has_nodes_alone, plan_of, Says, IsRefused};
+ghost use Rattle.exec_graph.specs.Names.{is_name_byte, is_name, are_distinct};
+ghost use Rattle.exec_run.specs.Document.{list_field, is_without, count_field, name_of, word_of, words_of, script_in, each, timer_of, has_timers_alone, timers_of, all_timers, timers_in, moment_in, moments_in, is_ascending, has_nodes_alone, plan_of, Says, IsRefused};
 ghost use Rattle.exec_run.specs.Plan.{PlanData, IsTimerOf};
 ghost use Rattle.exec_run.specs.Reading.{Gives};
 
 use crate::fault::AloneFault;
 use crate::plan::{Plan, TimerEntity};
+use exec_graph::limits::{ENTITIES, INSTRUCTIONS, MOMENTS, NAME_LENGTH, NODES};
 use exec_msg::{EntityNo, Moment, Names, Timer};
 use exec_script::{Instr, Place, Role, Scope, ScriptFault, Word, WordText, check, decode};
 use serde_json::Value;
 use std::alloc::Global;
-
-const NODES: usize = 64;
-
-const ENTITIES: usize = 512;
-
-const INSTRUCTIONS: usize = 64;
-
-const MOMENTS: usize = 65_536;
-
-const NAME_LENGTH: usize = 64;
 
 /// Reads a document of timers alone.
 pub fn read_plan(alloc: Global, bytes: &[u8]) -> Result<Plan, AloneFault>
@@ -64,7 +56,7 @@ fn has_nodes_alone(document: &Value) -> bool
 
 fn timers_in(alloc: Global, nodes: &[Value]) -> Result<Vec<TimerEntity>, AloneFault>
     ensures timers { Gives (λ timers. timers.items) result (timers_in (map view nodes.now)) }
-    ensures few { IfOk result (λ timers. length timers.items ≤ 512) }
+    ensures few { IfOk result (λ timers. length timers.items ≤ ENTITIES) }
     ensures sound { IfOk result (λ timers. All (IsTimerOf (length nodes.now)) timers.items) }
 {
     if nodes.len() > NODES {
@@ -334,15 +326,9 @@ fn count_field(object: &Value, field: &str) -> Option<u64>
 struct NoNames;
 
 impl Scope for NoNames {
-    ghost use Rattle.std.specs.Prelude.{None};
+    ghost use Rattle.exec_run.specs.Document.{no_names};
 
-    ghost topics = { λ _ _. None };
-
-    ghost clients = { λ _ _. None };
-
-    ghost action_clients = { λ _ _. None };
-
-    ghost servers = { λ _ _. None };
+    ghost names = { λ _. no_names };
 
     fn topic(&self, _name: &str) -> Option<EntityNo> {
         None

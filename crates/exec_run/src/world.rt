@@ -145,6 +145,7 @@ impl World {
     {
         match effect {
             Effect::Log(value) => self.add_line(Line::Log { entity, value }),
+            _ => Ok(()),
         }
     }
 

@@ -1,2 +1,3 @@
 pub mod Decoding
 pub mod Following
+pub mod Lasting

@@ -1,3 +1,4 @@
+pub mod LawWords
 pub mod Legality
 pub mod Script
 pub mod Spelling

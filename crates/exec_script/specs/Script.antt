@@ -1,8 +1,12 @@
 -- What a script does, by recursion on the instructions that are left of it.
-use Rattle.std.specs.Prelude.{ℕ, zero, suc, ℤ, pos, List, [], ◌∷◌, ◌++◌, int_lt, if◌then◌else◌, slice_index_or, slice_set}
+use Rattle.std.specs.Prelude.{ℕ, zero, suc, ℤ, pos, negsuc, List, [], ◌∷◌, ◌++◌, length, drop, int_lt, nat_le, ◌&&◌, if◌then◌else◌, slice_index_or, slice_set, Option, None, Some}
 use Rattle.std.specs.Int.{w64, int_wrapping_add, int_wrapping_sub, int_wrapping_mul, int_min, int_max}
+use Rattle.std.specs.Option.{unwrap_or}
 use Rattle.std.specs.Ordering.{int_eq}
+use Rattle.exec_msg.specs.declared.goal.Event.TheVariants as event
 use Rattle.exec_script.specs.Zeros.{zeros}
+use Rattle.exec_script.specs.declared.effects.Close.{Close}
+use Rattle.exec_script.specs.declared.effects.Close.TheVariants as close
 use Rattle.exec_script.specs.declared.effects.Effect.{Effect}
 use Rattle.exec_script.specs.declared.effects.Effect.TheVariants as effect
 use Rattle.exec_script.specs.declared.instr.Destination.{Destination}
@@ -13,8 +17,12 @@ use Rattle.exec_script.specs.declared.instr.Operand.{Operand}
 use Rattle.exec_script.specs.declared.instr.Operand.TheVariants as operand
 use Rattle.exec_script.specs.declared.instr.Operation.{Operation}
 use Rattle.exec_script.specs.declared.instr.Operation.TheVariants as operation
+use Rattle.exec_script.specs.declared.place.Role.{Role}
+use Rattle.exec_script.specs.declared.place.Role.TheVariants as role
 use Rattle.exec_script.specs.declared.step.Step.{Step}
 use Rattle.exec_script.specs.declared.step.Step.TheVariants as step
+use Rattle.exec_script.specs.declared.step.Stop.{Stop}
+use Rattle.exec_script.specs.declared.step.Stop.TheVariants as stop
 
 -- what a callback is handed: `in`, `aux`, and the round's moment in ticks
 pub record CallInput : Type 0 where
@@ -22,11 +30,14 @@ pub record CallInput : Type 0 where
   pub aux : ℤ
   pub moment : ℕ
 
--- where a script stands: its registers, its group's variables, and what its effects made of where they went
+-- where a script stands: its registers, its group's variables, its reply or decision so far, what its effects made of
+-- where they went, and where it stops if nothing more comes
 pub record ScriptState (S : Type 0) : Type 0 where
   pub registers : List ℤ
   pub variables : List ℤ
+  pub answer : Option ℤ
   pub given : S
+  pub stop : Stop
 
 -- what an operation gives
 abbrev pub result_of : Operation → ℤ → ℤ → ℤ
@@ -47,17 +58,40 @@ value_of operand.In registers variables input = input.first
 value_of operand.Aux registers variables input = input.aux
 value_of operand.Now registers variables input = pos input.moment
 
+-- a number of ticks, a stamp, or the number of a goal: 0 where the integer is below 0
+abbrev pub at_least_0 : ℤ → ℕ
+at_least_0 (pos n) = n
+at_least_0 (negsuc n) = 0
+
 -- what one instruction does
 abbrev pub step_of : Instr → List ℤ → List ℤ → CallInput → Step
 step_of (instr.Set destination operation left right) registers variables input = step.Store destination (result_of operation (value_of left registers variables input) (value_of right registers variables input))
 step_of (instr.Skip condition count) registers variables input = step.Pass (if int_eq (value_of condition registers variables input) (pos 0) then 0 else count)
+step_of (instr.Pub topic value) registers variables input = step.Give (effect.Publish topic (value_of value registers variables input))
+step_of (instr.Call client value) registers variables input = step.Give (effect.Call client (value_of value registers variables input))
+step_of (instr.Goal client value) registers variables input = step.Give (effect.SendGoal client (value_of value registers variables input))
+step_of (instr.CancelAll client stamp) registers variables input = step.Give (effect.CancelAll client (at_least_0 (value_of stamp registers variables input)))
+step_of (instr.CancelGoal client goal stamp) registers variables input = step.Give (effect.CancelGoal client (at_least_0 (value_of goal registers variables input)) (at_least_0 (value_of stamp registers variables input)))
+step_of (instr.Execute server) registers variables input = step.Give (effect.Execute server)
 step_of (instr.Log value) registers variables input = step.Give (effect.Log (value_of value registers variables input))
+step_of (instr.Reply value) registers variables input = step.Answer (value_of value registers variables input)
+step_of (instr.Decide value) registers variables input = step.Answer (value_of value registers variables input)
+step_of (instr.Feedback value) registers variables input = step.Give (effect.Feedback (value_of value registers variables input))
+step_of (instr.Wait ticks) registers variables input = step.Wait (at_least_0 (value_of ticks registers variables input))
+step_of instr.Yield registers variables input = step.Yield
+step_of (instr.Succeed value) registers variables input = step.End event.Succeed (value_of value registers variables input)
+step_of (instr.Abort value) registers variables input = step.End event.Abort (value_of value registers variables input)
+step_of (instr.Canceled value) registers variables input = step.End event.Canceled (value_of value registers variables input)
 
--- how many of the next instructions a step passes over
-abbrev pub passed_by : Step → ℕ
-passed_by (step.Store destination value) = 0
-passed_by (step.Pass count) = count
-passed_by (step.Give effect) = 0
+-- how many of the next instructions a step passes over, where so many are left: one that stops the script passes over all
+abbrev pub passed_by : Step → ℕ → ℕ
+passed_by (step.Store destination value) left = 0
+passed_by (step.Pass count) left = count
+passed_by (step.Give effect) left = 0
+passed_by (step.Answer value) left = 0
+passed_by (step.Wait ticks) left = left
+passed_by step.Yield left = left
+passed_by (step.End event value) left = left
 
 -- the registers after a value went to its destination
 abbrev pub registers_after : Destination → ℤ → List ℤ → List ℤ
@@ -69,23 +103,52 @@ abbrev pub variables_after : Destination → ℤ → List ℤ → List ℤ
 variables_after (destination.Register slot) value variables = variables
 variables_after (destination.Variable slot) value variables = slice_set variables slot value
 
--- where a script stands after a step, an effect of which goes where `give` puts it
-abbrev pub after_step : {S : Type 0} → (Effect → S → S) → Step → ScriptState S → ScriptState S
-after_step give (step.Store destination value) state = record state { registers = registers_after destination value state.registers; variables = variables_after destination value state.variables }
-after_step give (step.Pass count) state = state
-after_step give (step.Give effect) state = record state { given = give effect state.given }
+-- where a script stands after a step, behind which comes this place; an effect goes where `give` puts it
+abbrev pub after_step : {S : Type 0} → (Effect → S → S) → ℕ → Step → ScriptState S → ScriptState S
+after_step give place (step.Store destination value) state = record state { registers = registers_after destination value state.registers; variables = variables_after destination value state.variables }
+after_step give place (step.Pass count) state = state
+after_step give place (step.Give effect) state = record state { given = give effect state.given }
+after_step give place (step.Answer value) state = record state { answer = Some value }
+after_step give place (step.Wait ticks) state = record state { stop = stop.Wait ticks place }
+after_step give place step.Yield state = record state { stop = stop.Yield place }
+after_step give place (step.End event value) state = record state { stop = stop.Ended event value }
 
--- where a script stands after the instructions that are left, the first `over` of which are passed over
-abbrev pub follow : {S : Type 0} → (Effect → S → S) → CallInput → List Instr → ℕ → ScriptState S → ScriptState S
-follow give input [] over state = state
-follow give input (instruction ∷ rest) (suc over) state = follow give input rest over state
-follow give input (instruction ∷ rest) zero state =
-    follow give input rest (passed_by (step_of instruction state.registers state.variables input)) (after_step give (step_of instruction state.registers state.variables input) state)
+-- where a script stands after the instructions that are left, the first of which has this place, and of which the first
+-- `over` are passed over
+abbrev pub follow : {S : Type 0} → (Effect → S → S) → CallInput → List Instr → ℕ → ℕ → ScriptState S → ScriptState S
+follow give input [] place over state = state
+follow give input (instruction ∷ rest) place (suc over) state = follow give input rest (suc place) over state
+follow give input (instruction ∷ rest) place zero state =
+    follow give input rest (suc place) (passed_by (step_of instruction state.registers state.variables input) (length rest))
+    (after_step give (suc place) (step_of instruction state.registers state.variables input) state)
+
+-- a script goes on at a place, from registers, its group's variables, a reply or decision, and what its effects made of
+-- where they went; where nothing stops it, it falls off its end
+abbrev pub resumed : {S : Type 0} → (Effect → S → S) → List Instr → ℕ → List ℤ → List ℤ → Option ℤ → CallInput → S → ScriptState S
+resumed give script place registers variables answer input given =
+    follow give input (drop place script) place 0 (record { registers = registers; variables = variables; answer = answer; given = given; stop = stop.End })
+
+-- a call of a script: from its top, with registers of 0, and no reply or decision
+abbrev pub called : {S : Type 0} → (Effect → S → S) → List Instr → List ℤ → CallInput → S → ScriptState S
+called give script variables input given = resumed give script 0 zeros variables None input given
 
 -- effects in the order in which they come
 abbrev pub listed : Effect → List Effect → List Effect
 listed effect effects = effects ++ effect ∷ []
 
--- a call of a script: from its top, with registers of 0 and its group's variables
+-- a call of a script whose effects are listed
 abbrev pub call_of : List Instr → List ℤ → CallInput → ScriptState (List Effect)
-call_of script variables input = follow listed input script 0 (record { registers = zeros; variables = variables; given = [] })
+call_of script variables input = called listed script variables input []
+
+-- a number from 1 up to a greatest one, or else 1
+abbrev pub decision_within : ℕ → ℤ → ℕ
+decision_within most (pos n) = if nat_le 1 n && nat_le n most then n else 1
+decision_within most (negsuc n) = 1
+
+-- what closes a call of a script for this kind of callback, by its reply or decision: no reply is 0, and no decision 1
+abbrev pub close_of : Role → Option ℤ → Close
+close_of role.Callback answer = close.Nothing
+close_of role.Service answer = close.Reply (unwrap_or answer (pos 0))
+close_of role.GoalHandler answer = close.Decide (decision_within 3 (unwrap_or answer (pos 1)))
+close_of role.CancelHandler answer = close.Decide (decision_within 2 (unwrap_or answer (pos 1)))
+close_of role.Goal answer = close.Nothing

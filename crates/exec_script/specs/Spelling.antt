@@ -15,6 +15,14 @@ use Rattle.exec_script.specs.declared.instr.Operation.TheVariants as operation
 use Rattle.exec_script.specs.declared.word.Word.{Word}
 use Rattle.exec_script.specs.declared.word.Word.TheVariants.{Text, Number}
 
+-- the names that a script may use: for each name the number of the topic, the service client, the action client or the
+-- action server that has it
+pub record ScopeNames : Type 0 where
+  pub topic : List ℕ → Option ℕ
+  pub client : List ℕ → Option ℕ
+  pub action_client : List ℕ → Option ℕ
+  pub server : List ℕ → Option ℕ
+
 -- the value, and what's made of it
 infixl 10 ◌>>=◌
 abbrev pub ◌>>=◌ : {A B E : Type 0} → Result A E → (A → Result B E) → Result B E
@@ -79,9 +87,18 @@ count_of (Number (pos n)) = if nat_le 1 n then Some n else None
 count_of (Number (negsuc n)) = None
 count_of (Text text) = None
 
+-- a text that stands where a name does
+abbrev pub text_of : Word → Option (List ℕ)
+text_of (Number value) = None
+text_of (Text text) = Some text
+
 -- an item that its place takes
 abbrev pub taken : {A : Type 0} → Option A → Result A ScriptFault
 taken item = ok_or item fault.Operand
+
+-- a name that the scope has
+abbrev pub known : {A : Type 0} → Option A → Result A ScriptFault
+known found = ok_or found fault.UnknownName
 
 -- set: a destination, an operation and two operands
 abbrev pub set_of : List Word → Result Instr ScriptFault
@@ -101,30 +118,119 @@ skip_of (a ∷ n ∷ []) = do
   Ok (instr.Skip condition count)
 skip_of _ = Err fault.Count
 
--- log: an operand
-abbrev pub log_of : List Word → Result Instr ScriptFault
-log_of (a ∷ []) = do
+-- an operand, and nothing more
+abbrev pub operand_alone : List Word → Result Operand ScriptFault
+operand_alone (a ∷ []) = taken (operand_of a)
+operand_alone _ = Err fault.Count
+
+-- the instruction that is made of one operand
+abbrev pub of_operand : (Operand → Instr) → List Word → Result Instr ScriptFault
+of_operand make items = do
+  value ← operand_alone items
+  Ok (make value)
+
+-- the instruction that is made of what a name finds and of an operand
+abbrev pub of_name_and_operand : (List ℕ → Option ℕ) → (ℕ → Operand → Instr) → List Word → Result Instr ScriptFault
+of_name_and_operand find make (n ∷ a ∷ []) = do
+  name ← taken (text_of n)
   value ← taken (operand_of a)
-  Ok (instr.Log value)
-log_of _ = Err fault.Count
+  entity ← known (find name)
+  Ok (make entity value)
+of_name_and_operand find make _ = Err fault.Count
+
+-- execute: a server's name
+abbrev pub execute_of : ScopeNames → List Word → Result Instr ScriptFault
+execute_of scope (n ∷ []) = do
+  name ← taken (text_of n)
+  server ← known (scope.server name)
+  Ok (instr.Execute server)
+execute_of scope _ = Err fault.Count
+
+-- yield: nothing more
+abbrev pub yield_of : List Word → Result Instr ScriptFault
+yield_of [] = Ok instr.Yield
+yield_of _ = Err fault.Count
+
+-- cancel all: a client's name, and no stamp
+abbrev pub cancel_all_of : ScopeNames → Word → List Word → Result Instr ScriptFault
+cancel_all_of scope n [] = do
+  name ← taken (text_of n)
+  client ← known (scope.action_client name)
+  Ok (instr.CancelAll client (operand.Value (pos 0)))
+cancel_all_of scope n _ = Err fault.Count
+
+-- cancel before: a client's name and a stamp
+abbrev pub cancel_before_of : ScopeNames → Word → List Word → Result Instr ScriptFault
+cancel_before_of scope n (s ∷ []) = do
+  name ← taken (text_of n)
+  stamp ← taken (operand_of s)
+  client ← known (scope.action_client name)
+  Ok (instr.CancelAll client stamp)
+cancel_before_of scope n _ = Err fault.Count
+
+-- cancel goal: a client's name and the number of one of its goals, and no stamp
+abbrev pub cancel_goal_of : ScopeNames → Word → List Word → Result Instr ScriptFault
+cancel_goal_of scope n (k ∷ []) = do
+  name ← taken (text_of n)
+  goal ← taken (operand_of k)
+  client ← known (scope.action_client name)
+  Ok (instr.CancelGoal client goal (operand.Value (pos 0)))
+cancel_goal_of scope n _ = Err fault.Count
+
+-- cancel goal-before: a client's name, the number of one of its goals, and a stamp
+abbrev pub cancel_goal_before_of : ScopeNames → Word → List Word → Result Instr ScriptFault
+cancel_goal_before_of scope n (k ∷ s ∷ []) = do
+  name ← taken (text_of n)
+  goal ← taken (operand_of k)
+  stamp ← taken (operand_of s)
+  client ← known (scope.action_client name)
+  Ok (instr.CancelGoal client goal stamp)
+cancel_goal_before_of scope n _ = Err fault.Count
+
+-- cancel in its form of this name
+abbrev pub cancel_named : ScopeNames → Word → List ℕ → List Word → Result Instr ScriptFault
+cancel_named scope n form items =
+    if bytes_eq form (codes "all") then cancel_all_of scope n items else
+    (if bytes_eq form (codes "before") then cancel_before_of scope n items else
+    (if bytes_eq form (codes "goal") then cancel_goal_of scope n items else
+    (if bytes_eq form (codes "goal-before") then cancel_goal_before_of scope n items else Err fault.Operand)))
+
+-- cancel: a client's name, a form, and what the form takes
+abbrev pub cancel_of : ScopeNames → List Word → Result Instr ScriptFault
+cancel_of scope (n ∷ Text form ∷ items) = cancel_named scope n form items
+cancel_of scope (n ∷ Number value ∷ items) = Err fault.Operand
+cancel_of scope _ = Err fault.Count
 
 -- the instruction of this name, with these items behind the name
-abbrev pub instruction_named : List ℕ → List Word → Result Instr ScriptFault
-instruction_named name items =
+abbrev pub instruction_named : ScopeNames → List ℕ → List Word → Result Instr ScriptFault
+instruction_named scope name items =
     if bytes_eq name (codes "set") then set_of items else
     (if bytes_eq name (codes "skip") then skip_of items else
-    (if bytes_eq name (codes "log") then log_of items else Err fault.Instruction))
+    (if bytes_eq name (codes "pub") then of_name_and_operand scope.topic instr.Pub items else
+    (if bytes_eq name (codes "call") then of_name_and_operand scope.client instr.Call items else
+    (if bytes_eq name (codes "goal") then of_name_and_operand scope.action_client instr.Goal items else
+    (if bytes_eq name (codes "cancel") then cancel_of scope items else
+    (if bytes_eq name (codes "execute") then execute_of scope items else
+    (if bytes_eq name (codes "log") then of_operand instr.Log items else
+    (if bytes_eq name (codes "reply") then of_operand instr.Reply items else
+    (if bytes_eq name (codes "decide") then of_operand instr.Decide items else
+    (if bytes_eq name (codes "feedback") then of_operand instr.Feedback items else
+    (if bytes_eq name (codes "wait") then of_operand instr.Wait items else
+    (if bytes_eq name (codes "yield") then yield_of items else
+    (if bytes_eq name (codes "succeed") then of_operand instr.Succeed items else
+    (if bytes_eq name (codes "abort") then of_operand instr.Abort items else
+    (if bytes_eq name (codes "canceled") then of_operand instr.Canceled items else Err fault.Instruction)))))))))))))))
 
 -- the instruction that words spell
-abbrev pub instruction_of : List Word → Result Instr ScriptFault
-instruction_of [] = Err fault.Instruction
-instruction_of (Number value ∷ items) = Err fault.Instruction
-instruction_of (Text name ∷ items) = instruction_named name items
+abbrev pub instruction_of : ScopeNames → List Word → Result Instr ScriptFault
+instruction_of scope [] = Err fault.Instruction
+instruction_of scope (Number value ∷ items) = Err fault.Instruction
+instruction_of scope (Text name ∷ items) = instruction_named scope name items
 
 -- the script that lists of words spell, or the fault of the first that is misspelt
-abbrev pub script_of : List (List Word) → Result (List Instr) ScriptFault
-script_of [] = Ok []
-script_of (words ∷ others) = do
-  instruction ← instruction_of words
-  rest ← script_of others
+abbrev pub script_of : ScopeNames → List (List Word) → Result (List Instr) ScriptFault
+script_of scope [] = Ok []
+script_of scope (words ∷ others) = do
+  instruction ← instruction_of scope words
+  rest ← script_of scope others
   Ok (instruction ∷ rest)

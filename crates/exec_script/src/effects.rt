@@ -1,25 +1,94 @@
-use exec_msg::Memory;
+use exec_msg::{EntityNo, Event, GoalId, Memory};
+use smallvec::SmallVec;
 use std::alloc::Global;
+use std::default::MadeWith;
 use std::marker::Model;
 
 /// What a callback does outside itself.
 #[derive(Clone, Copy, Debug, PartialEq, Eq)]
 pub enum Effect {
+    /// A value is published to a topic.
+    Publish {
+        topic: EntityNo,
+        value: i64,
+    },
+    /// A service client calls.
+    Call {
+        client: EntityNo,
+        value: i64,
+    },
+    /// An action client sends a goal request.
+    SendGoal {
+        client: EntityNo,
+        value: i64,
+    },
+    /// An action client sends a cancel request with no identifier; a stamp of 0 is none.
+    CancelAll {
+        client: EntityNo,
+        stamp: u64,
+    },
+    /// An action client sends a cancel request for its goal of this number; 0 is no goal of
+    /// it, and a stamp of 0 is none.
+    CancelGoal {
+        client: EntityNo,
+        goal: u64,
+        stamp: u64,
+    },
+    /// A server begins to work on the oldest goal that it accepted and deferred.
+    Execute {
+        server: EntityNo,
+    },
     /// A line with a value.
     Log(i64),
+    /// The goal gives feedback.
+    Feedback(i64),
+}
+
+// What stands in the places of an `EffectList` that no effect has taken yet.
+impl MadeWith<Global> for Effect {
+    fn made_with(_alloc: Global) -> Effect {
+        Effect::Log(0)
+    }
 }
 
 /// What closes a callback after its effects.
-#[derive(Clone, Copy, Debug, PartialEq, Eq)]
+#[derive(Debug, Drop)]
 pub enum Close {
     /// Nothing.
     Nothing,
+    /// A service's reply.
+    Reply(i64),
+    /// A goal handler's decision: 1 rejects, 2 accepts and executes, 3 accepts and defers. Of one
+    /// candidate a cancel handler's: 1 rejects, 2 accepts.
+    Decide(u8),
+    /// A cancel handler's decisions, one for each candidate.
+    Decisions(DecisionList),
+    /// The goal pends.
+    Pending,
+    /// The goal ended by this event with a value.
+    Ended(Event, i64),
+}
+
+/// The decisions of a cancel handler in the order of its candidates, each with the candidate's
+/// identifier: 1 rejects, 2 accepts.
+#[derive(Debug, Drop)]
+pub struct DecisionList {
+    items: Vec<(GoalId, u8)>,
+}
+
+impl Model for DecisionList {
+    ghost use Rattle.std.specs.Prelude.{ℕ, List};
+
+    ghost Value = { List (ℕ × ℕ) };
+
+    ghost view = { λ decisions. decisions.items.items };
 }
 
 /// Effects in the order in which they were given.
 #[derive(Debug, Drop)]
 pub struct EffectList {
-    items: Vec<Effect>,
+    // Most callbacks give few effects, and those need no allocation.
+    items: SmallVec<Effect, 2>,
 }
 
 impl Model for EffectList {
@@ -32,14 +101,14 @@ impl Model for EffectList {
 }
 
 impl EffectList {
-    ghost use Rattle.std.specs.Prelude.{◌≡◌, [], ◌∷◌, ◌++◌, OnOk, OnErr};
+    ghost use Rattle.std.specs.Prelude.{◌≡◌, [], ◌∷◌, ◌++◌, length, take, OnOk, OnErr};
 
     /// No effects. It takes no memory.
     pub fn new(alloc: Global) -> EffectList
         ensures { result ≡ [] }
     {
         EffectList {
-            items: Vec::new(alloc),
+            items: SmallVec::new(alloc),
         }
     }
 
@@ -50,6 +119,20 @@ impl EffectList {
     {
         self.items.push(effect)?;
         Ok(())
+    }
+
+    /// How many effects there are.
+    pub fn len(&self) -> usize
+        ensures { result ≡ length self.now }
+    {
+        self.items.len()
+    }
+
+    /// Keeps the first effects, so many, and lets the others go.
+    pub fn truncate(&mut self, count: usize)
+        ensures { self.new ≡ take count self.old }
+    {
+        self.items.truncate(count);
     }
 
     /// The effects in their order.

@@ -1,4 +1,5 @@
 use crate::cells::Slot;
+use exec_msg::EntityNo;
 
 /// Where a value comes from.
 #[derive(Clone, Copy, Debug, PartialEq, Eq)]
@@ -60,8 +61,70 @@ pub enum Instr {
         condition: Operand,
         count: u64,
     },
+    /// `["pub", T, A]`: A is published to topic T.
+    Pub {
+        topic: EntityNo,
+        value: Operand,
+    },
+    /// `["call", C, A]`: service client C calls with A.
+    Call {
+        client: EntityNo,
+        value: Operand,
+    },
+    /// `["goal", C, A]`: action client C sends a goal request of A.
+    Goal {
+        client: EntityNo,
+        value: Operand,
+    },
+    /// `["cancel", C, "all"]` and `["cancel", C, "before", S]`: action client C sends a cancel request
+    /// with no identifier and the stamp S, which for `"all"` is 0.
+    CancelAll {
+        client: EntityNo,
+        stamp: Operand,
+    },
+    /// `["cancel", C, "goal", K]` and `["cancel", C, "goal-before", K, S]`: action client C sends a cancel
+    /// request for its goal K with the stamp S, which for `"goal"` is 0.
+    CancelGoal {
+        client: EntityNo,
+        goal: Operand,
+        stamp: Operand,
+    },
+    /// `["execute", X]`: server X begins to work on the oldest goal that it accepted and deferred.
+    Execute {
+        server: EntityNo,
+    },
     /// `["log", A]`: a line with A.
     Log {
+        value: Operand,
+    },
+    /// `["reply", A]`: the service's reply becomes A.
+    Reply {
+        value: Operand,
+    },
+    /// `["decide", A]`: the handler's decision becomes A.
+    Decide {
+        value: Operand,
+    },
+    /// `["feedback", A]`: the goal gives feedback A.
+    Feedback {
+        value: Operand,
+    },
+    /// `["wait", A]`: the goal pends for A ticks.
+    Wait {
+        ticks: Operand,
+    },
+    /// `["yield"]`: the goal pends until the next round.
+    Yield,
+    /// `["succeed", A]`: the goal ends with A, having succeeded.
+    Succeed {
+        value: Operand,
+    },
+    /// `["abort", A]`: the goal ends with A, given up.
+    Abort {
+        value: Operand,
+    },
+    /// `["canceled", A]`: the goal ends with A, its cancellation done.
+    Canceled {
         value: Operand,
     },
 }

@@ -1,22 +1,27 @@
 //! Scripts: what a callback of the executor does, instruction by instruction.
 #![tactic(auto)]
 
+mod cancel;
 mod cells;
 mod effects;
 mod fault;
 mod instr;
+mod item;
+pub mod laws;
 mod place;
 mod run;
+mod scope;
 mod spelling;
 mod step;
 mod word;
 
 pub use cells::{Bank, Regs, Slot};
-pub use effects::{Close, Effect, EffectList, Effects};
+pub use effects::{Close, DecisionList, Effect, EffectList, Effects};
 pub use fault::ScriptFault;
 pub use instr::{Destination, Instr, Operand, Operation};
 pub use place::{Place, Role, check};
-pub use run::{Input, run_call};
-pub use spelling::{Scope, decode};
-pub use step::Step;
+pub use run::{Input, run_call, run_from};
+pub use scope::Scope;
+pub use spelling::decode;
+pub use step::{Step, Stop};
 pub use word::{Word, WordText};

@@ -1,68 +1,63 @@
-ghost use Rattle.std.specs.Prelude.{◌≡◌, ◌⊎◌, ℕ, List, Option, map, IfOk, IfErr};
-ghost use Rattle.exec_script.specs.Spelling.{cell_named, operand_of, destination_of, operation_of, count_of, set_of, skip_of, log_of, instruction_of, script_of};
+ghost use Rattle.std.specs.Prelude.{◌≡◌, ◌⊎◌, map, IfOk, IfErr};
+ghost use Rattle.exec_script.specs.Spelling.{set_of, skip_of, of_operand, of_name_and_operand, operand_alone, execute_of, yield_of, instruction_named, instruction_of, script_of};
+ghost use Rattle.exec_script.specs.declared.instr.Instr.TheVariants as instr;
 
-use crate::cells::Slot;
+use crate::cancel::cancel;
 use crate::fault::ScriptFault;
-use crate::instr::{Destination, Instr, Operand, Operation};
+use crate::instr::{Instr, Operand};
+use crate::item::{count_of, destination_of, operand_of, operation_of, text_of};
+use crate::scope::Scope;
 use crate::word::Word;
-use exec_msg::EntityNo;
 use std::alloc::Global;
 
-/// The names that a script may use, each with the number of what it names.
-pub trait Scope {
-    ghost topics: { Self → List ℕ → Option ℕ };
-
-    ghost clients: { Self → List ℕ → Option ℕ };
-
-    ghost action_clients: { Self → List ℕ → Option ℕ };
-
-    ghost servers: { Self → List ℕ → Option ℕ };
-
-    /// The topic of this name.
-    fn topic(&self, name: &str) -> Option<EntityNo>
-        ensures { result ≡ topics self.now name.now };
-
-    /// The service client of this name.
-    fn client(&self, name: &str) -> Option<EntityNo>
-        ensures { result ≡ clients self.now name.now };
-
-    /// The action client of this name.
-    fn action_client(&self, name: &str) -> Option<EntityNo>
-        ensures { result ≡ action_clients self.now name.now };
-
-    /// The action server of this name.
-    fn server(&self, name: &str) -> Option<EntityNo>
-        ensures { result ≡ servers self.now name.now };
-}
-
-/// The script that lists of words spell. No instruction of today names anything of the scope.
-pub fn decode(
+/// The script that lists of words spell. Where one is misspelt, the fault is that of the first such
+/// instruction, and of its faults the least.
+pub fn decode<S: Scope>(
     alloc: Global,
     spelled: &[Vec<Word>],
-    _scope: &impl Scope,
+    scope: &S,
 ) -> Result<Vec<Instr>, ScriptFault>
-    ensures script { IfOk result (λ script. script_of (map (λ words. words.items) spelled.now) ≡ Ok script.items) }
+    ensures script { IfOk result (λ script. script_of (S.names scope.now) (map (λ words. words.items) spelled.now) ≡ Ok script.items) }
     ensures fault { IfErr result (λ fault. (fault ≡ ScriptFault.Memory)
-        ⊎ (script_of (map (λ words. words.items) spelled.now) ≡ Err fault)) }
+        ⊎ (script_of (S.names scope.now) (map (λ words. words.items) spelled.now) ≡ Err fault)) }
 {
     let mut script = Vec::new(alloc);
     for words in spelled {
-        let instr = instruction(words.as_slice())?;
+        let instr = instruction(words.as_slice(), scope)?;
         script.push(instr)?;
     }
     Ok(script)
 }
 
-fn instruction(words: &[Word]) -> Result<Instr, ScriptFault>
-    ensures { result ≡ instruction_of words.now }
+fn instruction<S: Scope>(words: &[Word], scope: &S) -> Result<Instr, ScriptFault>
+    ensures { result ≡ instruction_of (S.names scope.now) words.now }
 {
     let [Word::Text(name), items @ ..] = words else {
         return Err(ScriptFault::Instruction);
     };
-    match name.as_str() {
+    instruction_named(name.as_str(), items, scope)
+}
+
+fn instruction_named<S: Scope>(name: &str, items: &[Word], scope: &S) -> Result<Instr, ScriptFault>
+    ensures { result ≡ instruction_named (S.names scope.now) name.now items.now }
+{
+    match name {
         "set" => set(items),
         "skip" => skip(items),
+        "pub" => publish(items, scope),
+        "call" => call(items, scope),
+        "goal" => goal(items, scope),
+        "cancel" => cancel(items, scope),
+        "execute" => execute(items, scope),
         "log" => log(items),
+        "reply" => reply(items),
+        "decide" => decide(items),
+        "feedback" => feedback(items),
+        "wait" => wait(items),
+        "yield" => pend(items),
+        "succeed" => succeed(items),
+        "abort" => abort(items),
+        "canceled" => canceled(items),
         _ => Err(ScriptFault::Instruction),
     }
 }
@@ -93,80 +88,138 @@ fn skip(items: &[Word]) -> Result<Instr, ScriptFault>
     })
 }
 
+fn publish<S: Scope>(items: &[Word], scope: &S) -> Result<Instr, ScriptFault>
+    ensures { result ≡ of_name_and_operand (S.names scope.now).topic instr.Pub items.now }
+{
+    let [name, value] = items else {
+        return Err(ScriptFault::Count);
+    };
+    let name = text_of(name).ok_or(ScriptFault::Operand)?;
+    let value = operand_of(value).ok_or(ScriptFault::Operand)?;
+    Ok(Instr::Pub {
+        topic: scope.topic(name).ok_or(ScriptFault::UnknownName)?,
+        value,
+    })
+}
+
+fn call<S: Scope>(items: &[Word], scope: &S) -> Result<Instr, ScriptFault>
+    ensures { result ≡ of_name_and_operand (S.names scope.now).client instr.Call items.now }
+{
+    let [name, value] = items else {
+        return Err(ScriptFault::Count);
+    };
+    let name = text_of(name).ok_or(ScriptFault::Operand)?;
+    let value = operand_of(value).ok_or(ScriptFault::Operand)?;
+    Ok(Instr::Call {
+        client: scope.client(name).ok_or(ScriptFault::UnknownName)?,
+        value,
+    })
+}
+
+fn goal<S: Scope>(items: &[Word], scope: &S) -> Result<Instr, ScriptFault>
+    ensures { result ≡ of_name_and_operand (S.names scope.now).action_client instr.Goal items.now }
+{
+    let [name, value] = items else {
+        return Err(ScriptFault::Count);
+    };
+    let name = text_of(name).ok_or(ScriptFault::Operand)?;
+    let value = operand_of(value).ok_or(ScriptFault::Operand)?;
+    Ok(Instr::Goal {
+        client: scope.action_client(name).ok_or(ScriptFault::UnknownName)?,
+        value,
+    })
+}
+
+fn execute<S: Scope>(items: &[Word], scope: &S) -> Result<Instr, ScriptFault>
+    ensures { result ≡ execute_of (S.names scope.now) items.now }
+{
+    let [name] = items else {
+        return Err(ScriptFault::Count);
+    };
+    let name = text_of(name).ok_or(ScriptFault::Operand)?;
+    Ok(Instr::Execute {
+        server: scope.server(name).ok_or(ScriptFault::UnknownName)?,
+    })
+}
+
 fn log(items: &[Word]) -> Result<Instr, ScriptFault>
-    ensures { result ≡ log_of items.now }
+    ensures { result ≡ of_operand instr.Log items.now }
+{
+    Ok(Instr::Log {
+        value: operand_alone(items)?,
+    })
+}
+
+fn reply(items: &[Word]) -> Result<Instr, ScriptFault>
+    ensures { result ≡ of_operand instr.Reply items.now }
+{
+    Ok(Instr::Reply {
+        value: operand_alone(items)?,
+    })
+}
+
+fn decide(items: &[Word]) -> Result<Instr, ScriptFault>
+    ensures { result ≡ of_operand instr.Decide items.now }
+{
+    Ok(Instr::Decide {
+        value: operand_alone(items)?,
+    })
+}
+
+fn feedback(items: &[Word]) -> Result<Instr, ScriptFault>
+    ensures { result ≡ of_operand instr.Feedback items.now }
+{
+    Ok(Instr::Feedback {
+        value: operand_alone(items)?,
+    })
+}
+
+fn wait(items: &[Word]) -> Result<Instr, ScriptFault>
+    ensures { result ≡ of_operand instr.Wait items.now }
+{
+    Ok(Instr::Wait {
+        ticks: operand_alone(items)?,
+    })
+}
+
+fn pend(items: &[Word]) -> Result<Instr, ScriptFault>
+    ensures { result ≡ yield_of items.now }
+{
+    let [] = items else {
+        return Err(ScriptFault::Count);
+    };
+    Ok(Instr::Yield)
+}
+
+fn succeed(items: &[Word]) -> Result<Instr, ScriptFault>
+    ensures { result ≡ of_operand instr.Succeed items.now }
+{
+    Ok(Instr::Succeed {
+        value: operand_alone(items)?,
+    })
+}
+
+fn abort(items: &[Word]) -> Result<Instr, ScriptFault>
+    ensures { result ≡ of_operand instr.Abort items.now }
+{
+    Ok(Instr::Abort {
+        value: operand_alone(items)?,
+    })
+}
+
+fn canceled(items: &[Word]) -> Result<Instr, ScriptFault>
+    ensures { result ≡ of_operand instr.Canceled items.now }
+{
+    Ok(Instr::Canceled {
+        value: operand_alone(items)?,
+    })
+}
+
+fn operand_alone(items: &[Word]) -> Result<Operand, ScriptFault>
+    ensures { result ≡ operand_alone items.now }
 {
     let [value] = items else {
         return Err(ScriptFault::Count);
     };
-    Ok(Instr::Log {
-        value: operand_of(value).ok_or(ScriptFault::Operand)?,
-    })
-}
-
-fn operand_of(word: &Word) -> Option<Operand>
-    ensures { result ≡ operand_of word.now }
-{
-    match word {
-        Word::Number(value) => Some(Operand::Value(*value)),
-        Word::Text(text) => match text.as_str() {
-            "in" => Some(Operand::In),
-            "aux" => Some(Operand::Aux),
-            "now" => Some(Operand::Now),
-            text => match cell_named(text)? {
-                Destination::Register(slot) => Some(Operand::Register(slot)),
-                Destination::Variable(slot) => Some(Operand::Variable(slot)),
-            },
-        },
-    }
-}
-
-fn destination_of(word: &Word) -> Option<Destination>
-    ensures { result ≡ destination_of word.now }
-{
-    match word {
-        Word::Number(_) => None,
-        Word::Text(text) => cell_named(text.as_str()),
-    }
-}
-
-fn cell_named(text: &str) -> Option<Destination>
-    ensures { result ≡ cell_named text.now }
-{
-    let [letter, digit @ b'0'..=b'7'] = text.as_bytes() else {
-        return None;
-    };
-    let slot = Slot::new(*digit - b'0')?;
-    match *letter {
-        b'r' => Some(Destination::Register(slot)),
-        b'g' => Some(Destination::Variable(slot)),
-        _ => None,
-    }
-}
-
-fn operation_of(word: &Word) -> Option<Operation>
-    ensures { result ≡ operation_of word.now }
-{
-    let Word::Text(text) = word else {
-        return None;
-    };
-    match text.as_str() {
-        "add" => Some(Operation::Add),
-        "sub" => Some(Operation::Sub),
-        "mul" => Some(Operation::Mul),
-        "min" => Some(Operation::Min),
-        "max" => Some(Operation::Max),
-        "lt" => Some(Operation::Lt),
-        "eq" => Some(Operation::Eq),
-        _ => None,
-    }
-}
-
-fn count_of(word: &Word) -> Option<u64>
-    ensures { result ≡ count_of word.now }
-{
-    match word {
-        Word::Number(count) if *count >= 1 => Some(*count as u64),
-        _ => None,
-    }
+    operand_of(value).ok_or(ScriptFault::Operand)
 }

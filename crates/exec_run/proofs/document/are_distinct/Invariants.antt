@@ -1,5 +1,5 @@
 use Rattle.std.proofs.Common.{◌≡◌, map, drop, string_bytes}
-use Rattle.exec_run.specs.Document.{are_distinct}
+use Rattle.exec_graph.specs.Names.{are_distinct}
 use Rattle.exec_run.proofs.document.are_distinct.Given as goal
 
 abbrev pub invariant-loop-i : goal.invariant-loop-i

@@ -1,0 +1,69 @@
+-- Which goals an answer to a cancel request moves.
+use Rattle.std.proofs.Common.{◌≡◌, ◌⊎◌, inl, inr, ℕ, ◌<◌, ◌==◌, List, [], ◌∷◌, length, map, Bool, true, false, ◌&&◌, if◌then◌else◌, refl, ap, sym, subst, ◌∙◌, get_or, arith}
+use Rattle.std.specs.List.{All, Any, Contains}
+use Rattle.std.proofs.lemmas.Bool.{and_parts, and_from, eqb-true, eq-eqb}
+use Rattle.std.proofs.lemmas.List.{length-map, get_or-map, get_or_default}
+use Rattle.std.proofs.lemmas.List.Elements.{filter_passes, All-weaker}
+use Rattle.std.proofs.lemmas.List.Folds.{Any-from_list_any, list_any-from_Any}
+use Rattle.exec_goal.specs.Cancel.{CancelRequest, Decided, is_acceptance, is_accepted_for, candidates, is_moved, moved, table_after}
+use Rattle.exec_goal.specs.State.{is_cancelable}
+use Rattle.exec_goal.specs.Table.{GoalRecord, after_event}
+use Rattle.exec_goal.specs.declared.state.State.{State}
+use Rattle.exec_goal.specs.declared.state.State.TheVariants as state
+use Rattle.exec_msg.specs.declared.goal.Event.TheVariants as event
+
+pub cancelable_to : (held : State) → is_cancelable held ≡ true → (held ≡ state.Accepted) ⊎ (held ≡ state.Executing)
+cancelable_to state.Accepted is = inl refl
+cancelable_to state.Executing is = inr refl
+cancelable_to _ is = absurd cc
+
+pub cancelable_from : (held : State) → (held ≡ state.Accepted) ⊎ (held ≡ state.Executing) → is_cancelable held ≡ true
+cancelable_from held (inl is) = ap is_cancelable is
+cancelable_from held (inr is) = ap is_cancelable is
+
+-- a goal is accepted for cancelling where a decision of 2 names it
+pub accepted_to : (decisions : List Decided) (id : ℕ) → is_accepted_for decisions id ≡ true → Contains decisions (id, 2)
+accepted_to decisions id is =
+    let found = Any-from_list_any (λ (decided : Decided). (decided.0 == id) && is_acceptance decided) decisions is in
+    let parts = and_parts (found.1.0 == id) (is_acceptance found.1) found.4 in
+    let same : found.1 ≡ (id, 2) = λ i. (eqb-true found.1.0 id parts.0 i, eqb-true found.1.1 2 parts.1 i) in
+    (found.0, found.2, get_or_default decisions found.0 (id, 2) found.1 found.2 ∙ found.3 ∙ same)
+
+pub accepted_from : (decisions : List Decided) (id : ℕ) → Contains decisions (id, 2) → is_accepted_for decisions id ≡ true
+accepted_from decisions id has =
+    list_any-from_Any (λ (decided : Decided). (decided.0 == id) && is_acceptance decided) decisions
+    (has.0, (id, 2), has.1, has.2, and_from (id == id) true (eq-eqb id id refl) refl)
+
+-- an answer leaves a goal's identifier
+answered_id : (test : Bool) (goal : GoalRecord) → (if test then after_event event.CancelGoal goal else goal).id ≡ goal.id
+answered_id true goal = refl
+answered_id false goal = refl
+
+pub table-ids : (decisions : List Decided) (goals : List GoalRecord) → map (λ goal. goal.id) (table_after decisions goals) ≡ map (λ goal. goal.id) goals
+table-ids decisions [] = refl
+table-ids decisions (goal ∷ goals) =
+    ap (λ id. id ∷ map (λ goal. goal.id) (table_after decisions goals)) (answered_id (is_moved decisions goal) goal)
+    ∙ ap (λ ids. goal.id ∷ ids) (table-ids decisions goals)
+
+-- a number that a function gives at an element of a list is one of those that it gives
+Contains-map : {X : Type 0} (f : X → ℕ) (xs : List X) (x : X) → Contains xs x → Contains (map f xs) (f x)
+Contains-map f xs x has =
+    (has.0, (omega (arith, length-map xs f, has.1)), get_or-map f xs has.0 x (f x) has.1 ∙ ap f has.2)
+
+-- a number that a function gives somewhere is given by an element
+Any-map : {X : Type 0} (f : X → ℕ) (xs : List X) (n : ℕ) (d : X) → Contains (map f xs) n → Any (λ x. f x ≡ n) xs
+Any-map f xs n d has =
+    let below : has.0 < length xs = omega (arith, length-map xs f, has.1) in
+    (has.0, get_or xs has.0 d, below, get_or_default xs has.0 (get_or xs has.0 d) d below, sym (get_or-map f xs has.0 d n below) ∙ has.2)
+
+-- where the decisions are on the candidates of a request, each goal that moves has the identifier of a candidate
+pub moved_among : (request : CancelRequest) (decisions : List Decided) (before goals : List GoalRecord) →
+    map (λ decided. decided.0) decisions ≡ map (λ goal. goal.id) (candidates request before) →
+    All (λ goal. Any (λ candidate. candidate.id ≡ goal.id) (candidates request before)) (moved decisions goals)
+moved_among request decisions before goals same =
+    All-weaker (λ goal. is_moved decisions goal ≡ true) (λ goal. Any (λ candidate. candidate.id ≡ goal.id) (candidates request before))
+    (λ goal moves.
+    let accepted = accepted_to decisions goal.id (and_parts (is_accepted_for decisions goal.id) (is_cancelable goal.state) moves).0 in
+    Any-map (λ goal. goal.id) (candidates request before) goal.id goal
+    (subst (λ ids. Contains ids goal.id) same (Contains-map (λ decided. decided.0) decisions (goal.id, 2) accepted)))
+    (moved decisions goals) (filter_passes (is_moved decisions) goals)

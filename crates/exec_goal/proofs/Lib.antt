@@ -1,0 +1,5 @@
+pub mod Answering
+pub mod Asking
+pub mod Filtering
+pub mod Moving
+pub mod ReturnCodes

@@ -1,0 +1,77 @@
+-- Cancel requests: `action_msgs/srv/CancelGoal`.
+use Rattle.std.specs.Prelude.{ℕ, zero, suc, List, [], ◌∷◌, map, Bool, true, false, not, ◌&&◌, ◌||◌, ◌==◌, nat_le, if◌then◌else◌, Option, None, Some}
+use Rattle.std.specs.List.{find, filter, list_any}
+use Rattle.exec_msg.specs.declared.goal.Event.TheVariants as event
+use Rattle.exec_msg.specs.declared.goal.ReturnCode.{ReturnCode}
+use Rattle.exec_msg.specs.declared.goal.ReturnCode.TheVariants as code
+use Rattle.exec_goal.specs.State.{is_cancelable, is_terminal}
+use Rattle.exec_goal.specs.Table.{GoalRecord, has_id, after_event}
+
+-- a cancel request: an identifier and a stamp in ticks, of which 0 is none
+pub record CancelRequest : Type 0 where
+  pub id : ℕ
+  pub stamp : ℕ
+
+-- the policy: with neither all goals; with a stamp all goals accepted at or before it; with an identifier that goal,
+-- whenever accepted; with both that goal and all goals accepted at or before the stamp
+abbrev pub selects : ℕ → ℕ → GoalRecord → Bool
+selects zero zero goal = true
+selects zero (suc before) goal = nat_le goal.stamp (suc before)
+selects (suc id) zero goal = has_id (suc id) goal
+selects (suc id) (suc before) goal = has_id (suc id) goal || nat_le goal.stamp (suc before)
+
+-- a candidate is selected and may be moved
+abbrev pub is_candidate : CancelRequest → GoalRecord → Bool
+is_candidate request goal = selects request.id request.stamp goal && is_cancelable goal.state
+
+-- the candidates of a request, in order of acceptance
+abbrev pub candidates : CancelRequest → List GoalRecord → List GoalRecord
+candidates request goals = filter (is_candidate request) goals
+
+-- what a cancel handler decided: a candidate's identifier, and its decision
+abbrev pub Decided : Type 0
+Decided = ℕ × ℕ
+
+-- a decision that accepts: ACCEPT is 2, and any other number rejects
+abbrev pub is_acceptance : Decided → Bool
+is_acceptance decided = decided.1 == 2
+
+-- whether the goal of an identifier is accepted for cancelling
+abbrev pub is_accepted_for : List Decided → ℕ → Bool
+is_accepted_for decisions id = list_any (λ decided. (decided.0 == id) && is_acceptance decided) decisions
+
+-- an accepted candidate moves where it still may
+abbrev pub is_moved : List Decided → GoalRecord → Bool
+is_moved decisions goal = is_accepted_for decisions goal.id && is_cancelable goal.state
+
+-- the goals that move, in order of acceptance
+abbrev pub moved : List Decided → List GoalRecord → List GoalRecord
+moved decisions goals = filter (is_moved decisions) goals
+
+-- a goal after the answer
+abbrev pub after_answer : List Decided → GoalRecord → GoalRecord
+after_answer decisions goal = if is_moved decisions goal then after_event event.CancelGoal goal else goal
+
+-- the table after the answer
+abbrev pub table_after : List Decided → List GoalRecord → List GoalRecord
+table_after decisions goals = map (after_answer decisions) goals
+
+-- the code where no goal moved, by the goal that the request's identifier names: unknown where there is none, terminated
+-- where it has ended, and else rejected
+abbrev pub code_by : ℕ → Option GoalRecord → ReturnCode
+code_by zero named = code.Rejected
+code_by (suc id) None = code.UnknownGoalId
+code_by (suc id) (Some goal) = if is_terminal goal.state then code.GoalTerminated else code.Rejected
+
+-- whether there were candidates, and the handler refused all of them
+abbrev pub is_refused : List Decided → Bool
+is_refused [] = false
+is_refused (decided ∷ others) = not (list_any is_acceptance (decided ∷ others))
+
+-- the code where no goal moved
+abbrev pub code_unmoved : CancelRequest → List Decided → List GoalRecord → ReturnCode
+code_unmoved request decisions goals = if is_refused decisions then code.Rejected else code_by request.id (find (has_id request.id) goals)
+
+-- the return code of a request's answer
+abbrev pub code_of : CancelRequest → List Decided → List GoalRecord → ReturnCode
+code_of request decisions goals = if list_any (is_moved decisions) goals then code.None else code_unmoved request decisions goals

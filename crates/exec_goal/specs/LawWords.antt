@@ -1,0 +1,18 @@
+-- Words for the laws of goals.
+use Rattle.std.specs.Prelude.{◌≢◌, List, [], ◌∷◌, All, AllPairs}
+use Rattle.exec_goal.specs.Cancel.{Decided}
+use Rattle.exec_goal.specs.Table.{GoalRecord}
+
+-- no two goals of the table have one identifier
+abbrev pub HaveDistinctIds : List GoalRecord → Type 0
+HaveDistinctIds goals = AllPairs (λ earlier later. earlier.id ≢ later.id) goals
+
+-- the first list is the second without some of its elements, the others in their order
+pub data IsSublist {X : Type 0} : List X → List X → Type 0 where
+  empty : IsSublist [] []
+  with_first : (x : X) (xs ys : List X) → IsSublist xs ys → IsSublist (x ∷ xs) (x ∷ ys)
+  without_first : (x : X) (xs ys : List X) → IsSublist xs ys → IsSublist xs (x ∷ ys)
+
+-- there were candidates, and the handler refused all of them
+abbrev pub AllRefused : List Decided → Type 0
+AllRefused decisions = (decisions ≢ []) × All (λ decided. decided.1 ≢ 2) decisions

@@ -1,0 +1,5 @@
+pub mod Cancel
+pub mod Examples
+pub mod LawWords
+pub mod State
+pub mod Table

@@ -1,0 +1,97 @@
+-- The goals that a server holds, in the order in which it accepted them.
+use Rattle.std.specs.Prelude.{ℕ, ℤ, pos, ◌+◌, List, [], ◌∷◌, ◌++◌, length, Bool, false, not, ◌&&◌, ◌==◌, nat_le, if◌then◌else◌, Option, None, Some}
+use Rattle.std.specs.Option.{unwrap_or}
+use Rattle.std.specs.List.{find, filter, list_any}
+use Rattle.exec_msg.specs.declared.goal.Event.{Event}
+use Rattle.exec_msg.specs.declared.goal.Event.TheVariants as event
+use Rattle.exec_msg.specs.declared.goal.GoalStatus.{GoalStatus}
+use Rattle.exec_goal.specs.State.{after, status_of, is_terminal}
+use Rattle.exec_goal.specs.declared.state.State.{State}
+use Rattle.exec_goal.specs.declared.state.State.TheVariants as state
+
+-- a goal: its identifier, its value, the moment of its acceptance, its state, its result and the moment of its end (its
+-- stamp until it ends), and the action clients that asked for its result, in that order
+pub record GoalRecord : Type 0 where
+  pub id : ℕ
+  pub value : ℤ
+  pub stamp : ℕ
+  pub state : State
+  pub result : ℤ
+  pub ended : ℕ
+  pub askers : List ℕ
+
+-- the greatest number of goals that a server holds, in whatever state
+abbrev pub most_goals : ℕ
+most_goals = 64
+
+-- whether a goal has this identifier
+abbrev pub has_id : ℕ → GoalRecord → Bool
+has_id id goal = goal.id == id
+
+-- whether the table holds a goal of this identifier
+abbrev pub holds : ℕ → List GoalRecord → Bool
+holds id goals = list_any (has_id id) goals
+
+-- whether the table has no room
+abbrev pub is_full : List GoalRecord → Bool
+is_full goals = nat_le most_goals (length goals)
+
+-- the decisions of a goal handler: anything but ACCEPT_AND_EXECUTE, 2, and ACCEPT_AND_DEFER, 3, rejects
+abbrev pub is_accepting : ℕ → Bool
+is_accepting decision = nat_le 2 decision && nat_le decision 3
+
+-- the state after an event, or the state before where there is no such transition
+abbrev pub moved_by : Event → State → State
+moved_by event before = unwrap_or (after before event) before
+
+-- the state of a goal that is accepted by decision 2 or 3: decision 2 executes it at once
+abbrev pub accepted_state : ℕ → State
+accepted_state decision = if decision == 2 then moved_by event.Execute state.Accepted else state.Accepted
+
+-- a goal that is accepted at a moment
+abbrev pub new_goal : ℕ → ℤ → ℕ → ℕ → GoalRecord
+new_goal id value moment decision = record { id = id; value = value; stamp = moment; state = accepted_state decision; result = pos 0; ended = moment; askers = [] }
+
+-- a goal accepted by decision 2 or 3 stands at the end of the table
+abbrev pub with_accepted : ℕ → ℤ → ℕ → ℕ → List GoalRecord → List GoalRecord
+with_accepted id value moment decision goals = goals ++ new_goal id value moment decision ∷ []
+
+-- a goal after an event
+abbrev pub after_event : Event → GoalRecord → GoalRecord
+after_event event goal = record goal { state = moved_by event goal.state }
+
+-- a goal that an event ends at a moment, with its result
+abbrev pub after_end : Event → ℤ → ℕ → GoalRecord → GoalRecord
+after_end event value moment goal = record goal { state = moved_by event goal.state; result = value; ended = moment }
+
+-- whether a server that keeps results for so many ticks forgets a goal at a moment; without a timeout it never does
+abbrev pub is_expired : ℕ → Option ℕ → GoalRecord → Bool
+is_expired moment None goal = false
+is_expired moment (Some timeout) goal = is_terminal goal.state && nat_le (goal.ended + timeout) moment
+
+-- the goals that it forgets, in order of acceptance
+abbrev pub expired : ℕ → Option ℕ → List GoalRecord → List GoalRecord
+expired moment timeout goals = filter (is_expired moment timeout) goals
+
+-- the goals that it keeps
+abbrev pub unexpired : ℕ → Option ℕ → List GoalRecord → List GoalRecord
+unexpired moment timeout goals = filter (λ goal. not (is_expired moment timeout goal)) goals
+
+-- what a result request is told: a goal's status and result, that the goal hasn't ended, or that there is no such goal
+pub data Asked : Type 0 where
+  told : GoalStatus → ℤ → Asked
+  later : Asked
+  unknown : Asked
+
+-- what is told of a goal
+abbrev pub answer_to : Option GoalRecord → Asked
+answer_to None = unknown
+answer_to (Some goal) = if is_terminal goal.state then told (status_of goal.state) goal.result else later
+
+-- what a result request for an identifier is told
+abbrev pub asked_for : ℕ → List GoalRecord → Asked
+asked_for id goals = answer_to (find (has_id id) goals)
+
+-- a goal whose result another action client has asked for
+abbrev pub asked_by : ℕ → GoalRecord → GoalRecord
+asked_by client goal = record goal { askers = goal.askers ++ client ∷ [] }

@@ -1,0 +1,235 @@
+//! Laws of goals: each function's contract says one, and its body is empty. They hold for all states, tables and
+//! requests.
+
+ghost use Rattle.std.specs.Prelude.{◌≡◌, ◌≢◌, ◌↔◌, ◌⊎◌, ℕ, ◌+◌, ◌≤◌, ℤ, List, [], ◌∷◌, ◌++◌, length, map, take, drop, true, false, find, All, Any, Contains, IsPermutation, Option, None, Some};
+ghost use Rattle.exec_goal.specs.Cancel.{CancelRequest, Decided, selects, is_candidate, candidates, is_moved, moved, after_answer, table_after, code_of};
+ghost use Rattle.exec_goal.specs.LawWords.{HaveDistinctIds, IsSublist, AllRefused};
+ghost use Rattle.exec_goal.specs.State.{Transition, after, status_of, is_terminal};
+ghost use Rattle.exec_goal.specs.Table.{GoalRecord, has_id, holds, is_full, is_accepting, new_goal, with_accepted, is_expired, expired, unexpired, told, later, unknown, asked_for};
+ghost use Rattle.exec_goal.specs.declared.state.State.{State};
+ghost use Rattle.exec_goal.specs.declared.state.State.TheVariants as state;
+ghost use Rattle.exec_msg.specs.Goal.{status_number};
+ghost use Rattle.exec_msg.specs.declared.goal.Event.{Event};
+ghost use Rattle.exec_msg.specs.declared.goal.Event.TheVariants as event;
+ghost use Rattle.exec_msg.specs.declared.goal.GoalStatus.{GoalStatus};
+ghost use Rattle.exec_msg.specs.declared.goal.ReturnCode.TheVariants as code;
+
+/// A goal moves from one state to another by an event exactly where the table has that transition.
+pub fn goals_move_by_the_table()
+    ensures { (before : State) (by : Event) (next : State) → (after before by ≡ Some next) ↔ Transition before by next }
+{}
+
+/// Nothing moves a goal that has ended.
+pub fn ended_goals_stay()
+    ensures { (before : State) (by : Event) → is_terminal before ≡ true → after before by ≡ None }
+{}
+
+/// Something moves each goal that hasn't ended.
+pub fn active_goals_can_move()
+    ensures { (before : State) → is_terminal before ≡ false → (by : Event) × (next : State) × (after before by ≡ Some next) }
+{}
+
+/// Each state but ACCEPTED is entered by its own event alone, and no event leads to ACCEPTED.
+pub fn states_have_their_own_events()
+    ensures accepted { (before : State) (by : Event) → after before by ≢ Some state.Accepted }
+    ensures executing { (before : State) (by : Event) → after before by ≡ Some state.Executing → by ≡ event.Execute }
+    ensures canceling { (before : State) (by : Event) → after before by ≡ Some state.Canceling → by ≡ event.CancelGoal }
+    ensures succeeded { (before : State) (by : Event) → after before by ≡ Some state.Succeeded → by ≡ event.Succeed }
+    ensures aborted { (before : State) (by : Event) → after before by ≡ Some state.Aborted → by ≡ event.Abort }
+    ensures canceled { (before : State) (by : Event) → after before by ≡ Some state.Canceled → by ≡ event.Canceled }
+{}
+
+/// No two states have one status.
+pub fn statuses_differ()
+    ensures { (first second : State) → status_of first ≡ status_of second → first ≡ second }
+{}
+
+/// The status number of a goal that is held is never 0, which is that of an unknown goal.
+pub fn held_goals_are_known()
+    ensures { (held : State) → status_number (status_of held) ≢ 0 }
+{}
+
+/// A goal is accepted by the decisions 2 and 3, and by no other.
+pub fn two_decisions_accept()
+    ensures { (decision : ℕ) → (is_accepting decision ≡ true) ↔ ((decision ≡ 2) ⊎ (decision ≡ 3)) }
+{}
+
+/// A server has no room where it holds 64 goals or more.
+pub fn servers_hold_64_goals()
+    ensures { (goals : List GoalRecord) → (is_full goals ≡ true) ↔ (64 ≤ length goals) }
+{}
+
+/// Where no two goals have one identifier and that of a new goal isn't held, no two goals have one identifier once it is
+/// accepted.
+pub fn accepting_keeps_identifiers_distinct()
+    ensures { (id : ℕ) (value : ℤ) (moment decision : ℕ) (goals : List GoalRecord) →
+        HaveDistinctIds goals → holds id goals ≡ false → HaveDistinctIds (with_accepted id value moment decision goals) }
+{}
+
+/// A goal that is accepted stands last, behind the goals that were held, and is held.
+pub fn accepted_goals_stand_last()
+    ensures others { (id : ℕ) (value : ℤ) (moment decision : ℕ) (goals : List GoalRecord) →
+        take (length goals) (with_accepted id value moment decision goals) ≡ goals }
+    ensures last { (id : ℕ) (value : ℤ) (moment decision : ℕ) (goals : List GoalRecord) →
+        drop (length goals) (with_accepted id value moment decision goals) ≡ new_goal id value moment decision ∷ [] }
+    ensures held { (id : ℕ) (value : ℤ) (moment decision : ℕ) (goals : List GoalRecord) →
+        holds id (with_accepted id value moment decision goals) ≡ true }
+{}
+
+/// A goal that is accepted is EXECUTING by decision 2, and ACCEPTED by decision 3.
+pub fn accepted_goals_begin_by_their_decision()
+    ensures executed { (id : ℕ) (value : ℤ) (moment : ℕ) → (new_goal id value moment 2).state ≡ state.Executing }
+    ensures deferred { (id : ℕ) (value : ℤ) (moment : ℕ) → (new_goal id value moment 3).state ≡ state.Accepted }
+{}
+
+/// A result request is told a status and a result exactly where the first goal of its identifier has ended with them.
+pub fn results_of_ended_goals_are_told()
+    ensures { (id : ℕ) (status : GoalStatus) (result : ℤ) (goals : List GoalRecord) →
+        (asked_for id goals ≡ told status result)
+        ↔ ((goal : GoalRecord) × (find (has_id id) goals ≡ Some goal) × (is_terminal goal.state ≡ true) × (status_of goal.state ≡ status) × (goal.result ≡ result)) }
+{}
+
+/// A result request is answered later exactly where the first goal of its identifier hasn't ended.
+pub fn results_of_active_goals_come_later()
+    ensures { (id : ℕ) (goals : List GoalRecord) →
+        (asked_for id goals ≡ later) ↔ ((goal : GoalRecord) × (find (has_id id) goals ≡ Some goal) × (is_terminal goal.state ≡ false)) }
+{}
+
+/// A result request is told that the goal is unknown exactly where its identifier isn't held.
+pub fn other_goals_are_unknown()
+    ensures { (id : ℕ) (goals : List GoalRecord) → (asked_for id goals ≡ unknown) ↔ (holds id goals ≡ false) }
+{}
+
+/// What is forgotten and what is kept are together the table, each in order of acceptance.
+pub fn expiry_parts_the_table()
+    ensures together { (moment : ℕ) (timeout : Option ℕ) (goals : List GoalRecord) →
+        IsPermutation goals (expired moment timeout goals ++ unexpired moment timeout goals) }
+    ensures forgotten { (moment : ℕ) (timeout : Option ℕ) (goals : List GoalRecord) → IsSublist (expired moment timeout goals) goals }
+    ensures kept { (moment : ℕ) (timeout : Option ℕ) (goals : List GoalRecord) → IsSublist (unexpired moment timeout goals) goals }
+{}
+
+/// Each goal that is forgotten has expired and so has ended, and none that is kept has expired.
+pub fn expired_goals_are_forgotten()
+    ensures forgotten { (moment : ℕ) (timeout : Option ℕ) (goals : List GoalRecord) →
+        All (λ goal. is_expired moment timeout goal ≡ true) (expired moment timeout goals) }
+    ensures ended { (moment : ℕ) (timeout : Option ℕ) (goals : List GoalRecord) →
+        All (λ goal. is_terminal goal.state ≡ true) (expired moment timeout goals) }
+    ensures kept { (moment : ℕ) (timeout : Option ℕ) (goals : List GoalRecord) →
+        All (λ goal. is_expired moment timeout goal ≡ false) (unexpired moment timeout goals) }
+{}
+
+/// Without a timeout nothing is forgotten.
+pub fn without_timeout_all_is_kept()
+    ensures forgotten { (moment : ℕ) (goals : List GoalRecord) → expired moment None goals ≡ [] }
+    ensures kept { (moment : ℕ) (goals : List GoalRecord) → unexpired moment None goals ≡ goals }
+{}
+
+/// A goal that has ended expires at the moment of its end plus the timeout, and not before.
+pub fn goals_expire_after_their_timeout()
+    ensures { (moment timeout : ℕ) (goal : GoalRecord) → is_terminal goal.state ≡ true →
+        (is_expired moment (Some timeout) goal ≡ true) ↔ (goal.ended + timeout ≤ moment) }
+{}
+
+/// A cancel request selects all goals, or those accepted at or before its stamp, or the goal of its identifier, or the
+/// latter two.
+pub fn requests_select_by_the_policy()
+    ensures all { (goal : GoalRecord) → selects 0 0 goal ≡ true }
+    ensures before { (stamp : ℕ) (goal : GoalRecord) → stamp ≢ 0 → (selects 0 stamp goal ≡ true) ↔ (goal.stamp ≤ stamp) }
+    ensures named { (id : ℕ) (goal : GoalRecord) → id ≢ 0 → (selects id 0 goal ≡ true) ↔ (goal.id ≡ id) }
+    ensures either { (id stamp : ℕ) (goal : GoalRecord) → id ≢ 0 → stamp ≢ 0 →
+        (selects id stamp goal ≡ true) ↔ ((goal.id ≡ id) ⊎ (goal.stamp ≤ stamp)) }
+{}
+
+/// The candidates are the goals that a request selects and that are ACCEPTED or EXECUTING, in order of acceptance.
+pub fn candidates_may_be_moved()
+    ensures exactly { (request : CancelRequest) (goal : GoalRecord) →
+        (is_candidate request goal ≡ true)
+        ↔ ((selects request.id request.stamp goal ≡ true) × ((goal.state ≡ state.Accepted) ⊎ (goal.state ≡ state.Executing))) }
+    ensures each { (request : CancelRequest) (goals : List GoalRecord) →
+        All (λ goal. is_candidate request goal ≡ true) (candidates request goals) }
+    ensures all { (request : CancelRequest) (goals : List GoalRecord) (goal : GoalRecord) →
+        Contains goals goal → is_candidate request goal ≡ true → Contains (candidates request goals) goal }
+    ensures ordered { (request : CancelRequest) (goals : List GoalRecord) → IsSublist (candidates request goals) goals }
+{}
+
+/// A goal moves exactly where a decision of 2 names it and it is still ACCEPTED or EXECUTING.
+pub fn accepted_candidates_move()
+    ensures { (decisions : List Decided) (goal : GoalRecord) →
+        (is_moved decisions goal ≡ true)
+        ↔ (Contains decisions (goal.id, 2) × ((goal.state ≡ state.Accepted) ⊎ (goal.state ≡ state.Executing))) }
+{}
+
+/// The goals that move are all such goals of the table, in order of acceptance.
+pub fn moved_goals_stand_in_order()
+    ensures each { (decisions : List Decided) (goals : List GoalRecord) →
+        All (λ goal. is_moved decisions goal ≡ true) (moved decisions goals) }
+    ensures all { (decisions : List Decided) (goals : List GoalRecord) (goal : GoalRecord) →
+        Contains goals goal → is_moved decisions goal ≡ true → Contains (moved decisions goals) goal }
+    ensures ordered { (decisions : List Decided) (goals : List GoalRecord) → IsSublist (moved decisions goals) goals }
+{}
+
+/// A goal that moves becomes CANCELING, and any other stays as it was.
+pub fn moved_goals_are_canceling()
+    ensures moved { (decisions : List Decided) (goal : GoalRecord) →
+        is_moved decisions goal ≡ true → after_answer decisions goal ≡ record goal { state = state.Canceling } }
+    ensures unmoved { (decisions : List Decided) (goal : GoalRecord) →
+        is_moved decisions goal ≡ false → after_answer decisions goal ≡ goal }
+{}
+
+/// An answer leaves the identifiers of the table, in their order.
+pub fn answers_keep_the_order()
+    ensures { (decisions : List Decided) (goals : List GoalRecord) →
+        map (λ goal. goal.id) (table_after decisions goals) ≡ map (λ goal. goal.id) goals }
+{}
+
+/// Goals that have ended stay as they were in every answer, and so do those that are CANCELING.
+pub fn answers_leave_ended_goals()
+    ensures ended { (decisions : List Decided) (goal : GoalRecord) → is_terminal goal.state ≡ true → after_answer decisions goal ≡ goal }
+    ensures canceling { (decisions : List Decided) (goal : GoalRecord) → goal.state ≡ state.Canceling → after_answer decisions goal ≡ goal }
+{}
+
+/// Where the decisions are on the candidates of a request in an earlier table, each goal that moves has the identifier of
+/// a candidate.
+pub fn only_candidates_move()
+    ensures { (request : CancelRequest) (decisions : List Decided) (before goals : List GoalRecord) →
+        map (λ decided. decided.0) decisions ≡ map (λ goal. goal.id) (candidates request before) →
+        All (λ goal. Any (λ candidate. candidate.id ≡ goal.id) (candidates request before)) (moved decisions goals) }
+{}
+
+/// The return code is ERROR_NONE exactly where a goal moved.
+pub fn code_is_none_where_a_goal_moved()
+    ensures { (request : CancelRequest) (decisions : List Decided) (goals : List GoalRecord) →
+        (code_of request decisions goals ≡ code.None) ↔ (moved decisions goals ≢ []) }
+{}
+
+/// Where no goal moved and all candidates were refused, of which there were some, the code is ERROR_REJECTED.
+pub fn code_is_rejected_where_all_were_refused()
+    ensures { (request : CancelRequest) (decisions : List Decided) (goals : List GoalRecord) →
+        moved decisions goals ≡ [] → AllRefused decisions → code_of request decisions goals ≡ code.Rejected }
+{}
+
+/// The code is ERROR_UNKNOWN_GOAL_ID exactly where no goal moved, not all candidates were refused, and the request names a
+/// goal that isn't held.
+pub fn code_is_unknown_where_no_such_goal_is_held()
+    ensures { (request : CancelRequest) (decisions : List Decided) (goals : List GoalRecord) →
+        (code_of request decisions goals ≡ code.UnknownGoalId)
+        ↔ ((moved decisions goals ≡ []) × (AllRefused decisions → ⊥) × (request.id ≢ 0) × (holds request.id goals ≡ false)) }
+{}
+
+/// The code is ERROR_GOAL_TERMINATED exactly where no goal moved, not all candidates were refused, and the goal that the
+/// request names has ended.
+pub fn code_is_terminated_where_the_goal_has_ended()
+    ensures { (request : CancelRequest) (decisions : List Decided) (goals : List GoalRecord) →
+        (code_of request decisions goals ≡ code.GoalTerminated)
+        ↔ ((moved decisions goals ≡ []) × (AllRefused decisions → ⊥) × (request.id ≢ 0)
+        × ((goal : GoalRecord) × (find (has_id request.id) goals ≡ Some goal) × (is_terminal goal.state ≡ true))) }
+{}
+
+/// Where no goal moved and the request names none, or one that hasn't ended, the code is ERROR_REJECTED.
+pub fn code_is_rejected_else()
+    ensures unnamed { (stamp : ℕ) (decisions : List Decided) (goals : List GoalRecord) →
+        moved decisions goals ≡ [] → code_of (record { id = 0; stamp = stamp }) decisions goals ≡ code.Rejected }
+    ensures active { (request : CancelRequest) (decisions : List Decided) (goals : List GoalRecord) (goal : GoalRecord) →
+        moved decisions goals ≡ [] → find (has_id request.id) goals ≡ Some goal → is_terminal goal.state ≡ false →
+        code_of request decisions goals ≡ code.Rejected }
+{}

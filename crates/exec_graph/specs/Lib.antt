@@ -1,0 +1,4 @@
+pub mod Graph
+pub mod Lawful
+pub mod Names
+pub mod Plan

@@ -1,0 +1,5 @@
+//! Graphs of nodes with their topics, entities and callback groups, and plans of what is run on them.
+#![tactic(auto)]
+
+pub mod laws;
+pub mod limits;

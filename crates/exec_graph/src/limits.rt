@@ -1,0 +1,36 @@
+//! The limits of a document.
+
+use exec_msg::Moment;
+
+/// Nodes of a document, at most.
+pub const NODES: usize = 64;
+
+/// Named callback groups of a document, at most.
+pub const NAMED_GROUPS: usize = 256;
+
+/// Topics of a document, at most.
+pub const TOPICS: usize = 256;
+
+/// Entities of a document, at most; topics aren't among them.
+pub const ENTITIES: usize = 512;
+
+/// Instructions of one script, at most.
+pub const INSTRUCTIONS: usize = 64;
+
+/// The depth of a queue, at most; the least is 1.
+pub const DEPTH: u64 = 1_024;
+
+/// The depth of a queue where none is given.
+pub const DEFAULT_DEPTH: u64 = 10;
+
+/// Rounds of a document, at most.
+pub const MOMENTS: usize = 65_536;
+
+/// Entries of a document's feed, at most.
+pub const FEED: usize = 65_536;
+
+/// Characters of a name, at most; the least is 1.
+pub const NAME_LENGTH: usize = 64;
+
+/// A moment, a timeout, a fed stamp and a period in ticks, at most: 2^62.
+pub const TICKS: u64 = Moment::MAX;

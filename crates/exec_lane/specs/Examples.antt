@@ -1,0 +1,20 @@
+-- A worked example: the lane of two timers of one callback group in their first round.
+use Rattle.std.specs.Prelude.{ℤ, pos, List, [], ◌∷◌, None}
+use Rattle.exec_lane.specs.Lane.{Done, LaneState}
+use Rattle.exec_script.specs.declared.effects.Close.TheVariants as close
+use Rattle.exec_script.specs.declared.effects.Effect.TheVariants as effect
+use Rattle.exec_world.specs.Examples.Timers.{shared}
+use Rattle.exec_world.specs.Ready.{Ready, ready_list}
+use Rattle.exec_world.specs.Transcript.{first_world}
+
+-- the ready list of the first round, at moment 1
+abbrev pub first_ready : List Ready
+first_ready = ready_list shared.graph 1 (first_world shared.graph)
+
+-- a callback that logs a value
+abbrev pub logs : ℤ → Done
+logs value = record { effects = record { list = effect.Log value ∷ []; close = close.Nothing }; task = None }
+
+-- the lane after both: the first doubled the variable 0, and the second added 1 to it
+abbrev pub lane_done : LaneState
+lane_done = record { variables = pos 1 ∷ pos 0 ∷ pos 0 ∷ pos 0 ∷ pos 0 ∷ pos 0 ∷ pos 0 ∷ pos 0 ∷ []; done = logs (pos 0) ∷ logs (pos 1) ∷ [] }

@@ -1,0 +1,25 @@
+//! Laws of lanes: each function's contract says one, and its body is empty.
+ghost use Rattle.std.specs.Prelude.{◌≡◌, ℕ, List, [], ◌∷◌, length, map, Bool, true, false};
+ghost use Rattle.std.specs.List.{filter, flat_map};
+ghost use Rattle.exec_graph.specs.Graph.{GraphData};
+ghost use Rattle.exec_lane.specs.Lane.{is_exclusive, is_of_group, has_group, as_lane, lanes_of};
+ghost use Rattle.exec_world.specs.Ready.{Ready};
+
+/// Every ready callback stands in exactly one lane: whatever a test picks, all lanes together hold as many
+/// callbacks that pass it as the ready list.
+pub fn each_callback_stands_in_one_lane()
+    ensures { (graph : GraphData) (list : List Ready) (test : Ready → Bool) →
+        length (filter test (flat_map (λ lane. lane) (lanes_of graph list))) ≡ length (filter test list) }
+{}
+
+/// The ready callbacks of a mutually exclusive group are one lane, in ready order.
+pub fn an_exclusive_group_has_one_lane()
+    ensures { (graph : GraphData) (list : List Ready) (group : ℕ) → is_exclusive graph group ≡ true →
+        filter (has_group group) (lanes_of graph list) ≡ as_lane (filter (is_of_group group) list) }
+{}
+
+/// Each ready callback of a reentrant group is a lane by itself.
+pub fn a_reentrant_callback_is_a_lane()
+    ensures { (graph : GraphData) (list : List Ready) (group : ℕ) → is_exclusive graph group ≡ false →
+        filter (has_group group) (lanes_of graph list) ≡ map (λ one. one ∷ []) (filter (is_of_group group) list) }
+{}

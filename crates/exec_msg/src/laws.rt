@@ -1,0 +1,76 @@
+//! Laws of the definitions that the crate's contracts cite, for all values that they speak of.
+ghost use Rattle.std.specs.Prelude.{◌≡◌, ℕ, ◌+◌, ◌-◌, ◌*◌, ◌<◌, ◌≤◌, List, [], ◌∷◌, ◌++◌, length, take, drop};
+ghost use Rattle.std.specs.List.{fold};
+ghost use Rattle.exec_msg.specs.Goal.{status_number, code_number};
+ghost use Rattle.exec_msg.specs.declared.goal.GoalStatus.{GoalStatus};
+ghost use Rattle.exec_msg.specs.declared.goal.ReturnCode.{ReturnCode};
+ghost use Rattle.exec_msg.specs.KeepLast.{sent, displaced, taken};
+ghost use Rattle.exec_msg.specs.Timer.{TimerState, next_call, IsNextCall};
+
+/// No two statuses have one number.
+pub fn status_numbers_differ()
+    ensures { (first second : GoalStatus) → status_number first ≡ status_number second → first ≡ second }
+{}
+
+/// No two return codes have one number.
+pub fn code_numbers_differ()
+    ensures { (first second : ReturnCode) → code_number first ≡ code_number second → first ≡ second }
+{}
+
+/// Whatever a keep-last queue held, it holds no more than its depth once an item was sent to it.
+pub fn queue_within_depth<Item>()
+    ensures { (depth : ℕ) (item : Item) (items : List Item) → length (sent depth item items) ≤ depth }
+{}
+
+/// A keep-last queue to which a history of items was sent, one after another, holds the last of the
+/// history, as many as its depth.
+pub fn queue_holds_the_last<Item>()
+    ensures { (depth : ℕ) (history : List Item) → fold (λ items item. sent depth item items) [] history ≡ drop (length history - depth) history }
+{}
+
+/// A keep-last queue of depth at least 1 holds the item that was sent to it, as its last.
+pub fn queue_holds_the_new_item<Item>()
+    ensures { (depth : ℕ) (item : Item) (items : List Item) → 1 ≤ depth → sent depth item items ≡ drop (length items + 1 - depth) items ++ item ∷ [] }
+{}
+
+/// What a keep-last queue loses by a send and what it holds then are together what it held and the
+/// new item, in their order.
+pub fn queue_loses_the_first<Item>()
+    ensures { (depth : ℕ) (item : Item) (items : List Item) → displaced depth item items ++ sent depth item items ≡ items ++ item ∷ [] }
+{}
+
+/// A keep-last queue that holds no more than its depth loses at most one item by a send.
+pub fn queue_loses_at_most_one<Item>()
+    ensures { (depth : ℕ) (item : Item) (items : List Item) → length items ≤ depth → length (displaced depth item items) ≤ 1 }
+{}
+
+/// A keep-last queue that holds less than its depth loses nothing by a send.
+pub fn queue_with_room_loses_nothing<Item>()
+    ensures { (depth : ℕ) (item : Item) (items : List Item) → length items < depth → displaced depth item items ≡ [] }
+{}
+
+/// A full keep-last queue of depth at least 1 loses its oldest item by a send.
+pub fn full_queue_loses_its_oldest<Item>()
+    ensures { (depth : ℕ) (item oldest : Item) (items : List Item) → depth ≡ length items + 1 → displaced depth item (oldest ∷ items) ≡ oldest ∷ [] }
+{}
+
+/// A queue of depth 2 to which 1, 2 and 3 are sent loses nothing, nothing and then 1, and holds 2
+/// and 3, of which 3 is left once an item was taken.
+pub fn queue_of_depth_2()
+    ensures first { displaced {A = ℕ} 2 1 [] ≡ [] }
+    ensures second { displaced {A = ℕ} 2 2 (sent {A = ℕ} 2 1 []) ≡ [] }
+    ensures third { displaced {A = ℕ} 2 3 (sent {A = ℕ} 2 2 (sent {A = ℕ} 2 1 [])) ≡ 1 ∷ [] }
+    ensures held { sent {A = ℕ} 2 3 (sent {A = ℕ} 2 2 (sent {A = ℕ} 2 1 [])) ≡ 2 ∷ 3 ∷ [] }
+    ensures left { taken {A = ℕ} (sent {A = ℕ} 2 3 (sent {A = ℕ} 2 2 (sent {A = ℕ} 2 1 []))) ≡ 3 ∷ [] }
+{}
+
+/// A timer's next call is whole periods after its old time, at or after now, and no earlier such
+/// time is.
+pub fn next_call_is_the_least()
+    ensures { (timer : TimerState) (now : ℕ) → 1 ≤ timer.period → IsNextCall timer now (next_call timer now) }
+{}
+
+/// A timer's next call is after its old time.
+pub fn next_call_is_later()
+    ensures { (timer : TimerState) (now : ℕ) → 1 ≤ timer.period → timer.next < next_call timer now }
+{}

@@ -1,0 +1,88 @@
+ghost use Rattle.std.specs.Prelude.{◌≡◌};
+ghost use Rattle.std.specs.Option.{option_copied};
+ghost use Rattle.exec_script.specs.Spelling.{cell_named, operand_of, destination_of, operation_of, count_of, text_of};
+
+use crate::cells::Slot;
+use crate::instr::{Destination, Operand, Operation};
+use crate::word::Word;
+
+/// The operand that a word spells.
+pub fn operand_of(word: &Word) -> Option<Operand>
+    ensures { result ≡ operand_of word.now }
+{
+    match word {
+        Word::Number(value) => Some(Operand::Value(*value)),
+        Word::Text(text) => match text.as_str() {
+            "in" => Some(Operand::In),
+            "aux" => Some(Operand::Aux),
+            "now" => Some(Operand::Now),
+            text => match cell_named(text)? {
+                Destination::Register(slot) => Some(Operand::Register(slot)),
+                Destination::Variable(slot) => Some(Operand::Variable(slot)),
+            },
+        },
+    }
+}
+
+/// The destination that a word spells.
+pub fn destination_of(word: &Word) -> Option<Destination>
+    ensures { result ≡ destination_of word.now }
+{
+    match word {
+        Word::Number(_) => None,
+        Word::Text(text) => cell_named(text.as_str()),
+    }
+}
+
+fn cell_named(text: &str) -> Option<Destination>
+    ensures { result ≡ cell_named text.now }
+{
+    let [letter, digit @ b'0'..=b'7'] = text.as_bytes() else {
+        return None;
+    };
+    let slot = Slot::new(*digit - b'0')?;
+    match *letter {
+        b'r' => Some(Destination::Register(slot)),
+        b'g' => Some(Destination::Variable(slot)),
+        _ => None,
+    }
+}
+
+/// The operation that a word spells.
+pub fn operation_of(word: &Word) -> Option<Operation>
+    ensures { result ≡ operation_of word.now }
+{
+    let Word::Text(text) = word else {
+        return None;
+    };
+    match text.as_str() {
+        "add" => Some(Operation::Add),
+        "sub" => Some(Operation::Sub),
+        "mul" => Some(Operation::Mul),
+        "min" => Some(Operation::Min),
+        "max" => Some(Operation::Max),
+        "lt" => Some(Operation::Lt),
+        "eq" => Some(Operation::Eq),
+        _ => None,
+    }
+}
+
+/// The number of instructions to pass over that a word spells.
+pub fn count_of(word: &Word) -> Option<u64>
+    ensures { result ≡ count_of word.now }
+{
+    match word {
+        Word::Number(count) if *count >= 1 => Some(*count as u64),
+        _ => None,
+    }
+}
+
+/// The text of a word, where it is one.
+pub fn text_of(word: &Word) -> Option<&str>
+    ensures { option_copied result ≡ text_of word.now }
+{
+    match word {
+        Word::Number(_) => None,
+        Word::Text(text) => Some(text.as_str()),
+    }
+}

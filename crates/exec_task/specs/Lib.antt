@@ -1,0 +1,4 @@
+pub mod Call
+pub mod Examples
+pub mod LawWords
+pub mod Task

@@ -1,0 +1,125 @@
+//! Laws of goals' tasks: each function's contract says one. They hold for all scripts, from every state of a task, and
+//! for effects that go anywhere: `S` is what they are put into, and `give` puts one there.
+
+ghost use Rattle.std.specs.Prelude.{◌≡◌, ◌≢◌, ◌↔◌, ◌⊎◌, ℕ, ◌≤◌, ℤ, List, [], ◌∷◌, length, Bool, true, false, Contains, Option, None, Some, IfSome};
+ghost use Rattle.std.specs.List.{list_any};
+ghost use Rattle.exec_msg.specs.declared.goal.Event.{Event};
+ghost use Rattle.exec_msg.specs.declared.goal.Event.TheVariants as event;
+ghost use Rattle.exec_script.specs.LawWords.{IsEnding};
+ghost use Rattle.exec_script.specs.Script.{listed};
+ghost use Rattle.exec_script.specs.declared.effects.Effect.{Effect};
+ghost use Rattle.exec_script.specs.declared.instr.Instr.{Instr};
+ghost use Rattle.exec_task.specs.Call.{CallState, completed, sources_of_call};
+ghost use Rattle.exec_task.specs.LawWords.{has_come, polled_later};
+ghost use Rattle.exec_task.specs.Task.{TaskState, has_ended, is_awake, ready, pending, answer_of, polled, sources_of, ending_event};
+ghost use Rattle.exec_task.specs.declared.wait.Ending.{Ending};
+ghost use Rattle.exec_task.specs.declared.wait.Source.TheVariants as source;
+ghost use Rattle.exec_task.specs.declared.wait.Turn.{Turn};
+ghost use Rattle.exec_task.specs.declared.wait.Wait.{Wait};
+ghost use Rattle.exec_task.specs.declared.wait.Wait.TheVariants as wait;
+
+/// A task that has ended is never awake.
+pub fn ended_tasks_sleep()
+    ensures { (task : TaskState) (turn : Turn) → has_ended task ≡ true → is_awake task turn ≡ false }
+{}
+
+/// A task that waits for the next round is awake in every turn, unless it has ended.
+pub fn next_rounds_wake()
+    ensures { (task : TaskState) (turn : Turn) → has_ended task ≡ false → task.waits ≡ wait.NextRound → is_awake task turn ≡ true }
+{}
+
+/// A task that waits until a time is awake exactly from that time on, or where it is canceling and wasn't told so.
+pub fn times_and_cancellation_wake()
+    ensures { (task : TaskState) (turn : Turn) (time : ℕ) → has_ended task ≡ false → task.waits ≡ wait.Until time →
+        (is_awake task turn ≡ true) ↔ ((time ≤ turn.moment) ⊎ ((turn.canceling ≡ true) × (task.told ≡ false))) }
+{}
+
+/// A poll of a task that isn't awake changes nothing, and answers as before.
+pub fn sleeping_tasks_stay<S>()
+    ensures same { (give : Effect → S → S) (script : List Instr) (value : ℤ) (turn : Turn) (task : TaskState) (variables : List ℤ) (given : S) →
+        is_awake task turn ≡ false →
+        polled give script value turn task variables given ≡ record { task = task; variables = variables; given = given } }
+    ensures answers { (give : Effect → S → S) (script : List Instr) (value : ℤ) (turn : Turn) (task : TaskState) (variables : List ℤ) (given : S) →
+        is_awake task turn ≡ false →
+        answer_of (polled give script value turn task variables given).task ≡ answer_of task }
+{}
+
+/// A task that hasn't ended was told that it is being canceled once it was polled so, and not otherwise.
+pub fn polls_tell_of_cancellation<S>()
+    ensures told { (give : Effect → S → S) (script : List Instr) (value : ℤ) (turn : Turn) (task : TaskState) (variables : List ℤ) (given : S) →
+        has_ended task ≡ false → turn.canceling ≡ true →
+        (polled give script value turn task variables given).task.told ≡ true }
+    ensures kept { (give : Effect → S → S) (script : List Instr) (value : ℤ) (turn : Turn) (task : TaskState) (variables : List ℤ) (given : S) →
+        turn.canceling ≡ false →
+        (polled give script value turn task variables given).task.told ≡ task.told }
+{}
+
+/// A poll of a task that has ended answers its ending, and has no effect.
+pub fn endings_stay<S>()
+    ensures answers { (give : Effect → S → S) (script : List Instr) (value : ℤ) (turn : Turn) (task : TaskState) (variables : List ℤ) (given : S) (ending : Ending) →
+        answer_of task ≡ ready ending →
+        answer_of (polled give script value turn task variables given).task ≡ ready ending }
+    ensures same { (give : Effect → S → S) (script : List Instr) (value : ℤ) (turn : Turn) (task : TaskState) (variables : List ℤ) (given : S) (ending : Ending) →
+        answer_of task ≡ ready ending →
+        polled give script value turn task variables given ≡ record { task = task; variables = variables; given = given } }
+{}
+
+/// A task that isn't being canceled never ends as canceled.
+pub fn only_canceling_goals_are_canceled<S>()
+    ensures { (give : Effect → S → S) (script : List Instr) (value : ℤ) (turn : Turn) (task : TaskState) (variables : List ℤ) (given : S) →
+        has_ended task ≡ false → turn.canceling ≡ false →
+        IfSome (polled give script value turn task variables given).task.ending (λ ending. ending.event ≢ event.Canceled) }
+{}
+
+/// A goal's script ends it by its own event, but that `canceled` aborts a goal that isn't being canceled.
+pub fn scripts_choose_their_ending()
+    ensures canceling { (by : Event) → ending_event true by ≡ by }
+    ensures unasked { ending_event false event.Canceled ≡ event.Abort }
+    ensures others { (canceling : Bool) (by : Event) → by ≢ event.Canceled → ending_event canceling by ≡ by }
+{}
+
+/// A task ends only by one of the three events that end goals.
+pub fn tasks_end_by_an_ending<S>()
+    ensures { (give : Effect → S → S) (script : List Instr) (value : ℤ) (turn : Turn) (task : TaskState) (variables : List ℤ) (given : S) →
+        has_ended task ≡ false →
+        IfSome (polled give script value turn task variables given).task.ending (λ ending. IsEnding ending.event) }
+{
+    exec_script::laws::goals_end_by_an_ending::<S>();
+}
+
+/// A poll that pends until a time is woken by the clock at that time, and one that pends otherwise by the next round.
+pub fn pending_tasks_have_a_source<S>()
+    ensures { (give : Effect → S → S) (script : List Instr) (value : ℤ) (turn : Turn) (task : TaskState) (variables : List ℤ) (given : S) (waits : Wait) →
+        answer_of (polled give script value turn task variables given).task ≡ pending waits →
+        (waits ≡ wait.NextRound)
+        ⊎ ((time : ℕ) × (waits ≡ wait.Until time) × Contains (sources_of (polled give script value turn task variables given).task) (source.Clock time)) }
+{}
+
+/// A task that hasn't ended is awake exactly where it waits for the next round or one of its sources has come.
+pub fn sources_wake()
+    ensures { (task : TaskState) (turn : Turn) → has_ended task ≡ false →
+        (is_awake task turn ≡ true) ↔ ((task.waits ≡ wait.NextRound) ⊎ (list_any (has_come turn) (sources_of task) ≡ true)) }
+{}
+
+/// A poll leaves a task at a place within its script.
+pub fn tasks_stay_within_their_script<S>()
+    ensures { (give : Effect → S → S) (script : List Instr) (value : ℤ) (turn : Turn) (task : TaskState) (variables : List ℤ) (given : S) →
+        task.place ≤ length script → (polled give script value turn task variables given).task.place ≤ length script }
+{
+    exec_script::laws::goes_on_within_its_end::<S>();
+}
+
+/// Effects that a poll lists, and that are given later one after another, do what effects do that are given at once.
+pub fn effects_may_be_given_later<S>()
+    ensures { (give : Effect → S → S) (script : List Instr) (value : ℤ) (turn : Turn) (task : TaskState) (variables : List ℤ) (given : S) →
+        polled give script value turn task variables given ≡ polled_later give given (polled listed script value turn task variables []) }
+{
+    exec_script::laws::effects_may_be_given_later::<S>();
+}
+
+/// A call waits for its reply exactly as long as it has none, and keeps the first that comes.
+pub fn calls_keep_their_first_reply()
+    ensures waits { (call : CallState) → (sources_of_call call ≡ source.Reply ∷ []) ↔ (call.reply ≡ None) }
+    ensures first { (call : CallState) (value : ℤ) → call.reply ≡ None → (completed value call).reply ≡ Some value }
+    ensures keeps { (call : CallState) (reply value : ℤ) → call.reply ≡ Some reply → completed value call ≡ call }
+{}

@@ -1,0 +1,85 @@
+-- Words for the laws of rounds.
+use Rattle.std.specs.Prelude.{◌≡◌, ◌⊎◌, ℕ, Bool, ◌&&◌, ◌==◌, List, [], ◌∷◌, length, map, Option, None, Some, if◌then◌else◌}
+use Rattle.std.specs.List.{flat_map}
+use Rattle.exec_goal.specs.Cancel.{Decided}
+use Rattle.exec_goal.specs.State.{Transition, status_of}
+use Rattle.exec_goal.specs.declared.state.State.{State}
+use Rattle.exec_graph.specs.Plan.{PlanData}
+use Rattle.exec_msg.specs.declared.kind.Kind.{Kind}
+use Rattle.exec_msg.specs.declared.goal.Event.{Event}
+use Rattle.exec_msg.specs.declared.goal.GoalStatus.{GoalStatus}
+use Rattle.exec_msg.specs.declared.goal.GoalStatus.TheVariants as status
+use Rattle.exec_msg.specs.declared.line.Line.{Line}
+use Rattle.exec_msg.specs.declared.line.Line.TheVariants as line
+use Rattle.exec_world.specs.Ready.{Ready, kind_of_cause}
+use Rattle.exec_world.specs.Transcript.{expire, feed}
+use Rattle.exec_world.specs.World.{WorldState, add_line, order_of}
+
+-- a cancel handler's decision: 1 rejects, and 2 accepts
+abbrev pub IsDecision : Decided → Type 0
+IsDecision decided = (decided.1 ≡ 1) ⊎ (decided.1 ≡ 2)
+
+-- the world of which a round's snapshot is taken
+abbrev pub at_snapshot : PlanData → ℕ → ℕ → WorldState → WorldState
+at_snapshot plan number moment world = feed plan number (expire plan.graph moment (add_line (line.Round number moment) world))
+
+-- whether a ready callback is an entity's of a kind
+abbrev pub is_callback_of : ℕ → Kind → Ready → Bool
+is_callback_of entity kind one = (one.entity == entity) && (order_of (kind_of_cause one.cause) == order_of kind)
+
+-- what a world has of its graph: the entities of its timers, queues (with the kind of callback that takes from each),
+-- servers, service clients and action clients (with the place of each among the action clients), in their order, and the
+-- number of its callback groups
+pub record WorldShape : Type 0 where
+  pub timers : List ℕ
+  pub queues : List (ℕ × Kind)
+  pub servers : List ℕ
+  pub clients : List ℕ
+  pub action_clients : List (ℕ × ℕ)
+  pub groups : ℕ
+
+-- the shape of a world
+abbrev pub shape_of : WorldState → WorldShape
+shape_of world = record {
+  timers = map (λ entry. entry.entity) world.timers;
+  queues = map (λ queue. (queue.entity, queue.kind)) world.queues;
+  servers = map (λ entry. entry.entity) world.servers;
+  clients = map (λ entry. entry.entity) world.clients;
+  action_clients = map (λ entry. (entry.entity, entry.place)) world.action_clients;
+  groups = length world.variables;
+}
+
+-- ---- the statuses of a goal
+
+-- the status that a line says of a server's goal of an identifier
+abbrev pub status_in : ℕ → ℕ → Line → List GoalStatus
+status_in server id (line.State at goal status) = if (at == server) && (goal == id) then status ∷ [] else []
+status_in server id _ = []
+
+-- the statuses that lines say of it, in order
+abbrev pub statuses_of : ℕ → ℕ → List Line → List GoalStatus
+statuses_of server id lines = flat_map (status_in server id) lines
+
+-- a transition leads from one status to another
+pub record IsStep (before after : GoalStatus) : Type 0 where
+  pub source : State
+  pub by : Event
+  pub target : State
+  pub moves : Transition source by target
+  pub comes_from : status_of source ≡ before
+  pub goes_to : status_of target ≡ after
+
+-- the status of a goal that has ended
+abbrev pub IsFinal : GoalStatus → Type 0
+IsFinal one = (one ≡ status.Succeeded) ⊎ ((one ≡ status.Canceled) ⊎ (one ≡ status.Aborted))
+
+-- a status may come after the last one, if there is one: a goal is accepted where there is none yet or the one before has
+-- ended, and else a transition leads there
+abbrev pub MayCome : Option GoalStatus → GoalStatus → Type 0
+MayCome None after = after ≡ status.Accepted
+MayCome (Some before) after = IsStep before after ⊎ (IsFinal before × (after ≡ status.Accepted))
+
+-- statuses each of which may come after the one before
+abbrev pub AreLawful : Option GoalStatus → List GoalStatus → Type 0
+AreLawful last [] = Unit {0}
+AreLawful last (after ∷ more) = MayCome last after × AreLawful (Some after) more
