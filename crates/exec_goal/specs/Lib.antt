@@ -1,5 +1,8 @@
+pub mod Calls
 pub mod Cancel
 pub mod Examples
+pub mod Held
+pub mod Info
 pub mod LawWords
 pub mod State
 pub mod Table

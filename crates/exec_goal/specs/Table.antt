@@ -5,6 +5,7 @@ use Rattle.std.specs.List.{find, filter, list_any}
 use Rattle.exec_msg.specs.declared.goal.Event.{Event}
 use Rattle.exec_msg.specs.declared.goal.Event.TheVariants as event
 use Rattle.exec_msg.specs.declared.goal.GoalStatus.{GoalStatus}
+use Rattle.exec_msg.specs.declared.limits.TheConstants.{GOALS}
 use Rattle.exec_goal.specs.State.{after, status_of, is_terminal}
 use Rattle.exec_goal.specs.declared.state.State.{State}
 use Rattle.exec_goal.specs.declared.state.State.TheVariants as state
@@ -20,10 +21,6 @@ pub record GoalRecord : Type 0 where
   pub ended : ℕ
   pub askers : List ℕ
 
--- the greatest number of goals that a server holds, in whatever state
-abbrev pub most_goals : ℕ
-most_goals = 64
-
 -- whether a goal has this identifier
 abbrev pub has_id : ℕ → GoalRecord → Bool
 has_id id goal = goal.id == id
@@ -34,7 +31,7 @@ holds id goals = list_any (has_id id) goals
 
 -- whether the table has no room
 abbrev pub is_full : List GoalRecord → Bool
-is_full goals = nat_le most_goals (length goals)
+is_full goals = nat_le GOALS (length goals)
 
 -- the decisions of a goal handler: anything but ACCEPT_AND_EXECUTE, 2, and ACCEPT_AND_DEFER, 3, rejects
 abbrev pub is_accepting : ℕ → Bool

@@ -2,6 +2,8 @@
 //! requests.
 
 ghost use Rattle.std.specs.Prelude.{◌≡◌, ◌≢◌, ◌↔◌, ◌⊎◌, ℕ, ◌+◌, ◌≤◌, ℤ, List, [], ◌∷◌, ◌++◌, length, map, take, drop, true, false, find, All, Any, Contains, IsPermutation, Option, None, Some};
+ghost use Rattle.std.specs.Option.{option_map};
+ghost use Rattle.exec_goal.specs.Calls.{with_changed};
 ghost use Rattle.exec_goal.specs.Cancel.{CancelRequest, Decided, selects, is_candidate, candidates, is_moved, moved, after_answer, table_after, code_of};
 ghost use Rattle.exec_goal.specs.LawWords.{HaveDistinctIds, IsSublist, AllRefused};
 ghost use Rattle.exec_goal.specs.State.{Transition, after, status_of, is_terminal};
@@ -232,4 +234,15 @@ pub fn code_is_rejected_else()
     ensures active { (request : CancelRequest) (decisions : List Decided) (goals : List GoalRecord) (goal : GoalRecord) →
         moved decisions goals ≡ [] → find (has_id request.id) goals ≡ Some goal → is_terminal goal.state ≡ false →
         code_of request decisions goals ≡ code.Rejected }
+{}
+
+/// A change that leaves its goal's identifier leaves all identifiers in their order, changes the goal of its identifier,
+/// and leaves the goals of all others.
+pub fn changes_reach_one_goal()
+    ensures order { (id : ℕ) (change : GoalRecord → GoalRecord) (goals : List GoalRecord) → ((goal : GoalRecord) → (change goal).id ≡ goal.id) →
+        map (λ goal. goal.id) (with_changed id change goals) ≡ map (λ goal. goal.id) goals }
+    ensures changed { (id : ℕ) (change : GoalRecord → GoalRecord) (goals : List GoalRecord) → ((goal : GoalRecord) → (change goal).id ≡ goal.id) →
+        find (has_id id) (with_changed id change goals) ≡ option_map change (find (has_id id) goals) }
+    ensures others { (id other : ℕ) (change : GoalRecord → GoalRecord) (goals : List GoalRecord) → ((goal : GoalRecord) → (change goal).id ≡ goal.id) → id ≢ other →
+        find (has_id other) (with_changed id change goals) ≡ find (has_id other) goals }
 {}

@@ -1,8 +1,22 @@
 //! Goals of an action server: their states, cancel policy and cached results.
 #![tactic(auto)]
 
+mod asked;
+mod askers;
+mod cancel;
 pub mod examples;
+mod goals;
+mod held;
+mod info;
 pub mod laws;
+mod refusals;
 mod state;
+#[cfg(test)]
+mod tests;
 
+pub use asked::Asked;
+pub use cancel::{CancelAnswer, CancelRequest, GoalIdList};
+pub use goals::{Accepted, Goals};
+pub use info::{GoalInfo, GoalInfoList};
+pub use refusals::{Illegal, Reject};
 pub use state::State;

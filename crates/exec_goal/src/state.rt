@@ -1,5 +1,6 @@
 ghost use Rattle.std.specs.Prelude.{◌≡◌};
-ghost use Rattle.exec_goal.specs.State.{after, status_of, is_terminal};
+ghost use Rattle.exec_goal.specs.Calls.{where_terminal};
+ghost use Rattle.exec_goal.specs.State.{after, status_of, is_cancelable, is_terminal};
 
 use exec_msg::{Event, GoalStatus};
 
@@ -31,6 +32,25 @@ impl State {
             State::Canceling => after_canceling(event),
             State::Succeeded | State::Canceled | State::Aborted => None,
         }
+    }
+
+    // The terminal state after an event, or `None` where there is no such transition.
+    pub(crate) fn end(self, event: Event) -> Option<State>
+        ensures { result ≡ where_terminal (after self event) }
+    {
+        let reached = self.after(event)?;
+        if reached.is_terminal() {
+            Some(reached)
+        } else {
+            None
+        }
+    }
+
+    // Whether a cancel request may move a goal of this state.
+    pub(crate) fn is_cancelable(self) -> bool
+        ensures { result ≡ is_cancelable self }
+    {
+        matches!(self, State::Accepted | State::Executing)
     }
 
     /// Its status in `action_msgs/msg/GoalStatus`.

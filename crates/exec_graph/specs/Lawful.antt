@@ -5,7 +5,7 @@ use Rattle.std.specs.Option.{option_map_or}
 use Rattle.exec_graph.specs.Graph.{GroupData, Declared, topic, timer, subscription, service, client, server, action_client, EntityData, GraphData, is_topic, is_service, is_client, is_server, is_action_client, group_of, names_of}
 use Rattle.exec_graph.specs.Names.{is_name, are_distinct}
 use Rattle.exec_graph.specs.Plan.{Fed, message, goal, cancel, PlanData}
-use Rattle.exec_graph.specs.declared.limits.TheConstants.{NODES, NAMED_GROUPS, TOPICS, ENTITIES, INSTRUCTIONS, DEPTH, MOMENTS, FEED, TICKS}
+use Rattle.exec_msg.specs.declared.limits.TheConstants.{NODES, NAMED_GROUPS, TOPICS, ENTITIES, INSTRUCTIONS, DEPTH, MOMENTS, FEED, TICKS}
 use Rattle.exec_script.specs.Legality.{legality_of}
 use Rattle.exec_script.specs.declared.instr.Instr.{Instr}
 use Rattle.exec_script.specs.declared.instr.Instr.TheVariants as instr

@@ -2,7 +2,7 @@
 use Rattle.std.specs.Prelude.{ℕ, List, [], ◌∷◌, length, Bool, true, not, ◌&&◌, ◌||◌, ◌==◌, nat_le}
 use Rattle.std.specs.List.{list_all, list_any}
 use Rattle.std.specs.Str.{bytes_eq}
-use Rattle.exec_graph.specs.declared.limits.TheConstants.{NAME_LENGTH}
+use Rattle.exec_msg.specs.declared.limits.TheConstants.{NAME_LENGTH}
 
 -- `A-Z a-z 0-9 _ /`
 abbrev pub is_name_byte : ℕ → Bool

@@ -1,3 +1,3 @@
 pub mod Fields
-pub mod KeepLast
+pub mod Queues
 pub mod NextCall

@@ -1,11 +1,12 @@
 //! Laws of the definitions that the crate's contracts cite, for all values that they speak of.
-ghost use Rattle.std.specs.Prelude.{◌≡◌, ℕ, ◌+◌, ◌-◌, ◌*◌, ◌<◌, ◌≤◌, List, [], ◌∷◌, ◌++◌, length, take, drop};
+ghost use Rattle.std.specs.Prelude.{◌≡◌, ℕ, ◌+◌, ◌-◌, ◌*◌, ◌<◌, ◌≤◌, ◌^◌, List, [], ◌∷◌, ◌++◌, length, take, drop};
 ghost use Rattle.std.specs.List.{fold};
 ghost use Rattle.exec_msg.specs.Goal.{status_number, code_number};
 ghost use Rattle.exec_msg.specs.declared.goal.GoalStatus.{GoalStatus};
 ghost use Rattle.exec_msg.specs.declared.goal.ReturnCode.{ReturnCode};
 ghost use Rattle.exec_msg.specs.KeepLast.{sent, displaced, taken};
 ghost use Rattle.exec_msg.specs.Timer.{TimerState, next_call, IsNextCall};
+ghost use Rattle.exec_msg.specs.declared.limits.TheConstants.{NODES, NAMED_GROUPS, TOPICS, ENTITIES, INSTRUCTIONS, GOALS, DEPTH, DEFAULT_DEPTH, MOMENTS, FEED, NAME_LENGTH, TICKS};
 
 /// No two statuses have one number.
 pub fn status_numbers_differ()
@@ -73,4 +74,20 @@ pub fn next_call_is_the_least()
 /// A timer's next call is after its old time.
 pub fn next_call_is_later()
     ensures { (timer : TimerState) (now : ℕ) → 1 ≤ timer.period → timer.next < next_call timer now }
+{}
+
+/// The numbers of the limits, each in `limits`.
+pub fn limits_are_these_numbers()
+    ensures nodes { NODES ≡ 64 }
+    ensures named_groups { NAMED_GROUPS ≡ 256 }
+    ensures topics { TOPICS ≡ 256 }
+    ensures entities { ENTITIES ≡ 512 }
+    ensures instructions { INSTRUCTIONS ≡ 64 }
+    ensures goals { GOALS ≡ 64 }
+    ensures depth { DEPTH ≡ 1024 }
+    ensures default_depth { DEFAULT_DEPTH ≡ 10 }
+    ensures moments { MOMENTS ≡ 65536 }
+    ensures feed { FEED ≡ 65536 }
+    ensures name_length { NAME_LENGTH ≡ 64 }
+    ensures ticks { TICKS ≡ 2 ^ 62 }
 {}

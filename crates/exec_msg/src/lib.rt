@@ -2,17 +2,22 @@
 #![tactic(auto)]
 
 mod goal;
+mod keep_last;
 mod kind;
 pub mod laws;
+pub mod limits;
 mod line;
 mod lines;
 mod memory;
 mod names;
 mod numbers;
+#[cfg(test)]
+mod tests;
 mod text;
 mod timer;
 
 pub use goal::{Event, GoalStatus, ReturnCode};
+pub use keep_last::KeepLast;
 pub use kind::Kind;
 pub use line::Line;
 pub use lines::LineList;

@@ -32,6 +32,13 @@ impl LineList {
         }
     }
 
+    /// The lines of a vector. It takes no memory.
+    pub fn of(items: Vec<Line>) -> LineList
+        ensures { result ≡ items.items }
+    {
+        LineList { items }
+    }
+
     /// Adds a line at the end. Where memory is refused, the list stays as it was.
     pub fn push(&mut self, line: Line) -> Result<(), Memory>
         ensures ok { OnOk result (self.new ≡ self.old ++ line ∷ []) }
@@ -45,6 +52,13 @@ impl LineList {
         ensures { result.now ≡ self.now }
     {
         self.items.as_slice()
+    }
+
+    /// The vector of the lines. It takes no memory.
+    pub fn into_vec(self) -> Vec<Line>
+        ensures { result.items ≡ self }
+    {
+        self.items
     }
 }
 

@@ -1,5 +1,6 @@
 ghost use Rattle.std.specs.Prelude.{◌≡◌, ℕ, ◌≤◌, ◌^◌, SomeIff};
 
+use crate::limits::TICKS;
 use std::marker::Model;
 
 /// A point in time, in ticks from the executor's start, at most [`Moment::MAX`].
@@ -18,7 +19,7 @@ impl Model for Moment {
 
 impl Moment {
     /// The latest moment, 2^62 ticks.
-    pub const MAX: u64 = 4_611_686_018_427_387_904;
+    pub const MAX: u64 = TICKS;
 
     /// The moment at so many ticks, or `None` beyond [`Moment::MAX`].
     pub fn new(ticks: u64) -> Option<Moment>

@@ -136,6 +136,7 @@ fn put_end(out: &mut Vec<u8>, rounds: u64) -> Result<(), Memory>
     put_count(out, rounds)
 }
 
+#[inline(always)]
 fn put_run(
     out: &mut Vec<u8>,
     name: &str,
@@ -192,6 +193,7 @@ fn put_result(
 }
 
 // A line's word, the name of what it speaks of, and a value.
+#[inline(always)]
 fn put_named_value(out: &mut Vec<u8>, word: &str, name: &str, value: i64) -> Result<(), Memory>
     ensures ok { OnOk result (out.new.items ≡ out.old.items ++ joined (word.now ∷ name.now ∷ signed_decimal value ∷ [])) }
     ensures err { OnErr result (take (vec_len out.old) out.new.items ≡ out.old.items) }
@@ -249,6 +251,7 @@ fn put(out: &mut Vec<u8>, text: &str) -> Result<(), Memory>
 }
 
 // A line's word, and the name of what it speaks of.
+#[inline(always)]
 fn put_named(out: &mut Vec<u8>, word: &str, name: &str) -> Result<(), Memory>
     ensures ok { OnOk result (out.new.items ≡ out.old.items ++ joined (word.now ∷ name.now ∷ [])) }
     ensures err { OnErr result (take (vec_len out.old) out.new.items ≡ out.old.items) }
@@ -269,6 +272,7 @@ fn put_field(out: &mut Vec<u8>, text: &str) -> Result<(), Memory>
 }
 
 // A line's word, and the callback that it speaks of: its entity's name and its kind.
+#[inline(always)]
 fn put_callback(out: &mut Vec<u8>, word: &str, name: &str, kind: Kind) -> Result<(), Memory>
     ensures ok { OnOk result (out.new.items ≡ out.old.items ++ joined (word.now ∷ name.now ∷ word_of kind ∷ [])) }
     ensures err { OnErr result (take (vec_len out.old) out.new.items ≡ out.old.items) }

@@ -1,6 +1,7 @@
 ghost use Rattle.std.specs.Prelude.{◌≡◌, ◌≤◌, ◌^◌, IsTrue};
 ghost use Rattle.exec_msg.specs.Timer.{IsPeriod, is_due, next_call, called, IsNextCall};
 
+use crate::limits::TICKS;
 use crate::numbers::Moment;
 use std::marker::Model;
 
@@ -26,7 +27,7 @@ impl Model for Timer {
 
 impl Timer {
     /// The greatest period, 2^62 ticks.
-    pub const MAX_PERIOD: u64 = 4_611_686_018_427_387_904;
+    pub const MAX_PERIOD: u64 = TICKS;
 
     /// A timer that is made at moment 0: its first call comes after one period.
     pub fn new(period: u64) -> Timer

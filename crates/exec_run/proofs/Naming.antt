@@ -30,15 +30,15 @@ give_all_named names entity (effect ∷ effects) world here named =
     give_all_named names entity effects (give entity effect world) here (give_named names entity effect world here named)
 
 -- a callback begins with a named line
-run_line_named : (names : List (List ℕ)) (entity moment : ℕ) (cause : Cause) → entity < length names → IsNamed names (run_line entity moment cause)
-run_line_named names entity moment (due at) here = here
+run_line_named : (names : List (List ℕ)) (entity : ℕ) (cause : Cause) → entity < length names → IsNamed names (run_line entity cause)
+run_line_named names entity (due at) here = here
 
 -- a run gives named lines
 run_named : (names : List (List ℕ)) (moment : ℕ) (ready : Ready) (world : WorldState) → ready.entity < length names → AreNamed names world → AreNamed names (run_ready moment ready world)
 run_named names moment ready world here named =
     rw (← run_by_call moment ready world)
     (give_all_named names ready.entity (call_at moment ready world).given (called_world moment ready world) here
-    (All-push (IsNamed names) world.lines (run_line ready.entity moment ready.cause) named (run_line_named names ready.entity moment ready.cause here)))
+    (All-push (IsNamed names) world.lines (run_line ready.entity ready.cause) named (run_line_named names ready.entity ready.cause here)))
 
 -- runs do
 all_named : (names : List (List ℕ)) (moment : ℕ) (readies : List Ready) (world : WorldState) → All (λ ready. ready.entity < length names) readies → AreNamed names world → AreNamed names (run_all moment readies world)

@@ -106,11 +106,11 @@ fits_round plan number moment world fits =
 -- a timer's callback runs: its line, the call of its script, and each effect of the call
 pub timer_runs : (moment place : ℕ) (plan : PlanData) (timer : TimerData) (first : ℤ) (input : CallInput) (world lined called final : WorldState) (effects : List Effect) → timer ≡ timer_at plan place → first ≡ pos moment → input ≡ input_of moment (due moment) → lined ≡ add_line (line.Run place Timer first (pos 0) None) world → called ≡ with_variables timer.group (call_of timer.script (variables_of timer.group lined) input).variables lined → effects ≡ (call_of timer.script (variables_of timer.group lined) input).given → final ≡ fold (λ world effect. give place effect world) called effects → final ≡ run_ready moment (timer_ready moment (timer_at plan place) place) world
 timer_runs moment place plan timer first input world lined called final effects there first_is input_is lined_is called_is effects_is final_is =
-    let begun : lined ≡ add_line (run_line place moment (due moment)) world = lined_is ∙ ap (λ (z : ℤ). add_line (line.Run place Timer z (pos 0) None) world) first_is in
+    let begun : lined ≡ add_line (run_line place (due moment)) world = lined_is ∙ ap (λ (z : ℤ). add_line (line.Run place Timer z (pos 0) None) world) first_is in
     let left : called ≡ called_world moment (timer_ready moment timer place) world =
     called_is
     ∙ ap (λ (w : WorldState). with_variables timer.group (call_of timer.script (variables_of timer.group w) input).variables w) begun
-    ∙ ap (λ (i : CallInput). with_variables timer.group (call_of timer.script (variables_of timer.group world) i).variables (add_line (run_line place moment (due moment)) world)) input_is in
+    ∙ ap (λ (i : CallInput). with_variables timer.group (call_of timer.script (variables_of timer.group world) i).variables (add_line (run_line place (due moment)) world)) input_is in
     let given : effects ≡ (call_at moment (timer_ready moment timer place) world).given =
     effects_is
     ∙ ap (λ (w : WorldState). (call_of timer.script (variables_of timer.group w) input).given) begun

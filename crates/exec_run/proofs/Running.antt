@@ -63,14 +63,14 @@ call_at moment ready world = call_of ready.script (variables_of ready.group worl
 
 -- the world with the callback's line and the variables that its call left
 abbrev pub called_world : ℕ → Ready → WorldState → WorldState
-called_world moment ready world = with_variables ready.group (call_at moment ready world).variables (add_line (run_line ready.entity moment ready.cause) world)
+called_world moment ready world = with_variables ready.group (call_at moment ready world).variables (add_line (run_line ready.entity ready.cause) world)
 
 -- a ready callback's run gives the effects of its call
 pub run_by_call : (moment : ℕ) (ready : Ready) (world : WorldState) → give_all (give ready.entity) (called_world moment ready world) (call_at moment ready world).given ≡ run_ready moment ready world
 run_by_call moment ready world =
-    give_all_with ready.entity (call_at moment ready world).given ready.group (call_at moment ready world).variables (add_line (run_line ready.entity moment ready.cause) world)
+    give_all_with ready.entity (call_at moment ready world).given ready.group (call_at moment ready world).variables (add_line (run_line ready.entity ready.cause) world)
     ∙ ap (λ (after : ScriptState WorldState). with_variables ready.group after.variables after.given)
-    (sym (follow_later (give ready.entity) (add_line (run_line ready.entity moment ready.cause) world) (input_of moment ready.cause) ready.script 0 0
+    (sym (follow_later (give ready.entity) (add_line (run_line ready.entity ready.cause) world) (input_of moment ready.cause) ready.script 0 0
     (record { registers = zeros; variables = variables_of ready.group world; answer = None; given = []; stop = stop.End })))
 
 -- an effect leaves the timers and the groups as they are

@@ -6,7 +6,7 @@ use Rattle.serde_json.specs.Data.{Data, null, boolean, number, string, array, ob
 use Rattle.serde_json.specs.Find.{get, as_number, as_str, as_array, as_i64, as_u64}
 use Rattle.serde_json.specs.Read.{read}
 use Rattle.exec_graph.specs.Names.{is_name, are_distinct}
-use Rattle.exec_graph.specs.declared.limits.TheConstants.{NODES, ENTITIES, INSTRUCTIONS, MOMENTS}
+use Rattle.exec_msg.specs.declared.limits.TheConstants.{NODES, ENTITIES, INSTRUCTIONS, MOMENTS}
 use Rattle.exec_script.specs.Legality.{legality_of}
 use Rattle.exec_script.specs.Spelling.{ScopeNames, script_of}
 use Rattle.exec_script.specs.declared.fault.ScriptFault.{ScriptFault}

@@ -1,7 +1,7 @@
 -- What a document says, once it is read.
 use Rattle.std.specs.Prelude.{◌≡◌, ℕ, ◌<◌, ◌≤◌, List, [], length, map, slice_index_or}
 use Rattle.std.specs.List.{All}
-use Rattle.exec_graph.specs.declared.limits.TheConstants.{ENTITIES}
+use Rattle.exec_msg.specs.declared.limits.TheConstants.{ENTITIES}
 use Rattle.exec_msg.specs.Timer.{IsPeriod}
 use Rattle.exec_script.specs.declared.instr.Instr.{Instr}
 
@@ -38,6 +38,6 @@ pub record IsSound (plan : PlanData) : Type 0 where
   pub timers : All (IsTimerOf plan.groups) plan.timers
 
 -- the names beside a plan are those of its timers, and the plan is sound
-pub record Keeps (names : List (List ℕ)) (plan : PlanData) : Type 0 where
+pub record IsSoundWith (names : List (List ℕ)) (plan : PlanData) : Type 0 where
   pub named : names ≡ names_of plan
   pub sound : IsSound plan

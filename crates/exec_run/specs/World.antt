@@ -37,8 +37,8 @@ abbrev pub add_line : Line → WorldState → WorldState
 add_line line world = record world { lines = world.lines ++ line ∷ [] }
 
 -- the line with which a callback begins
-abbrev pub run_line : ℕ → ℕ → Cause → Line
-run_line entity moment (due at) = line.Run entity Timer (pos at) (pos 0) None
+abbrev pub run_line : ℕ → Cause → Line
+run_line entity (due at) = line.Run entity Timer (pos at) (pos 0) None
 
 -- what an effect of an entity's callback does to the world; a timer's script that knows no names gives no other effect
 abbrev pub give : ℕ → Effect → WorldState → WorldState
@@ -56,7 +56,7 @@ with_variables group variables world = record world { variables = slice_set worl
 -- a ready callback runs: its line, and then its script instruction by instruction, each effect given to the world at its instruction
 abbrev pub script_run : ℕ → Ready → WorldState → ScriptState WorldState
 script_run moment ready world =
-    called (give ready.entity) ready.script (variables_of ready.group world) (input_of moment ready.cause) (add_line (run_line ready.entity moment ready.cause) world)
+    called (give ready.entity) ready.script (variables_of ready.group world) (input_of moment ready.cause) (add_line (run_line ready.entity ready.cause) world)
 
 -- the world after a ready callback has run
 abbrev pub run_ready : ℕ → Ready → WorldState → WorldState

@@ -10,7 +10,7 @@ ghost use Rattle.exec_run.specs.Reading.{Gives};
 
 use crate::fault::AloneFault;
 use crate::plan::{Plan, TimerEntity};
-use exec_graph::limits::{ENTITIES, INSTRUCTIONS, MOMENTS, NAME_LENGTH, NODES};
+use exec_msg::limits::{ENTITIES, INSTRUCTIONS, MOMENTS, NAME_LENGTH, NODES};
 use exec_msg::{EntityNo, Moment, Names, Timer};
 use exec_script::{Instr, Place, Role, Scope, ScriptFault, Word, WordText, check, decode};
 use serde_json::Value;

@@ -38,11 +38,11 @@ pub struct Plan {
 }
 
 impl Model for Plan {
-    ghost use Rattle.exec_run.specs.Plan.{PlanData, Keeps};
+    ghost use Rattle.exec_run.specs.Plan.{PlanData, IsSoundWith};
 
     ghost Value = { PlanData };
 
     ghost view = { λ plan. record { timers = plan.timers.items; groups = plan.groups; moments = plan.moments.items } };
 
-    ghost invariant = { λ plan. Keeps plan.names (record { timers = plan.timers.items; groups = plan.groups; moments = plan.moments.items }) };
+    ghost invariant = { λ plan. IsSoundWith plan.names (record { timers = plan.timers.items; groups = plan.groups; moments = plan.moments.items }) };
 }

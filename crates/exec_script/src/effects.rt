@@ -84,6 +84,31 @@ impl Model for DecisionList {
     ghost view = { λ decisions. decisions.items.items };
 }
 
+impl DecisionList {
+    ghost use Rattle.std.specs.Prelude.{◌≡◌};
+
+    /// The decisions of a vector. It takes no memory.
+    pub fn of(items: Vec<(GoalId, u8)>) -> DecisionList
+        ensures { result ≡ items.items }
+    {
+        DecisionList { items }
+    }
+
+    /// The decisions in their order.
+    pub fn as_slice(&self) -> &[(GoalId, u8)]
+        ensures { result.now ≡ self.now }
+    {
+        self.items.as_slice()
+    }
+
+    /// The vector of the decisions. It takes no memory.
+    pub fn into_vec(self) -> Vec<(GoalId, u8)>
+        ensures { result.items ≡ self }
+    {
+        self.items
+    }
+}
+
 /// Effects in the order in which they were given.
 #[derive(Debug, Drop)]
 pub struct EffectList {
@@ -109,6 +134,15 @@ impl EffectList {
     {
         EffectList {
             items: SmallVec::new(alloc),
+        }
+    }
+
+    /// The effects of a vector. It takes no memory.
+    pub fn of(items: Vec<Effect>) -> EffectList
+        ensures { result ≡ items.items }
+    {
+        EffectList {
+            items: SmallVec::from_vec(items),
         }
     }
 

@@ -13,6 +13,8 @@ mod run;
 mod scope;
 mod spelling;
 mod step;
+#[cfg(test)]
+mod tests;
 mod word;
 
 pub use cells::{Bank, Regs, Slot};

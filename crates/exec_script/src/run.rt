@@ -1,4 +1,5 @@
-ghost use Rattle.std.specs.Prelude.{◌≡◌, None, length, take, OnOk, OnErr, IfOk};
+ghost use Rattle.std.specs.Prelude.{◌≡◌, ◌<◌, ◌^◌, None, length, take, OnOk, OnErr, IfOk};
+ghost use Rattle.exec_script.specs.LawWords.{PausesWithin, WaitsWithin};
 ghost use Rattle.exec_script.specs.Script.{result_of, value_of, at_least_0, step_of, listed, resumed, registers_after, variables_after, call_of, decision_within, close_of};
 
 use crate::cells::{Bank, Regs};
@@ -66,7 +67,8 @@ pub fn run_call(
 }
 
 /// Goes on with a script at a place, from these registers, until it stops, and says where. Its effects go behind
-/// those that are listed. Where memory is refused, the registers, the bank and the effects stay as they were.
+/// those that are listed. A wait is for fewer than 2^63 ticks. Where memory is refused, the registers, the bank and the
+/// effects stay as they were.
 pub fn run_from(
     script: &[Instr],
     place: usize,
@@ -76,6 +78,7 @@ pub fn run_from(
     effects: &mut EffectList,
 ) -> Result<Stop, Memory>
     ensures stop { IfOk result (λ stop. stop ≡ (resumed listed script.now place regs.old bank.old None input.now effects.old).stop) }
+    ensures ticks { IfOk result (WaitsWithin (2 ^ 63)) }
     ensures registers { OnOk result (regs.new ≡ (resumed listed script.now place regs.old bank.old None input.now effects.old).registers) }
     ensures variables { OnOk result (bank.new ≡ (resumed listed script.now place regs.old bank.old None input.now effects.old).variables) }
     ensures effects { OnOk result (effects.new ≡ (resumed listed script.now place regs.old bank.old None input.now effects.old).given) }
@@ -120,6 +123,7 @@ fn follow(
     ensures ok { IfOk result (λ stop.
         record { registers = regs.new; variables = variables.new; answer = answer.new; given = list.new; stop = stop }
         ≡ resumed listed script.now place regs.old variables.old answer.old input.now list.old) }
+    ensures ticks { IfOk result (WaitsWithin (2 ^ 63)) }
     ensures err { OnErr result (take (length list.old) list.new ≡ list.old) }
 {
     let mut pc = place;
@@ -171,7 +175,8 @@ fn store(destination: Destination, value: i64, regs: &mut Regs, bank: &mut Bank)
 }
 
 fn step_of(instr: &Instr, regs: &Regs, bank: &Bank, input: &Input) -> Step
-    ensures { result ≡ step_of instr.now regs.now bank.now input.now }
+    ensures does { result ≡ step_of instr.now regs.now bank.now input.now }
+    ensures ticks { PausesWithin (2 ^ 63) result }
 {
     match *instr {
         Instr::Set {
@@ -235,7 +240,8 @@ fn step_of(instr: &Instr, regs: &Regs, bank: &Bank, input: &Input) -> Step
 }
 
 fn at_least_0(value: i64) -> u64
-    ensures { result ≡ at_least_0 value }
+    ensures value { result ≡ at_least_0 value }
+    ensures bound { result < 2 ^ 63 }
 {
     if value < 0 { 0 } else { value as u64 }
 }

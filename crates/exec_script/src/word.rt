@@ -28,6 +28,13 @@ impl WordText {
     {
         self.0.as_str()
     }
+
+    /// The text, given back. It takes no memory.
+    pub fn into_string(self) -> String
+        ensures { string_bytes result ≡ self }
+    {
+        self.0
+    }
 }
 
 /// A part of an instruction as a document spells it.

@@ -1,7 +1,7 @@
 //! Laws of goals' tasks: each function's contract says one. They hold for all scripts, from every state of a task, and
 //! for effects that go anywhere: `S` is what they are put into, and `give` puts one there.
 
-ghost use Rattle.std.specs.Prelude.{◌≡◌, ◌≢◌, ◌↔◌, ◌⊎◌, ℕ, ◌≤◌, ℤ, List, [], ◌∷◌, length, Bool, true, false, Contains, Option, None, Some, IfSome};
+ghost use Rattle.std.specs.Prelude.{◌≡◌, ◌≢◌, ◌↔◌, ◌⊎◌, ℕ, ◌≤◌, ℤ, List, [], ◌∷◌, length, Bool, true, false, Contains, Option, None, Some, IfSome, not, ◌&&◌, ◌||◌};
 ghost use Rattle.std.specs.List.{list_any};
 ghost use Rattle.exec_msg.specs.declared.goal.Event.{Event};
 ghost use Rattle.exec_msg.specs.declared.goal.Event.TheVariants as event;
@@ -11,12 +11,15 @@ ghost use Rattle.exec_script.specs.declared.effects.Effect.{Effect};
 ghost use Rattle.exec_script.specs.declared.instr.Instr.{Instr};
 ghost use Rattle.exec_task.specs.Call.{CallState, completed, sources_of_call};
 ghost use Rattle.exec_task.specs.LawWords.{has_come, polled_later};
-ghost use Rattle.exec_task.specs.Task.{TaskState, has_ended, is_awake, ready, pending, answer_of, polled, sources_of, ending_event};
+ghost use Rattle.exec_task.specs.Task.{TaskState, has_ended, is_reached, is_awake, ready, pending, answer_of, polled, sources_of, ending_event};
 ghost use Rattle.exec_task.specs.declared.wait.Ending.{Ending};
 ghost use Rattle.exec_task.specs.declared.wait.Source.TheVariants as source;
 ghost use Rattle.exec_task.specs.declared.wait.Turn.{Turn};
 ghost use Rattle.exec_task.specs.declared.wait.Wait.{Wait};
 ghost use Rattle.exec_task.specs.declared.wait.Wait.TheVariants as wait;
+
+use crate::{GoalTask, PendingCall, Polled, Poller};
+use exec_script::Bank;
 
 /// A task that has ended is never awake.
 pub fn ended_tasks_sleep()
@@ -32,6 +35,12 @@ pub fn next_rounds_wake()
 pub fn times_and_cancellation_wake()
     ensures { (task : TaskState) (turn : Turn) (time : ℕ) → has_ended task ≡ false → task.waits ≡ wait.Until time →
         (is_awake task turn ≡ true) ↔ ((time ≤ turn.moment) ⊎ ((turn.canceling ≡ true) × (task.told ≡ false))) }
+{}
+
+/// Whether a task that pends is awake is read from the wait that its last poll answered.
+pub fn the_last_answer_wakes()
+    ensures { (task : TaskState) (turn : Turn) (waits : Wait) → answer_of task ≡ pending waits →
+        is_awake task turn ≡ (is_reached waits turn.moment || (turn.canceling && not task.told)) }
 {}
 
 /// A poll of a task that isn't awake changes nothing, and answers as before.
@@ -123,3 +132,15 @@ pub fn calls_keep_their_first_reply()
     ensures first { (call : CallState) (value : ℤ) → call.reply ≡ None → (completed value call).reply ≡ Some value }
     ensures keeps { (call : CallState) (reply value : ℤ) → call.reply ≡ Some reply → completed value call ≡ call }
 {}
+
+/// A goal's task and a call may be moved into another thread with all that they own, and so may what a poll is lent
+/// and gives.
+pub fn tasks_cross_threads() {
+    crosses_threads::<GoalTask>();
+    crosses_threads::<PendingCall>();
+    crosses_threads::<Bank>();
+    crosses_threads::<Polled>();
+    crosses_threads::<Poller>();
+}
+
+fn crosses_threads<T: Send>() {}

@@ -1,8 +1,18 @@
 //! Goals and calls as tasks that are polled by hand.
 #![tactic(auto)]
 
+mod call;
 pub mod examples;
+mod goal;
 pub mod laws;
+mod poller;
+mod progress;
+#[cfg(test)]
+mod tests;
 mod wait;
+mod wake;
 
-pub use wait::{Ending, Source, Turn, Wait};
+pub use call::{Already, PendingCall};
+pub use goal::{GoalTask, is_awake, poll_goal};
+pub use poller::Poller;
+pub use wait::{Answer, Ending, Polled, Source, Turn, Wait};

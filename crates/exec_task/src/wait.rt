@@ -1,4 +1,5 @@
 use exec_msg::{Event, Moment};
+use exec_script::EffectList;
 
 /// What a pending goal waits for.
 #[derive(Clone, Copy, Debug, PartialEq, Eq)]
@@ -16,6 +17,24 @@ pub struct Ending {
     pub event: Event,
     /// The goal's result.
     pub value: i64,
+}
+
+/// What a poll of a goal answers.
+#[derive(Clone, Copy, Debug, PartialEq, Eq)]
+pub enum Answer {
+    /// The goal has ended.
+    Ready(Ending),
+    /// The goal pends.
+    Pending(Wait),
+}
+
+/// What a poll of a goal gives.
+#[derive(Debug, Drop)]
+pub struct Polled {
+    /// The effects of the poll, in their order.
+    pub effects: EffectList,
+    /// Whether the goal has ended.
+    pub answer: Answer,
 }
 
 /// The round in which a goal is polled.

@@ -1,4 +1,4 @@
-use Rattle.exec_msg.proofs.KeepLast.{fold-sent}
+use Rattle.exec_msg.proofs.Queues.{fold-sent}
 use Rattle.exec_msg.proofs.laws.queue_holds_the_last.Goals as goal
 
 pub returns : goal.returns

@@ -12,7 +12,7 @@ loop-pc-preserved-in-Pass c = record {
   same_end =
       sym (follow_pass listed c.args.input.now c.args.script.now c.loop-pc.pc c.in-Pass.count c.saturating_add-pc.result c.index-script-pc.result
       (record { registers = c.loop-pc.regs; variables = c.loop-pc.variables; answer = c.loop-pc.answer; given = c.loop-pc.list; stop = stop.End })
-      c.loop-pc-test.true (omega arith) c.index-script-pc.is (c.in-Pass.ensures) c.saturating_add-pc.ensures)
+      c.loop-pc-test.true (omega arith) c.index-script-pc.is (c.in-Pass.ensures.does) c.saturating_add-pc.ensures)
       ∙ c.loop-pc.invariant.same_end;
   front = c.loop-pc.invariant.front;
 }
@@ -21,14 +21,14 @@ pub returns-in-Wait-clause-ok : goal.returns-in-Wait-clause-ok
 returns-in-Wait-clause-ok c =
     sym (follow_stop listed c.args.input.now c.args.script.now c.loop-pc.pc c.index-script-pc.result (step.Wait c.in-Wait.ticks)
     (record { registers = c.loop-pc.regs; variables = c.loop-pc.variables; answer = c.loop-pc.answer; given = c.loop-pc.list; stop = stop.End })
-    c.loop-pc-test.true c.index-script-pc.is (c.in-Wait.ensures) (λ left. refl))
+    c.loop-pc-test.true c.index-script-pc.is (c.in-Wait.ensures.does) (λ left. refl))
     ∙ c.loop-pc.invariant.same_end
 
 pub returns-in-Yield-clause-ok : goal.returns-in-Yield-clause-ok
 returns-in-Yield-clause-ok c =
     sym (follow_stop listed c.args.input.now c.args.script.now c.loop-pc.pc c.index-script-pc.result step.Yield
     (record { registers = c.loop-pc.regs; variables = c.loop-pc.variables; answer = c.loop-pc.answer; given = c.loop-pc.list; stop = stop.End })
-    c.loop-pc-test.true c.index-script-pc.is (c.in-Yield.ensures) (λ left. refl))
+    c.loop-pc-test.true c.index-script-pc.is (c.in-Yield.ensures.does) (λ left. refl))
     ∙ c.loop-pc.invariant.same_end
 
 pub returns-in-End-clause-ok : goal.returns-in-End-clause-ok
@@ -37,5 +37,5 @@ returns-in-End-clause-ok c =
     rw (to_z-of_z w64 c.in-End.value fits)
     (sym (follow_stop listed c.args.input.now c.args.script.now c.loop-pc.pc c.index-script-pc.result (step.End c.in-End.event c.in-End.value)
     (record { registers = c.loop-pc.regs; variables = c.loop-pc.variables; answer = c.loop-pc.answer; given = c.loop-pc.list; stop = stop.End })
-    c.loop-pc-test.true c.index-script-pc.is (c.in-End.ensures) (λ left. refl))
+    c.loop-pc-test.true c.index-script-pc.is (c.in-End.ensures.does) (λ left. refl))
     ∙ c.loop-pc.invariant.same_end)

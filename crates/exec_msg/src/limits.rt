@@ -1,6 +1,4 @@
-//! The limits of a document.
-
-use exec_msg::Moment;
+//! The limits of a document and of what runs it.
 
 /// Nodes of a document, at most.
 pub const NODES: usize = 64;
@@ -17,6 +15,9 @@ pub const ENTITIES: usize = 512;
 /// Instructions of one script, at most.
 pub const INSTRUCTIONS: usize = 64;
 
+/// Goals that a server holds, in whatever state, at most.
+pub const GOALS: usize = 64;
+
 /// The depth of a queue, at most; the least is 1.
 pub const DEPTH: u64 = 1_024;
 
@@ -32,5 +33,5 @@ pub const FEED: usize = 65_536;
 /// Characters of a name, at most; the least is 1.
 pub const NAME_LENGTH: usize = 64;
 
-/// A moment, a timeout, a fed stamp and a period in ticks, at most: 2^62.
-pub const TICKS: u64 = Moment::MAX;
+/// A moment, a period, a timeout and a fed stamp in ticks, at most: 2^62.
+pub const TICKS: u64 = 4_611_686_018_427_387_904;

@@ -1,0 +1,17 @@
+pub mod Blocks
+pub mod Bools
+pub mod Entities
+pub mod Faultless
+pub mod Feeding
+pub mod Groups
+pub mod Identifiers
+pub mod Kept
+pub mod Known
+pub mod Lawful
+pub mod Least
+pub mod Made
+pub mod OnLiterals
+pub mod Placing
+pub mod Planned
+pub mod Positions
+pub mod Reading

@@ -1,0 +1,6 @@
+use Rattle.exec_doc.specs.Refusals.{value_of}
+use Rattle.exec_doc.proofs.Planned.{planned}
+use Rattle.exec_doc.proofs.laws.refused_or_a_plan.Goals as goal
+
+pub returns-clause-plan : goal.returns-clause-plan
+returns-clause-plan c = λ bytes accepted. planned (value_of bytes) accepted

@@ -1,0 +1,56 @@
+-- Which document says which plan.
+use Rattle.std.specs.Prelude.{ℕ, List, Option, None, Some}
+use Rattle.serde_json.specs.Data.{Data}
+use Rattle.exec_doc.specs.Draft.{Drafted, GraphDraft, FedDraft, EntryDraft, DocumentDraft}
+use Rattle.exec_doc.specs.Draft as draft
+use Rattle.exec_doc.specs.Forms.{draft_of}
+use Rattle.exec_doc.specs.Numbers.{topic_named, server_named}
+use Rattle.exec_doc.specs.Graph.{graph_in}
+use Rattle.exec_doc.specs.Options.{◌>>=◌, each}
+use Rattle.exec_doc.specs.Refusals.{value_of, id_of, refusal_in}
+use Rattle.exec_doc.specs.declared.refused.Refused.{Refused}
+use Rattle.exec_graph.specs.Plan.{Fed, message, goal, cancel, FeedData, PlanData}
+
+-- ---- the feed
+
+-- what is fed
+abbrev pub fed_in : GraphDraft → FedDraft → Option Fed
+fed_in drafted (draft.message name value) = do
+  topic ← topic_named drafted name
+  Some (message topic value)
+fed_in drafted (draft.goal name text value) = do
+  server ← server_named drafted name
+  id ← id_of text
+  Some (goal server id value)
+fed_in drafted (draft.cancel name text stamp) = do
+  server ← server_named drafted name
+  id ← id_of text
+  Some (cancel server id stamp)
+
+-- an entry of the feed
+abbrev pub entry_in : GraphDraft → EntryDraft → Option FeedData
+entry_in drafted entry = do
+  fed ← fed_in drafted entry.fed
+  Some (record { round = entry.round; fed = fed })
+
+-- ---- the plan
+
+-- the plan of a draft, where what is fed goes to what is declared and has identifiers
+abbrev pub plan_of : DocumentDraft → Option PlanData
+plan_of document = do
+  made ← graph_in document.graph
+  feed ← each (entry_in document.graph) document.feed
+  Some (record { graph = made; moments = document.moments; feed = feed })
+
+-- something where nothing is refused
+abbrev pub unless_refused : {A : Type 0} → Option Refused → Option A → Option A
+unless_refused None found = found
+unless_refused (Some code) found = None
+
+-- the plan of a value that was read, where it isn't refused
+abbrev pub plan_in : Option Data → Option PlanData
+plan_in value = unless_refused (refusal_in value) (value >>= draft_of >>= plan_of)
+
+-- the plan that bytes say, where they are a document
+abbrev pub document_of : List ℕ → Option PlanData
+document_of bytes = plan_in (value_of bytes)

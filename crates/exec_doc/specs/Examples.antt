@@ -1,0 +1,4 @@
+pub mod Goals
+pub mod Groups
+pub mod Services
+pub mod Timers

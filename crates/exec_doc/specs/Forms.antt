@@ -1,0 +1,232 @@
+-- The forms of a document: which JSON value is which draft, object by object.
+use Rattle.std.specs.Prelude.{ℕ, ℤ, List, [], ◌∷◌, ◌++◌, codes, Bool, true, false, if◌then◌else◌, is_some, Option, None, Some}
+use Rattle.std.specs.Option.{option_map, unwrap_or}
+use Rattle.std.specs.Str.{bytes_eq}
+use Rattle.serde_json.specs.Data.{Data, null, boolean, number, string, array, object, Items, no_items, item}
+use Rattle.serde_json.specs.Find.{get, as_number, as_str, as_array, as_i64, as_u64}
+use Rattle.exec_doc.specs.Draft.{GroupDraft, Drafted, timer, subscription, service, client, server, action_client, EntityDraft, NodeDraft, FedDraft, message, goal, cancel, EntryDraft, DocumentDraft}
+use Rattle.exec_doc.specs.Options.{◌>>=◌, each}
+use Rattle.exec_msg.specs.declared.limits.TheConstants.{DEFAULT_DEPTH}
+use Rattle.exec_script.specs.declared.word.Word.{Word}
+use Rattle.exec_script.specs.declared.word.Word.TheVariants.{Text, Number}
+
+-- ---- values
+
+-- a text
+abbrev pub text : Data → Option (List ℕ)
+text value = as_str value
+
+-- a count is a number for which `as_u64` answers
+abbrev pub count : Data → Option ℕ
+count value = as_number value >>= as_u64
+
+-- a value is a number for which `as_i64` answers
+abbrev pub integer : Data → Option ℤ
+integer value = as_number value >>= as_i64
+
+-- the values of a list
+abbrev pub values_of : Items → List Data
+values_of no_items = []
+values_of (item value values) = value ∷ values_of values
+
+-- a list, each of whose values has a form
+abbrev pub list_of : {A : Type 0} → (Data → Option A) → Data → Option (List A)
+list_of form value = as_array value >>= (λ items. each form (values_of items))
+
+-- ---- fields
+
+-- a required field
+abbrev pub required : {A : Type 0} → (Data → Option A) → List ℕ → Data → Option A
+required form name holder = get name holder >>= form
+
+-- what is there has its form
+abbrev pub if_there : {A : Type 0} → (Data → Option A) → Option Data → Option (Option A)
+if_there form None = Some None
+if_there form (Some value) = option_map Some (form value)
+
+-- an optional field
+abbrev pub optional : {A : Type 0} → (Data → Option A) → List ℕ → Data → Option (Option A)
+optional form name holder = if_there form (get name holder)
+
+-- an optional field with what stands for it where it is missing
+abbrev pub defaulted : {A : Type 0} → (Data → Option A) → A → List ℕ → Data → Option A
+defaulted form default name holder = option_map (λ found. unwrap_or found default) (optional form name holder)
+
+-- a list, which is empty where it is missing
+abbrev pub list : {A : Type 0} → (Data → Option A) → List ℕ → Data → Option (List A)
+list form name holder = defaulted (list_of form) [] name holder
+
+-- the depth of a queue
+abbrev pub depth_field : Data → Option ℕ
+depth_field holder = defaulted count DEFAULT_DEPTH (codes "depth") holder
+
+-- ---- scripts
+
+-- a word is a text or a value
+abbrev pub word : Data → Option Word
+word null = None
+word (boolean b) = None
+word (number n) = option_map Number (as_i64 n)
+word (string s) = Some (Text s)
+word (array items) = None
+word (object fields) = None
+
+-- a script is a list of instructions, each of which is a list of words
+abbrev pub script : Data → Option (List (List Word))
+script value = list_of (list_of word) value
+
+-- a script, which is empty where it is missing
+abbrev pub script_field : List ℕ → Data → Option (List (List Word))
+script_field name holder = defaulted script [] name holder
+
+-- ---- callback groups
+
+-- whether a group of this kind is mutually exclusive
+abbrev pub exclusive_named : List ℕ → Option Bool
+exclusive_named kind =
+    if bytes_eq kind (codes "exclusive") then Some true else
+    (if bytes_eq kind (codes "reentrant") then Some false else None)
+
+-- a group's kind
+abbrev pub group_kind : Data → Option Bool
+group_kind value = text value >>= exclusive_named
+
+-- a named callback group
+abbrev pub group : Data → Option GroupDraft
+group value = do
+  name ← required text (codes "name") value
+  exclusive ← required group_kind (codes "kind") value
+  Some (record { name = name; exclusive = exclusive })
+
+-- ---- entities
+
+-- a timer
+abbrev pub timer_form : Data → Option Drafted
+timer_form value = do
+  period ← required count (codes "period") value
+  called ← script_field (codes "script") value
+  Some (timer (record { period = period; script = called }))
+
+-- a subscription
+abbrev pub subscription_form : Data → Option Drafted
+subscription_form value = do
+  topic ← required text (codes "topic") value
+  depth ← depth_field value
+  called ← script_field (codes "script") value
+  Some (subscription (record { topic = topic; depth = depth; script = called }))
+
+-- a service
+abbrev pub service_form : Data → Option Drafted
+service_form value = do
+  depth ← depth_field value
+  called ← script_field (codes "script") value
+  Some (service (record { depth = depth; script = called }))
+
+-- a service client
+abbrev pub client_form : Data → Option Drafted
+client_form value = do
+  of ← required text (codes "service") value
+  depth ← depth_field value
+  called ← script_field (codes "script") value
+  Some (client (record { service = of; depth = depth; script = called }))
+
+-- an action server
+abbrev pub server_form : Data → Option Drafted
+server_form value = do
+  depth ← depth_field value
+  result_timeout ← optional count (codes "result_timeout") value
+  on_goal ← script_field (codes "on_goal") value
+  on_cancel ← script_field (codes "on_cancel") value
+  called ← script_field (codes "script") value
+  Some (server (record { depth = depth; result_timeout = result_timeout; on_goal = on_goal; on_cancel = on_cancel; script = called }))
+
+-- an action client
+abbrev pub action_client_form : Data → Option Drafted
+action_client_form value = do
+  of ← required text (codes "action") value
+  depth ← depth_field value
+  on_response ← script_field (codes "on_response") value
+  on_code ← script_field (codes "on_code") value
+  on_feedback ← script_field (codes "on_feedback") value
+  on_result ← optional script (codes "on_result") value
+  Some (action_client (record { server = of; depth = depth; on_response = on_response; on_code = on_code; on_feedback = on_feedback; on_result = on_result }))
+
+-- an entity of a kind: its name, its callback group where it names one, and what its kind says
+abbrev pub entity : (Data → Option Drafted) → Data → Option EntityDraft
+entity form value = do
+  name ← required text (codes "name") value
+  group ← optional text (codes "group") value
+  is ← form value
+  Some (record { name = name; group = group; is = is })
+
+-- a node
+abbrev pub node : Data → Option NodeDraft
+node value = do
+  name ← required text (codes "name") value
+  groups ← list group (codes "groups") value
+  timers ← list (entity timer_form) (codes "timers") value
+  subscriptions ← list (entity subscription_form) (codes "subscriptions") value
+  services ← list (entity service_form) (codes "services") value
+  clients ← list (entity client_form) (codes "clients") value
+  servers ← list (entity server_form) (codes "actions") value
+  action_clients ← list (entity action_client_form) (codes "action_clients") value
+  Some (record { name = name; groups = groups; entities = timers ++ subscriptions ++ services ++ clients ++ servers ++ action_clients })
+
+-- ---- the feed
+
+-- a message to a topic
+abbrev pub message_form : Data → Option FedDraft
+message_form value = do
+  topic ← required text (codes "topic") value
+  sent ← required integer (codes "value") value
+  Some (message topic sent)
+
+-- a goal request
+abbrev pub goal_form : Data → Option FedDraft
+goal_form value = do
+  action ← required text (codes "action") value
+  id ← required text (codes "goal") value
+  sent ← required integer (codes "value") value
+  Some (goal action id sent)
+
+-- a cancel request; a stamp of 0 is none
+abbrev pub cancel_form : Data → Option FedDraft
+cancel_form value = do
+  action ← required text (codes "action") value
+  id ← required text (codes "cancel") value
+  stamp ← defaulted count 0 (codes "stamp") value
+  Some (cancel action id stamp)
+
+-- the form of an entry that has the field `topic`, `goal` or `cancel`, and has no other of them
+abbrev pub form_by : Bool → Bool → Bool → Data → Option FedDraft
+form_by true false false = message_form
+form_by false true false = goal_form
+form_by false false true = cancel_form
+form_by _ _ _ = λ value. None
+
+-- whether a field is there, whatever it holds
+abbrev pub has : List ℕ → Data → Bool
+has name holder = is_some (get name holder)
+
+-- what an entry feeds
+abbrev pub fed : Data → Option FedDraft
+fed value = form_by (has (codes "topic") value) (has (codes "goal") value) (has (codes "cancel") value) value
+
+-- an entry of the feed
+abbrev pub entry : Data → Option EntryDraft
+entry value = do
+  round ← required count (codes "round") value
+  is ← fed value
+  Some (record { round = round; fed = is })
+
+-- ---- the document
+
+-- the draft of a document, where the value has the forms of one
+abbrev pub draft_of : Data → Option DocumentDraft
+draft_of value = do
+  version ← required count (codes "version") value
+  topics ← list text (codes "topics") value
+  nodes ← list node (codes "nodes") value
+  moments ← list count (codes "moments") value
+  feed ← list entry (codes "feed") value
+  Some (record { version = version; graph = record { topics = topics; nodes = nodes }; moments = moments; feed = feed })

@@ -1,0 +1,11 @@
+pub mod Document
+pub mod Draft
+pub mod Examples
+pub mod Faults
+pub mod Forms
+pub mod Graph
+pub mod Numbers
+pub mod Options
+pub mod Refusals
+pub mod Scripts
+pub mod Words

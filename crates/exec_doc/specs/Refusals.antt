@@ -1,0 +1,119 @@
+-- Why a document is refused: the predicate of each code, and the least code whose predicate holds.
+use Rattle.std.specs.Prelude.{ℕ, List, [], ◌∷◌, length, Bool, true, false, not, ◌&&◌, ◌==◌, nat_le, is_some, is_none, if◌then◌else◌, Option, None, find}
+use Rattle.std.specs.Int.{from_be_bytes, w128}
+use Rattle.std.specs.List.{list_all}
+use Rattle.std.specs.Option.{option_map, option_map_or}
+use Rattle.std.specs.Str.{is_utf8}
+use Rattle.serde_json.specs.Data.{Data}
+use Rattle.serde_json.specs.Read.{read}
+use Rattle.uuid.specs.Text.{parsed}
+use Rattle.exec_doc.specs.Draft.{GraphDraft, FedDraft, message, goal, cancel, DocumentDraft}
+use Rattle.exec_doc.specs.Forms.{draft_of}
+use Rattle.exec_doc.specs.Faults.{has_faulty_script, shares_variables, is_small, is_well_named}
+use Rattle.exec_doc.specs.Options.{◌>>=◌}
+use Rattle.exec_doc.specs.Numbers.{topic_named, server_named}
+use Rattle.exec_doc.specs.declared.refused.Refused.{Refused}
+use Rattle.exec_doc.specs.declared.refused.Refused.TheVariants as refused
+use Rattle.exec_graph.specs.Lawful.{is_from_1, is_ascending_from}
+use Rattle.exec_msg.specs.declared.limits.TheConstants.{MOMENTS, FEED, TICKS}
+
+-- ---- 1: no JSON
+
+-- the value that bytes have: they are UTF-8, and JSON that nests at most 127 levels deep
+abbrev pub value_of : List ℕ → Option Data
+value_of bytes = if is_utf8 bytes then read bytes else None
+
+-- ---- 4: names
+
+-- what is fed goes to a topic or to a server that is declared
+abbrev pub feeds : GraphDraft → FedDraft → Bool
+feeds draft (message name value) = is_some (topic_named draft name)
+feeds draft (goal name id value) = is_some (server_named draft name)
+feeds draft (cancel name id stamp) = is_some (server_named draft name)
+
+-- the graph is well named, and what is fed goes to what is declared
+abbrev pub has_declared_names : DocumentDraft → Bool
+has_declared_names document = is_well_named document.graph && list_all (λ entry. feeds document.graph entry.fed) document.feed
+
+-- ---- 5: limits
+
+-- a stamp is at most 2^62
+abbrev pub has_stamp_within : FedDraft → Bool
+has_stamp_within (message name value) = true
+has_stamp_within (goal name id value) = true
+has_stamp_within (cancel name id stamp) = nat_le stamp TICKS
+
+-- no moment, no stamp, and no number of moments or entries is beyond its limit
+abbrev pub schedule_fits : DocumentDraft → Bool
+schedule_fits document =
+    nat_le (length document.moments) MOMENTS
+    && list_all (λ moment. nat_le moment TICKS) document.moments
+    && nat_le (length document.feed) FEED
+    && list_all (λ entry. has_stamp_within entry.fed) document.feed
+
+-- ---- 8: the clock
+
+-- no moment is below the one before it, and each round of the feed is one of the document
+abbrev pub is_in_order : DocumentDraft → Bool
+is_in_order document =
+    is_ascending_from 0 document.moments
+    && list_all (λ entry. is_from_1 (length document.moments) entry.round) document.feed
+
+-- ---- 9: identifiers
+
+-- the identifier that a text says, in any of the text forms of a UUID
+abbrev pub id_of : List ℕ → Option ℕ
+id_of text = option_map (from_be_bytes w128) (parsed text)
+
+-- each identifier is one, and a goal's isn't 0
+abbrev pub is_identified : FedDraft → Bool
+is_identified (message name value) = true
+is_identified (goal name text value) = option_map_or (λ id. nat_le 1 id) (id_of text) false
+is_identified (cancel name text stamp) = is_some (id_of text)
+
+-- ---- the refusal
+
+-- the number of a code
+abbrev pub number_of : Refused → ℕ
+number_of refused.NotJson = 1
+number_of refused.Shape = 2
+number_of refused.Version = 3
+number_of refused.Name = 4
+number_of refused.Limit = 5
+number_of refused.Script = 6
+number_of refused.GroupVariable = 7
+number_of refused.Clock = 8
+number_of refused.Id = 9
+number_of refused.Memory = 10
+
+-- whether a draft has what a code refuses, each code being read on drafts that no lesser one refuses
+abbrev pub has_fault : Refused → DocumentDraft → Bool
+has_fault refused.Version document = not (document.version == 1)
+has_fault refused.Name document = not (has_declared_names document)
+has_fault refused.Limit document = not (is_small document.graph && schedule_fits document)
+has_fault refused.Script document = has_faulty_script document.graph
+has_fault refused.GroupVariable document = shares_variables document.graph
+has_fault refused.Clock document = not (is_in_order document)
+has_fault refused.Id document = not (list_all (λ entry. is_identified entry.fed) document.feed)
+has_fault _ document = false
+
+-- whether a code holds of the value that was read: it isn't there, or hasn't the forms of a document, or its draft has
+-- what the code refuses
+abbrev pub holds : Refused → Option Data → Bool
+holds refused.NotJson value = is_none value
+holds refused.Shape value = is_none (value >>= draft_of)
+holds code value = option_map_or (has_fault code) (value >>= draft_of) false
+
+-- the codes by which documents are refused
+abbrev pub codes_in_order : List Refused
+codes_in_order =
+    refused.NotJson ∷ refused.Shape ∷ refused.Version ∷ refused.Name ∷ refused.Limit
+    ∷ refused.Script ∷ refused.GroupVariable ∷ refused.Clock ∷ refused.Id ∷ []
+
+-- the refusal of a value that was read: the first code that holds
+abbrev pub refusal_in : Option Data → Option Refused
+refusal_in value = find (λ code. holds code value) codes_in_order
+
+-- the refusal of bytes
+abbrev pub refusal_of : List ℕ → Option Refused
+refusal_of bytes = refusal_in (value_of bytes)

@@ -1,0 +1,31 @@
+//! Laws of documents: each function's contract says one, and its body is empty.
+ghost use Rattle.std.specs.Prelude.{◌≡◌, ℕ, ◌<◌, List, Option, Some, None, is_some, true, false};
+ghost use Rattle.exec_doc.specs.Document.{document_of};
+ghost use Rattle.exec_doc.specs.Refusals.{value_of, number_of, holds, refusal_of};
+ghost use Rattle.exec_doc.specs.declared.refused.Refused.{Refused};
+ghost use Rattle.exec_graph.specs.Lawful.{IsLawfulPlan};
+ghost use Rattle.exec_graph.specs.Plan.{PlanData};
+
+/// Bytes are refused by a code that holds of what was read, and no lesser one does; where they aren't refused none holds.
+pub fn the_least_code_counts()
+    ensures holds { (bytes : List ℕ) (code : Refused) → refusal_of bytes ≡ Some code → holds code (value_of bytes) ≡ true }
+    ensures least { (bytes : List ℕ) (code : Refused) → refusal_of bytes ≡ Some code →
+        (lesser : Refused) → number_of lesser < number_of code → holds lesser (value_of bytes) ≡ false }
+    ensures none { (bytes : List ℕ) (code : Refused) → refusal_of bytes ≡ None → holds code (value_of bytes) ≡ false }
+{}
+
+/// Bytes are refused or say a plan, and never both.
+pub fn refused_or_a_plan()
+    ensures plan { (bytes : List ℕ) → refusal_of bytes ≡ None → is_some (document_of bytes) ≡ true }
+    ensures refused { (bytes : List ℕ) (code : Refused) → refusal_of bytes ≡ Some code → document_of bytes ≡ None }
+{}
+
+/// Bytes say one plan at most.
+pub fn one_plan_at_most()
+    ensures { (bytes : List ℕ) (plan other : PlanData) → document_of bytes ≡ Some plan → document_of bytes ≡ Some other → plan ≡ other }
+{}
+
+/// A plan that bytes say is lawful: its names are resolved, its scripts are legal in their places, and its limits hold.
+pub fn plans_are_lawful()
+    ensures { (bytes : List ℕ) (plan : PlanData) → document_of bytes ≡ Some plan → IsLawfulPlan plan }
+{}

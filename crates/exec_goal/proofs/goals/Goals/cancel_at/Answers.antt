@@ -1,0 +1,18 @@
+use Rattle.std.proofs.Common.{ℕ, ◌∙◌, sym, ap, List, Bool, slice_set}
+use Rattle.exec_goal.proofs.Looping.{record-at, records-set_value_at}
+use Rattle.exec_goal.specs.Calls.{is_among, after_answer_by}
+use Rattle.exec_goal.specs.Held.{record_of}
+use Rattle.exec_goal.specs.Table.{GoalRecord}
+use Rattle.exec_goal.specs.declared.held.HeldGoal.{HeldGoal}
+use Rattle.exec_goal.proofs.goals.Goals.cancel_at.Goals as goal
+
+pub returns : goal.returns
+returns c = λ d.
+    let at = c.pair_mut-goal.ensures.value in
+    let entry : ℕ × HeldGoal = (c.pair_mut-goal.result.0.now, c.pair_mut-goal.result.1.now) in
+    let after = record_of (entry.0, c.cancel_where.new.self) in
+    records-set_value_at c.self.inside.held.entries c.args.index entry c.cancel_where.new.self at
+    ∙ ap (λ (goals : List GoalRecord). slice_set goals c.args.index after) c.self.view_is
+    ∙ ap (λ (goal : GoalRecord). slice_set c.args.self.now c.args.index goal)
+    (c.cancel_where.ensures entry.0 ∙ ap (λ (accepted : Bool). after_answer_by (λ _. accepted) (record_of entry)) c.has-is_accepted.ensures
+    ∙ ap (after_answer_by (is_among c.args.accepted.now)) (sym (record-at c.self.inside.held.entries c.args.self.now c.args.index entry c.self.view_is at d)))

@@ -1,0 +1,39 @@
+use Rattle.std.proofs.Common.{◌∙◌, ◌≡◌, sym, ap, refl, rules, None, Some, w64, to_z, of_z, to_z-of_z}
+use Rattle.std.specs.Option.{unwrap_or}
+use mir.Val.{SFits}
+use Rattle.exec_goal.proofs.Entries.{ids_decide, key_test, next-in, changed-in, with_changed-same, terminal-reached}
+use Rattle.exec_goal.specs.Calls.{where_terminal}
+use Rattle.exec_goal.specs.Held.{record_of}
+use Rattle.exec_goal.specs.State.{after}
+use Rattle.exec_goal.specs.Table.{GoalRecord, after_end}
+use Rattle.exec_goal.proofs.goals.Goals.end.Goals as goal
+
+pub returns-in_default-clause-illegal : goal.returns-in_default-clause-illegal
+returns-in_default-clause-illegal c =
+    ap where_terminal (next-in _ c.args.id (key_test _ (λ a b. ids_decide a b) c.args.id) c.args.event c.self.inside.held.entries c.args.self.now None c.self.view_is c.in_default.ensures.value)
+
+pub returns-in_default-end-clause-illegal : goal.returns-in_default-end-clause-illegal
+returns-in_default-end-clause-illegal c =
+    ap where_terminal (next-in _ c.args.id (key_test _ (λ a b. ids_decide a b) c.args.id) c.args.event c.self.inside.held.entries c.args.self.now (Some c.in-Some.goal.now) c.self.view_is c.in-Some.ensures.value)
+    ∙ sym c.in_default-end.ensures
+
+pub returns-in_default-end-clause-refused : goal.returns-in_default-end-clause-refused
+returns-in_default-end-clause-refused c =
+    changed-in _ c.args.id (key_test _ (λ a b. ids_decide a b) c.args.id) (λ (goal : GoalRecord). goal) c.in-Some.goal.now c.in-Some.goal.now refl
+    c.self.inside.held.entries (c.get_mut.follows.lender c.in-Some.goal.now).entries c.args.self.now c.self.view_is c.in-Some.ensures.value (c.get_mut.follows.holds c.in-Some.goal.now).0
+    ∙ with_changed-same c.args.id c.args.self.now
+
+pub returns-clause-state : goal.returns-clause-state
+returns-clause-state c =
+    ap where_terminal (next-in _ c.args.id (key_test _ (λ a b. ids_decide a b) c.args.id) c.args.event c.self.inside.held.entries c.args.self.now (Some c.in-Some.goal.now) c.self.view_is c.in-Some.ensures.value)
+    ∙ sym c.in-Some-end.ensures
+
+pub returns-clause-ended : goal.returns-clause-ended
+returns-clause-ended c =
+    let fits : SFits w64 c.args.value = search rules in
+    let goal = record_of (c.args.id, c.in-Some.goal.now) in
+    let reached = terminal-reached (after c.in-Some.goal.now.state c.args.event) c.in-Some-end.next c.in-Some-end.ensures in
+    let changes : record goal { state = c.in-Some-end.next; result = to_z w64 (of_z w64 c.args.value); ended = c.args.moment } ≡ after_end c.args.event c.args.value c.args.moment goal =
+    (λ i. record goal { state = unwrap_or (sym reached i) goal.state; result = to_z-of_z fits i; ended = c.args.moment }) in
+    changed-in _ c.args.id (key_test _ (λ a b. ids_decide a b) c.args.id) (after_end c.args.event c.args.value c.args.moment) c.in-Some.goal.now _ changes
+    c.self.inside.held.entries (c.get_mut.follows.lender _).entries c.args.self.now c.self.view_is c.in-Some.ensures.value (c.get_mut.follows.holds _).0

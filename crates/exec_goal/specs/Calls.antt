@@ -1,0 +1,87 @@
+-- What the calls on a server's table of goals answer, and the table after them.
+use Rattle.std.specs.Prelude.{◌≡◌, ℕ, ◌<◌, List, [], ◌∷◌, length, slice_index_or, ◌&&◌, ◌==◌, Bool, true, false, if◌then◌else◌, Option, None, Some}
+use Rattle.std.specs.List.{find, list_any}
+use Rattle.std.specs.Option.{option_map}
+use Rattle.exec_msg.specs.declared.goal.Event.{Event}
+use Rattle.exec_msg.specs.declared.goal.Event.TheVariants as event
+use Rattle.exec_goal.specs.State.{after, is_cancelable, is_terminal}
+use Rattle.exec_goal.specs.Table.{GoalRecord, has_id, Asked, told, later, unknown, is_expired, asked_for, asked_by, after_event}
+use Rattle.exec_goal.specs.declared.refusals.Reject.{Reject}
+use Rattle.exec_goal.specs.declared.refusals.Reject.TheVariants as reject
+use Rattle.exec_goal.specs.declared.state.State.{State}
+
+-- the table in which the goal of an identifier is changed
+abbrev pub with_changed : ℕ → (GoalRecord → GoalRecord) → List GoalRecord → List GoalRecord
+with_changed id change [] = []
+with_changed id change (goal ∷ goals) = if has_id id goal then change goal ∷ goals else goal ∷ with_changed id change goals
+
+-- the state of the goal of an identifier
+abbrev pub state_in : ℕ → List GoalRecord → Option State
+state_in id goals = option_map (λ goal. goal.state) (find (has_id id) goals)
+
+-- the action clients that asked for the result of the goal of an identifier, of which there are none where it isn't held
+abbrev pub askers_of : Option GoalRecord → List ℕ
+askers_of None = []
+askers_of (Some goal) = goal.askers
+
+abbrev pub askers_in : ℕ → List GoalRecord → List ℕ
+askers_in id goals = askers_of (find (has_id id) goals)
+
+-- the state that an event leads to, where there is a state and such a transition
+abbrev pub moved_to : Event → Option State → Option State
+moved_to event None = None
+moved_to event (Some before) = after before event
+
+-- a state where it is terminal
+abbrev pub where_terminal : Option State → Option State
+where_terminal None = None
+where_terminal (Some reached) = if is_terminal reached then Some reached else None
+
+-- the state that an event moves the goal of an identifier to
+abbrev pub next_state : ℕ → Event → List GoalRecord → Option State
+next_state id event goals = moved_to event (state_in id goals)
+
+-- the terminal state in which an event ends the goal of an identifier
+abbrev pub end_state : ℕ → Event → List GoalRecord → Option State
+end_state id event goals = where_terminal (next_state id event goals)
+
+-- the table after a result request that is told so: where the result comes later, the client is noted
+abbrev pub noted : Asked → ℕ → ℕ → List GoalRecord → List GoalRecord
+noted (told status value) id client goals = goals
+noted later id client goals = with_changed id (asked_by client) goals
+noted unknown id client goals = goals
+
+abbrev pub after_asking : ℕ → ℕ → List GoalRecord → List GoalRecord
+after_asking id client goals = noted (asked_for id goals) id client goals
+
+-- a list without its first element that passes a test
+abbrev pub drop_first : {A : Type 0} → (A → Bool) → List A → List A
+drop_first test [] = []
+drop_first test (x ∷ xs) = if test x then xs else x ∷ drop_first test xs
+
+-- the table without the first goal that has expired
+abbrev pub after_expiry : ℕ → Option ℕ → List GoalRecord → List GoalRecord
+after_expiry moment timeout goals = drop_first (is_expired moment timeout) goals
+
+-- the place of the first element that passes a test
+pub record IsFirst {A : Type 0} (test : A → Bool) (xs : List A) (place : ℕ) : Type 0 where
+  pub within : place < length xs
+  pub passes : (d : A) → test (slice_index_or xs place d) ≡ true
+  pub before : (k : ℕ) (d : A) → k < place → test (slice_index_or xs k d) ≡ false
+
+-- identifiers that are accepted for cancelling, as a list
+abbrev pub is_among : List ℕ → ℕ → Bool
+is_among ids id = list_any (λ one. one == id) ids
+
+-- whether an accepted candidate moves, and the goal after the answer, by which identifiers are accepted
+abbrev pub moves_by : (ℕ → Bool) → GoalRecord → Bool
+moves_by accepts goal = accepts goal.id && is_cancelable goal.state
+
+abbrev pub after_answer_by : (ℕ → Bool) → GoalRecord → GoalRecord
+after_answer_by accepts goal = if moves_by accepts goal then after_event event.CancelGoal goal else goal
+
+-- the numbers of refusals
+abbrev pub reject_number : Reject → ℕ
+reject_number reject.Held = 1
+reject_number reject.Full = 2
+reject_number reject.Memory = 3

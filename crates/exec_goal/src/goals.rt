@@ -1,0 +1,126 @@
+mod asking;
+mod canceling;
+mod expiring;
+mod moving;
+
+use crate::held::HeldGoal;
+use crate::info::GoalInfo;
+use crate::refusals::Reject;
+use crate::state::State;
+use exec_msg::limits::GOALS;
+use exec_msg::{GoalId, Moment};
+use indexmap::IndexMap;
+use std::alloc::Global;
+use std::marker::Model;
+
+/// The goals that a server holds, in the order in which it accepted them. No two have one
+/// identifier.
+#[derive(Debug, Drop)]
+pub struct Goals {
+    alloc: Global,
+    held: IndexMap<GoalId, HeldGoal>,
+}
+
+impl Model for Goals {
+    ghost use Rattle.std.specs.Prelude.{List};
+    ghost use Rattle.exec_goal.specs.Held.{records_of};
+    ghost use Rattle.exec_goal.specs.Table.{GoalRecord};
+
+    ghost Value = { List GoalRecord };
+
+    ghost view = { λ goals. records_of goals.held.entries };
+}
+
+/// The answer to a goal that is accepted.
+#[derive(Clone, Copy, Debug, PartialEq, Eq)]
+pub struct Accepted {
+    /// `State::Executing` by decision 2, and `State::Accepted` by decision 3.
+    pub state: State,
+}
+
+impl Goals {
+    ghost use Rattle.std.specs.Prelude.{◌≡◌, ◌⊎◌, ◌↔◌, ◌<◌, [], true, false, Some, length, map, slice_get, OnOk, OnErr, IfOk};
+    ghost use Rattle.exec_goal.specs.Calls.{state_in};
+    ghost use Rattle.exec_goal.specs.Info.{info_of};
+    ghost use Rattle.exec_goal.specs.LawWords.{HaveDistinctIds};
+    ghost use Rattle.exec_goal.specs.Table.{holds, is_full, accepted_state, with_accepted};
+    ghost use Rattle.exec_goal.specs.declared.refusals.Reject.TheVariants as reject;
+
+    /// No goals. It takes no memory.
+    pub fn new(alloc: Global) -> Goals
+        ensures { result ≡ [] }
+    {
+        Goals {
+            alloc,
+            held: IndexMap::new(alloc),
+        }
+    }
+
+    /// Whether a goal of this identifier is held, in whatever state.
+    pub fn holds(&self, id: GoalId) -> bool
+        ensures { result ≡ holds id self.now }
+    {
+        self.held.contains_key(&id)
+    }
+
+    /// How many goals are held, in whatever state.
+    pub fn len(&self) -> usize
+        ensures count { result ≡ length self.now }
+        ensures distinct { HaveDistinctIds self.now }
+    {
+        self.held.len()
+    }
+
+    /// Whether no room is left: [`GOALS`] goals are held, in whatever state.
+    pub fn is_full(&self) -> bool
+        ensures { result ≡ is_full self.now }
+    {
+        self.len() >= GOALS
+    }
+
+    /// The state of a goal, or `None` where it isn't held.
+    pub fn state(&self, id: GoalId) -> Option<State>
+        ensures { result ≡ state_in id self.now }
+    {
+        let held = self.held.get(&id)?;
+        Some(held.state)
+    }
+
+    /// The goal at this place, from 0, in the order of acceptance.
+    pub fn at(&self, index: usize) -> GoalInfo
+        requires { index < length self.now }
+        ensures { slice_get (map info_of self.now) index ≡ Some result }
+    {
+        let (id, goal) = self.held.get_index(index).unwrap();
+        goal.info(*id)
+    }
+
+    /// Accepts a goal of a value at a moment by decision 2, which executes it at once, or by
+    /// decision 3, which defers it. It is refused where its identifier is held, else where no room
+    /// is left, else where memory is refused; the goals are then as they were.
+    pub fn accept(
+        &mut self,
+        id: GoalId,
+        value: i64,
+        moment: Moment,
+        decision: u8,
+    ) -> Result<Accepted, Reject>
+        requires { (decision ≡ 2) ⊎ (decision ≡ 3) }
+        ensures state { IfOk result (λ accepted. accepted.state ≡ accepted_state decision) }
+        ensures accepted { OnOk result (self.new ≡ with_accepted id value moment decision self.old) }
+        ensures held { (result ≡ Err reject.Held) ↔ (holds id self.old ≡ true) }
+        ensures full { (result ≡ Err reject.Full) ↔ ((holds id self.old ≡ false) × (is_full self.old ≡ true)) }
+        ensures refused { OnErr result (self.new ≡ self.old) }
+    {
+        if self.holds(id) {
+            return Err(Reject::Held);
+        }
+        if self.is_full() {
+            return Err(Reject::Full);
+        }
+        let goal = HeldGoal::accepted(self.alloc, value, moment, decision);
+        let state = goal.state;
+        self.held.insert(id, goal)?;
+        Ok(Accepted { state })
+    }
+}

@@ -1,0 +1,112 @@
+//! Cancel requests to a table of goals.
+use super::Goals;
+use crate::cancel::{AcceptedIds, CancelAnswer, CancelRequest, GoalIdList, is_refused};
+use crate::info::GoalInfoList;
+use exec_msg::{GoalId, Memory, ReturnCode};
+
+impl Goals {
+    ghost use Rattle.std.specs.Prelude.{◌≡◌, ℕ, ◌<◌, length, map, slice_index_or, slice_set, OnOk, OnErr, IfOk};
+    ghost use Rattle.std.specs.List.{filter, find};
+    ghost use Rattle.exec_goal.specs.Calls.{is_among, moves_by, after_answer_by};
+    ghost use Rattle.exec_goal.specs.Cancel.{candidates, moved, table_after, code_by, code_unmoved, code_of};
+    ghost use Rattle.exec_goal.specs.Info.{info_of};
+    ghost use Rattle.exec_goal.specs.Table.{GoalRecord, has_id};
+
+    /// The goals that a cancel request selects and that may be moved: those that are ACCEPTED or
+    /// EXECUTING.
+    pub fn candidates(&self, request: &CancelRequest) -> Result<GoalInfoList, Memory>
+        ensures { IfOk result (λ infos. infos ≡ map info_of (candidates request.now self.now)) }
+    {
+        let mut infos = GoalInfoList::new(self.alloc);
+        for index in 0..self.len() {
+            let info = self.at(index);
+            if request.is_candidate(&info) {
+                infos.push(info)?;
+            }
+        }
+        Ok(infos)
+    }
+
+    /// Answers a cancel request by what its handler decided of the candidates, each by its
+    /// identifier: 2 accepts, and any other number refuses. An accepted candidate that is still
+    /// ACCEPTED or EXECUTING becomes CANCELING. Where memory is refused, all goals stay as they
+    /// were: it is taken before any goal moves.
+    pub fn answer(
+        &mut self,
+        request: &CancelRequest,
+        decisions: &[(GoalId, u8)],
+    ) -> Result<CancelAnswer, Memory>
+        ensures code { IfOk result (λ answer. answer.code ≡ code_of request.now decisions.now self.old) }
+        ensures moved { IfOk result (λ answer. answer.moved ≡ map (λ goal. goal.id) (moved decisions.now self.old)) }
+        ensures table { OnOk result (self.new ≡ table_after decisions.now self.old) }
+        ensures refused { OnErr result (self.new ≡ self.old) }
+    {
+        let accepted = AcceptedIds::of(self.alloc, decisions)?;
+        let moved = self.moved_by(&accepted)?;
+        let code = if moved.is_empty() {
+            self.code_unmoved(request, decisions)
+        } else {
+            ReturnCode::None
+        };
+        self.cancel(&accepted);
+        Ok(CancelAnswer { code, moved })
+    }
+
+    fn moved_by(&self, accepted: &AcceptedIds) -> Result<GoalIdList, Memory>
+        ensures { IfOk result (λ ids. ids ≡ map (λ goal. goal.id) (filter (moves_by (is_among accepted.now)) self.now)) }
+    {
+        let mut ids = GoalIdList::new(self.alloc);
+        for index in 0..self.len() {
+            let info = self.at(index);
+            if accepted.moves(&info) {
+                ids.push(info.id)?;
+            }
+        }
+        Ok(ids)
+    }
+
+    fn code_unmoved(&self, request: &CancelRequest, decisions: &[(GoalId, u8)]) -> ReturnCode
+        ensures { result ≡ code_unmoved request.now decisions.now self.now }
+    {
+        if is_refused(decisions) {
+            ReturnCode::Rejected
+        } else {
+            self.code_by(request.id)
+        }
+    }
+
+    fn code_by(&self, id: GoalId) -> ReturnCode
+        ensures { result ≡ code_by id (find (has_id id) self.now) }
+    {
+        if id.number() == 0 {
+            return ReturnCode::Rejected;
+        }
+        match self.state(id) {
+            None => ReturnCode::UnknownGoalId,
+            Some(state) => {
+                if state.is_terminal() {
+                    ReturnCode::GoalTerminated
+                } else {
+                    ReturnCode::Rejected
+                }
+            }
+        }
+    }
+
+    fn cancel(&mut self, accepted: &AcceptedIds)
+        ensures { self.new ≡ map (after_answer_by (is_among accepted.now)) self.old }
+    {
+        for index in 0..self.len() {
+            self.cancel_at(index, accepted);
+        }
+    }
+
+    fn cancel_at(&mut self, index: usize, accepted: &AcceptedIds)
+        requires { index < length self.old }
+        ensures { (d : GoalRecord) → self.new ≡ slice_set self.old index (after_answer_by (is_among accepted.now) (slice_index_or self.old index d)) }
+    {
+        let (id, goal) = self.held.pair_mut(index);
+        let is_accepted = accepted.has(*id);
+        goal.cancel_where(is_accepted);
+    }
+}

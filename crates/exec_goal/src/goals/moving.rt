@@ -1,0 +1,57 @@
+//! How the goals of a table move from state to state.
+use super::Goals;
+use crate::refusals::Illegal;
+use crate::state::State;
+use exec_msg::{Event, GoalId, Moment};
+
+impl Goals {
+    ghost use Rattle.std.specs.Prelude.{◌≡◌, None, Some, IfOk, OnOk, OnErr};
+    ghost use Rattle.exec_goal.specs.Calls.{next_state, end_state, with_changed};
+    ghost use Rattle.exec_goal.specs.Table.{after_event, after_end};
+
+    /// Moves a goal by an event, and answers its state then. Where no such goal is held, or its
+    /// state has no such transition, all goals stay as they were. An event that ends the goal
+    /// leaves its result 0 and its end at its stamp: [`Goals::end`] keeps both.
+    pub fn apply(&mut self, id: GoalId, event: Event) -> Result<State, Illegal>
+        ensures state { IfOk result (λ state. next_state id event self.old ≡ Some state) }
+        ensures moved { OnOk result (self.new ≡ with_changed id (after_event event) self.old) }
+        ensures illegal { OnErr result (next_state id event self.old ≡ None) }
+        ensures refused { OnErr result (self.new ≡ self.old) }
+    {
+        let Some(goal) = self.held.get_mut(&id) else {
+            return Err(Illegal);
+        };
+        let Some(next) = goal.state.after(event) else {
+            return Err(Illegal);
+        };
+        goal.state = next;
+        Ok(next)
+    }
+
+    /// Ends a goal by an event at a moment with its result, and answers its terminal state. Where
+    /// no such goal is held, or the event leads its state to no terminal one, all goals stay as
+    /// they were.
+    pub fn end(
+        &mut self,
+        id: GoalId,
+        event: Event,
+        value: i64,
+        moment: Moment,
+    ) -> Result<State, Illegal>
+        ensures state { IfOk result (λ state. end_state id event self.old ≡ Some state) }
+        ensures ended { OnOk result (self.new ≡ with_changed id (after_end event value moment) self.old) }
+        ensures illegal { OnErr result (end_state id event self.old ≡ None) }
+        ensures refused { OnErr result (self.new ≡ self.old) }
+    {
+        let Some(goal) = self.held.get_mut(&id) else {
+            return Err(Illegal);
+        };
+        let Some(next) = goal.state.end(event) else {
+            return Err(Illegal);
+        };
+        goal.state = next;
+        goal.result = value;
+        goal.ended = moment;
+        Ok(next)
+    }
+}

@@ -1,0 +1,76 @@
+use crate::askers::AskerList;
+use crate::info::GoalInfo;
+use crate::state::State;
+use exec_msg::{GoalId, Moment};
+use std::alloc::Global;
+
+// A goal that a server holds, but for its identifier, by which the table finds it.
+#[derive(Debug, Drop)]
+pub(crate) struct HeldGoal {
+    pub(crate) value: i64,
+    pub(crate) stamp: Moment,
+    pub(crate) state: State,
+    // 0 until the goal ends with a value.
+    pub(crate) result: i64,
+    // The stamp until the goal ends.
+    pub(crate) ended: Moment,
+    pub(crate) askers: AskerList,
+}
+
+impl HeldGoal {
+    ghost use Rattle.std.specs.Prelude.{◌≡◌, ℕ, Some};
+    ghost use Rattle.exec_goal.specs.Calls.{after_answer_by};
+    ghost use Rattle.exec_goal.specs.Held.{record_of};
+    ghost use Rattle.exec_goal.specs.Info.{info_of};
+    ghost use Rattle.exec_goal.specs.Table.{accepted_state, new_goal, is_expired};
+
+    // A goal that is accepted at a moment by decision 2 or 3. It takes no memory.
+    pub(crate) fn accepted(alloc: Global, value: i64, moment: Moment, decision: u8) -> HeldGoal
+        ensures stands_for { (id : ℕ) → record_of (id, result) ≡ new_goal id value moment decision }
+        ensures state { result.state ≡ accepted_state decision }
+    {
+        let state = if decision == 2 {
+            State::Executing
+        } else {
+            State::Accepted
+        };
+        HeldGoal {
+            value,
+            stamp: moment,
+            state,
+            result: 0,
+            ended: moment,
+            askers: AskerList::new(alloc),
+        }
+    }
+
+    // What is told of the goal under its identifier.
+    pub(crate) fn info(&self, id: GoalId) -> GoalInfo
+        ensures { result ≡ info_of (record_of (id, self.now)) }
+    {
+        GoalInfo {
+            id,
+            value: self.value,
+            stamp: self.stamp,
+            state: self.state,
+        }
+    }
+
+    // Cancels the goal where that is accepted and still possible.
+    pub(crate) fn cancel_where(&mut self, accepted: bool)
+        ensures { (id : ℕ) → record_of (id, self.new) ≡ after_answer_by (λ _. accepted) (record_of (id, self.old)) }
+    {
+        if accepted && self.state.is_cancelable() {
+            self.state = State::Canceling;
+        }
+    }
+
+    // Whether a server that keeps results for so many ticks forgets the goal at a moment.
+    pub(crate) fn is_expired(&self, moment: Moment, timeout: u64) -> bool
+        ensures { (id : ℕ) → result ≡ is_expired moment (Some timeout) (record_of (id, self.now)) }
+    {
+        // A difference, since a sum might not fit.
+        let age = moment.ticks().checked_sub(self.ended.ticks());
+        self.state.is_terminal() && age.is_some_and(|age| timeout <= age)
+    }
+}

@@ -1,0 +1,64 @@
+ghost use Rattle.std.specs.Prelude.{◌≡◌, ◌≤◌, [], length, slice_get, OnOk, IfOk};
+ghost use Rattle.exec_msg.specs.KeepLast.{sent, displaced, taken};
+ghost use Rattle.exec_msg.specs.declared.limits.TheConstants.{DEPTH};
+
+use crate::memory::Memory;
+use circular_buffer::HeapCircularBuffer;
+use std::alloc::Global;
+use std::marker::Model;
+
+/// A queue that keeps the last items that were sent to it, as many as its depth: `rclcpp`'s history policy
+/// "keep last".
+#[derive(Drop)]
+pub struct KeepLast<T> {
+    ring: HeapCircularBuffer<T>,
+}
+
+impl<T> Model for KeepLast<T> {
+    ghost use Rattle.std.specs.Prelude.{◌≤◌, length};
+    ghost use Rattle.exec_msg.specs.KeepLast.{Queue, queue_code};
+
+    ghost Value = { Queue T };
+
+    ghost coded = { queue_code T.code };
+
+    ghost view = { λ queue. record { items = queue.ring.items; depth = queue.ring.capacity } };
+
+    ghost invariant = { λ queue. length queue.ring.items ≤ queue.ring.capacity };
+}
+
+impl<T> KeepLast<T> {
+    /// An empty queue of a depth from 1 to [`DEPTH`](crate::limits::DEPTH) items. All the room that it will ever
+    /// need is made here.
+    pub fn new(alloc: Global, depth: usize) -> Result<KeepLast<T>, Memory>
+        requires { (1 ≤ depth) × (depth ≤ DEPTH) }
+        ensures { IfOk result (λ queue. queue ≡ record { items = []; depth = depth }) }
+    {
+        let ring = HeapCircularBuffer::with_capacity(alloc, depth)?;
+        Ok(KeepLast { ring })
+    }
+
+    /// Sends an item. A full queue loses its oldest item by it, which is given back. It takes no memory.
+    pub fn push(&mut self, item: T) -> Option<T>
+        ensures sent { self.new ≡ record self.old { items = sent self.old.depth item self.old.items } }
+        ensures displaced { result ≡ slice_get (displaced self.old.depth item self.old.items) 0 }
+    {
+        self.ring.push_back(item)
+    }
+
+    /// Takes the oldest item, where there is one.
+    pub fn take(&mut self) -> Option<T>
+        ensures taken { self.new ≡ record self.old { items = taken self.old.items } }
+        ensures oldest { result ≡ slice_get self.old.items 0 }
+    {
+        self.ring.pop_front()
+    }
+
+    /// The number of its items.
+    pub fn len(&self) -> usize
+        ensures value { result ≡ length self.now.items }
+        ensures bound { result ≤ self.now.depth }
+    {
+        self.ring.len()
+    }
+}

@@ -1,0 +1,46 @@
+const MAX: i64 = i64::MAX;
+
+const MIN: i64 = i64::MIN;
+
+/// What each operation gives for two values, at the edges of 64 bits.
+pub const RESULTS: &[(&str, i64, i64, i64)] = &[
+    ("add", 2, 3, 5),
+    ("add", MAX, 1, MIN),
+    ("add", MIN, -1, MAX),
+    ("add", MAX, MAX, -2),
+    ("add", MIN, MIN, 0),
+    ("add", MAX, MIN, -1),
+    ("sub", 2, 3, -1),
+    ("sub", MIN, 1, MAX),
+    ("sub", MAX, -1, MIN),
+    ("sub", 0, MIN, MIN),
+    ("sub", MIN, MIN, 0),
+    ("sub", -1, MIN, MAX),
+    ("mul", -3, 7, -21),
+    ("mul", MAX, 2, -2),
+    ("mul", MIN, -1, MIN),
+    ("mul", MIN, 2, 0),
+    ("mul", MAX, MAX, 1),
+    ("mul", 4_294_967_296, 4_294_967_296, 0),
+    (
+        "mul",
+        3_037_000_500,
+        3_037_000_500,
+        -9_223_372_036_709_301_616,
+    ),
+    ("min", MIN, MAX, MIN),
+    ("min", -1, 0, -1),
+    ("min", 5, 5, 5),
+    ("max", MIN, MAX, MAX),
+    ("max", -1, 0, 0),
+    ("max", MIN, MIN, MIN),
+    ("lt", MIN, MAX, 1),
+    ("lt", MAX, MIN, 0),
+    ("lt", -1, 0, 1),
+    ("lt", 0, 0, 0),
+    ("lt", MIN, MIN, 0),
+    ("eq", MIN, MIN, 1),
+    ("eq", MAX, MIN, 0),
+    ("eq", -1, 1, 0),
+    ("eq", 0, 0, 1),
+];

@@ -1,0 +1,81 @@
+-- A goal's task with all that it owns, and what a poll leaves of it beside the definition's own state.
+use Rattle.std.specs.Prelude.{◌≡◌, ℕ, ℤ, List, [], Bool, true, false, None, ⊤}
+use Rattle.std.specs.List.{Any, list_any}
+use Rattle.exec_script.specs.Script.{listed}
+use Rattle.exec_script.specs.declared.effects.Effect.{Effect}
+use Rattle.exec_script.specs.declared.instr.Instr.{Instr}
+use Rattle.exec_task.specs.Task.{TaskState, Polled, polled, Answer, ready, pending, sources_of}
+use Rattle.exec_task.specs.Wake.{WakeState, LeftWaker}
+use Rattle.exec_task.specs.declared.wait.Answer.{Answer as PollAnswer}
+use Rattle.exec_task.specs.declared.wait.Answer.TheVariants as poll
+use Rattle.exec_task.specs.declared.wait.Source.{Source}
+use Rattle.exec_task.specs.declared.wait.Source.TheVariants as source
+use Rattle.exec_task.specs.declared.wait.Turn.{Turn}
+use Rattle.futures.specs.declared.task.context.Context.{Context}
+
+-- a goal's task: its script, the goal's value, where the task stands, whether it was refused memory once, and the sources
+-- that it owns
+pub record GoalTaskState : Type 0 where
+  pub script : List Instr
+  pub value : ℤ
+  pub task : TaskState
+  pub failed : Bool
+  pub clock : WakeState
+  pub cancellation : WakeState
+
+-- a poll by definition, with its effects listed
+abbrev pub poll_of : GoalTaskState → List ℤ → Turn → Polled (List Effect)
+poll_of goal variables turn = polled listed goal.script goal.value turn goal.task variables []
+
+-- the definition's answer that the code's answer is
+abbrev pub meaning_of : PollAnswer → Answer
+meaning_of (poll.Ready ending) = ready ending
+meaning_of (poll.Pending waits) = pending waits
+
+-- a fact of a poll that pended
+abbrev pub IfPending : PollAnswer → Type 0 → Type 0
+IfPending (poll.Ready ending) fact = ⊤
+IfPending (poll.Pending waits) fact = fact
+
+-- what no poll changes: the script, the goal's value, and which sources the task owns
+pub record IsSameGoal (before after : GoalTaskState) : Type 0 where
+  pub script : after.script ≡ before.script
+  pub value : after.value ≡ before.value
+  pub clock : after.clock.source ≡ before.clock.source
+  pub cancellation : after.cancellation.source ≡ before.cancellation.source
+
+-- a name is that of a source that wakes a goal's task
+abbrev pub IsSourceOfGoal : GoalTaskState → ℕ → Source → Type 0
+IsSourceOfGoal goal name (source.Clock time) = name ≡ goal.clock.source
+IsSourceOfGoal goal name source.Cancellation = name ≡ goal.cancellation.source
+IsSourceOfGoal goal name source.Reply = ⊥
+
+-- a name is that of a source that a pending goal waits for
+abbrev pub GoalNeeds : GoalTaskState → ℕ → Type 0
+GoalNeeds goal name = Any (IsSourceOfGoal goal name) (sources_of goal.task)
+
+-- the clock, at whatever time
+abbrev pub is_clock : Source → Bool
+is_clock (source.Clock time) = true
+is_clock source.Cancellation = false
+is_clock source.Reply = false
+
+-- the goal's cancellation
+abbrev pub is_cancellation : Source → Bool
+is_cancellation (source.Clock time) = false
+is_cancellation source.Cancellation = true
+is_cancellation source.Reply = false
+
+-- between these two moments a poll left its task's waker at a source that is waited for; any other source has none
+abbrev pub LeftWhere : Bool → Context → Context → WakeState → Type 0
+LeftWhere true before after wake = LeftWaker before after wake
+LeftWhere false before after wake = wake.waker ≡ None
+
+-- between these two moments a poll left its task's wakers at exactly the sources that wake the task, or could make none
+pub record LeftWakers (before after : Context) (goal : GoalTaskState) : Type 0 where
+  pub clock : LeftWhere (list_any is_clock (sources_of goal.task)) before after goal.clock
+  pub cancellation : LeftWhere (list_any is_cancellation (sources_of goal.task)) before after goal.cancellation
+
+-- no waker stands at a source of the task
+abbrev pub HoldsNoWaker : GoalTaskState → Type 0
+HoldsNoWaker goal = (goal.clock.waker ≡ None) × (goal.cancellation.waker ≡ None)

@@ -1,0 +1,159 @@
+ghost use Rattle.std.specs.Prelude.{◌≡◌, true, false, None, IsOk, IsErr, IfOk, OnOk, OnErr};
+ghost use Rattle.std.specs.Arc.{arc_value};
+ghost use Rattle.futures.specs.Task.{Covers, Keeps};
+ghost use Rattle.exec_task.specs.Goal.{poll_of, meaning_of, IsSameGoal, GoalNeeds, IfPending, LeftWakers, HoldsNoWaker};
+ghost use Rattle.exec_task.specs.Task.{new_task, has_ended, is_awake, answer_of, ran, run_of};
+ghost use Rattle.exec_script.specs.Script.{listed};
+
+use crate::progress::Progress;
+use crate::wait::{Polled, Turn, Wait};
+use crate::wake::WakeSource;
+use exec_msg::{Memory, Moment};
+use exec_script::{Bank, EffectList, Instr};
+use futures::task::{Context, Poll};
+use std::alloc::Global;
+use std::marker::Model;
+use std::sync::Arc;
+
+/// A goal's work, as a future that is polled by hand.
+#[derive(Drop)]
+pub struct GoalTask {
+    script: Arc<Vec<Instr>>,
+    value: i64,
+    progress: Progress,
+    // A poll was refused memory.
+    failed: bool,
+    clock: WakeSource,
+    cancellation: WakeSource,
+}
+
+impl Model for GoalTask {
+    ghost use Rattle.std.specs.Arc.{arc_value};
+    ghost use Rattle.exec_task.specs.Goal.{GoalTaskState};
+
+    ghost Value = { GoalTaskState };
+
+    ghost view = { λ goal. record { script = (arc_value goal.script).items; value = goal.value; task = goal.progress; failed = goal.failed; clock = goal.clock; cancellation = goal.cancellation } };
+}
+
+impl GoalTask {
+    /// The task of a goal of this value, before its first poll. The script is shared, so this takes no memory; it is one
+    /// that `check` accepts for a goal's own work.
+    pub fn new(script: Arc<Vec<Instr>>, value: i64) -> GoalTask
+        ensures script { result.script ≡ (arc_value script).items }
+        ensures value { result.value ≡ value }
+        ensures task { result.task ≡ new_task }
+        ensures failed { result.failed ≡ false }
+        ensures clock { result.clock.waker ≡ None }
+        ensures cancellation { result.cancellation.waker ≡ None }
+    {
+        GoalTask {
+            script,
+            value,
+            progress: Progress::new(),
+            failed: false,
+            clock: WakeSource::new(),
+            cancellation: WakeSource::new(),
+        }
+    }
+
+    // Runs the script of an awake task on in a turn. One that ends waits for nothing any more.
+    fn run(&mut self, bank: &mut Bank, turn: &Turn, effects: &mut EffectList) -> Result<(), Memory>
+        ensures ok { OnOk result (record { task = self.new.task; variables = bank.new; given = effects.new }
+            ≡ ran turn.now self.old.task (run_of listed self.old.script self.old.value turn.now self.old.task bank.old effects.old)) }
+        ensures same { IsSameGoal self.old self.new }
+        ensures failed { OnOk result (self.new.failed ≡ self.old.failed) }
+        ensures ended { OnOk result (has_ended self.new.task ≡ true → HoldsNoWaker self.new) }
+        ensures err { OnErr result (self.new ≡ record self.old { failed = true }) }
+        ensures err_variables { OnErr result (bank.new ≡ bank.old) }
+    {
+        let ran = self
+            .progress
+            .run(&self.script, self.value, bank, turn, effects);
+        if ran.is_err() {
+            self.failed = true;
+        } else if self.progress.has_ended() {
+            self.clock.clear();
+            self.cancellation.clear();
+        }
+        ran
+    }
+
+    // Waits for each source that wakes the task, or yields where none does; one that has ended waits for nothing.
+    fn listen(&mut self, cx: &mut Context<'_>)
+        ensures same { IsSameGoal self.old self.new }
+        ensures task { self.new.task ≡ self.old.task }
+        ensures failed { self.new.failed ≡ self.old.failed }
+        ensures ended { has_ended self.old.task ≡ true → self.new ≡ self.old }
+        ensures registered { has_ended self.old.task ≡ false → Covers cx.new (GoalNeeds self.new) }
+        ensures wakers { has_ended self.old.task ≡ false → LeftWakers cx.old cx.new self.new }
+        ensures kept { Keeps cx.old cx.new }
+    {
+        if self.progress.has_ended() {
+            return;
+        }
+        match self.progress.waits() {
+            Wait::NextRound => {
+                self.clock.clear();
+                self.cancellation.clear();
+                let _: Poll<()> = cx.yield_now();
+            }
+            Wait::Until(_) => {
+                let _: Poll<()> = self.clock.register(cx);
+                if self.progress.is_told() {
+                    self.cancellation.clear();
+                } else {
+                    let _: Poll<()> = self.cancellation.register(cx);
+                }
+            }
+        }
+    }
+}
+
+/// Whether a goal is to be polled in a round at this moment, in which it is being canceled or not: its wait, as the last
+/// poll that pended left it, is over, or it is canceling and wasn't polled so yet. One that has ended never is.
+pub fn is_awake(task: &GoalTask, moment: Moment, canceling: bool) -> bool
+    ensures { result ≡ is_awake task.now.task (record { moment = moment; canceling = canceling }) }
+{
+    task.progress.is_awake(moment, canceling)
+}
+
+/// Polls a goal in a round, with the variables of its callback group, in a context that the caller has made. A goal that is
+/// awake goes on with its script; another one, and one that has ended, answers as before and gives no effect. A goal that
+/// pends has registered with each source that wakes it, or has yielded.
+///
+/// Where memory is refused, the bank and all of the task stay as they were, but that it answers `Memory` from then on.
+pub fn poll_goal(
+    alloc: Global,
+    task: &mut GoalTask,
+    bank: &mut Bank,
+    turn: &Turn,
+    cx: &mut Context<'_>,
+) -> Result<Polled, Memory>
+    ensures effects { IfOk result (λ polled. polled.effects ≡ (poll_of task.old bank.old turn.now).given) }
+    ensures answer { IfOk result (λ polled. meaning_of polled.answer ≡ answer_of (poll_of task.old bank.old turn.now).task) }
+    ensures task { OnOk result (task.new.task ≡ (poll_of task.old bank.old turn.now).task) }
+    ensures variables { OnOk result (bank.new ≡ (poll_of task.old bank.old turn.now).variables) }
+    ensures same { IsSameGoal task.old task.new }
+    ensures registered { IfOk result (λ polled. IfPending polled.answer (Covers cx.new (GoalNeeds task.new))) }
+    ensures wakers { IfOk result (λ polled. IfPending polled.answer (LeftWakers cx.old cx.new task.new)) }
+    ensures ending { OnOk result (has_ended task.old.task ≡ false → has_ended task.new.task ≡ true → HoldsNoWaker task.new) }
+    ensures kept { Keeps cx.old cx.new }
+    ensures refused { OnErr result (task.new ≡ record task.old { failed = true }) }
+    ensures refused_variables { OnErr result (bank.new ≡ bank.old) }
+    ensures failed { task.old.failed ≡ true → IsErr result }
+    ensures unfailed { OnOk result (task.new.failed ≡ false) }
+    ensures ended { has_ended task.old.task ≡ true → OnOk result (task.new ≡ task.old) }
+    ensures takes_none { task.old.failed ≡ false → is_awake task.old.task turn.now ≡ false → IsOk result }
+{
+    if task.failed {
+        return Err(Memory);
+    }
+    let mut effects = EffectList::new(alloc);
+    if is_awake(task, turn.moment, turn.canceling) {
+        task.run(bank, turn, &mut effects)?;
+    }
+    task.listen(cx);
+    let answer = task.progress.answer();
+    Ok(Polled { effects, answer })
+}

@@ -1,0 +1,151 @@
+ghost use Rattle.std.specs.Prelude.{◌≡◌, ◌||◌, ◌^◌, [], OnOk, OnErr};
+ghost use Rattle.exec_script.specs.LawWords.{WaitsWithin};
+ghost use Rattle.exec_script.specs.Script.{listed};
+ghost use Rattle.exec_task.specs.Goal.{meaning_of};
+ghost use Rattle.exec_task.specs.Task.{new_task, has_ended, is_reached, is_awake, after_stop, ran, run_of, answer_of, ending_event};
+
+use crate::wait::{Answer, Ending, Turn, Wait};
+use exec_msg::{Event, Memory, Moment};
+use exec_script::{Bank, EffectList, Input, Instr, Regs, Stop, run_from};
+use std::marker::Model;
+
+// How far a goal's script has come.
+#[derive(Clone, Copy, Debug, PartialEq, Eq)]
+pub(crate) struct Progress {
+    // The number of the instruction at which the script goes on, from 0.
+    place: usize,
+    registers: Regs,
+    waits: Wait,
+    // Whether the goal was polled as one that is being canceled.
+    told: bool,
+    ending: Option<Ending>,
+}
+
+impl Model for Progress {
+    ghost use Rattle.exec_task.specs.Task.{TaskState};
+
+    ghost Value = { TaskState };
+
+    ghost view = { λ progress. record { place = progress.place; registers = progress.registers; waits = progress.waits; told = progress.told; ending = progress.ending } };
+
+    ghost inverse = { λ task. record { place = task.place; registers = task.registers; waits = task.waits; told = task.told; ending = task.ending } };
+}
+
+impl Progress {
+    // Before the first poll.
+    pub(crate) fn new() -> Progress
+        ensures { result ≡ new_task }
+    {
+        Progress {
+            place: 0,
+            registers: Regs::new(),
+            waits: Wait::NextRound,
+            told: false,
+            ending: None,
+        }
+    }
+
+    pub(crate) fn waits(&self) -> Wait
+        ensures { result ≡ self.now.waits }
+    {
+        self.waits
+    }
+
+    pub(crate) fn is_told(&self) -> bool
+        ensures { result ≡ self.now.told }
+    {
+        self.told
+    }
+
+    pub(crate) fn has_ended(&self) -> bool
+        ensures { result ≡ has_ended self.now }
+    {
+        self.ending.is_some()
+    }
+
+    pub(crate) fn is_awake(&self, moment: Moment, canceling: bool) -> bool
+        ensures { result ≡ is_awake self.now (record { moment = moment; canceling = canceling }) }
+    {
+        !self.has_ended() && (is_reached(self.waits, moment) || (canceling && !self.told))
+    }
+
+    pub(crate) fn answer(&self) -> Answer
+        ensures { meaning_of result ≡ answer_of self.now }
+    {
+        match self.ending {
+            Some(ending) => Answer::Ready(ending),
+            None => Answer::Pending(self.waits),
+        }
+    }
+
+    // Runs the script on in a turn. Where memory is refused, all stays as it was.
+    pub(crate) fn run(
+        &mut self,
+        script: &[Instr],
+        value: i64,
+        bank: &mut Bank,
+        turn: &Turn,
+        effects: &mut EffectList,
+    ) -> Result<(), Memory>
+        ensures ok { OnOk result (record { task = self.new; variables = bank.new; given = effects.new }
+            ≡ ran turn.now self.old (run_of listed script.now value turn.now self.old bank.old effects.old)) }
+        ensures err { OnErr result (self.new ≡ self.old) }
+        ensures err_variables { OnErr result (bank.new ≡ bank.old) }
+    {
+        let input = Input {
+            first: value,
+            aux: turn.canceling as i64,
+            moment: turn.moment,
+        };
+        let mut registers = self.registers;
+        let stop = run_from(script, self.place, &mut registers, bank, &input, effects)?;
+        self.registers = registers;
+        self.told = self.told || turn.canceling;
+        self.stop(turn, stop);
+        Ok(())
+    }
+
+    // What the script's stop in a turn leaves of the task.
+    fn stop(&mut self, turn: &Turn, stop: Stop)
+        requires { WaitsWithin (2 ^ 63) stop }
+        ensures { self.new ≡ after_stop turn.now stop self.old }
+    {
+        match stop {
+            Stop::Wait(ticks, place) => {
+                self.place = place;
+                self.waits = Wait::Until(turn.moment.ticks() + ticks);
+            }
+            Stop::Yield(place) => {
+                self.place = place;
+                self.waits = Wait::NextRound;
+            }
+            Stop::Ended(event, value) => {
+                let event = ending_event(turn.canceling, event);
+                self.ending = Some(Ending { event, value });
+            }
+            Stop::End => {
+                self.place = 0;
+                self.waits = Wait::NextRound;
+            }
+        }
+    }
+}
+
+fn is_reached(waits: Wait, moment: Moment) -> bool
+    ensures { result ≡ is_reached waits moment }
+{
+    match waits {
+        Wait::NextRound => true,
+        Wait::Until(time) => time <= moment.ticks(),
+    }
+}
+
+// The event by which a goal ends whose script ends it by this one.
+fn ending_event(canceling: bool, event: Event) -> Event
+    ensures { result ≡ ending_event canceling event }
+{
+    match event {
+        Event::Canceled if !canceling => Event::Abort,
+        event => event,
+    }
+}

@@ -1,0 +1,303 @@
+use super::{
+    Already, Answer, Ending, GoalTask, PendingCall, Poller, Turn, Wait, is_awake, poll_goal,
+};
+use exec_msg::{Event, Memory, Moment};
+use exec_script::{Bank, Destination, Effect, Instr, Operand, Operation, Slot};
+use futures::task::Poll;
+use std::alloc::Global;
+use std::sync::Arc;
+use std::test::Fail;
+use std::thread;
+
+const NEXT_ROUND: Answer = Answer::Pending(Wait::NextRound);
+
+const SUCCEED_9: Instr = Instr::Succeed {
+    value: Operand::Value(9),
+};
+
+const LOG_AUX: Instr = Instr::Log {
+    value: Operand::Aux,
+};
+
+fn until(time: u64) -> Answer {
+    Answer::Pending(Wait::Until(time))
+}
+
+fn ended(event: Event, value: i64) -> Answer {
+    Answer::Ready(Ending { event, value })
+}
+
+fn wait(ticks: i64) -> Instr {
+    Instr::Wait {
+        ticks: Operand::Value(ticks),
+    }
+}
+
+fn log(value: Operand) -> Instr {
+    Instr::Log { value }
+}
+
+fn slot_0() -> Slot {
+    let Some(slot) = Slot::new(0) else {
+        unreachable!()
+    };
+    slot
+}
+
+// `destination` becomes `operand` and 1.
+fn one_more(destination: Destination, operand: Operand) -> Instr {
+    Instr::Set {
+        destination,
+        operation: Operation::Add,
+        left: operand,
+        right: Operand::Value(1),
+    }
+}
+
+// A goal of value 5, with the variables of its group.
+#[derive(Drop)]
+struct Trial {
+    alloc: Global,
+    task: GoalTask,
+    bank: Bank,
+    poller: Poller,
+}
+
+impl Trial {
+    fn of(alloc: Global, script: &[Instr]) -> Result<Trial, Memory> {
+        let mut instructions = Vec::new(alloc);
+        instructions.extend_from_slice(script)?;
+        Ok(Trial {
+            alloc,
+            task: GoalTask::new(Arc::new(alloc, instructions)?, 5),
+            bank: Bank::new(),
+            poller: Poller::new(alloc)?,
+        })
+    }
+
+    // Whether a poll in a round gives this answer and these effects.
+    fn gives(
+        &mut self,
+        ticks: u64,
+        canceling: bool,
+        answer: Answer,
+        effects: &[Effect],
+    ) -> Result<bool, Memory> {
+        let Some(moment) = Moment::new(ticks) else {
+            return Ok(false);
+        };
+        let turn = Turn { moment, canceling };
+        let mut context = self.poller.begin();
+        let polled = poll_goal(
+            self.alloc,
+            &mut self.task,
+            &mut self.bank,
+            &turn,
+            &mut context,
+        );
+        context.cancel();
+        let polled = polled?;
+        Ok(polled.answer == answer && polled.effects.as_slice() == effects)
+    }
+
+    fn is_awake(&self, ticks: u64, canceling: bool) -> bool {
+        match Moment::new(ticks) {
+            Some(moment) => is_awake(&self.task, moment, canceling),
+            None => false,
+        }
+    }
+}
+
+#[test]
+fn a_goal_that_yields_goes_on_behind_it(rt: HostRuntime) -> Result<(), Fail> {
+    let mut goal = Trial::of(rt.alloc(), &[Instr::Yield, SUCCEED_9])?;
+    assert!(rt; goal.gives(10, false, NEXT_ROUND, &[])?);
+    assert!(rt; goal.gives(10, false, ended(Event::Succeed, 9), &[])?);
+    assert!(rt; goal.gives(11, true, ended(Event::Succeed, 9), &[])?);
+    Ok(())
+}
+
+#[test]
+fn a_goal_that_waits_goes_on_at_its_time(rt: HostRuntime) -> Result<(), Fail> {
+    let mut goal = Trial::of(rt.alloc(), &[wait(5), SUCCEED_9])?;
+    assert!(rt; goal.gives(10, false, until(15), &[])?);
+    assert!(rt; goal.gives(12, false, until(15), &[])?);
+    assert!(rt; goal.gives(15, false, ended(Event::Succeed, 9), &[])?);
+    Ok(())
+}
+
+#[test]
+fn a_goal_that_falls_off_its_end_starts_again(rt: HostRuntime) -> Result<(), Fail> {
+    let register = Operand::Register(slot_0());
+    let count = one_more(Destination::Register(slot_0()), register);
+    let mut goal = Trial::of(rt.alloc(), &[count, log(register)])?;
+    assert!(rt; goal.gives(10, false, NEXT_ROUND, &[Effect::Log(1)])?);
+    assert!(rt; goal.gives(10, false, NEXT_ROUND, &[Effect::Log(2)])?);
+    let mut idle = Trial::of(rt.alloc(), &[])?;
+    assert!(rt; idle.gives(10, false, NEXT_ROUND, &[])?);
+    assert!(rt; idle.gives(11, true, NEXT_ROUND, &[])?);
+    Ok(())
+}
+
+// One poll that does nothing comes between the stop and the top.
+#[test]
+fn a_stop_that_stands_last_ends_the_script(rt: HostRuntime) -> Result<(), Fail> {
+    let input = log(Operand::In);
+    let mut waits = Trial::of(rt.alloc(), &[input, wait(5)])?;
+    assert!(rt; waits.gives(10, false, until(15), &[Effect::Log(5)])?);
+    assert!(rt; waits.gives(15, false, NEXT_ROUND, &[])?);
+    assert!(rt; waits.gives(15, false, until(20), &[Effect::Log(5)])?);
+    let mut yields = Trial::of(rt.alloc(), &[input, Instr::Yield])?;
+    assert!(rt; yields.gives(10, false, NEXT_ROUND, &[Effect::Log(5)])?);
+    assert!(rt; yields.gives(11, false, NEXT_ROUND, &[])?);
+    assert!(rt; yields.gives(12, false, NEXT_ROUND, &[Effect::Log(5)])?);
+    Ok(())
+}
+
+#[test]
+fn waits_end_at_their_time(rt: HostRuntime) -> Result<(), Fail> {
+    for ticks in [0, -1, i64::MIN] {
+        let mut goal = Trial::of(rt.alloc(), &[wait(ticks), SUCCEED_9])?;
+        assert!(rt; goal.gives(10, false, until(10), &[])?, "{ticks}");
+        assert!(rt; goal.is_awake(10, false), "{ticks}");
+        assert!(rt;
+            goal.gives(10, false, ended(Event::Succeed, 9), &[])?,
+            "{ticks}"
+        );
+    }
+    let last = 1 << 62;
+    let mut goal = Trial::of(rt.alloc(), &[wait(i64::MAX), SUCCEED_9])?;
+    assert!(rt; goal.gives(last, false, until((1 << 62) + (1 << 63) - 1), &[])?);
+    assert!(rt; !goal.is_awake(last, false));
+    Ok(())
+}
+
+#[test]
+fn an_ending_is_as_the_script_says(rt: HostRuntime) -> Result<(), Fail> {
+    let value = Operand::Value(7);
+    let endings = [
+        (Instr::Succeed { value }, Event::Succeed, Event::Succeed),
+        (Instr::Abort { value }, Event::Abort, Event::Abort),
+        (Instr::Canceled { value }, Event::Abort, Event::Canceled),
+    ];
+    for (ending, unasked, asked) in endings {
+        for (canceling, event) in [(false, unasked), (true, asked)] {
+            let mut goal = Trial::of(rt.alloc(), &[LOG_AUX, ending, log(value)])?;
+            let effects = [Effect::Log(canceling as i64)];
+            assert!(rt;
+                goal.gives(10, canceling, ended(event, 7), &effects)?,
+                "{ending:?}"
+            );
+            assert!(rt;
+                goal.gives(11, canceling, ended(event, 7), &[])?,
+                "{ending:?}"
+            );
+            assert!(rt; !goal.is_awake(11, canceling), "{ending:?}");
+        }
+    }
+    Ok(())
+}
+
+#[test]
+fn a_canceling_goal_is_told_once(rt: HostRuntime) -> Result<(), Fail> {
+    let script = [wait(100), LOG_AUX, wait(100), LOG_AUX, SUCCEED_9];
+    let mut goal = Trial::of(rt.alloc(), &script)?;
+    assert!(rt; goal.is_awake(10, false));
+    assert!(rt; goal.gives(10, false, until(110), &[])?);
+    assert!(rt; !goal.is_awake(20, false) && goal.is_awake(20, true));
+    assert!(rt; goal.gives(20, false, until(110), &[])?);
+    assert!(rt; goal.gives(30, true, until(130), &[Effect::Log(1)])?);
+    assert!(rt; !goal.is_awake(40, true) && goal.is_awake(130, true));
+    assert!(rt; goal.gives(40, true, until(130), &[])?);
+    assert!(rt; goal.gives(130, true, ended(Event::Succeed, 9), &[Effect::Log(1)])?);
+    Ok(())
+}
+
+// Registers are the goal's own, and variables its group's.
+#[test]
+fn a_goal_keeps_its_registers_while_it_pends(rt: HostRuntime) -> Result<(), Fail> {
+    let (register, variable) = (Operand::Register(slot_0()), Operand::Variable(slot_0()));
+    let script = [
+        one_more(Destination::Register(slot_0()), Operand::In),
+        one_more(Destination::Variable(slot_0()), variable),
+        wait(5),
+        log(register),
+        log(variable),
+        log(Operand::Now),
+        Instr::Feedback { value: register },
+        SUCCEED_9,
+    ];
+    let mut goal = Trial::of(rt.alloc(), &script)?;
+    assert!(rt; goal.gives(10, false, until(15), &[])?);
+    assert!(rt; goal.bank.get(slot_0()) == 1);
+    goal.bank.set(slot_0(), 40);
+    let effects = [
+        Effect::Log(6),
+        Effect::Log(40),
+        Effect::Log(16),
+        Effect::Feedback(6),
+    ];
+    assert!(rt; goal.gives(16, false, ended(Event::Succeed, 9), &effects)?);
+    assert!(rt; goal.bank.get(slot_0()) == 40);
+    Ok(())
+}
+
+// Run with each allocation refused in turn, too. What is refused before the first poll leaves nothing to look at.
+#[test]
+fn a_refused_poll_leaves_all_as_it_was(rt: HostRuntime) -> Result<(), Fail> {
+    let variable = Operand::Variable(slot_0());
+    let add = one_more(Destination::Variable(slot_0()), variable);
+    let script = [
+        add,
+        log(variable),
+        log(variable),
+        log(variable),
+        wait(5),
+        SUCCEED_9,
+    ];
+    let Ok(mut goal) = Trial::of(rt.alloc(), &script) else {
+        return Ok(());
+    };
+    let logged = [Effect::Log(1), Effect::Log(1), Effect::Log(1)];
+    let Ok(is_given) = goal.gives(10, true, until(15), &logged) else {
+        assert!(rt; goal.bank.get(slot_0()) == 0);
+        assert!(rt; goal.is_awake(10, false));
+        assert!(rt; goal.gives(11, false, NEXT_ROUND, &[]) == Err(Memory));
+        assert!(rt; goal.gives(11, true, until(15), &logged) == Err(Memory));
+        assert!(rt; goal.bank.get(slot_0()) == 0);
+        return Ok(());
+    };
+    assert!(rt; is_given && goal.bank.get(slot_0()) == 1);
+    assert!(rt; goal.gives(15, true, ended(Event::Succeed, 9), &[]) == Ok(true));
+    Ok(())
+}
+
+#[test]
+fn a_pending_goal_goes_on_in_another_thread(rt: HostRuntime) -> Result<(), Fail> {
+    let mut goal = Trial::of(rt.alloc(), &[wait(5), SUCCEED_9])?;
+    assert!(rt; goal.gives(10, false, until(15), &[])?);
+    let poll = move || goal.gives(15, false, ended(Event::Succeed, 9), &[]);
+    let (polled, ()) = thread::join(&rt, poll, || ());
+    assert!(rt; polled == Ok(true));
+    Ok(())
+}
+
+#[test]
+fn a_call_keeps_its_first_reply(rt: HostRuntime) -> Result<(), Fail> {
+    let poller = Poller::new(rt.alloc())?;
+    let mut call = PendingCall::new(1);
+    assert!(rt; poll(&poller, &mut call) == Ok(Poll::Pending));
+    assert!(rt; call.complete(8).is_ok());
+    assert!(rt; call.complete(9) == Err(Already));
+    assert!(rt; poll(&poller, &mut call) == Ok(Poll::Ready(8)));
+    assert!(rt; poll(&poller, &mut call) == Ok(Poll::Ready(8)));
+    assert!(rt; call.number() == 1);
+    Ok(())
+}
+
+fn poll(poller: &Poller, call: &mut PendingCall) -> Result<Poll<i64>, Memory> {
+    let mut context = poller.begin();
+    let polled = call.poll_reply(&mut context);
+    context.cancel();
+    polled
+}

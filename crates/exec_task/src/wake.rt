@@ -1,0 +1,51 @@
+ghost use Rattle.std.specs.Prelude.{◌≡◌, None};
+ghost use Rattle.futures.specs.Task.{Hears, IsArmed, Keeps};
+ghost use Rattle.exec_task.specs.Wake.{LeftWaker};
+
+use futures::task::{Context, Poll, Source, Waker};
+use std::marker::Model;
+
+// A source that a task owns, with the slot for the waker that a poll leaves there.
+#[derive(Drop)]
+pub(crate) struct WakeSource {
+    source: Source,
+    slot: Option<Waker>,
+}
+
+impl Model for WakeSource {
+    ghost use Rattle.exec_task.specs.Wake.{WakeState, waker_in};
+
+    ghost Value = { WakeState };
+
+    ghost view = { λ own. record { source = own.source.id; waker = waker_in own.slot } };
+}
+
+impl WakeSource {
+    pub(crate) fn new() -> WakeSource
+        ensures { result.waker ≡ None }
+    {
+        WakeSource {
+            source: Source::new(),
+            slot: None,
+        }
+    }
+
+    // A poll of the task waits for the source.
+    pub(crate) fn register<T>(&mut self, cx: &mut Context<'_>) -> Poll<T>
+        ensures pending { result ≡ Poll.Pending }
+        ensures source { self.new.source ≡ self.old.source }
+        ensures waker { LeftWaker cx.old cx.new self.new }
+        ensures armed { IsArmed cx.new }
+        ensures heard { Hears cx.new self.old.source }
+        ensures kept { Keeps cx.old cx.new }
+    {
+        cx.register(&self.source, &mut self.slot)
+    }
+
+    // The source has fired, or the task no longer waits for it: a waker that stands there wakes its task and goes.
+    pub(crate) fn clear(&mut self)
+        ensures { self.new ≡ record self.old { waker = None } }
+    {
+        self.slot = None;
+    }
+}
