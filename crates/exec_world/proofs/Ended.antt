@@ -1,22 +1,12 @@
--- No transition leaves a terminal state.
-use Rattle.std.proofs.Common.{◌≡◌, ◌⊎◌, inl, inr, Bool, true, false, Option, Some, refl, sym, ◌∙◌, true≢false}
-use Rattle.exec_goal.specs.State.{Transition, execute, cancel_accepted, cancel_executing, succeed, abort, succeed_canceling, abort_canceling, canceled, is_terminal, status_of}
+-- What comes behind a terminal status.
+use Rattle.std.proofs.Common.{◌≡◌, ◌↔◌, inl, inr, true, Option, None, Some, is_some, refl, sym, ap, ◌∙◌, true≢false}
+use Rattle.exec_goal.specs.State.{Transition, after, is_terminal, status_of}
 use Rattle.exec_goal.specs.declared.state.State.{State}
 use Rattle.exec_goal.specs.declared.state.State.TheVariants as state
 use Rattle.exec_msg.specs.declared.goal.Event.{Event}
 use Rattle.exec_msg.specs.declared.goal.GoalStatus.{GoalStatus}
 use Rattle.exec_msg.specs.declared.goal.GoalStatus.TheVariants as status
-use Rattle.exec_world.specs.LawWords.{IsStep, IsFinal, MayCome}
-
-source_active : {before : State} {by : Event} {after : State} → Transition before by after → is_terminal before ≡ false
-source_active execute = refl
-source_active cancel_accepted = refl
-source_active cancel_executing = refl
-source_active succeed = refl
-source_active abort = refl
-source_active succeed_canceling = refl
-source_active abort_canceling = refl
-source_active canceled = refl
+use Rattle.exec_world.specs.LawWords.{IsFinal, MayCome}
 
 source_final : (one : State) → IsFinal (status_of one) → is_terminal one ≡ true
 source_final state.Accepted (inl h) = absurd cc
@@ -32,8 +22,12 @@ source_final state.Succeeded final = refl
 source_final state.Canceled final = refl
 source_final state.Aborted final = refl
 
--- so only an acceptance comes behind a terminal status
-pub behind_final : (before after : GoalStatus) → IsFinal before → MayCome (Some before) after → after ≡ status.Accepted
-behind_final before after final (inl step) =
-    absurd (true≢false (sym (source_final step.source (rw step.comes_from final)) ∙ source_active step.moves))
-behind_final before after final (inr accepted) = accepted.1
+-- so only an acceptance comes behind a terminal status, where goals move by the table and those that ended stay
+pub behind_final : ((source : State) (by : Event) (target : State) → (after source by ≡ Some target) ↔ Transition source by target)
+    → ((source : State) (by : Event) → is_terminal source ≡ true → after source by ≡ None)
+    → (before next : GoalStatus) → IsFinal before → MayCome (Some before) next → next ≡ status.Accepted
+behind_final moves stay before next final (inl step) =
+    let moved : after step.source step.by ≡ Some step.target = (moves step.source step.by step.target).1 step.moves in
+    let stayed : after step.source step.by ≡ None = stay step.source step.by (source_final step.source (rw step.comes_from final)) in
+    absurd (true≢false (ap (λ (o : Option State). is_some o) (sym moved ∙ stayed)))
+behind_final moves stay before next final (inr accepted) = accepted.1

@@ -1,4 +1,5 @@
-//! Laws of rounds on one thread: each function's contract says one, and its body is empty.
+//! Laws of rounds on one thread: each function's contract says one, and its body is empty or calls the laws that it
+//! rests on.
 ghost use Rattle.std.specs.Prelude.{◌≡◌, ◌≢◌, ℕ, ◌+◌, ◌≤◌, List, ◌∷◌, [], ◌++◌, ◌==◌, length, map, take, drop, None, Some};
 ghost use Rattle.std.specs.List.{All, IsDistinct, filter, fold};
 ghost use Rattle.exec_goal.specs.Table.{GoalRecord};
@@ -75,4 +76,7 @@ pub fn statuses_follow_the_transitions()
 /// Behind a terminal status of a goal only the acceptance of the next one comes: so a goal has one terminal status at most.
 pub fn goals_end_once()
     ensures { (before after : GoalStatus) → IsFinal before → MayCome (Some before) after → after ≡ status.Accepted }
-{}
+{
+    exec_goal::laws::goals_move_by_the_table();
+    exec_goal::laws::ended_goals_stay();
+}
