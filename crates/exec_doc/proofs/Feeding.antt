@@ -1,88 +1,113 @@
--- The feed of a document that no code refuses is lawful.
-use Rattle.std.proofs.Common.{◌≡◌, ℕ, suc, ◌-◌, ◌^◌, ◌≤◌, true, false, ◌&&◌, nat_le, length, IsTrue, List, [], ◌∷◌, Option, None, Some, All, refl, ap, ◌∙◌, subst}
+-- What is read of a feed keeps what its draft keeps.
+use Rattle.std.proofs.Common.{◌≡◌, ℕ, ◌-◌, ◌^◌, Bool, true, false, not, ◌&&◌, nat_le, length, map, List, [], ◌∷◌, Option, None, Some, is_some, refl, ap, ap₂, sym, ◌∙◌, subst}
 use Rattle.std.specs.List.{list_all}
 use Rattle.std.specs.Option.{option_map_or}
-use Rattle.std.proofs.lemmas.Bool.{leb-true, le-leb}
-use Rattle.std.proofs.lemmas.List.Elements.{All-nil, All-cons}
+use Rattle.std.proofs.lemmas.Bool.{le-leb}
 use Rattle.exec_doc.specs.Document.{fed_in, entry_in}
-use Rattle.exec_doc.specs.Draft.{FedDraft, EntryDraft, GraphDraft}
-use Rattle.exec_doc.specs.Draft as draft
-use Rattle.exec_doc.specs.Numbers.{topic_named, server_named}
-use Rattle.exec_doc.specs.Refusals.{id_of, is_identified, has_stamp_within}
-use Rattle.exec_graph.specs.Graph.{EntityData, GraphData, is_server}
-use Rattle.exec_graph.specs.Lawful.{is_at, is_from_1, is_fed_well}
-use Rattle.exec_graph.specs.Plan.{Fed, message, goal, cancel, FeedData}
-use Rattle.exec_msg.specs.declared.limits.TheConstants.{TICKS}
-use Rattle.exec_doc.proofs.Bools.{and_left, and_right, both_true}
+use Rattle.exec_doc.specs.declared.draft.FedDraft.{FedDraft}
+use Rattle.exec_doc.specs.declared.draft.EntryDraft.{EntryDraft}
+use Rattle.exec_doc.specs.Draft.{DocumentDraft}
+use Rattle.exec_doc.specs.declared.draft.FedDraft.TheVariants as draft
+use Rattle.exec_doc.specs.Refusals as refusals
+use Rattle.exec_doc.specs.Refusals.{id_of}
+use Rattle.exec_graph.specs.Draft.{GraphDraft}
+use Rattle.exec_graph.specs.Feeding.{goes_somewhere, has_128_bits}
+use Rattle.exec_graph.specs.Graph.{GraphData, is_topic, is_server}
+use Rattle.exec_graph.specs.Lawful.{is_at}
+use Rattle.exec_graph.specs.Numbers.{topic_named, server_named}
+use Rattle.exec_graph.specs.Schedule.{schedule_fits, greatest, stamp_of, is_in_order, is_identified, has_plan_fault, plan_fault_in}
+use Rattle.exec_graph.specs.declared.plan.Fed.{Fed}
+use Rattle.exec_graph.specs.declared.plan.Fed.TheVariants.{Message, Goal, Cancel}
+use Rattle.exec_graph.specs.declared.plan.Feed.{Feed}
+use Rattle.exec_graph.proofs.Bools.{both_true}
+use Rattle.exec_graph.proofs.Reading.{then_read, AreRead, as_many, seen_alike, some_is}
 use Rattle.exec_doc.proofs.Identifiers.{id_below}
-use Rattle.exec_doc.proofs.Placing.{graph_of, AreEntities, topic_there, server_there}
-use Rattle.exec_doc.proofs.Reading.{then_read, AreRead, some_is}
+use Rattle.exec_doc.proofs.Kept.{IsKept}
 
--- every number of moments keeps
-pub at_most : (most : ℕ) (ns : List ℕ) → list_all (λ n. nat_le n most) ns ≡ true → All (λ n. n ≤ most) ns
-at_most most [] within = All-nil (λ n. n ≤ most)
-at_most most (n ∷ ns) within =
-    All-cons (λ n. n ≤ most) n ns (leb-true n most (and_left (nat_le n most) (list_all (λ n. nat_le n most) ns) within))
-    (at_most most ns (and_right (nat_le n most) (list_all (λ n. nat_le n most) ns) within))
+not_zero : (read : Option ℕ) (id : ℕ) → read ≡ Some id → option_map_or (λ id. nat_le 1 id) read false ≡ nat_le 1 id
+not_zero None id is = absurd cc
+not_zero (Some n) id is = ap (nat_le 1) (some_is n id is)
 
-not_zero : (read : Option ℕ) (id : ℕ) → read ≡ Some id → option_map_or (λ id. nat_le 1 id) read false ≡ true → nat_le 1 id ≡ true
-not_zero None id is test = absurd cc
-not_zero (Some n) id is test = subst (λ m. nat_le 1 m ≡ true) (some_is n id is) test
+-- what is fed, read of its draft: its stamp and whether it is identified are the draft's, it goes where its draft's name is
+-- declared, and its identifier has 128 bits
+pub record IsFed (made : GraphData) (drafted : FedDraft) (fed : Fed) : Type 0 where
+  pub stamp : stamp_of fed ≡ refusals.stamp_of drafted
+  pub identified : is_identified fed ≡ refusals.is_identified drafted
+  pub goes : goes_somewhere made fed ≡ true
+  pub bits : has_128_bits fed ≡ true
 
-fed_as : (shape : GraphData) (fed other : Fed) → is_fed_well shape fed ≡ true → Some fed ≡ Some other → is_fed_well shape other ≡ true
-fed_as shape fed other h e = subst (λ f. is_fed_well shape f ≡ true) (some_is fed other e) h
-
-fed_well : (source : GraphDraft) (entities : List EntityData) (drafted : FedDraft) (fed : Fed) → AreEntities source entities → fed_in source drafted ≡ Some fed → is_identified drafted ≡ true → has_stamp_within drafted ≡ true → is_fed_well (graph_of source entities) fed ≡ true
-fed_well source entities (draft.message name value) fed reads e identified stamped =
-    then_read _ (topic_named source name) _ fed e (λ topic found e1.
-    fed_as (graph_of source entities) (message topic value) fed (topic_there source entities name topic found) e1)
-fed_well source entities (draft.goal name text value) fed reads e identified stamped =
-    then_read _ (server_named source name) _ fed e (λ server found e1.
-    then_read _ (id_of text) _ fed e1 (λ id read e2.
-    fed_as (graph_of source entities) (goal server id value) fed
-    (both_true (is_at is_server (graph_of source entities) server) (is_from_1 (2 ^ 128 - 1) id) (server_there source entities name server reads found)
-    (both_true (nat_le 1 id) (nat_le id (2 ^ 128 - 1)) (not_zero (id_of text) id read identified) (le-leb id (2 ^ 128 - 1) (id_below text id read)))) e2))
-fed_well source entities (draft.cancel name text stamp) fed reads e identified stamped =
-    then_read _ (server_named source name) _ fed e (λ server found e1.
-    then_read _ (id_of text) _ fed e1 (λ id read e2.
-    fed_as (graph_of source entities) (cancel server id stamp) fed
-    (both_true (is_at is_server (graph_of source entities) server && nat_le id (2 ^ 128 - 1)) (nat_le stamp TICKS)
-    (both_true (is_at is_server (graph_of source entities) server) (nat_le id (2 ^ 128 - 1)) (server_there source entities name server reads found) (le-leb id (2 ^ 128 - 1) (id_below text id read)))
-    stamped) e2))
-
--- an entry of the feed: its round, and what it feeds
-pub record IsEntry (source : GraphDraft) (drafted : EntryDraft) (entry : FeedData) : Type 0 where
+-- an entry, read of its draft
+pub record IsEntry (made : GraphData) (drafted : EntryDraft) (entry : Feed) : Type 0 where
   pub round : entry.round ≡ drafted.round
-  pub fed : fed_in source drafted.fed ≡ Some entry.fed
+  pub fed : IsFed made drafted.fed entry.fed
 
-entry_of : (source : GraphDraft) (drafted : EntryDraft) (entry : FeedData) → entry_in source drafted ≡ Some entry → IsEntry source drafted entry
-entry_of source drafted entry e =
-    then_read _ (fed_in source drafted.fed) _ entry e (λ fed read e1.
-    subst (IsEntry source drafted) (some_is (record { round = drafted.round; fed = fed }) entry e1) (record { round = refl; fed = read }))
+-- a feed, read of its draft: it has the draft's schedule, goes to what is there, and its identifiers have 128 bits
+pub record IsFeed (made : GraphData) (drafted : List EntryDraft) (feed : List Feed) : Type 0 where
+  pub many : length feed ≡ length drafted
+  pub rounds : map (λ entry. entry.round) feed ≡ map (λ entry. entry.round) drafted
+  pub stamps : map (λ entry. stamp_of entry.fed) feed ≡ map (λ entry. refusals.stamp_of entry.fed) drafted
+  pub identified : list_all (λ entry. is_identified entry.fed) feed ≡ list_all (λ entry. refusals.is_identified entry.fed) drafted
+  pub goes : list_all (λ entry. goes_somewhere made entry.fed) feed ≡ true
+  pub bits : list_all (λ entry. has_128_bits entry.fed) feed ≡ true
 
-pub rounds_kept : (source : GraphDraft) (most : ℕ) (drafted : List EntryDraft) (feed : List FeedData) → AreRead (entry_in source) drafted feed → list_all (λ entry. is_from_1 most entry.round) drafted ≡ true → All (λ entry. IsTrue (is_from_1 most entry.round)) feed
-rounds_kept source most [] [] reads within = All-nil (λ (entry : FeedData). IsTrue (is_from_1 most entry.round))
-rounds_kept source most [] (e ∷ feed) reads within = absurd reads
-rounds_kept source most (d ∷ drafted) [] reads within = absurd reads
-rounds_kept source most (d ∷ drafted) (e ∷ feed) reads within =
-    All-cons (λ (entry : FeedData). IsTrue (is_from_1 most entry.round)) e feed
-    (ap (is_from_1 most) ((entry_of source d e reads.0).round) ∙ and_left (is_from_1 most d.round) (list_all (λ entry. is_from_1 most entry.round) drafted) within)
-    (rounds_kept source most drafted feed reads.1 (and_right (is_from_1 most d.round) (list_all (λ entry. is_from_1 most entry.round) drafted) within))
+-- tests that agree on each element and what is read of it agree on all
+all_alike : {A B : Type 0} (f : A → Option B) (test : A → Bool) (other : B → Bool) (xs : List A) (ys : List B) → ((x : A) (y : B) → f x ≡ Some y → other y ≡ test x) → AreRead f xs ys → list_all other ys ≡ list_all test xs
+all_alike f test other [] [] alike reads = refl
+all_alike f test other [] (y ∷ ys) alike reads = absurd reads
+all_alike f test other (x ∷ xs) [] alike reads = absurd reads
+all_alike f test other (x ∷ xs) (y ∷ ys) alike reads = ap₂ (λ (a b : Bool). a && b) (alike x y reads.0) (all_alike f test other xs ys alike reads.1)
 
-pub feed_kept : (source : GraphDraft) (entities : List EntityData) (drafted : List EntryDraft) (feed : List FeedData) → AreEntities source entities → AreRead (entry_in source) drafted feed → list_all (λ entry. is_identified entry.fed) drafted ≡ true → list_all (λ entry. has_stamp_within entry.fed) drafted ≡ true → All (λ entry. IsTrue (is_fed_well (graph_of source entities) entry.fed)) feed
-feed_kept source entities [] [] all reads identified stamped = All-nil (λ (entry : FeedData). IsTrue (is_fed_well (graph_of source entities) entry.fed))
-feed_kept source entities [] (e ∷ feed) all reads identified stamped = absurd reads
-feed_kept source entities (d ∷ drafted) [] all reads identified stamped = absurd reads
-feed_kept source entities (d ∷ drafted) (e ∷ feed) all reads identified stamped =
-    let ids = list_all (λ entry. is_identified entry.fed) drafted in
-    let stamps = list_all (λ entry. has_stamp_within entry.fed) drafted in
-    All-cons (λ (entry : FeedData). IsTrue (is_fed_well (graph_of source entities) entry.fed)) e feed
-    (fed_well source entities d.fed e.fed all ((entry_of source d e reads.0).fed) (and_left (is_identified d.fed) ids identified) (and_left (has_stamp_within d.fed) stamps stamped))
-    (feed_kept source entities drafted feed all reads.1 (and_right (is_identified d.fed) ids identified) (and_right (has_stamp_within d.fed) stamps stamped))
+-- a test that all passes that is read of elements holds of a list that is read
+all_read : {A B : Type 0} (f : A → Option B) (test : B → Bool) (xs : List A) (ys : List B) → ((x : A) (y : B) → f x ≡ Some y → test y ≡ true) → AreRead f xs ys → list_all test ys ≡ true
+all_read f test [] [] passes reads = refl
+all_read f test [] (y ∷ ys) passes reads = absurd reads
+all_read f test (x ∷ xs) [] passes reads = absurd reads
+all_read f test (x ∷ xs) (y ∷ ys) passes reads = both_true (test y) (list_all test ys) (passes x y reads.0) (all_read f test xs ys passes reads.1)
 
--- a feed is as long as that of its draft
-pub as_many : {A B : Type 0} (f : A → Option B) (xs : List A) (ys : List B) → AreRead f xs ys → length ys ≡ length xs
-as_many f [] [] reads = refl
-as_many f [] (y ∷ ys) reads = absurd reads
-as_many f (x ∷ xs) [] reads = absurd reads
-as_many f (x ∷ xs) (y ∷ ys) reads = ap (λ (n : ℕ). suc n) (as_many f xs ys reads.1)
+module _ (source : GraphDraft) (made : GraphData)
+    (topic_there : (name : List ℕ) (number : ℕ) → topic_named source name ≡ Some number → is_at is_topic made number ≡ true)
+    (server_there : (name : List ℕ) (number : ℕ) → server_named source name ≡ Some number → is_at is_server made number ≡ true) where
+  fed_of : (drafted : FedDraft) (fed : Fed) → fed_in source drafted ≡ Some fed → IsFed made drafted fed
+  fed_of (draft.Message name value) fed e =
+      then_read _ (topic_named source name) _ fed e (λ topic found e1.
+      subst (IsFed made (draft.Message name value)) (some_is (Message topic value) fed e1)
+      (record { stamp = refl; identified = refl; goes = topic_there name topic found; bits = refl }))
+  fed_of (draft.Goal name text value) fed e =
+      then_read _ (server_named source name) _ fed e (λ server found e1.
+      then_read _ (id_of text) _ fed e1 (λ id read e2.
+      subst (IsFed made (draft.Goal name text value)) (some_is (Goal server id value) fed e2)
+      (record { stamp = refl; identified = sym (not_zero (id_of text) id read); goes = server_there name server found; bits = le-leb id (2 ^ 128 - 1) (id_below text id read) })))
+  fed_of (draft.Cancel name text stamp) fed e =
+      then_read _ (server_named source name) _ fed e (λ server found e1.
+      then_read _ (id_of text) _ fed e1 (λ id read e2.
+      subst (IsFed made (draft.Cancel name text stamp)) (some_is (Cancel server id stamp) fed e2)
+      (record { stamp = refl; identified = sym (ap is_some read); goes = server_there name server found; bits = le-leb id (2 ^ 128 - 1) (id_below text id read) })))
+
+  entry_of : (drafted : EntryDraft) (entry : Feed) → entry_in source drafted ≡ Some entry → IsEntry made drafted entry
+  entry_of drafted entry e =
+      then_read _ (fed_in source drafted.fed) _ entry e (λ fed read e1.
+      subst (IsEntry made drafted) (some_is (record { round = drafted.round; fed = fed }) entry e1) (record { round = refl; fed = fed_of drafted.fed fed read }))
+
+  -- what is read of a feed has the schedule of its draft, and goes to what is there
+  pub feed_of : (drafted : List EntryDraft) (feed : List Feed) → AreRead (entry_in source) drafted feed → IsFeed made drafted feed
+  feed_of drafted feed reads = record {
+    many = as_many (entry_in source) drafted feed reads;
+    rounds = seen_alike (entry_in source) (λ entry. entry.round) (λ entry. entry.round) drafted feed (λ d entry e. (entry_of d entry e).round) reads;
+    stamps = seen_alike (entry_in source) (λ entry. refusals.stamp_of entry.fed) (λ entry. stamp_of entry.fed) drafted feed (λ d entry e. (entry_of d entry e).fed.stamp) reads;
+    identified = all_alike (entry_in source) (λ entry. refusals.is_identified entry.fed) (λ entry. is_identified entry.fed) drafted feed (λ d entry e. (entry_of d entry e).fed.identified) reads;
+    goes = all_read (entry_in source) (λ entry. goes_somewhere made entry.fed) drafted feed (λ d entry e. (entry_of d entry e).fed.goes) reads;
+    bits = all_read (entry_in source) (λ entry. has_128_bits entry.fed) drafted feed (λ d entry e. (entry_of d entry e).fed.bits) reads;
+  }
+
+-- moments and a feed that keep what each of their faults asks have none
+without_fault : (moments : List ℕ) (feed : List Feed) → schedule_fits moments (length feed) (greatest (map (λ entry. stamp_of entry.fed) feed)) ≡ true →
+    is_in_order moments (map (λ entry. entry.round) feed) ≡ true → list_all (λ entry. is_identified entry.fed) feed ≡ true → plan_fault_in moments feed ≡ None
+without_fault moments feed fits ordered identified = rw fits (rw ordered (rw identified refl))
+
+-- where a document keeps what each code asks, its moments and what is read of its feed have no fault
+pub feed_without_fault : (made : GraphData) (document : DocumentDraft) (feed : List Feed) → IsFeed made document.feed feed → IsKept document → plan_fault_in document.moments feed ≡ None
+feed_without_fault made document feed read kept =
+    without_fault document.moments feed
+    (ap₂ (λ (entries : ℕ) (stamps : List ℕ). schedule_fits document.moments entries (greatest stamps)) read.many read.stamps ∙ kept.within)
+    (ap (is_in_order document.moments) read.rounds ∙ kept.clock)
+    (read.identified ∙ kept.identified)

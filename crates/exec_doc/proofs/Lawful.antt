@@ -1,172 +1,53 @@
 -- The plan of a document is lawful.
-use Rattle.std.proofs.Common.{◌≡◌, ℕ, ◌+◌, ◌<◌, ◌≤◌, true, not, length, map, sum_by, find, List, [], ◌∷◌, ◌++◌, Option, None, Some, refl, sym, ap, ◌∙◌, subst, arith, length-append}
-use Rattle.std.specs.List.{filter, list_all}
-use Rattle.std.proofs.lemmas.Bool.{leb-true}
-use Rattle.std.proofs.lemmas.List.{length-map, map-append}
-use Rattle.std.proofs.lemmas.List.Elements.{filter-append}
+use Rattle.std.proofs.Common.{◌≡◌, ℕ, true, find, List, Option, None, Some, refl, subst}
+use Rattle.std.specs.List.{list_all}
 use Rattle.serde_json.specs.Data.{Data}
-use Rattle.exec_doc.specs.Graph.{entity_in, topic_in, graph_in}
 use Rattle.exec_doc.specs.Document.{entry_in, plan_of, unless_refused, plan_in}
-use Rattle.exec_doc.specs.Draft.{GraphDraft, DocumentDraft}
+use Rattle.exec_doc.specs.Draft.{DocumentDraft}
 use Rattle.exec_doc.specs.Forms.{draft_of}
-use Rattle.exec_doc.specs.Numbers.{Placed, entities_of, entities_from, groups_of}
-use Rattle.exec_doc.specs.Options.{◌>>=◌, each}
-use Rattle.exec_doc.specs.Faults.{has_named_groups, names_of}
 use Rattle.exec_doc.specs.Refusals.{codes_in_order, refusal_in}
 use Rattle.exec_doc.specs.declared.refused.Refused.{Refused}
-use Rattle.exec_graph.specs.Graph as graph
-use Rattle.exec_graph.specs.Graph.{EntityData, GraphData, GroupData, is_topic}
-use Rattle.exec_graph.specs.Lawful.{IsLawful, IsLawfulNode, IsLawfulPlan, block_of, is_ascending_from}
-use Rattle.exec_graph.specs.Names.{is_name, are_distinct}
-use Rattle.exec_graph.specs.Plan.{FeedData, PlanData}
-use Rattle.exec_msg.specs.declared.limits.TheConstants.{NODES, NAMED_GROUPS, TOPICS, ENTITIES, MOMENTS, FEED, TICKS}
-use Rattle.exec_doc.proofs.Blocks.{block_before, all_mapped, entities_ascend, lower_start}
-use Rattle.exec_doc.proofs.Bools.{and_left, and_right}
-use Rattle.exec_doc.proofs.Entities.{entities_lawful}
-use Rattle.exec_doc.proofs.Feeding.{at_most, rounds_kept, feed_kept, as_many}
-use Rattle.exec_doc.proofs.Groups.{filter_same, filter_none, named_groups, groups_within, has_groups, one_default, names_are}
+use Rattle.exec_graph.specs.Draft.{GraphDraft}
+use Rattle.exec_graph.specs.Feeding.{goes_somewhere, has_128_bits}
+use Rattle.exec_graph.specs.Graph.{GraphData, is_topic, is_server}
+use Rattle.exec_graph.specs.Lawful.{IsLawful, IsLawfulPlan, is_at}
+use Rattle.exec_graph.specs.Numbers.{topic_named, server_named}
+use Rattle.exec_graph.specs.Options.{◌>>=◌, each}
+use Rattle.exec_graph.specs.Plan.{PlanData}
+use Rattle.exec_graph.specs.Refusals.{fault_in}
+use Rattle.exec_graph.specs.Resolved.{graph_in}
+use Rattle.exec_graph.specs.Schedule.{plan_fault_in}
+use Rattle.exec_graph.specs.declared.plan.Feed.{Feed}
+use Rattle.exec_graph.proofs.Reading.{then_read, are_read, some_is}
+use Rattle.exec_doc.proofs.Feeding.{feed_of, feed_without_fault}
 use Rattle.exec_doc.proofs.Kept.{IsKept, holds_of, kept}
-use Rattle.exec_doc.proofs.Made.{draft_block}
-use Rattle.exec_doc.proofs.Placing.{graph_of, AreEntities, built}
-use Rattle.exec_doc.proofs.Reading.{then_read, AreRead, are_read, seen_alike, some_is}
 
--- ---- names
+-- what is known of graphs and plans
+pub record Laws : Type 0 where
+  pub graph : (source : GraphDraft) (made : GraphData) → fault_in source ≡ None → graph_in source ≡ Some made → IsLawful made
+  pub topic : (source : GraphDraft) (made : GraphData) (name : List ℕ) (number : ℕ) → graph_in source ≡ Some made → topic_named source name ≡ Some number → is_at is_topic made number ≡ true
+  pub server : (source : GraphDraft) (made : GraphData) (name : List ℕ) (number : ℕ) → graph_in source ≡ Some made → server_named source name ≡ Some number → is_at is_server made number ≡ true
+  pub plan : (made : GraphData) (moments : List ℕ) (feed : List Feed) → IsLawful made → list_all (λ entry. goes_somewhere made entry.fed) feed ≡ true → list_all (λ entry. has_128_bits entry.fed) feed ≡ true → plan_fault_in moments feed ≡ None → IsLawfulPlan (record { graph = made; moments = moments; feed = feed })
 
-topic_names : (topics : List (List ℕ)) → map (λ entity. entity.name) (map topic_in topics) ≡ topics
-topic_names [] = refl
-topic_names (name ∷ topics) = ap (λ (names : List (List ℕ)). name ∷ names) (topic_names topics)
+module _ (laws : Laws) where
+  plan_lawful : (document : DocumentDraft) (plan : PlanData) → IsKept document → plan_of document ≡ Some plan → IsLawfulPlan plan
+  plan_lawful document plan keeps e =
+      then_read _ (graph_in document.graph) _ plan e (λ made is e1.
+      then_read _ (each (entry_in document.graph) document.feed) _ plan e1 (λ feed fed e2.
+      let read = feed_of document.graph made (λ name number found. laws.topic document.graph made name number is found) (λ name number found. laws.server document.graph made name number is found)
+      document.feed feed (are_read (entry_in document.graph) document.feed feed fed) in
+      subst IsLawfulPlan (some_is (record { graph = made; moments = document.moments; feed = feed }) plan e2)
+      (laws.plan made document.moments feed (laws.graph document.graph made keeps.graph is) read.goes read.bits (feed_without_fault made document feed read keeps))))
 
-names_kept : (source : GraphDraft) (entities : List EntityData) → AreEntities source entities → graph.names_of (graph_of source entities) ≡ names_of source
-names_kept source entities reads =
-    map-append (λ (entity : EntityData). entity.name) (map topic_in source.topics) entities
-    ∙ ap (λ (names : List (List ℕ)). names ++ map (λ entity. entity.name) entities) (topic_names source.topics)
-    ∙ ap (λ (names : List (List ℕ)). source.topics ++ names) (seen_alike (entity_in source) (λ placed. placed.entity.name) (λ entity. entity.name) (entities_of source) entities (λ placed entity read. (built source placed entity read).named) reads)
+  drafted_lawful : (drafted : Option DocumentDraft) (plan : PlanData) → find (holds_of drafted) codes_in_order ≡ None → (drafted >>= plan_of) ≡ Some plan → IsLawfulPlan plan
+  drafted_lawful None plan found e = absurd cc
+  drafted_lawful (Some document) plan found e = plan_lawful document plan (kept document found) e
 
--- ---- how many
+  let_through : (refusal : Option Refused) (planned : Option PlanData) (plan : PlanData) → unless_refused refusal planned ≡ Some plan → (refusal ≡ None → planned ≡ Some plan → IsLawfulPlan plan) → IsLawfulPlan plan
+  let_through None planned plan e next = next refl e
+  let_through (Some code) planned plan e next = absurd cc
 
-no_topics : (source : GraphDraft) (placed : List Placed) (entities : List EntityData) → AreRead (entity_in source) placed entities → filter (λ entity. is_topic entity.is) entities ≡ []
-no_topics source [] [] reads = refl
-no_topics source [] (e ∷ entities) reads = absurd reads
-no_topics source (p ∷ placed) [] reads = absurd reads
-no_topics source (p ∷ placed) (e ∷ entities) reads =
-    let fails = (built source p e reads.0).made.topic in
-    rw fails (no_topics source placed entities reads.1)
-
-all_entities : (source : GraphDraft) (placed : List Placed) (entities : List EntityData) → AreRead (entity_in source) placed entities → filter (λ entity. not (is_topic entity.is)) entities ≡ entities
-all_entities source [] [] reads = refl
-all_entities source [] (e ∷ entities) reads = absurd reads
-all_entities source (p ∷ placed) [] reads = absurd reads
-all_entities source (p ∷ placed) (e ∷ entities) reads =
-    let fails = (built source p e reads.0).made.topic in
-    rw fails (ap (λ (es : List EntityData). e ∷ es) (all_entities source placed entities reads.1))
-
-topics_counted : (source : GraphDraft) (entities : List EntityData) → AreEntities source entities → length (filter (λ entity. is_topic entity.is) (map topic_in source.topics ++ entities)) ≡ length source.topics
-topics_counted source entities reads =
-    ap (λ (es : List EntityData). length es) (filter-append (λ (entity : EntityData). is_topic entity.is) (map topic_in source.topics) entities)
-    ∙ length-append (filter (λ entity. is_topic entity.is) (map topic_in source.topics)) (filter (λ entity. is_topic entity.is) entities)
-    ∙ ap (λ (es : List EntityData). length es + length (filter (λ entity. is_topic entity.is) entities)) (filter_same (λ (entity : EntityData). is_topic entity.is) topic_in source.topics (λ name. refl))
-    ∙ ap (λ (es : List EntityData). length (map topic_in source.topics) + length es) (no_topics source (entities_of source) entities reads)
-    ∙ (let same = length-map source.topics topic_in in omega (arith, same))
-
-entities_counted : (source : GraphDraft) (entities : List EntityData) → AreEntities source entities → length (filter (λ entity. not (is_topic entity.is)) (map topic_in source.topics ++ entities)) ≡ length (entities_of source)
-entities_counted source entities reads =
-    ap (λ (es : List EntityData). length es) (filter-append (λ (entity : EntityData). not (is_topic entity.is)) (map topic_in source.topics) entities)
-    ∙ length-append (filter (λ entity. not (is_topic entity.is)) (map topic_in source.topics)) (filter (λ entity. not (is_topic entity.is)) entities)
-    ∙ ap (λ (es : List EntityData). length es + length (filter (λ entity. not (is_topic entity.is)) entities)) (filter_none (λ (entity : EntityData). not (is_topic entity.is)) topic_in source.topics (λ name. refl))
-    ∙ ap (λ (es : List EntityData). 0 + length es) (all_entities source (entities_of source) entities reads)
-    ∙ (let same = as_many (entity_in source) (entities_of source) entities reads in omega (arith, same))
-
--- ---- nodes and blocks
-
-node_lawful : (source : GraphDraft) (entities : List EntityData) (node : ℕ) → list_all has_named_groups source.nodes ≡ true → node < length source.nodes → IsLawfulNode (graph_of source entities) node
-node_lawful source entities node named below =
-    let has = has_groups has_named_groups node 0 source.nodes named (omega arith) (omega (arith, below)) in
-    let default = one_default node (groups_of source) has.draft.groups has.groups in
-    let names = names_are node (groups_of source) has.draft.groups has.groups in
-    let texts = map (λ group. group.name) has.draft.groups in
-    record {
-      one_default = ap (λ (gs : List GroupData). length gs) default;
-      default_exclusive = ap (list_all (λ group. group.exclusive)) default;
-      well_named = ap (list_all is_name) names ∙ and_left (list_all is_name texts) (are_distinct texts) has.passes;
-      distinct = ap are_distinct names ∙ and_right (list_all is_name texts) (are_distinct texts) has.passes;
-    }
-
-topic_blocks : (topics : List (List ℕ)) → map (λ entity. block_of entity.is) (map topic_in topics) ≡ map (λ name. 0) topics
-topic_blocks [] = refl
-topic_blocks (name ∷ topics) = ap (λ (ns : List ℕ). 0 ∷ ns) (topic_blocks topics)
-
-blocks_kept : (source : GraphDraft) (entities : List EntityData) → AreEntities source entities → is_ascending_from 0 (map (λ entity. block_of entity.is) (map topic_in source.topics ++ entities)) ≡ true
-blocks_kept source entities reads =
-    let blocks = map (λ placed. draft_block placed.entity.is) (entities_of source) in
-    ap (is_ascending_from 0)
-    (map-append (λ (entity : EntityData). block_of entity.is) (map topic_in source.topics) entities
-    ∙ ap (λ (ns : List ℕ). ns ++ map (λ entity. block_of entity.is) entities) (topic_blocks source.topics)
-    ∙ ap (λ (ns : List ℕ). map (λ name. 0) source.topics ++ ns) (seen_alike (entity_in source) (λ placed. draft_block placed.entity.is) (λ entity. block_of entity.is) (entities_of source) entities (λ placed entity read. (built source placed entity read).made.block) reads))
-    ∙ block_before 0 0 (map (λ name. 0) source.topics) blocks (omega arith) (all_mapped (λ name. 0) 0 source.topics (λ name. refl))
-    (lower_start 0 1 blocks (omega arith) (entities_ascend (entities_from 0 source.nodes)))
-
--- ---- the graph
-
-graph_lawful : (document : DocumentDraft) (entities : List EntityData) → IsKept document → AreEntities document.graph entities → IsLawful (graph_of document.graph entities)
-graph_lawful document entities keeps reads =
-    let nodes = map (λ node. node.name) document.graph.nodes in
-    let many = length-map document.graph.nodes (λ node. node.name) in
-    let names = names_kept document.graph entities reads in
-    let few_nodes = leb-true (length document.graph.nodes) NODES keeps.few_nodes in
-    let few_groups = leb-true (sum_by (λ node. length node.groups) document.graph.nodes) NAMED_GROUPS keeps.few_groups in
-    let few_topics = leb-true (length document.graph.topics) TOPICS keeps.few_topics in
-    let few_entities = leb-true (length (entities_of document.graph)) ENTITIES keeps.few_entities in
-    record {
-      few_nodes = subst (λ n. n ≤ NODES) (sym many) few_nodes;
-      few_groups = subst (λ n. n ≤ NAMED_GROUPS) (sym (named_groups 0 document.graph.nodes)) few_groups;
-      few_topics = subst (λ n. n ≤ TOPICS) (sym (topics_counted document.graph entities reads)) few_topics;
-      few_entities = subst (λ n. n ≤ ENTITIES) (sym (entities_counted document.graph entities reads)) few_entities;
-      node_names = and_left (list_all is_name nodes) (are_distinct nodes) keeps.node_names;
-      distinct_nodes = and_right (list_all is_name nodes) (are_distinct nodes) keeps.node_names;
-      names = ap (list_all is_name) names ∙ and_left (list_all is_name (names_of document.graph)) (are_distinct (names_of document.graph)) keeps.names;
-      distinct_names = ap are_distinct names ∙ and_right (list_all is_name (names_of document.graph)) (are_distinct (names_of document.graph)) keeps.names;
-      groups = groups_within 0 document.graph.nodes (length nodes) (omega (arith, many));
-      nodes = λ node below. node_lawful document.graph entities node keeps.group_names (omega (arith, below, many));
-      blocks = blocks_kept document.graph entities reads;
-      entities = entities_lawful document.graph entities reads keeps.within keeps.faultless;
-    }
-
--- ---- the plan
-
--- a plan of these parts
-abbrev plan_with : GraphData → List ℕ → List FeedData → PlanData
-plan_with shape moments feed = record { graph = shape; moments = moments; feed = feed }
-
-plan_lawful : (document : DocumentDraft) (plan : PlanData) → IsKept document → plan_of document ≡ Some plan → IsLawfulPlan plan
-plan_lawful document plan keeps e =
-    then_read _ (graph_in document.graph) _ plan e (λ made graph e1.
-    then_read _ (each (entity_in document.graph) (entities_of document.graph)) _ made graph (λ entities read e2.
-    then_read _ (each (entry_in document.graph) document.feed) _ plan e1 (λ feed fed e3.
-    let reads = are_read (entity_in document.graph) (entities_of document.graph) entities read in
-    let feeds = are_read (entry_in document.graph) document.feed feed fed in
-    let many = as_many (entry_in document.graph) document.feed feed feeds in
-    let short = leb-true (length document.feed) FEED keeps.short_feed in
-    let is = some_is (graph_of document.graph entities) made e2 in
-    subst IsLawfulPlan (ap (λ (g : GraphData). plan_with g document.moments feed) is ∙ some_is (plan_with made document.moments feed) plan e3)
-    (record {
-      graph = graph_lawful document entities keeps reads;
-      few_moments = leb-true (length document.moments) MOMENTS keeps.few_moments;
-      moments = at_most TICKS document.moments keeps.moments;
-      clock = keeps.clock;
-      short_feed = subst (λ n. n ≤ FEED) (sym many) short;
-      rounds = rounds_kept document.graph (length document.moments) document.feed feed feeds keeps.rounds;
-      fed = feed_kept document.graph entities document.feed feed reads feeds keeps.identified keeps.stamps;
-    }))))
-
-drafted_lawful : (drafted : Option DocumentDraft) (plan : PlanData) → find (holds_of drafted) codes_in_order ≡ None → (drafted >>= plan_of) ≡ Some plan → IsLawfulPlan plan
-drafted_lawful None plan found e = absurd cc
-drafted_lawful (Some document) plan found e = plan_lawful document plan (kept document found) e
-
-let_through : (refusal : Option Refused) (planned : Option PlanData) (plan : PlanData) → unless_refused refusal planned ≡ Some plan → (refusal ≡ None → planned ≡ Some plan → IsLawfulPlan plan) → IsLawfulPlan plan
-let_through None planned plan e next = next refl e
-let_through (Some code) planned plan e next = absurd cc
-
--- a value that isn't refused has a lawful plan
-pub value_lawful : (value : Option Data) (plan : PlanData) → plan_in value ≡ Some plan → IsLawfulPlan plan
-value_lawful None plan e = absurd cc
-value_lawful (Some value) plan e = let_through (refusal_in (Some value)) (draft_of value >>= plan_of) plan e (λ accepted planned. drafted_lawful (draft_of value) plan accepted planned)
+  -- a value that isn't refused has a lawful plan
+  pub value_lawful : (value : Option Data) (plan : PlanData) → plan_in value ≡ Some plan → IsLawfulPlan plan
+  value_lawful None plan e = absurd cc
+  value_lawful (Some value) plan e = let_through (refusal_in (Some value)) (draft_of value >>= plan_of) plan e (λ accepted planned. drafted_lawful (draft_of value) plan accepted planned)

@@ -1,34 +1,41 @@
 -- Which document says which plan.
 use Rattle.std.specs.Prelude.{ℕ, List, Option, None, Some}
 use Rattle.serde_json.specs.Data.{Data}
-use Rattle.exec_doc.specs.Draft.{Drafted, GraphDraft, FedDraft, EntryDraft, DocumentDraft}
-use Rattle.exec_doc.specs.Draft as draft
+use Rattle.exec_doc.specs.declared.draft.FedDraft.{FedDraft}
+use Rattle.exec_doc.specs.declared.draft.EntryDraft.{EntryDraft}
+use Rattle.exec_doc.specs.Draft.{DocumentDraft}
+use Rattle.exec_graph.specs.Draft.{GraphDraft}
+use Rattle.exec_graph.specs.declared.draft.Drafted.{Drafted}
+use Rattle.exec_doc.specs.declared.draft.FedDraft.TheVariants as draft
 use Rattle.exec_doc.specs.Forms.{draft_of}
-use Rattle.exec_doc.specs.Numbers.{topic_named, server_named}
-use Rattle.exec_doc.specs.Graph.{graph_in}
-use Rattle.exec_doc.specs.Options.{◌>>=◌, each}
+use Rattle.exec_graph.specs.Numbers.{topic_named, server_named}
+use Rattle.exec_graph.specs.Resolved.{graph_in}
+use Rattle.exec_graph.specs.Options.{◌>>=◌, each}
 use Rattle.exec_doc.specs.Refusals.{value_of, id_of, refusal_in}
 use Rattle.exec_doc.specs.declared.refused.Refused.{Refused}
-use Rattle.exec_graph.specs.Plan.{Fed, message, goal, cancel, FeedData, PlanData}
+use Rattle.exec_graph.specs.Plan.{PlanData}
+use Rattle.exec_graph.specs.declared.plan.Feed.{Feed}
+use Rattle.exec_graph.specs.declared.plan.Fed.{Fed}
+use Rattle.exec_graph.specs.declared.plan.Fed.TheVariants.{Message, Goal, Cancel}
 
 -- ---- the feed
 
 -- what is fed
 abbrev pub fed_in : GraphDraft → FedDraft → Option Fed
-fed_in drafted (draft.message name value) = do
+fed_in drafted (draft.Message name value) = do
   topic ← topic_named drafted name
-  Some (message topic value)
-fed_in drafted (draft.goal name text value) = do
+  Some (Message topic value)
+fed_in drafted (draft.Goal name text value) = do
   server ← server_named drafted name
   id ← id_of text
-  Some (goal server id value)
-fed_in drafted (draft.cancel name text stamp) = do
+  Some (Goal server id value)
+fed_in drafted (draft.Cancel name text stamp) = do
   server ← server_named drafted name
   id ← id_of text
-  Some (cancel server id stamp)
+  Some (Cancel server id stamp)
 
 -- an entry of the feed
-abbrev pub entry_in : GraphDraft → EntryDraft → Option FeedData
+abbrev pub entry_in : GraphDraft → EntryDraft → Option Feed
 entry_in drafted entry = do
   fed ← fed_in drafted entry.fed
   Some (record { round = entry.round; fed = fed })

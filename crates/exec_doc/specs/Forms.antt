@@ -4,8 +4,16 @@ use Rattle.std.specs.Option.{option_map, unwrap_or}
 use Rattle.std.specs.Str.{bytes_eq}
 use Rattle.serde_json.specs.Data.{Data, null, boolean, number, string, array, object, Items, no_items, item}
 use Rattle.serde_json.specs.Find.{get, as_number, as_str, as_array, as_i64, as_u64}
-use Rattle.exec_doc.specs.Draft.{GroupDraft, Drafted, timer, subscription, service, client, server, action_client, EntityDraft, NodeDraft, FedDraft, message, goal, cancel, EntryDraft, DocumentDraft}
-use Rattle.exec_doc.specs.Options.{◌>>=◌, each}
+use Rattle.exec_doc.specs.declared.draft.FedDraft.{FedDraft}
+use Rattle.exec_doc.specs.declared.draft.FedDraft.TheVariants.{Message, Goal, Cancel}
+use Rattle.exec_doc.specs.declared.draft.EntryDraft.{EntryDraft}
+use Rattle.exec_doc.specs.Draft.{DocumentDraft}
+use Rattle.exec_graph.specs.declared.draft.GroupDraft.{GroupDraft}
+use Rattle.exec_graph.specs.declared.draft.NodeDraft.{NodeDraft}
+use Rattle.exec_graph.specs.declared.draft.EntityDraft.{EntityDraft}
+use Rattle.exec_graph.specs.declared.draft.Drafted.{Drafted}
+use Rattle.exec_graph.specs.declared.draft.Drafted.TheVariants.{Timer, Subscription, Service, Client, Server, ActionClient}
+use Rattle.exec_graph.specs.Options.{◌>>=◌, each}
 use Rattle.exec_msg.specs.declared.limits.TheConstants.{DEFAULT_DEPTH}
 use Rattle.exec_script.specs.declared.word.Word.{Word}
 use Rattle.exec_script.specs.declared.word.Word.TheVariants.{Text, Number}
@@ -105,7 +113,7 @@ abbrev pub timer_form : Data → Option Drafted
 timer_form value = do
   period ← required count (codes "period") value
   called ← script_field (codes "script") value
-  Some (timer (record { period = period; script = called }))
+  Some (Timer (record { period = period; script = called }))
 
 -- a subscription
 abbrev pub subscription_form : Data → Option Drafted
@@ -113,14 +121,14 @@ subscription_form value = do
   topic ← required text (codes "topic") value
   depth ← depth_field value
   called ← script_field (codes "script") value
-  Some (subscription (record { topic = topic; depth = depth; script = called }))
+  Some (Subscription (record { topic = topic; depth = depth; script = called }))
 
 -- a service
 abbrev pub service_form : Data → Option Drafted
 service_form value = do
   depth ← depth_field value
   called ← script_field (codes "script") value
-  Some (service (record { depth = depth; script = called }))
+  Some (Service (record { depth = depth; script = called }))
 
 -- a service client
 abbrev pub client_form : Data → Option Drafted
@@ -128,7 +136,7 @@ client_form value = do
   of ← required text (codes "service") value
   depth ← depth_field value
   called ← script_field (codes "script") value
-  Some (client (record { service = of; depth = depth; script = called }))
+  Some (Client (record { service = of; depth = depth; script = called }))
 
 -- an action server
 abbrev pub server_form : Data → Option Drafted
@@ -138,7 +146,7 @@ server_form value = do
   on_goal ← script_field (codes "on_goal") value
   on_cancel ← script_field (codes "on_cancel") value
   called ← script_field (codes "script") value
-  Some (server (record { depth = depth; result_timeout = result_timeout; on_goal = on_goal; on_cancel = on_cancel; script = called }))
+  Some (Server (record { depth = depth; result_timeout = result_timeout; on_goal = on_goal; on_cancel = on_cancel; script = called }))
 
 -- an action client
 abbrev pub action_client_form : Data → Option Drafted
@@ -149,7 +157,7 @@ action_client_form value = do
   on_code ← script_field (codes "on_code") value
   on_feedback ← script_field (codes "on_feedback") value
   on_result ← optional script (codes "on_result") value
-  Some (action_client (record { server = of; depth = depth; on_response = on_response; on_code = on_code; on_feedback = on_feedback; on_result = on_result }))
+  Some (ActionClient (record { server = of; depth = depth; on_response = on_response; on_code = on_code; on_feedback = on_feedback; on_result = on_result }))
 
 -- an entity of a kind: its name, its callback group where it names one, and what its kind says
 abbrev pub entity : (Data → Option Drafted) → Data → Option EntityDraft
@@ -179,7 +187,7 @@ abbrev pub message_form : Data → Option FedDraft
 message_form value = do
   topic ← required text (codes "topic") value
   sent ← required integer (codes "value") value
-  Some (message topic sent)
+  Some (Message topic sent)
 
 -- a goal request
 abbrev pub goal_form : Data → Option FedDraft
@@ -187,7 +195,7 @@ goal_form value = do
   action ← required text (codes "action") value
   id ← required text (codes "goal") value
   sent ← required integer (codes "value") value
-  Some (goal action id sent)
+  Some (Goal action id sent)
 
 -- a cancel request; a stamp of 0 is none
 abbrev pub cancel_form : Data → Option FedDraft
@@ -195,7 +203,7 @@ cancel_form value = do
   action ← required text (codes "action") value
   id ← required text (codes "cancel") value
   stamp ← defaulted count 0 (codes "stamp") value
-  Some (cancel action id stamp)
+  Some (Cancel action id stamp)
 
 -- the form of an entry that has the field `topic`, `goal` or `cancel`, and has no other of them
 abbrev pub form_by : Bool → Bool → Bool → Data → Option FedDraft

@@ -1,11 +1,10 @@
+pub mod Answering
 pub mod Document
 pub mod Draft
 pub mod Examples
-pub mod Faults
 pub mod Forms
-pub mod Graph
-pub mod Numbers
-pub mod Options
+pub mod Kinds
+pub mod Placing
+pub mod Reading
 pub mod Refusals
-pub mod Scripts
 pub mod Words

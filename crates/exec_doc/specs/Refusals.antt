@@ -1,5 +1,5 @@
 -- Why a document is refused: the predicate of each code, and the least code whose predicate holds.
-use Rattle.std.specs.Prelude.{ℕ, List, [], ◌∷◌, length, Bool, true, false, not, ◌&&◌, ◌==◌, nat_le, is_some, is_none, if◌then◌else◌, Option, None, find}
+use Rattle.std.specs.Prelude.{ℕ, List, [], ◌∷◌, length, map, Bool, true, false, not, ◌&&◌, ◌==◌, nat_le, is_some, is_none, if◌then◌else◌, Option, None, find}
 use Rattle.std.specs.Int.{from_be_bytes, w128}
 use Rattle.std.specs.List.{list_all}
 use Rattle.std.specs.Option.{option_map, option_map_or}
@@ -7,15 +7,17 @@ use Rattle.std.specs.Str.{is_utf8}
 use Rattle.serde_json.specs.Data.{Data}
 use Rattle.serde_json.specs.Read.{read}
 use Rattle.uuid.specs.Text.{parsed}
-use Rattle.exec_doc.specs.Draft.{GraphDraft, FedDraft, message, goal, cancel, DocumentDraft}
+use Rattle.exec_doc.specs.declared.draft.FedDraft.{FedDraft}
+use Rattle.exec_doc.specs.declared.draft.FedDraft.TheVariants.{Message, Goal, Cancel}
+use Rattle.exec_doc.specs.Draft.{DocumentDraft}
+use Rattle.exec_graph.specs.Draft.{GraphDraft}
 use Rattle.exec_doc.specs.Forms.{draft_of}
-use Rattle.exec_doc.specs.Faults.{has_faulty_script, shares_variables, is_small, is_well_named}
-use Rattle.exec_doc.specs.Options.{◌>>=◌}
-use Rattle.exec_doc.specs.Numbers.{topic_named, server_named}
+use Rattle.exec_graph.specs.Faults.{has_faulty_script, shares_variables, is_small, is_well_named}
+use Rattle.exec_graph.specs.Options.{◌>>=◌}
+use Rattle.exec_graph.specs.Numbers.{topic_named, server_named}
 use Rattle.exec_doc.specs.declared.refused.Refused.{Refused}
 use Rattle.exec_doc.specs.declared.refused.Refused.TheVariants as refused
-use Rattle.exec_graph.specs.Lawful.{is_from_1, is_ascending_from}
-use Rattle.exec_msg.specs.declared.limits.TheConstants.{MOMENTS, FEED, TICKS}
+use Rattle.exec_graph.specs.Schedule.{schedule_fits, greatest, is_in_order}
 
 -- ---- 1: no JSON
 
@@ -27,9 +29,9 @@ value_of bytes = if is_utf8 bytes then read bytes else None
 
 -- what is fed goes to a topic or to a server that is declared
 abbrev pub feeds : GraphDraft → FedDraft → Bool
-feeds draft (message name value) = is_some (topic_named draft name)
-feeds draft (goal name id value) = is_some (server_named draft name)
-feeds draft (cancel name id stamp) = is_some (server_named draft name)
+feeds draft (Message name value) = is_some (topic_named draft name)
+feeds draft (Goal name id value) = is_some (server_named draft name)
+feeds draft (Cancel name id stamp) = is_some (server_named draft name)
 
 -- the graph is well named, and what is fed goes to what is declared
 abbrev pub has_declared_names : DocumentDraft → Bool
@@ -37,27 +39,21 @@ has_declared_names document = is_well_named document.graph && list_all (λ entry
 
 -- ---- 5: limits
 
--- a stamp is at most 2^62
-abbrev pub has_stamp_within : FedDraft → Bool
-has_stamp_within (message name value) = true
-has_stamp_within (goal name id value) = true
-has_stamp_within (cancel name id stamp) = nat_le stamp TICKS
+-- the stamp of what is fed; that of a message or of a goal request is 0
+abbrev pub stamp_of : FedDraft → ℕ
+stamp_of (Message name value) = 0
+stamp_of (Goal name id value) = 0
+stamp_of (Cancel name id stamp) = stamp
 
 -- no moment, no stamp, and no number of moments or entries is beyond its limit
-abbrev pub schedule_fits : DocumentDraft → Bool
-schedule_fits document =
-    nat_le (length document.moments) MOMENTS
-    && list_all (λ moment. nat_le moment TICKS) document.moments
-    && nat_le (length document.feed) FEED
-    && list_all (λ entry. has_stamp_within entry.fed) document.feed
+abbrev pub is_within : DocumentDraft → Bool
+is_within document = schedule_fits document.moments (length document.feed) (greatest (map (λ entry. stamp_of entry.fed) document.feed))
 
 -- ---- 8: the clock
 
 -- no moment is below the one before it, and each round of the feed is one of the document
-abbrev pub is_in_order : DocumentDraft → Bool
-is_in_order document =
-    is_ascending_from 0 document.moments
-    && list_all (λ entry. is_from_1 (length document.moments) entry.round) document.feed
+abbrev pub is_clocked : DocumentDraft → Bool
+is_clocked document = is_in_order document.moments (map (λ entry. entry.round) document.feed)
 
 -- ---- 9: identifiers
 
@@ -67,9 +63,9 @@ id_of text = option_map (from_be_bytes w128) (parsed text)
 
 -- each identifier is one, and a goal's isn't 0
 abbrev pub is_identified : FedDraft → Bool
-is_identified (message name value) = true
-is_identified (goal name text value) = option_map_or (λ id. nat_le 1 id) (id_of text) false
-is_identified (cancel name text stamp) = is_some (id_of text)
+is_identified (Message name value) = true
+is_identified (Goal name text value) = option_map_or (λ id. nat_le 1 id) (id_of text) false
+is_identified (Cancel name text stamp) = is_some (id_of text)
 
 -- ---- the refusal
 
@@ -90,10 +86,10 @@ number_of refused.Memory = 10
 abbrev pub has_fault : Refused → DocumentDraft → Bool
 has_fault refused.Version document = not (document.version == 1)
 has_fault refused.Name document = not (has_declared_names document)
-has_fault refused.Limit document = not (is_small document.graph && schedule_fits document)
+has_fault refused.Limit document = not (is_small document.graph && is_within document)
 has_fault refused.Script document = has_faulty_script document.graph
 has_fault refused.GroupVariable document = shares_variables document.graph
-has_fault refused.Clock document = not (is_in_order document)
+has_fault refused.Clock document = not (is_clocked document)
 has_fault refused.Id document = not (list_all (λ entry. is_identified entry.fed) document.feed)
 has_fault _ document = false
 

@@ -1,12 +1,13 @@
 -- Words of the worked examples.
 use Rattle.std.specs.Prelude.{ℕ, pos, List, [], ◌∷◌, codes, true, None}
 use Rattle.exec_graph.specs.Graph.{EntityData}
-use Rattle.exec_graph.specs.Plan.{FeedData, PlanData}
+use Rattle.exec_graph.specs.Plan.{PlanData}
+use Rattle.exec_graph.specs.declared.plan.Feed.{Feed}
 use Rattle.exec_script.specs.declared.instr.Operand.{Operand}
 use Rattle.exec_script.specs.declared.instr.Operand.TheVariants as operand
 
 -- a plan of one node `n`, all of whose entities are in its default group
-abbrev pub one_node : List EntityData → List ℕ → List FeedData → PlanData
+abbrev pub one_node : List EntityData → List ℕ → List Feed → PlanData
 one_node entities moments feed = record {
   graph = record {
     nodes = codes "n" ∷ [];

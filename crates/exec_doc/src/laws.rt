@@ -1,4 +1,4 @@
-//! Laws of documents: each function's contract says one, and its body is empty.
+//! Laws of documents: each function's contract says one, and its body is empty or calls the laws that it rests on.
 ghost use Rattle.std.specs.Prelude.{◌≡◌, ℕ, ◌<◌, List, Option, Some, None, is_some, true, false};
 ghost use Rattle.exec_doc.specs.Document.{document_of};
 ghost use Rattle.exec_doc.specs.Refusals.{value_of, number_of, holds, refusal_of};
@@ -18,7 +18,9 @@ pub fn the_least_code_counts()
 pub fn refused_or_a_plan()
     ensures plan { (bytes : List ℕ) → refusal_of bytes ≡ None → is_some (document_of bytes) ≡ true }
     ensures refused { (bytes : List ℕ) (code : Refused) → refusal_of bytes ≡ Some code → document_of bytes ≡ None }
-{}
+{
+    exec_graph::laws::drafts_without_faults_have_lawful_graphs();
+}
 
 /// Bytes say one plan at most.
 pub fn one_plan_at_most()
@@ -28,4 +30,8 @@ pub fn one_plan_at_most()
 /// A plan that bytes say is lawful: its names are resolved, its scripts are legal in their places, and its limits hold.
 pub fn plans_are_lawful()
     ensures { (bytes : List ℕ) (plan : PlanData) → document_of bytes ≡ Some plan → IsLawfulPlan plan }
-{}
+{
+    exec_graph::laws::drafts_without_faults_have_lawful_graphs();
+    exec_graph::laws::names_find_what_they_are_declared_as();
+    exec_graph::laws::plans_without_faults_are_lawful();
+}

@@ -1,9 +1,17 @@
 //! Documents: which JSON text is which plan, and why another is refused.
 #![tactic(auto)]
 
+mod document;
+mod draft;
 pub mod examples;
+mod fed;
+mod forms;
 pub mod laws;
 pub mod refusals;
 mod refused;
+mod schedule;
+#[cfg(test)]
+mod tests;
 
+pub use document::read_document;
 pub use refused::Refused;

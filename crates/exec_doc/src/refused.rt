@@ -1,6 +1,10 @@
 ghost use Rattle.std.specs.Prelude.{◌≡◌};
 ghost use Rattle.exec_doc.specs.Refusals.{number_of};
+ghost use Rattle.exec_doc.specs.declared.refused.Refused.TheVariants as variants;
 
+use exec_graph::PlanFault;
+use exec_msg::Memory;
+use std::alloc::{AllocError, AllocFailed};
 use thiserror::Error;
 
 /// Why a document is refused, each with its number: the least whose predicate holds.
@@ -44,5 +48,44 @@ impl Refused {
         ensures { result ≡ number_of self }
     {
         self as u8
+    }
+}
+
+impl From<Memory> for Refused {
+    ghost from_gives = { λ _ refused. refused ≡ variants.Memory };
+
+    fn from(_refused: Memory) -> Refused {
+        Refused::Memory
+    }
+}
+
+impl From<AllocError> for Refused {
+    ghost from_gives = { λ _ refused. refused ≡ variants.Memory };
+
+    fn from(_refused: AllocError) -> Refused {
+        Refused::Memory
+    }
+}
+
+impl<T: Drop> From<AllocFailed<T>> for Refused {
+    ghost from_gives = { λ _ refused. refused ≡ variants.Memory };
+
+    fn from(_refused: AllocFailed<T>) -> Refused {
+        Refused::Memory
+    }
+}
+
+impl From<PlanFault> for Refused {
+    ghost use Rattle.exec_doc.specs.Answering.{code_of};
+
+    ghost from_gives = { λ fault refused. refused ≡ code_of fault };
+
+    fn from(fault: PlanFault) -> Refused {
+        match fault {
+            PlanFault::Limit => Refused::Limit,
+            PlanFault::Clock => Refused::Clock,
+            PlanFault::Id => Refused::Id,
+            PlanFault::Memory => Refused::Memory,
+        }
     }
 }

@@ -2,7 +2,8 @@
 use Rattle.std.proofs.Common.{◌≡◌, ℕ, zero, suc, ◌+◌, ◌<◌, ◌≤◌, Bool, true, false, cond, ◌==◌, List, [], ◌∷◌, length, get_or, refl, ap, ◌∙◌, arith}
 use Rattle.std.specs.List.{filter}
 use Rattle.std.proofs.lemmas.Bool.{eqb-true, eq-eqb}
-use Rattle.exec_graph.specs.Graph.{Declared, EntityData, cons_if, numbers_where}
+use Rattle.exec_graph.specs.Graph.{EntityData, cons_if, numbers_where}
+use Rattle.exec_graph.specs.declared.entity.Declared.{Declared}
 
 -- how often a number is listed
 abbrev pub times : ℕ → List ℕ → ℕ

@@ -2,9 +2,14 @@
 use Rattle.std.specs.Prelude.{◌≡◌, ℕ, ◌<◌, ◌≤◌, ◌^◌, List, [], ◌∷◌, length, map, Bool, true, false, not, is_some, is_none, ◌&&◌, ◌==◌, nat_le, IsTrue, Option, None, Some, slice_get, Ok, ◌-◌, ◌⊎◌}
 use Rattle.std.specs.List.{All, filter, filter_map, list_all}
 use Rattle.std.specs.Option.{option_map_or}
-use Rattle.exec_graph.specs.Graph.{GroupData, Declared, topic, timer, subscription, service, client, server, action_client, EntityData, GraphData, is_topic, is_service, is_client, is_server, is_action_client, group_of, names_of}
+use Rattle.exec_graph.specs.Graph.{EntityData, GraphData, is_topic, is_service, is_client, is_server, is_action_client, group_of, names_of}
+use Rattle.exec_graph.specs.declared.entity.CallbackGroup.{CallbackGroup}
+use Rattle.exec_graph.specs.declared.entity.Declared.{Declared}
+use Rattle.exec_graph.specs.declared.entity.Declared.TheVariants.{Topic, Timer, Subscription, Service, Client, Server, ActionClient}
 use Rattle.exec_graph.specs.Names.{is_name, are_distinct}
-use Rattle.exec_graph.specs.Plan.{Fed, message, goal, cancel, PlanData}
+use Rattle.exec_graph.specs.Plan.{PlanData}
+use Rattle.exec_graph.specs.declared.plan.Fed.{Fed}
+use Rattle.exec_graph.specs.declared.plan.Fed.TheVariants.{Message, Goal, Cancel}
 use Rattle.exec_msg.specs.declared.limits.TheConstants.{NODES, NAMED_GROUPS, TOPICS, ENTITIES, INSTRUCTIONS, DEPTH, MOMENTS, FEED, TICKS}
 use Rattle.exec_script.specs.Legality.{legality_of}
 use Rattle.exec_script.specs.declared.instr.Instr.{Instr}
@@ -38,9 +43,9 @@ is_known graph node _ = true
 
 -- whether what an entity refers to is there, in whatever node
 abbrev pub refers : GraphData → Declared → Bool
-refers graph (subscription entity) = is_at is_topic graph entity.topic
-refers graph (client entity) = is_at is_service graph entity.service
-refers graph (action_client entity) = is_at is_server graph entity.server
+refers graph (Subscription entity) = is_at is_topic graph entity.topic
+refers graph (Client entity) = is_at is_service graph entity.service
+refers graph (ActionClient entity) = is_at is_server graph entity.server
 refers graph _ = true
 
 -- ---- entities
@@ -57,17 +62,17 @@ result_scripts (Some script) = record { role = role.Callback; script = script } 
 
 -- the scripts of an entity
 abbrev pub scripts_of : Declared → List RoleScript
-scripts_of topic = []
-scripts_of (timer entity) = record { role = role.Callback; script = entity.script } ∷ []
-scripts_of (subscription entity) = record { role = role.Callback; script = entity.script } ∷ []
-scripts_of (service entity) = record { role = role.Service; script = entity.script } ∷ []
-scripts_of (client entity) = record { role = role.Callback; script = entity.script } ∷ []
-scripts_of (server entity) =
+scripts_of Topic = []
+scripts_of (Timer entity) = record { role = role.Callback; script = entity.script } ∷ []
+scripts_of (Subscription entity) = record { role = role.Callback; script = entity.script } ∷ []
+scripts_of (Service entity) = record { role = role.Service; script = entity.script } ∷ []
+scripts_of (Client entity) = record { role = role.Callback; script = entity.script } ∷ []
+scripts_of (Server entity) =
     record { role = role.GoalHandler; script = entity.on_goal }
     ∷ record { role = role.CancelHandler; script = entity.on_cancel }
     ∷ record { role = role.Goal; script = entity.script }
     ∷ []
-scripts_of (action_client entity) =
+scripts_of (ActionClient entity) =
     record { role = role.Callback; script = entity.on_response }
     ∷ record { role = role.Callback; script = entity.on_code }
     ∷ record { role = role.Callback; script = entity.on_feedback }
@@ -84,16 +89,16 @@ is_timeout (Some ticks) = nat_le ticks TICKS
 
 -- whether an entity's period, depth and timeout are within their limits
 abbrev pub is_within : Declared → Bool
-is_within topic = true
-is_within (timer entity) = is_from_1 TICKS entity.period
-is_within (subscription entity) = is_from_1 DEPTH entity.depth
-is_within (service entity) = is_from_1 DEPTH entity.depth
-is_within (client entity) = is_from_1 DEPTH entity.depth
-is_within (server entity) = is_from_1 DEPTH entity.depth && is_timeout entity.result_timeout
-is_within (action_client entity) = is_from_1 DEPTH entity.depth
+is_within Topic = true
+is_within (Timer entity) = is_from_1 TICKS entity.period
+is_within (Subscription entity) = is_from_1 DEPTH entity.depth
+is_within (Service entity) = is_from_1 DEPTH entity.depth
+is_within (Client entity) = is_from_1 DEPTH entity.depth
+is_within (Server entity) = is_from_1 DEPTH entity.depth && is_timeout entity.result_timeout
+is_within (ActionClient entity) = is_from_1 DEPTH entity.depth
 
 -- a script of a callback group is lawful: it is short enough, allowed in its place, and names what is there
-pub record IsLawfulScript (graph : GraphData) (group : GroupData) (roled : RoleScript) : Type 0 where
+pub record IsLawfulScript (graph : GraphData) (group : CallbackGroup) (roled : RoleScript) : Type 0 where
   pub short : length roled.script ≤ INSTRUCTIONS
   pub legal : legality_of roled.script (record { reentrant = not group.exclusive; role = roled.role }) ≡ Ok tt
   pub known : IsTrue (list_all (is_known graph group.node) roled.script)
@@ -101,7 +106,7 @@ pub record IsLawfulScript (graph : GraphData) (group : GroupData) (roled : RoleS
 -- an entity is lawful: it has one callback group, what it refers to is there, its numbers are within their limits, and its
 -- scripts are lawful there
 pub record IsLawfulEntity (graph : GraphData) (declared : Declared) : Type 0 where
-  pub group : GroupData
+  pub group : CallbackGroup
   pub grouped : slice_get graph.groups (group_of declared) ≡ Some group
   pub referring : IsTrue (refers graph declared)
   pub within : IsTrue (is_within declared)
@@ -115,13 +120,13 @@ IsLawfulAt graph entity = IsTrue (is_topic entity.is) ⊎ IsLawfulEntity graph e
 
 -- the place of what a name is declared as in the order of numbers
 abbrev pub block_of : Declared → ℕ
-block_of topic = 0
-block_of (timer entity) = 1
-block_of (subscription entity) = 2
-block_of (service entity) = 3
-block_of (client entity) = 4
-block_of (server entity) = 5
-block_of (action_client entity) = 6
+block_of Topic = 0
+block_of (Timer entity) = 1
+block_of (Subscription entity) = 2
+block_of (Service entity) = 3
+block_of (Client entity) = 4
+block_of (Server entity) = 5
+block_of (ActionClient entity) = 6
 
 -- each number is at or above the one before it
 abbrev pub is_ascending_from : ℕ → List ℕ → Bool
@@ -133,7 +138,7 @@ abbrev pub group_names : ℕ → GraphData → List (List ℕ)
 group_names node graph = filter_map (λ group. group.name) (filter (λ group. group.node == node) graph.groups)
 
 -- the default callback groups of a node
-abbrev pub default_groups : ℕ → GraphData → List GroupData
+abbrev pub default_groups : ℕ → GraphData → List CallbackGroup
 default_groups node graph = filter (λ group. is_none group.name && (group.node == node)) graph.groups
 
 -- a node has one default callback group, which is mutually exclusive, and its named groups have distinct names
@@ -164,9 +169,9 @@ pub record IsLawful (graph : GraphData) : Type 0 where
 -- whether what is fed is well formed: a topic, or a server with the identifier of a goal, which isn't 0, or with a cancel
 -- request, whose stamp is within its limit; an identifier has 128 bits
 abbrev pub is_fed_well : GraphData → Fed → Bool
-is_fed_well graph (message number value) = is_at is_topic graph number
-is_fed_well graph (goal number id value) = is_at is_server graph number && is_from_1 (2 ^ 128 - 1) id
-is_fed_well graph (cancel number id stamp) = is_at is_server graph number && nat_le id (2 ^ 128 - 1) && nat_le stamp TICKS
+is_fed_well graph (Message number value) = is_at is_topic graph number
+is_fed_well graph (Goal number id value) = is_at is_server graph number && is_from_1 (2 ^ 128 - 1) id
+is_fed_well graph (Cancel number id stamp) = is_at is_server graph number && nat_le id (2 ^ 128 - 1) && nat_le stamp TICKS
 
 -- a lawful plan: its graph is lawful, no moment is below the one before it, and the feed's rounds are rounds of the plan
 pub record IsLawfulPlan (plan : PlanData) : Type 0 where

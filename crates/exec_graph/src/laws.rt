@@ -1,8 +1,17 @@
 //! Laws of graphs: each function's contract says one, and its body is empty or calls the law that it rests on.
-ghost use Rattle.std.specs.Prelude.{◌≡◌, ℕ, ◌<◌, ◌≤◌, ◌==◌, ℤ, List, length, Bool, false, cond, Option};
-ghost use Rattle.std.specs.List.{filter};
-ghost use Rattle.exec_graph.specs.Graph.{GraphData, GroupData, Declared, declared_at, entities_where};
-ghost use Rattle.exec_graph.specs.Lawful.{RoleScript, IsLawfulScript};
+ghost use Rattle.std.specs.Prelude.{◌≡◌, ℕ, ◌<◌, ◌≤◌, ◌==◌, ℤ, List, length, Bool, true, false, cond, Option, None, Some, is_some, IsTrue};
+ghost use Rattle.std.specs.List.{filter, list_all};
+ghost use Rattle.exec_graph.specs.Draft.{GraphDraft};
+ghost use Rattle.exec_graph.specs.Feeding.{goes_somewhere, has_128_bits};
+ghost use Rattle.exec_graph.specs.Graph.{GraphData, declared_at, entities_where, is_topic, is_server};
+ghost use Rattle.exec_graph.specs.declared.entity.CallbackGroup.{CallbackGroup};
+ghost use Rattle.exec_graph.specs.declared.entity.Declared.{Declared};
+ghost use Rattle.exec_graph.specs.Lawful.{RoleScript, IsLawful, IsLawfulPlan, IsLawfulScript, is_at};
+ghost use Rattle.exec_graph.specs.Numbers.{topic_named, server_named};
+ghost use Rattle.exec_graph.specs.Refusals.{fault_in};
+ghost use Rattle.exec_graph.specs.Resolved.{graph_in};
+ghost use Rattle.exec_graph.specs.Schedule.{plan_fault_in};
+ghost use Rattle.exec_graph.specs.declared.plan.Feed.{Feed};
 ghost use Rattle.exec_script.specs.Script.{CallInput, resumed};
 ghost use Rattle.exec_script.specs.declared.effects.Effect.{Effect};
 
@@ -16,9 +25,31 @@ pub fn entities_are_listed_once()
 
 /// A lawful script of a reentrant callback group leaves the variables that it was given, wherever its effects go.
 pub fn reentrant_groups_share_nothing<S>()
-    ensures { (graph : GraphData) (group : GroupData) (roled : RoleScript) → IsLawfulScript graph group roled → group.exclusive ≡ false →
+    ensures { (graph : GraphData) (group : CallbackGroup) (roled : RoleScript) → IsLawfulScript graph group roled → group.exclusive ≡ false →
         (give : Effect → S → S) (place : ℕ) (registers variables : List ℤ) (answer : Option ℤ) (input : CallInput) (given : S) →
         (resumed give roled.script place registers variables answer input given).variables ≡ variables }
 {
     exec_script::laws::reentrant_scripts_share_nothing::<S>();
 }
+
+/// A draft without a fault has a graph, and that is lawful.
+pub fn drafts_without_faults_have_lawful_graphs()
+    ensures graph { (draft : GraphDraft) → fault_in draft ≡ None → is_some (graph_in draft) ≡ true }
+    ensures lawful { (draft : GraphDraft) (graph : GraphData) → fault_in draft ≡ None → graph_in draft ≡ Some graph → IsLawful graph }
+{}
+
+/// What a draft's names find stands at its number in the graph.
+pub fn names_find_what_they_are_declared_as()
+    ensures topic { (draft : GraphDraft) (graph : GraphData) (name : List ℕ) (number : ℕ) → graph_in draft ≡ Some graph → topic_named draft name ≡ Some number →
+        IsTrue (is_at is_topic graph number) }
+    ensures server { (draft : GraphDraft) (graph : GraphData) (name : List ℕ) (number : ℕ) → graph_in draft ≡ Some graph → server_named draft name ≡ Some number →
+        IsTrue (is_at is_server graph number) }
+{}
+
+/// A lawful graph, moments and a feed without a fault are a lawful plan, where what is fed goes to topics and servers of
+/// the graph and identifiers have 128 bits.
+pub fn plans_without_faults_are_lawful()
+    ensures { (graph : GraphData) (moments : List ℕ) (feed : List Feed) → IsLawful graph
+        → list_all (λ entry. goes_somewhere graph entry.fed) feed ≡ true → list_all (λ entry. has_128_bits entry.fed) feed ≡ true
+        → plan_fault_in moments feed ≡ None → IsLawfulPlan (record { graph = graph; moments = moments; feed = feed }) }
+{}

@@ -1,4 +1,42 @@
 //! Graphs of nodes with their topics, entities and callback groups, and plans of what is run on them.
 #![tactic(auto)]
 
+mod assembling;
+mod builder;
+mod declaring;
+mod directory;
+mod draft;
+mod entity;
+mod fault;
+mod graph;
+mod grouping;
+mod items;
 pub mod laws;
+mod limits;
+mod naming;
+mod numbering;
+mod plan;
+mod rounds;
+mod schedule;
+mod scope;
+mod script;
+mod scripts;
+#[cfg(test)]
+mod tests;
+mod texts;
+
+pub use builder::GraphBuilder;
+pub use draft::{
+    ActionClientDraft, ClientDraft, Drafted, EntityDraft, GroupDraft, NodeDraft, ServerDraft,
+    ServiceDraft, SubscriptionDraft, TimerDraft,
+};
+pub use entity::{
+    ActionClientEntity, CallbackGroup, ClientEntity, Declared, GroupNo, ServerEntity,
+    ServiceEntity, SubscriptionEntity, TimerEntity,
+};
+pub use fault::{GraphFault, PlanFault};
+pub use graph::Graph;
+pub use items::Items;
+pub use plan::{Fed, Feed, Plan};
+pub use schedule::schedule_fits;
+pub use script::{Script, Spelled};

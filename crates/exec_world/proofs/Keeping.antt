@@ -6,8 +6,10 @@ use Rattle.exec_goal.specs.Cancel.{CancelRequest, Decided, moved, after_answer, 
 use Rattle.exec_goal.specs.State.{status_of}
 use Rattle.exec_goal.specs.Table.{GoalRecord, Asked, told, later, unknown, after_event, asked_by}
 use Rattle.exec_graph.specs.Graph.{GraphData, depth_of, declared_at, entities_where}
-use Rattle.exec_graph.specs.Plan.{FeedData, PlanData, Fed}
-use Rattle.exec_graph.specs.Plan as feeding
+use Rattle.exec_graph.specs.Plan.{PlanData}
+use Rattle.exec_graph.specs.declared.plan.Feed.{Feed}
+use Rattle.exec_graph.specs.declared.plan.Fed.{Fed}
+use Rattle.exec_graph.specs.declared.plan.Fed.TheVariants as feeding
 use Rattle.exec_msg.specs.KeepLast.{sent, displaced}
 use Rattle.exec_msg.specs.declared.goal.Event.TheVariants as event
 use Rattle.exec_msg.specs.declared.goal.ReturnCode.{ReturnCode}
@@ -225,9 +227,9 @@ module _ {graph : GraphData} {P : WorldState → Type 0} (k : Moves graph P) whe
 
   -- an entry of a feed
   feed_one_keeps : (fed : Fed) (world : WorldState) → P world → P (feed_one graph fed world)
-  feed_one_keeps (feeding.message number value) world p = publish_keeps number value world p
-  feed_one_keeps (feeding.goal number id value) world p = push_keeps number (goal_request id None value) _ p
-  feed_one_keeps (feeding.cancel number id stamp) world p = push_keeps number (cancel_request (record { id = id; stamp = stamp }) None) _ p
+  feed_one_keeps (feeding.Message number value) world p = publish_keeps number value world p
+  feed_one_keeps (feeding.Goal number id value) world p = push_keeps number (goal_request id None value) _ p
+  feed_one_keeps (feeding.Cancel number id stamp) world p = push_keeps number (cancel_request (record { id = id; stamp = stamp }) None) _ p
 
 -- what is fed in a round
 pub feed_keeps : {P : WorldState → Type 0} (plan : PlanData) → Moves plan.graph P → (number : ℕ) (world : WorldState) → P world → P (feed plan number world)

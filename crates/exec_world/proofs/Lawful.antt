@@ -3,18 +3,20 @@ use Rattle.std.proofs.Common.{ℕ, zero, suc, ◌<◌, ◌≤◌, [], get_or, dr
 use Rattle.std.specs.List.{All}
 use Rattle.std.proofs.lemmas.Bool.{leb-true}
 use Rattle.std.proofs.lemmas.List.Elements.{All-nil, All-cons}
-use Rattle.exec_graph.specs.Graph.{GroupData, EntityData, topic}
+use Rattle.exec_graph.specs.Graph.{EntityData}
+use Rattle.exec_graph.specs.declared.entity.CallbackGroup.{CallbackGroup}
+use Rattle.exec_graph.specs.declared.entity.Declared.TheVariants.{Topic}
 use Rattle.exec_graph.specs.Lawful.{IsLawfulPlan, IsLawfulNode, IsLawfulAt, IsLawfulEntity, IsLawfulScript, RoleScript, scripts_of, is_from_1, is_fed_well}
 use Rattle.exec_script.specs.declared.place.Role.TheVariants as role
 use Rattle.exec_world.specs.Examples.Timers.{late}
 
 -- its one callback group
-abbrev group : GroupData
+abbrev group : CallbackGroup
 group = record { node = 0; name = None; exclusive = true }
 
 -- its one entity
 abbrev entity : EntityData
-entity = get_or late.graph.entities 0 (record { name = []; is = topic })
+entity = get_or late.graph.entities 0 (record { name = []; is = Topic })
 
 -- the entity's one script
 abbrev script : RoleScript

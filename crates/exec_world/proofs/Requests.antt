@@ -5,7 +5,8 @@ use Rattle.std.specs.Option.{unwrap_or}
 use Rattle.std.proofs.lemmas.Bool.{eqb-true, eq-eqb, and_parts}
 use Rattle.std.proofs.lemmas.List.Elements.{recursion_from_All}
 use Rattle.exec_goal.specs.Table.{GoalRecord, has_id, holds}
-use Rattle.exec_graph.specs.Graph.{GraphData, EntityData, Declared, Waitable, wait_set, kinds, cons_if, numbers_where, entities_where, has_kind, declared_at, script_for}
+use Rattle.exec_graph.specs.Graph.{GraphData, EntityData, Waitable, wait_set, kinds, cons_if, numbers_where, entities_where, has_kind, declared_at, script_for}
+use Rattle.exec_graph.specs.declared.entity.Declared.{Declared}
 use Rattle.exec_msg.specs.Timer.{is_due}
 use Rattle.exec_msg.specs.declared.kind.Kind.{Kind}
 use Rattle.exec_msg.specs.declared.kind.Kind.TheVariants as kind

@@ -4,7 +4,9 @@ use Rattle.std.specs.List.{find, fold}
 use Rattle.exec_goal.specs.Cancel.{CancelRequest}
 use Rattle.exec_goal.specs.State.{is_accepted, status_of}
 use Rattle.exec_goal.specs.Table.{after_event}
-use Rattle.exec_graph.specs.Graph.{GraphData, Declared, subscription, client, action_client, entities_where, declared_at}
+use Rattle.exec_graph.specs.Graph.{GraphData, entities_where, declared_at}
+use Rattle.exec_graph.specs.declared.entity.Declared.{Declared}
+use Rattle.exec_graph.specs.declared.entity.Declared.TheVariants.{Subscription, Client, ActionClient}
 use Rattle.exec_msg.specs.declared.goal.Event.TheVariants as event
 use Rattle.exec_msg.specs.declared.line.Line.TheVariants as line
 use Rattle.exec_script.specs.declared.effects.Effect.{Effect}
@@ -18,7 +20,7 @@ pub record Caller : Type 0 where
 
 -- whether an entity is a subscription of a topic
 abbrev pub is_subscription_of : ℕ → Declared → Bool
-is_subscription_of number (subscription entity) = entity.topic == number
+is_subscription_of number (Subscription entity) = entity.topic == number
 is_subscription_of number _ = false
 
 -- a message is sent to each subscription of its topic, in the order of declaration
@@ -27,12 +29,12 @@ publish graph number value world = fold (λ before subscriber. push graph subscr
 
 -- the service of a client
 abbrev pub service_of : Declared → ℕ
-service_of (client entity) = entity.service
+service_of (Client entity) = entity.service
 service_of _ = 0
 
 -- the server of an action client
 abbrev pub server_of : Declared → ℕ
-server_of (action_client entity) = entity.server
+server_of (ActionClient entity) = entity.server
 server_of _ = 0
 
 -- a service client makes its call of a number, which is pending from now on

@@ -5,7 +5,9 @@ use Rattle.std.specs.Option.{unwrap_or}
 use Rattle.exec_goal.specs.Cancel.{CancelRequest, Decided, moved, after_answer, code_of}
 use Rattle.exec_goal.specs.State.{status_of}
 use Rattle.exec_goal.specs.Table.{GoalRecord, Asked, told, later, unknown, is_accepting, new_goal, after_end, asked_for, asked_by}
-use Rattle.exec_graph.specs.Graph.{GraphData, Declared, action_client, declared_at}
+use Rattle.exec_graph.specs.Graph.{GraphData, declared_at}
+use Rattle.exec_graph.specs.declared.entity.Declared.{Declared}
+use Rattle.exec_graph.specs.declared.entity.Declared.TheVariants.{ActionClient}
 use Rattle.exec_msg.specs.Goal.{status_number}
 use Rattle.exec_msg.specs.declared.goal.GoalStatus.{GoalStatus}
 use Rattle.exec_msg.specs.declared.goal.GoalStatus.TheVariants as status
@@ -124,7 +126,7 @@ close_ask graph server id client later world = change_goal server id (λ held. r
 
 -- whether an entity asks for the results of its goals
 abbrev pub asks : Declared → Bool
-asks (action_client entity) = is_some entity.on_result
+asks (ActionClient entity) = is_some entity.on_result
 asks _ = false
 
 -- an action client asks for the result of a goal

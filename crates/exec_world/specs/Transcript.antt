@@ -2,8 +2,12 @@
 use Rattle.std.specs.Prelude.{ℕ, zero, suc, List, [], ◌∷◌, ◌++◌, length, map, replicate, Bool, not, ◌==◌, Option, None, true, false}
 use Rattle.std.specs.List.{filter, flat_map, fold}
 use Rattle.exec_goal.specs.Table.{is_expired}
-use Rattle.exec_graph.specs.Graph.{GraphData, Declared, timer, server, is_timer, is_client, is_server, is_action_client, wait_set, declared_at, entities_where, names_of, Waitable}
-use Rattle.exec_graph.specs.Plan.{Fed, message, goal, cancel, PlanData}
+use Rattle.exec_graph.specs.Graph.{GraphData, is_timer, is_client, is_server, is_action_client, wait_set, declared_at, entities_where, names_of, Waitable}
+use Rattle.exec_graph.specs.declared.entity.Declared.{Declared}
+use Rattle.exec_graph.specs.declared.entity.Declared.TheVariants.{Timer, Server}
+use Rattle.exec_graph.specs.Plan.{PlanData}
+use Rattle.exec_graph.specs.declared.plan.Fed.{Fed}
+use Rattle.exec_graph.specs.declared.plan.Fed.TheVariants.{Message, Goal, Cancel}
 use Rattle.exec_msg.specs.Line.{transcript_text}
 use Rattle.exec_msg.specs.declared.kind.Kind.{Kind}
 use Rattle.exec_msg.specs.declared.kind.Kind.TheVariants as kind
@@ -19,7 +23,7 @@ use Rattle.exec_world.specs.World.{WorldState, goal_request, cancel_request, Tim
 
 -- the timer of an entity, made at moment 0
 abbrev pub new_timer : ℕ → Declared → List TimerEntry
-new_timer number (timer entity) = record { entity = number; timer = record { next = entity.period; period = entity.period } } ∷ []
+new_timer number (Timer entity) = record { entity = number; timer = record { next = entity.period; period = entity.period } } ∷ []
 new_timer number _ = []
 
 -- action clients at these numbers, the first of which has this place
@@ -53,7 +57,7 @@ first_world graph = record {
 
 -- for how many ticks a server keeps a result, where it doesn't keep it without end
 abbrev pub timeout_of : Declared → Option ℕ
-timeout_of (server entity) = entity.result_timeout
+timeout_of (Server entity) = entity.result_timeout
 timeout_of _ = None
 
 -- whether a server forgets a goal at a moment
@@ -77,9 +81,9 @@ expire graph moment world =
 
 -- what an entry of the feed does: only a drop that follows has a line
 abbrev pub feed_one : GraphData → Fed → WorldState → WorldState
-feed_one graph (message number value) world = publish graph number value world
-feed_one graph (goal number id value) world = push graph number (goal_request id None value) world
-feed_one graph (cancel number id stamp) world = push graph number (cancel_request (record { id = id; stamp = stamp }) None) world
+feed_one graph (Message number value) world = publish graph number value world
+feed_one graph (Goal number id value) world = push graph number (goal_request id None value) world
+feed_one graph (Cancel number id stamp) world = push graph number (cancel_request (record { id = id; stamp = stamp }) None) world
 
 -- the world after the entries of a round, in the order of the document
 abbrev pub feed : PlanData → ℕ → WorldState → WorldState

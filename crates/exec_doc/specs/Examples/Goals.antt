@@ -1,8 +1,9 @@
 -- Worked examples: documents of action servers and their clients, each with the plan that it says.
 use Rattle.std.specs.Prelude.{ℕ, List, [], ◌∷◌, codes, ◌++◌, ◌^◌, ◌+◌, pos, negsuc, None, Some}
 use Rattle.exec_doc.specs.Words.{one_node, value}
-use Rattle.exec_graph.specs.Graph.{timer, server, action_client}
-use Rattle.exec_graph.specs.Plan.{PlanData, goal, cancel}
+use Rattle.exec_graph.specs.declared.entity.Declared.TheVariants.{Timer, Server, ActionClient}
+use Rattle.exec_graph.specs.Plan.{PlanData}
+use Rattle.exec_graph.specs.declared.plan.Fed.TheVariants.{Goal, Cancel}
 use Rattle.exec_script.specs.declared.instr.Instr.TheVariants as instr
 use Rattle.exec_script.specs.declared.instr.Operand.TheVariants as operand
 
@@ -19,12 +20,12 @@ cancel_all_text =
 
 abbrev pub cancel_all : PlanData
 cancel_all = one_node
-    (record { name = codes "a"; is = server (record { group = 0; depth = 10; result_timeout = None; on_goal = instr.Decide (value 3) ∷ []; on_cancel = instr.Decide (value 2) ∷ []; script = instr.Yield ∷ [] }) } ∷ [])
+    (record { name = codes "a"; is = Server (record { group = 0; depth = 10; result_timeout = None; on_goal = instr.Decide (value 3) ∷ []; on_cancel = instr.Decide (value 2) ∷ []; script = instr.Yield ∷ [] }) } ∷ [])
     (10 ∷ 20 ∷ 30 ∷ 40 ∷ [])
-    (record { round = 1; fed = goal 0 1 (pos 5) }
-    ∷ record { round = 2; fed = goal 0 2 (pos 5) }
-    ∷ record { round = 3; fed = goal 0 3 (pos 5) }
-    ∷ record { round = 4; fed = cancel 0 0 0 }
+    (record { round = 1; fed = Goal 0 1 (pos 5) }
+    ∷ record { round = 2; fed = Goal 0 2 (pos 5) }
+    ∷ record { round = 3; fed = Goal 0 3 (pos 5) }
+    ∷ record { round = 4; fed = Cancel 0 0 0 }
     ∷ [])
 
 -- a timer that sends a goal by an action client that asks for its result, and a cancel request for it that has no stamp
@@ -38,12 +39,12 @@ succeeded_while_canceling_text =
 
 abbrev pub succeeded_while_canceling : PlanData
 succeeded_while_canceling = one_node
-    (record { name = codes "t"; is = timer (record { group = 0; period = 10; script = instr.Goal 2 (value 5) ∷ [] }) }
-    ∷ record { name = codes "a"; is = server (record { group = 0; depth = 10; result_timeout = None; on_goal = instr.Decide (value 2) ∷ []; on_cancel = instr.Decide (value 2) ∷ []; script = instr.Succeed (value 9) ∷ [] }) }
-    ∷ record { name = codes "ac"; is = action_client (record { group = 0; server = 1; depth = 10; on_response = []; on_code = []; on_feedback = []; on_result = Some (instr.Log operand.In ∷ []) }) }
+    (record { name = codes "t"; is = Timer (record { group = 0; period = 10; script = instr.Goal 2 (value 5) ∷ [] }) }
+    ∷ record { name = codes "a"; is = Server (record { group = 0; depth = 10; result_timeout = None; on_goal = instr.Decide (value 2) ∷ []; on_cancel = instr.Decide (value 2) ∷ []; script = instr.Succeed (value 9) ∷ [] }) }
+    ∷ record { name = codes "ac"; is = ActionClient (record { group = 0; server = 1; depth = 10; on_response = []; on_code = []; on_feedback = []; on_result = Some (instr.Log operand.In ∷ []) }) }
     ∷ [])
     (10 ∷ 11 ∷ 12 ∷ 13 ∷ 14 ∷ [])
-    (record { round = 3; fed = cancel 1 (2 ^ 64 + 1) 0 } ∷ [])
+    (record { round = 3; fed = Cancel 1 (2 ^ 64 + 1) 0 } ∷ [])
 
 -- a goal that gives feedback; an empty list for results asks for them all the same, and results are kept for no ticks
 abbrev pub feedback_text : List ℕ
@@ -55,9 +56,9 @@ feedback_text =
 
 abbrev pub feedback : PlanData
 feedback = one_node
-    (record { name = codes "t"; is = timer (record { group = 0; period = 10; script = instr.Goal 2 (value 5) ∷ [] }) }
-    ∷ record { name = codes "a"; is = server (record { group = 0; depth = 10; result_timeout = Some 0; on_goal = instr.Decide (value 2) ∷ []; on_cancel = []; script = instr.Feedback (value 3) ∷ instr.Succeed (value 9) ∷ [] }) }
-    ∷ record { name = codes "ac"; is = action_client (record { group = 0; server = 1; depth = 10; on_response = []; on_code = []; on_feedback = instr.Log operand.In ∷ []; on_result = Some [] }) }
+    (record { name = codes "t"; is = Timer (record { group = 0; period = 10; script = instr.Goal 2 (value 5) ∷ [] }) }
+    ∷ record { name = codes "a"; is = Server (record { group = 0; depth = 10; result_timeout = Some 0; on_goal = instr.Decide (value 2) ∷ []; on_cancel = []; script = instr.Feedback (value 3) ∷ instr.Succeed (value 9) ∷ [] }) }
+    ∷ record { name = codes "ac"; is = ActionClient (record { group = 0; server = 1; depth = 10; on_response = []; on_code = []; on_feedback = instr.Log operand.In ∷ []; on_result = Some [] }) }
     ∷ [])
     (10 ∷ 11 ∷ 12 ∷ 13 ∷ 14 ∷ []) []
 
@@ -70,7 +71,7 @@ cancel_forms_text =
 
 abbrev pub cancel_forms : PlanData
 cancel_forms = one_node
-    (record { name = codes "a"; is = server (record { group = 0; depth = 10; result_timeout = None; on_goal = []; on_cancel = []; script = [] }) }
-    ∷ record { name = codes "ac"; is = action_client (record { group = 0; server = 0; depth = 3; on_response = []; on_code = instr.CancelAll 1 (value 0) ∷ instr.CancelAll 1 operand.Aux ∷ instr.CancelGoal 1 (operand.Value (negsuc 0)) (value 0) ∷ instr.CancelGoal 1 operand.In operand.Now ∷ []; on_feedback = []; on_result = None }) }
+    (record { name = codes "a"; is = Server (record { group = 0; depth = 10; result_timeout = None; on_goal = []; on_cancel = []; script = [] }) }
+    ∷ record { name = codes "ac"; is = ActionClient (record { group = 0; server = 0; depth = 3; on_response = []; on_code = instr.CancelAll 1 (value 0) ∷ instr.CancelAll 1 operand.Aux ∷ instr.CancelGoal 1 (operand.Value (negsuc 0)) (value 0) ∷ instr.CancelGoal 1 operand.In operand.Now ∷ []; on_feedback = []; on_result = None }) }
     ∷ [])
     [] []

@@ -1,8 +1,9 @@
 -- Worked examples: documents of callback groups, and fields that are ignored, each with the plan that it says.
 use Rattle.std.specs.Prelude.{ℕ, List, [], ◌∷◌, codes, ◌++◌, pos, negsuc, true, false, None, Some}
 use Rattle.exec_doc.specs.Words.{one_node, value}
-use Rattle.exec_graph.specs.Graph.{topic, timer, server}
-use Rattle.exec_graph.specs.Plan.{PlanData, message, goal}
+use Rattle.exec_graph.specs.declared.entity.Declared.TheVariants.{Topic, Timer, Server}
+use Rattle.exec_graph.specs.Plan.{PlanData}
+use Rattle.exec_graph.specs.declared.plan.Fed.TheVariants.{Message, Goal}
 use Rattle.exec_script.specs.declared.instr.Destination.TheVariants as destination
 use Rattle.exec_script.specs.declared.instr.Instr.TheVariants as instr
 use Rattle.exec_script.specs.declared.instr.Operand.TheVariants as operand
@@ -31,14 +32,14 @@ many_goals = record {
         ∷ record { node = 0; name = Some (codes "R"); exclusive = false }
         ∷ [];
     entities =
-        record { name = codes "ta"; is = timer (record { group = 1; period = 20; script = instr.Log operand.Now ∷ [] }) }
-        ∷ record { name = codes "tb1"; is = timer (record { group = 2; period = 20; script = instr.Set (destination.Variable 0) operation.Add (operand.Variable 0) (value 3) ∷ instr.Log (operand.Variable 0) ∷ [] }) }
-        ∷ record { name = codes "tb2"; is = timer (record { group = 2; period = 20; script = instr.Set (destination.Variable 0) operation.Mul (operand.Variable 0) (value 2) ∷ instr.Log (operand.Variable 0) ∷ [] }) }
-        ∷ record { name = codes "a"; is = server (record { group = 3; depth = 10; result_timeout = None; on_goal = instr.Decide (value 2) ∷ []; on_cancel = []; script = instr.Set (destination.Register 0) operation.Sub (value 20) operand.Now ∷ instr.Wait (operand.Register 0) ∷ instr.Succeed operand.In ∷ [] }) }
+        record { name = codes "ta"; is = Timer (record { group = 1; period = 20; script = instr.Log operand.Now ∷ [] }) }
+        ∷ record { name = codes "tb1"; is = Timer (record { group = 2; period = 20; script = instr.Set (destination.Variable 0) operation.Add (operand.Variable 0) (value 3) ∷ instr.Log (operand.Variable 0) ∷ [] }) }
+        ∷ record { name = codes "tb2"; is = Timer (record { group = 2; period = 20; script = instr.Set (destination.Variable 0) operation.Mul (operand.Variable 0) (value 2) ∷ instr.Log (operand.Variable 0) ∷ [] }) }
+        ∷ record { name = codes "a"; is = Server (record { group = 3; depth = 10; result_timeout = None; on_goal = instr.Decide (value 2) ∷ []; on_cancel = []; script = instr.Set (destination.Register 0) operation.Sub (value 20) operand.Now ∷ instr.Wait (operand.Register 0) ∷ instr.Succeed operand.In ∷ [] }) }
         ∷ [];
   };
   moments = 1 ∷ 2 ∷ 20 ∷ [];
-  feed = record { round = 1; fed = goal 3 1 (pos 1) } ∷ [];
+  feed = record { round = 1; fed = Goal 3 1 (pos 1) } ∷ [];
 }
 
 -- fields that their object doesn't have are ignored, whatever they hold, and the last of two fields of one name counts
@@ -50,6 +51,6 @@ unknown_fields_text =
 
 abbrev pub unknown_fields : PlanData
 unknown_fields = one_node
-    (record { name = codes "x"; is = topic } ∷ record { name = codes "t"; is = timer (record { group = 0; period = 1; script = [] }) } ∷ [])
+    (record { name = codes "x"; is = Topic } ∷ record { name = codes "t"; is = Timer (record { group = 0; period = 1; script = [] }) } ∷ [])
     (1 ∷ [])
-    (record { round = 1; fed = message 0 (negsuc 9223372036854775807) } ∷ [])
+    (record { round = 1; fed = Message 0 (negsuc 9223372036854775807) } ∷ [])

@@ -1,7 +1,7 @@
 -- Worked examples: documents of services and their clients, each with the plan that it says.
 use Rattle.std.specs.Prelude.{ℕ, List, [], ◌∷◌, codes, ◌++◌, true, None}
 use Rattle.exec_doc.specs.Words.{one_node, value}
-use Rattle.exec_graph.specs.Graph.{timer, service, client}
+use Rattle.exec_graph.specs.declared.entity.Declared.TheVariants.{Timer, Service, Client}
 use Rattle.exec_graph.specs.Plan.{PlanData}
 use Rattle.exec_script.specs.declared.instr.Destination.TheVariants as destination
 use Rattle.exec_script.specs.declared.instr.Instr.TheVariants as instr
@@ -17,9 +17,9 @@ doubled_text =
 
 abbrev pub doubled : PlanData
 doubled = one_node
-    (record { name = codes "t"; is = timer (record { group = 0; period = 5; script = instr.Call 2 (value 4) ∷ [] }) }
-    ∷ record { name = codes "add"; is = service (record { group = 0; depth = 10; script = instr.Set (destination.Register 0) operation.Mul operand.In (value 2) ∷ instr.Reply (operand.Register 0) ∷ [] }) }
-    ∷ record { name = codes "c"; is = client (record { group = 0; service = 1; depth = 10; script = instr.Log operand.In ∷ [] }) }
+    (record { name = codes "t"; is = Timer (record { group = 0; period = 5; script = instr.Call 2 (value 4) ∷ [] }) }
+    ∷ record { name = codes "add"; is = Service (record { group = 0; depth = 10; script = instr.Set (destination.Register 0) operation.Mul operand.In (value 2) ∷ instr.Reply (operand.Register 0) ∷ [] }) }
+    ∷ record { name = codes "c"; is = Client (record { group = 0; service = 1; depth = 10; script = instr.Log operand.In ∷ [] }) }
     ∷ [])
     (5 ∷ 6 ∷ 7 ∷ []) []
 
@@ -33,10 +33,10 @@ displaced_request_text =
 
 abbrev pub displaced_request : PlanData
 displaced_request = one_node
-    (record { name = codes "t"; is = timer (record { group = 0; period = 5; script = instr.Call 2 (value 1) ∷ instr.Call 3 (value 2) ∷ [] }) }
-    ∷ record { name = codes "s"; is = service (record { group = 0; depth = 1; script = instr.Reply operand.In ∷ [] }) }
-    ∷ record { name = codes "c1"; is = client (record { group = 0; service = 1; depth = 10; script = [] }) }
-    ∷ record { name = codes "c2"; is = client (record { group = 0; service = 1; depth = 10; script = [] }) }
+    (record { name = codes "t"; is = Timer (record { group = 0; period = 5; script = instr.Call 2 (value 1) ∷ instr.Call 3 (value 2) ∷ [] }) }
+    ∷ record { name = codes "s"; is = Service (record { group = 0; depth = 1; script = instr.Reply operand.In ∷ [] }) }
+    ∷ record { name = codes "c1"; is = Client (record { group = 0; service = 1; depth = 10; script = [] }) }
+    ∷ record { name = codes "c2"; is = Client (record { group = 0; service = 1; depth = 10; script = [] }) }
     ∷ [])
     (5 ∷ 6 ∷ 7 ∷ []) []
 
@@ -52,8 +52,8 @@ across_nodes = record {
     nodes = codes "n" ∷ codes "m" ∷ [];
     groups = record { node = 0; name = None; exclusive = true } ∷ record { node = 1; name = None; exclusive = true } ∷ [];
     entities =
-        record { name = codes "s"; is = service (record { group = 1; depth = 10; script = [] }) }
-        ∷ record { name = codes "c"; is = client (record { group = 0; service = 0; depth = 10; script = [] }) }
+        record { name = codes "s"; is = Service (record { group = 1; depth = 10; script = [] }) }
+        ∷ record { name = codes "c"; is = Client (record { group = 0; service = 0; depth = 10; script = [] }) }
         ∷ [];
   };
   moments = [];

@@ -1,8 +1,9 @@
 -- Worked examples: documents of timers, topics and subscriptions, each with the plan that it says.
 use Rattle.std.specs.Prelude.{ℕ, List, [], ◌∷◌, codes, ◌++◌, pos}
 use Rattle.exec_doc.specs.Words.{one_node, value}
-use Rattle.exec_graph.specs.Graph.{topic, timer, subscription}
-use Rattle.exec_graph.specs.Plan.{PlanData, message}
+use Rattle.exec_graph.specs.declared.entity.Declared.TheVariants.{Topic, Timer, Subscription}
+use Rattle.exec_graph.specs.Plan.{PlanData}
+use Rattle.exec_graph.specs.declared.plan.Fed.TheVariants.{Message}
 use Rattle.exec_script.specs.declared.instr.Instr.TheVariants as instr
 use Rattle.exec_script.specs.declared.instr.Operand.TheVariants as operand
 
@@ -21,7 +22,7 @@ late_text =
 
 abbrev pub late : PlanData
 late = one_node
-    (record { name = codes "t"; is = timer (record { group = 0; period = 10; script = instr.Log operand.Now ∷ [] }) } ∷ [])
+    (record { name = codes "t"; is = Timer (record { group = 0; period = 10; script = instr.Log operand.Now ∷ [] }) } ∷ [])
     (0 ∷ 10 ∷ 35 ∷ 40 ∷ []) []
 
 -- a topic, which has the first number though it is declared last, a timer that publishes to it, and a subscription of depth 2
@@ -34,9 +35,9 @@ full_queue_text =
 
 abbrev pub full_queue : PlanData
 full_queue = one_node
-    (record { name = codes "x"; is = topic }
-    ∷ record { name = codes "t"; is = timer (record { group = 0; period = 10; script = instr.Pub 0 (value 1) ∷ instr.Pub 0 (value 2) ∷ instr.Pub 0 (value 3) ∷ [] }) }
-    ∷ record { name = codes "s"; is = subscription (record { group = 0; topic = 0; depth = 2; script = [] }) }
+    (record { name = codes "x"; is = Topic }
+    ∷ record { name = codes "t"; is = Timer (record { group = 0; period = 10; script = instr.Pub 0 (value 1) ∷ instr.Pub 0 (value 2) ∷ instr.Pub 0 (value 3) ∷ [] }) }
+    ∷ record { name = codes "s"; is = Subscription (record { group = 0; topic = 0; depth = 2; script = [] }) }
     ∷ [])
     (10 ∷ 11 ∷ 12 ∷ 13 ∷ []) []
 
@@ -49,8 +50,8 @@ echo_text =
 
 abbrev pub echo : PlanData
 echo = one_node
-    (record { name = codes "x"; is = topic }
-    ∷ record { name = codes "s"; is = subscription (record { group = 0; topic = 0; depth = 10; script = instr.Pub 0 operand.In ∷ [] }) }
+    (record { name = codes "x"; is = Topic }
+    ∷ record { name = codes "s"; is = Subscription (record { group = 0; topic = 0; depth = 10; script = instr.Pub 0 operand.In ∷ [] }) }
     ∷ [])
     (1 ∷ 2 ∷ 3 ∷ [])
-    (record { round = 1; fed = message 0 (pos 7) } ∷ [])
+    (record { round = 1; fed = Message 0 (pos 7) } ∷ [])

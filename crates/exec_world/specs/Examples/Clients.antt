@@ -1,7 +1,8 @@
 -- Worked examples: action clients. Entity 0 is a timer that sends a goal, 1 the server, and 2 the client.
 use Rattle.std.specs.Prelude.{pos, List, [], ◌∷◌, codes, true, None, Some}
-use Rattle.exec_graph.specs.Graph.{timer, server, action_client}
-use Rattle.exec_graph.specs.Plan.{PlanData, goal, cancel}
+use Rattle.exec_graph.specs.declared.entity.Declared.TheVariants.{Timer, Server, ActionClient}
+use Rattle.exec_graph.specs.Plan.{PlanData}
+use Rattle.exec_graph.specs.declared.plan.Fed.TheVariants.{Goal, Cancel}
 use Rattle.exec_msg.specs.declared.goal.GoalStatus.TheVariants as status
 use Rattle.exec_msg.specs.declared.goal.ReturnCode.TheVariants as code
 use Rattle.exec_msg.specs.declared.kind.Kind.TheVariants as kind
@@ -18,14 +19,14 @@ succeeded_while_canceling = record {
     nodes = codes "n" ∷ [];
     groups = record { node = 0; name = None; exclusive = true } ∷ [];
     entities =
-        record { name = codes "t"; is = timer (record { group = 0; period = 10; script = instr.Goal 2 (operand.Value (pos 5)) ∷ [] }) }
-        ∷ record { name = codes "a"; is = server (record { group = 0; depth = 10; result_timeout = None; on_goal = instr.Decide (operand.Value (pos 2)) ∷ []; on_cancel = instr.Decide (operand.Value (pos 2)) ∷ []; script = instr.Succeed (operand.Value (pos 9)) ∷ [] }) }
-        ∷ record { name = codes "ac"; is = action_client (record { group = 0; server = 1; depth = 10; on_response = []; on_code = []; on_feedback = []; on_result = Some (instr.Log operand.In ∷ []) }) }
+        record { name = codes "t"; is = Timer (record { group = 0; period = 10; script = instr.Goal 2 (operand.Value (pos 5)) ∷ [] }) }
+        ∷ record { name = codes "a"; is = Server (record { group = 0; depth = 10; result_timeout = None; on_goal = instr.Decide (operand.Value (pos 2)) ∷ []; on_cancel = instr.Decide (operand.Value (pos 2)) ∷ []; script = instr.Succeed (operand.Value (pos 9)) ∷ [] }) }
+        ∷ record { name = codes "ac"; is = ActionClient (record { group = 0; server = 1; depth = 10; on_response = []; on_code = []; on_feedback = []; on_result = Some (instr.Log operand.In ∷ []) }) }
         ∷ [];
   };
   moments = 10 ∷ 11 ∷ 12 ∷ 13 ∷ 14 ∷ [];
   feed =
-      record { round = 3; fed = cancel 1 (goal_id 0 1) 0 }
+      record { round = 3; fed = Cancel 1 (goal_id 0 1) 0 }
       ∷ [];
 }
 
@@ -49,9 +50,9 @@ awaited_result = record {
     nodes = codes "n" ∷ [];
     groups = record { node = 0; name = None; exclusive = true } ∷ [];
     entities =
-        record { name = codes "t"; is = timer (record { group = 0; period = 10; script = instr.Goal 2 (operand.Value (pos 5)) ∷ [] }) }
-        ∷ record { name = codes "a"; is = server (record { group = 0; depth = 10; result_timeout = Some 0; on_goal = instr.Decide (operand.Value (pos 2)) ∷ []; on_cancel = instr.Decide (operand.Value (pos 2)) ∷ []; script = instr.Wait (operand.Value (pos 2)) ∷ instr.Succeed (operand.Value (pos 9)) ∷ [] }) }
-        ∷ record { name = codes "ac"; is = action_client (record { group = 0; server = 1; depth = 10; on_response = []; on_code = []; on_feedback = []; on_result = Some (instr.Log operand.In ∷ []) }) }
+        record { name = codes "t"; is = Timer (record { group = 0; period = 10; script = instr.Goal 2 (operand.Value (pos 5)) ∷ [] }) }
+        ∷ record { name = codes "a"; is = Server (record { group = 0; depth = 10; result_timeout = Some 0; on_goal = instr.Decide (operand.Value (pos 2)) ∷ []; on_cancel = instr.Decide (operand.Value (pos 2)) ∷ []; script = instr.Wait (operand.Value (pos 2)) ∷ instr.Succeed (operand.Value (pos 9)) ∷ [] }) }
+        ∷ record { name = codes "ac"; is = ActionClient (record { group = 0; server = 1; depth = 10; on_response = []; on_code = []; on_feedback = []; on_result = Some (instr.Log operand.In ∷ []) }) }
         ∷ [];
   };
   moments = 10 ∷ 11 ∷ 12 ∷ 13 ∷ 14 ∷ 15 ∷ [];
@@ -79,9 +80,9 @@ expired_result = record {
     nodes = codes "n" ∷ [];
     groups = record { node = 0; name = None; exclusive = true } ∷ [];
     entities =
-        record { name = codes "t"; is = timer (record { group = 0; period = 10; script = instr.Goal 2 (operand.Value (pos 5)) ∷ [] }) }
-        ∷ record { name = codes "a"; is = server (record { group = 0; depth = 10; result_timeout = Some 0; on_goal = instr.Decide (operand.Value (pos 2)) ∷ []; on_cancel = instr.Decide (operand.Value (pos 2)) ∷ []; script = instr.Succeed (operand.Value (pos 9)) ∷ [] }) }
-        ∷ record { name = codes "ac"; is = action_client (record { group = 0; server = 1; depth = 10; on_response = []; on_code = []; on_feedback = []; on_result = Some (instr.Log operand.In ∷ []) }) }
+        record { name = codes "t"; is = Timer (record { group = 0; period = 10; script = instr.Goal 2 (operand.Value (pos 5)) ∷ [] }) }
+        ∷ record { name = codes "a"; is = Server (record { group = 0; depth = 10; result_timeout = Some 0; on_goal = instr.Decide (operand.Value (pos 2)) ∷ []; on_cancel = instr.Decide (operand.Value (pos 2)) ∷ []; script = instr.Succeed (operand.Value (pos 9)) ∷ [] }) }
+        ∷ record { name = codes "ac"; is = ActionClient (record { group = 0; server = 1; depth = 10; on_response = []; on_code = []; on_feedback = []; on_result = Some (instr.Log operand.In ∷ []) }) }
         ∷ [];
   };
   moments = 10 ∷ 11 ∷ 12 ∷ 13 ∷ 14 ∷ 15 ∷ [];
@@ -109,9 +110,9 @@ feedback = record {
     nodes = codes "n" ∷ [];
     groups = record { node = 0; name = None; exclusive = true } ∷ [];
     entities =
-        record { name = codes "t"; is = timer (record { group = 0; period = 10; script = instr.Goal 2 (operand.Value (pos 5)) ∷ [] }) }
-        ∷ record { name = codes "a"; is = server (record { group = 0; depth = 10; result_timeout = None; on_goal = instr.Decide (operand.Value (pos 2)) ∷ []; on_cancel = instr.Decide (operand.Value (pos 2)) ∷ []; script = instr.Feedback (operand.Value (pos 3)) ∷ instr.Succeed (operand.Value (pos 9)) ∷ [] }) }
-        ∷ record { name = codes "ac"; is = action_client (record { group = 0; server = 1; depth = 10; on_response = []; on_code = []; on_feedback = instr.Log operand.In ∷ []; on_result = Some [] }) }
+        record { name = codes "t"; is = Timer (record { group = 0; period = 10; script = instr.Goal 2 (operand.Value (pos 5)) ∷ [] }) }
+        ∷ record { name = codes "a"; is = Server (record { group = 0; depth = 10; result_timeout = None; on_goal = instr.Decide (operand.Value (pos 2)) ∷ []; on_cancel = instr.Decide (operand.Value (pos 2)) ∷ []; script = instr.Feedback (operand.Value (pos 3)) ∷ instr.Succeed (operand.Value (pos 9)) ∷ [] }) }
+        ∷ record { name = codes "ac"; is = ActionClient (record { group = 0; server = 1; depth = 10; on_response = []; on_code = []; on_feedback = instr.Log operand.In ∷ []; on_result = Some [] }) }
         ∷ [];
   };
   moments = 10 ∷ 11 ∷ 12 ∷ 13 ∷ 14 ∷ [];
@@ -138,9 +139,9 @@ canceled_by_client = record {
     nodes = codes "n" ∷ [];
     groups = record { node = 0; name = None; exclusive = true } ∷ [];
     entities =
-        record { name = codes "t"; is = timer (record { group = 0; period = 10; script = instr.Goal 2 (operand.Value (pos 5)) ∷ [] }) }
-        ∷ record { name = codes "a"; is = server (record { group = 0; depth = 10; result_timeout = None; on_goal = instr.Decide (operand.Value (pos 3)) ∷ []; on_cancel = instr.Decide (operand.Value (pos 2)) ∷ []; script = instr.Yield ∷ [] }) }
-        ∷ record { name = codes "ac"; is = action_client (record { group = 0; server = 1; depth = 10; on_response = instr.CancelAll 2 (operand.Value (pos 0)) ∷ []; on_code = instr.Log operand.Aux ∷ []; on_feedback = []; on_result = None }) }
+        record { name = codes "t"; is = Timer (record { group = 0; period = 10; script = instr.Goal 2 (operand.Value (pos 5)) ∷ [] }) }
+        ∷ record { name = codes "a"; is = Server (record { group = 0; depth = 10; result_timeout = None; on_goal = instr.Decide (operand.Value (pos 3)) ∷ []; on_cancel = instr.Decide (operand.Value (pos 2)) ∷ []; script = instr.Yield ∷ [] }) }
+        ∷ record { name = codes "ac"; is = ActionClient (record { group = 0; server = 1; depth = 10; on_response = instr.CancelAll 2 (operand.Value (pos 0)) ∷ []; on_code = instr.Log operand.Aux ∷ []; on_feedback = []; on_result = None }) }
         ∷ [];
   };
   moments = 10 ∷ 11 ∷ 12 ∷ 13 ∷ 14 ∷ [];
@@ -165,13 +166,13 @@ deferred = record {
     nodes = codes "n" ∷ [];
     groups = record { node = 0; name = None; exclusive = true } ∷ [];
     entities =
-        record { name = codes "e"; is = timer (record { group = 0; period = 20; script = instr.Execute 1 ∷ [] }) }
-        ∷ record { name = codes "a"; is = server (record { group = 0; depth = 10; result_timeout = None; on_goal = instr.Decide (operand.Value (pos 3)) ∷ []; on_cancel = instr.Decide (operand.Value (pos 2)) ∷ []; script = instr.Succeed (operand.Value (pos 1)) ∷ [] }) }
+        record { name = codes "e"; is = Timer (record { group = 0; period = 20; script = instr.Execute 1 ∷ [] }) }
+        ∷ record { name = codes "a"; is = Server (record { group = 0; depth = 10; result_timeout = None; on_goal = instr.Decide (operand.Value (pos 3)) ∷ []; on_cancel = instr.Decide (operand.Value (pos 2)) ∷ []; script = instr.Succeed (operand.Value (pos 1)) ∷ [] }) }
         ∷ [];
   };
   moments = 10 ∷ 20 ∷ 30 ∷ [];
   feed =
-      record { round = 1; fed = goal 1 1 (pos 5) }
+      record { round = 1; fed = Goal 1 1 (pos 5) }
       ∷ [];
 }
 

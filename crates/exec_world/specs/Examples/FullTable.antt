@@ -1,7 +1,8 @@
 -- A worked example: a server that holds 64 goals, and rejects one more.
 use Rattle.std.specs.Prelude.{pos, List, [], ◌∷◌, codes, true, None, Some}
-use Rattle.exec_graph.specs.Graph.{server}
-use Rattle.exec_graph.specs.Plan.{PlanData, goal}
+use Rattle.exec_graph.specs.declared.entity.Declared.TheVariants.{Server}
+use Rattle.exec_graph.specs.Plan.{PlanData}
+use Rattle.exec_graph.specs.declared.plan.Fed.TheVariants.{Goal}
 use Rattle.exec_msg.specs.declared.goal.GoalStatus.TheVariants as status
 use Rattle.exec_msg.specs.declared.kind.Kind.TheVariants as kind
 use Rattle.exec_msg.specs.declared.line.Line.{Line}
@@ -16,76 +17,76 @@ full_table = record {
     nodes = codes "n" ∷ [];
     groups = record { node = 0; name = None; exclusive = true } ∷ [];
     entities =
-        record { name = codes "a"; is = server (record { group = 0; depth = 10; result_timeout = None; on_goal = instr.Decide (operand.Value (pos 3)) ∷ []; on_cancel = instr.Decide (operand.Value (pos 2)) ∷ []; script = [] }) }
+        record { name = codes "a"; is = Server (record { group = 0; depth = 10; result_timeout = None; on_goal = instr.Decide (operand.Value (pos 3)) ∷ []; on_cancel = instr.Decide (operand.Value (pos 2)) ∷ []; script = [] }) }
         ∷ [];
   };
   moments = 1 ∷ 2 ∷ 3 ∷ 4 ∷ 5 ∷ 6 ∷ 7 ∷ 8 ∷ 9 ∷ 10 ∷ 11 ∷ 12 ∷ 13 ∷ 14 ∷ 15 ∷ 16 ∷ 17 ∷ 18 ∷ 19 ∷ 20 ∷ 21 ∷ 22 ∷ 23 ∷ 24 ∷ 25 ∷ 26 ∷ 27 ∷ 28 ∷ 29 ∷ 30 ∷ 31 ∷ 32 ∷ 33 ∷ 34 ∷ 35 ∷ 36 ∷ 37 ∷ 38 ∷ 39 ∷ 40 ∷ 41 ∷ 42 ∷ 43 ∷ 44 ∷ 45 ∷ 46 ∷ 47 ∷ 48 ∷ 49 ∷ 50 ∷ 51 ∷ 52 ∷ 53 ∷ 54 ∷ 55 ∷ 56 ∷ 57 ∷ 58 ∷ 59 ∷ 60 ∷ 61 ∷ 62 ∷ 63 ∷ 64 ∷ 65 ∷ [];
   feed =
-      record { round = 1; fed = goal 0 1 (pos 1) }
-      ∷ record { round = 2; fed = goal 0 2 (pos 1) }
-      ∷ record { round = 3; fed = goal 0 3 (pos 1) }
-      ∷ record { round = 4; fed = goal 0 4 (pos 1) }
-      ∷ record { round = 5; fed = goal 0 5 (pos 1) }
-      ∷ record { round = 6; fed = goal 0 6 (pos 1) }
-      ∷ record { round = 7; fed = goal 0 7 (pos 1) }
-      ∷ record { round = 8; fed = goal 0 8 (pos 1) }
-      ∷ record { round = 9; fed = goal 0 9 (pos 1) }
-      ∷ record { round = 10; fed = goal 0 16 (pos 1) }
-      ∷ record { round = 11; fed = goal 0 17 (pos 1) }
-      ∷ record { round = 12; fed = goal 0 18 (pos 1) }
-      ∷ record { round = 13; fed = goal 0 19 (pos 1) }
-      ∷ record { round = 14; fed = goal 0 20 (pos 1) }
-      ∷ record { round = 15; fed = goal 0 21 (pos 1) }
-      ∷ record { round = 16; fed = goal 0 22 (pos 1) }
-      ∷ record { round = 17; fed = goal 0 23 (pos 1) }
-      ∷ record { round = 18; fed = goal 0 24 (pos 1) }
-      ∷ record { round = 19; fed = goal 0 25 (pos 1) }
-      ∷ record { round = 20; fed = goal 0 32 (pos 1) }
-      ∷ record { round = 21; fed = goal 0 33 (pos 1) }
-      ∷ record { round = 22; fed = goal 0 34 (pos 1) }
-      ∷ record { round = 23; fed = goal 0 35 (pos 1) }
-      ∷ record { round = 24; fed = goal 0 36 (pos 1) }
-      ∷ record { round = 25; fed = goal 0 37 (pos 1) }
-      ∷ record { round = 26; fed = goal 0 38 (pos 1) }
-      ∷ record { round = 27; fed = goal 0 39 (pos 1) }
-      ∷ record { round = 28; fed = goal 0 40 (pos 1) }
-      ∷ record { round = 29; fed = goal 0 41 (pos 1) }
-      ∷ record { round = 30; fed = goal 0 48 (pos 1) }
-      ∷ record { round = 31; fed = goal 0 49 (pos 1) }
-      ∷ record { round = 32; fed = goal 0 50 (pos 1) }
-      ∷ record { round = 33; fed = goal 0 51 (pos 1) }
-      ∷ record { round = 34; fed = goal 0 52 (pos 1) }
-      ∷ record { round = 35; fed = goal 0 53 (pos 1) }
-      ∷ record { round = 36; fed = goal 0 54 (pos 1) }
-      ∷ record { round = 37; fed = goal 0 55 (pos 1) }
-      ∷ record { round = 38; fed = goal 0 56 (pos 1) }
-      ∷ record { round = 39; fed = goal 0 57 (pos 1) }
-      ∷ record { round = 40; fed = goal 0 64 (pos 1) }
-      ∷ record { round = 41; fed = goal 0 65 (pos 1) }
-      ∷ record { round = 42; fed = goal 0 66 (pos 1) }
-      ∷ record { round = 43; fed = goal 0 67 (pos 1) }
-      ∷ record { round = 44; fed = goal 0 68 (pos 1) }
-      ∷ record { round = 45; fed = goal 0 69 (pos 1) }
-      ∷ record { round = 46; fed = goal 0 70 (pos 1) }
-      ∷ record { round = 47; fed = goal 0 71 (pos 1) }
-      ∷ record { round = 48; fed = goal 0 72 (pos 1) }
-      ∷ record { round = 49; fed = goal 0 73 (pos 1) }
-      ∷ record { round = 50; fed = goal 0 80 (pos 1) }
-      ∷ record { round = 51; fed = goal 0 81 (pos 1) }
-      ∷ record { round = 52; fed = goal 0 82 (pos 1) }
-      ∷ record { round = 53; fed = goal 0 83 (pos 1) }
-      ∷ record { round = 54; fed = goal 0 84 (pos 1) }
-      ∷ record { round = 55; fed = goal 0 85 (pos 1) }
-      ∷ record { round = 56; fed = goal 0 86 (pos 1) }
-      ∷ record { round = 57; fed = goal 0 87 (pos 1) }
-      ∷ record { round = 58; fed = goal 0 88 (pos 1) }
-      ∷ record { round = 59; fed = goal 0 89 (pos 1) }
-      ∷ record { round = 60; fed = goal 0 96 (pos 1) }
-      ∷ record { round = 61; fed = goal 0 97 (pos 1) }
-      ∷ record { round = 62; fed = goal 0 98 (pos 1) }
-      ∷ record { round = 63; fed = goal 0 99 (pos 1) }
-      ∷ record { round = 64; fed = goal 0 100 (pos 1) }
-      ∷ record { round = 65; fed = goal 0 101 (pos 1) }
+      record { round = 1; fed = Goal 0 1 (pos 1) }
+      ∷ record { round = 2; fed = Goal 0 2 (pos 1) }
+      ∷ record { round = 3; fed = Goal 0 3 (pos 1) }
+      ∷ record { round = 4; fed = Goal 0 4 (pos 1) }
+      ∷ record { round = 5; fed = Goal 0 5 (pos 1) }
+      ∷ record { round = 6; fed = Goal 0 6 (pos 1) }
+      ∷ record { round = 7; fed = Goal 0 7 (pos 1) }
+      ∷ record { round = 8; fed = Goal 0 8 (pos 1) }
+      ∷ record { round = 9; fed = Goal 0 9 (pos 1) }
+      ∷ record { round = 10; fed = Goal 0 16 (pos 1) }
+      ∷ record { round = 11; fed = Goal 0 17 (pos 1) }
+      ∷ record { round = 12; fed = Goal 0 18 (pos 1) }
+      ∷ record { round = 13; fed = Goal 0 19 (pos 1) }
+      ∷ record { round = 14; fed = Goal 0 20 (pos 1) }
+      ∷ record { round = 15; fed = Goal 0 21 (pos 1) }
+      ∷ record { round = 16; fed = Goal 0 22 (pos 1) }
+      ∷ record { round = 17; fed = Goal 0 23 (pos 1) }
+      ∷ record { round = 18; fed = Goal 0 24 (pos 1) }
+      ∷ record { round = 19; fed = Goal 0 25 (pos 1) }
+      ∷ record { round = 20; fed = Goal 0 32 (pos 1) }
+      ∷ record { round = 21; fed = Goal 0 33 (pos 1) }
+      ∷ record { round = 22; fed = Goal 0 34 (pos 1) }
+      ∷ record { round = 23; fed = Goal 0 35 (pos 1) }
+      ∷ record { round = 24; fed = Goal 0 36 (pos 1) }
+      ∷ record { round = 25; fed = Goal 0 37 (pos 1) }
+      ∷ record { round = 26; fed = Goal 0 38 (pos 1) }
+      ∷ record { round = 27; fed = Goal 0 39 (pos 1) }
+      ∷ record { round = 28; fed = Goal 0 40 (pos 1) }
+      ∷ record { round = 29; fed = Goal 0 41 (pos 1) }
+      ∷ record { round = 30; fed = Goal 0 48 (pos 1) }
+      ∷ record { round = 31; fed = Goal 0 49 (pos 1) }
+      ∷ record { round = 32; fed = Goal 0 50 (pos 1) }
+      ∷ record { round = 33; fed = Goal 0 51 (pos 1) }
+      ∷ record { round = 34; fed = Goal 0 52 (pos 1) }
+      ∷ record { round = 35; fed = Goal 0 53 (pos 1) }
+      ∷ record { round = 36; fed = Goal 0 54 (pos 1) }
+      ∷ record { round = 37; fed = Goal 0 55 (pos 1) }
+      ∷ record { round = 38; fed = Goal 0 56 (pos 1) }
+      ∷ record { round = 39; fed = Goal 0 57 (pos 1) }
+      ∷ record { round = 40; fed = Goal 0 64 (pos 1) }
+      ∷ record { round = 41; fed = Goal 0 65 (pos 1) }
+      ∷ record { round = 42; fed = Goal 0 66 (pos 1) }
+      ∷ record { round = 43; fed = Goal 0 67 (pos 1) }
+      ∷ record { round = 44; fed = Goal 0 68 (pos 1) }
+      ∷ record { round = 45; fed = Goal 0 69 (pos 1) }
+      ∷ record { round = 46; fed = Goal 0 70 (pos 1) }
+      ∷ record { round = 47; fed = Goal 0 71 (pos 1) }
+      ∷ record { round = 48; fed = Goal 0 72 (pos 1) }
+      ∷ record { round = 49; fed = Goal 0 73 (pos 1) }
+      ∷ record { round = 50; fed = Goal 0 80 (pos 1) }
+      ∷ record { round = 51; fed = Goal 0 81 (pos 1) }
+      ∷ record { round = 52; fed = Goal 0 82 (pos 1) }
+      ∷ record { round = 53; fed = Goal 0 83 (pos 1) }
+      ∷ record { round = 54; fed = Goal 0 84 (pos 1) }
+      ∷ record { round = 55; fed = Goal 0 85 (pos 1) }
+      ∷ record { round = 56; fed = Goal 0 86 (pos 1) }
+      ∷ record { round = 57; fed = Goal 0 87 (pos 1) }
+      ∷ record { round = 58; fed = Goal 0 88 (pos 1) }
+      ∷ record { round = 59; fed = Goal 0 89 (pos 1) }
+      ∷ record { round = 60; fed = Goal 0 96 (pos 1) }
+      ∷ record { round = 61; fed = Goal 0 97 (pos 1) }
+      ∷ record { round = 62; fed = Goal 0 98 (pos 1) }
+      ∷ record { round = 63; fed = Goal 0 99 (pos 1) }
+      ∷ record { round = 64; fed = Goal 0 100 (pos 1) }
+      ∷ record { round = 65; fed = Goal 0 101 (pos 1) }
       ∷ [];
 }
 

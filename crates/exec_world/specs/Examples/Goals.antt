@@ -1,7 +1,8 @@
 -- Worked examples: an action server, entity 0, whose goals and cancel requests are fed.
 use Rattle.std.specs.Prelude.{pos, List, [], ◌∷◌, codes, true, None, Some}
-use Rattle.exec_graph.specs.Graph.{server}
-use Rattle.exec_graph.specs.Plan.{PlanData, goal, cancel}
+use Rattle.exec_graph.specs.declared.entity.Declared.TheVariants.{Server}
+use Rattle.exec_graph.specs.Plan.{PlanData}
+use Rattle.exec_graph.specs.declared.plan.Fed.TheVariants.{Goal, Cancel}
 use Rattle.exec_msg.specs.declared.goal.GoalStatus.TheVariants as status
 use Rattle.exec_msg.specs.declared.goal.ReturnCode.TheVariants as code
 use Rattle.exec_msg.specs.declared.kind.Kind.TheVariants as kind
@@ -17,15 +18,15 @@ cancel_all = record {
     nodes = codes "n" ∷ [];
     groups = record { node = 0; name = None; exclusive = true } ∷ [];
     entities =
-        record { name = codes "a"; is = server (record { group = 0; depth = 10; result_timeout = None; on_goal = instr.Decide (operand.Value (pos 3)) ∷ []; on_cancel = instr.Decide (operand.Value (pos 2)) ∷ []; script = instr.Yield ∷ [] }) }
+        record { name = codes "a"; is = Server (record { group = 0; depth = 10; result_timeout = None; on_goal = instr.Decide (operand.Value (pos 3)) ∷ []; on_cancel = instr.Decide (operand.Value (pos 2)) ∷ []; script = instr.Yield ∷ [] }) }
         ∷ [];
   };
   moments = 10 ∷ 20 ∷ 30 ∷ 40 ∷ [];
   feed =
-      record { round = 1; fed = goal 0 1 (pos 5) }
-      ∷ record { round = 2; fed = goal 0 2 (pos 5) }
-      ∷ record { round = 3; fed = goal 0 3 (pos 5) }
-      ∷ record { round = 4; fed = cancel 0 0 0 }
+      record { round = 1; fed = Goal 0 1 (pos 5) }
+      ∷ record { round = 2; fed = Goal 0 2 (pos 5) }
+      ∷ record { round = 3; fed = Goal 0 3 (pos 5) }
+      ∷ record { round = 4; fed = Cancel 0 0 0 }
       ∷ [];
 }
 
@@ -46,15 +47,15 @@ cancel_before = record {
     nodes = codes "n" ∷ [];
     groups = record { node = 0; name = None; exclusive = true } ∷ [];
     entities =
-        record { name = codes "a"; is = server (record { group = 0; depth = 10; result_timeout = None; on_goal = instr.Decide (operand.Value (pos 3)) ∷ []; on_cancel = instr.Decide (operand.Value (pos 2)) ∷ []; script = instr.Yield ∷ [] }) }
+        record { name = codes "a"; is = Server (record { group = 0; depth = 10; result_timeout = None; on_goal = instr.Decide (operand.Value (pos 3)) ∷ []; on_cancel = instr.Decide (operand.Value (pos 2)) ∷ []; script = instr.Yield ∷ [] }) }
         ∷ [];
   };
   moments = 10 ∷ 20 ∷ 30 ∷ 40 ∷ [];
   feed =
-      record { round = 1; fed = goal 0 1 (pos 5) }
-      ∷ record { round = 2; fed = goal 0 2 (pos 5) }
-      ∷ record { round = 3; fed = goal 0 3 (pos 5) }
-      ∷ record { round = 4; fed = cancel 0 0 20 }
+      record { round = 1; fed = Goal 0 1 (pos 5) }
+      ∷ record { round = 2; fed = Goal 0 2 (pos 5) }
+      ∷ record { round = 3; fed = Goal 0 3 (pos 5) }
+      ∷ record { round = 4; fed = Cancel 0 0 20 }
       ∷ [];
 }
 
@@ -75,15 +76,15 @@ cancel_goal_and_before = record {
     nodes = codes "n" ∷ [];
     groups = record { node = 0; name = None; exclusive = true } ∷ [];
     entities =
-        record { name = codes "a"; is = server (record { group = 0; depth = 10; result_timeout = None; on_goal = instr.Decide (operand.Value (pos 3)) ∷ []; on_cancel = instr.Decide (operand.Value (pos 2)) ∷ []; script = instr.Yield ∷ [] }) }
+        record { name = codes "a"; is = Server (record { group = 0; depth = 10; result_timeout = None; on_goal = instr.Decide (operand.Value (pos 3)) ∷ []; on_cancel = instr.Decide (operand.Value (pos 2)) ∷ []; script = instr.Yield ∷ [] }) }
         ∷ [];
   };
   moments = 10 ∷ 20 ∷ 30 ∷ 40 ∷ [];
   feed =
-      record { round = 1; fed = goal 0 1 (pos 5) }
-      ∷ record { round = 2; fed = goal 0 2 (pos 5) }
-      ∷ record { round = 3; fed = goal 0 3 (pos 5) }
-      ∷ record { round = 4; fed = cancel 0 3 20 }
+      record { round = 1; fed = Goal 0 1 (pos 5) }
+      ∷ record { round = 2; fed = Goal 0 2 (pos 5) }
+      ∷ record { round = 3; fed = Goal 0 3 (pos 5) }
+      ∷ record { round = 4; fed = Cancel 0 3 20 }
       ∷ [];
 }
 
@@ -104,15 +105,15 @@ cancel_unknown = record {
     nodes = codes "n" ∷ [];
     groups = record { node = 0; name = None; exclusive = true } ∷ [];
     entities =
-        record { name = codes "a"; is = server (record { group = 0; depth = 10; result_timeout = None; on_goal = instr.Decide (operand.Value (pos 3)) ∷ []; on_cancel = instr.Decide (operand.Value (pos 2)) ∷ []; script = instr.Yield ∷ [] }) }
+        record { name = codes "a"; is = Server (record { group = 0; depth = 10; result_timeout = None; on_goal = instr.Decide (operand.Value (pos 3)) ∷ []; on_cancel = instr.Decide (operand.Value (pos 2)) ∷ []; script = instr.Yield ∷ [] }) }
         ∷ [];
   };
   moments = 10 ∷ 20 ∷ 30 ∷ 40 ∷ [];
   feed =
-      record { round = 1; fed = goal 0 1 (pos 5) }
-      ∷ record { round = 2; fed = goal 0 2 (pos 5) }
-      ∷ record { round = 3; fed = goal 0 3 (pos 5) }
-      ∷ record { round = 4; fed = cancel 0 9 0 }
+      record { round = 1; fed = Goal 0 1 (pos 5) }
+      ∷ record { round = 2; fed = Goal 0 2 (pos 5) }
+      ∷ record { round = 3; fed = Goal 0 3 (pos 5) }
+      ∷ record { round = 4; fed = Cancel 0 9 0 }
       ∷ [];
 }
 
@@ -132,13 +133,13 @@ cancel_terminated = record {
     nodes = codes "n" ∷ [];
     groups = record { node = 0; name = None; exclusive = true } ∷ [];
     entities =
-        record { name = codes "a"; is = server (record { group = 0; depth = 10; result_timeout = None; on_goal = instr.Decide (operand.Value (pos 2)) ∷ []; on_cancel = instr.Decide (operand.Value (pos 2)) ∷ []; script = instr.Succeed operand.In ∷ [] }) }
+        record { name = codes "a"; is = Server (record { group = 0; depth = 10; result_timeout = None; on_goal = instr.Decide (operand.Value (pos 2)) ∷ []; on_cancel = instr.Decide (operand.Value (pos 2)) ∷ []; script = instr.Succeed operand.In ∷ [] }) }
         ∷ [];
   };
   moments = 10 ∷ 20 ∷ 30 ∷ [];
   feed =
-      record { round = 1; fed = goal 0 1 (pos 5) }
-      ∷ record { round = 3; fed = cancel 0 1 0 }
+      record { round = 1; fed = Goal 0 1 (pos 5) }
+      ∷ record { round = 3; fed = Cancel 0 1 0 }
       ∷ [];
 }
 
@@ -157,14 +158,14 @@ cancel_again = record {
     nodes = codes "n" ∷ [];
     groups = record { node = 0; name = None; exclusive = true } ∷ [];
     entities =
-        record { name = codes "a"; is = server (record { group = 0; depth = 10; result_timeout = None; on_goal = instr.Decide (operand.Value (pos 3)) ∷ []; on_cancel = instr.Decide (operand.Value (pos 2)) ∷ []; script = instr.Yield ∷ [] }) }
+        record { name = codes "a"; is = Server (record { group = 0; depth = 10; result_timeout = None; on_goal = instr.Decide (operand.Value (pos 3)) ∷ []; on_cancel = instr.Decide (operand.Value (pos 2)) ∷ []; script = instr.Yield ∷ [] }) }
         ∷ [];
   };
   moments = 10 ∷ 20 ∷ 30 ∷ [];
   feed =
-      record { round = 1; fed = goal 0 1 (pos 5) }
-      ∷ record { round = 2; fed = cancel 0 1 0 }
-      ∷ record { round = 3; fed = cancel 0 1 0 }
+      record { round = 1; fed = Goal 0 1 (pos 5) }
+      ∷ record { round = 2; fed = Cancel 0 1 0 }
+      ∷ record { round = 3; fed = Cancel 0 1 0 }
       ∷ [];
 }
 
@@ -183,13 +184,13 @@ cancel_refused = record {
     nodes = codes "n" ∷ [];
     groups = record { node = 0; name = None; exclusive = true } ∷ [];
     entities =
-        record { name = codes "a"; is = server (record { group = 0; depth = 10; result_timeout = None; on_goal = instr.Decide (operand.Value (pos 3)) ∷ []; on_cancel = instr.Decide (operand.Value (pos 1)) ∷ []; script = [] }) }
+        record { name = codes "a"; is = Server (record { group = 0; depth = 10; result_timeout = None; on_goal = instr.Decide (operand.Value (pos 3)) ∷ []; on_cancel = instr.Decide (operand.Value (pos 1)) ∷ []; script = [] }) }
         ∷ [];
   };
   moments = 10 ∷ 20 ∷ [];
   feed =
-      record { round = 1; fed = goal 0 1 (pos 5) }
-      ∷ record { round = 2; fed = cancel 0 1 0 }
+      record { round = 1; fed = Goal 0 1 (pos 5) }
+      ∷ record { round = 2; fed = Cancel 0 1 0 }
       ∷ [];
 }
 
@@ -207,13 +208,13 @@ cancel_unknown_refused = record {
     nodes = codes "n" ∷ [];
     groups = record { node = 0; name = None; exclusive = true } ∷ [];
     entities =
-        record { name = codes "a"; is = server (record { group = 0; depth = 10; result_timeout = None; on_goal = instr.Decide (operand.Value (pos 3)) ∷ []; on_cancel = instr.Decide (operand.Value (pos 1)) ∷ []; script = [] }) }
+        record { name = codes "a"; is = Server (record { group = 0; depth = 10; result_timeout = None; on_goal = instr.Decide (operand.Value (pos 3)) ∷ []; on_cancel = instr.Decide (operand.Value (pos 1)) ∷ []; script = [] }) }
         ∷ [];
   };
   moments = 10 ∷ 20 ∷ [];
   feed =
-      record { round = 1; fed = goal 0 1 (pos 5) }
-      ∷ record { round = 2; fed = cancel 0 9 20 }
+      record { round = 1; fed = Goal 0 1 (pos 5) }
+      ∷ record { round = 2; fed = Cancel 0 9 20 }
       ∷ [];
 }
 
@@ -231,13 +232,13 @@ canceled = record {
     nodes = codes "n" ∷ [];
     groups = record { node = 0; name = None; exclusive = true } ∷ [];
     entities =
-        record { name = codes "a"; is = server (record { group = 0; depth = 10; result_timeout = None; on_goal = instr.Decide (operand.Value (pos 3)) ∷ []; on_cancel = instr.Decide (operand.Value (pos 2)) ∷ []; script = instr.Skip operand.Aux 1 ∷ instr.Yield ∷ instr.Canceled operand.In ∷ [] }) }
+        record { name = codes "a"; is = Server (record { group = 0; depth = 10; result_timeout = None; on_goal = instr.Decide (operand.Value (pos 3)) ∷ []; on_cancel = instr.Decide (operand.Value (pos 2)) ∷ []; script = instr.Skip operand.Aux 1 ∷ instr.Yield ∷ instr.Canceled operand.In ∷ [] }) }
         ∷ [];
   };
   moments = 10 ∷ 20 ∷ 30 ∷ [];
   feed =
-      record { round = 1; fed = goal 0 1 (pos 5) }
-      ∷ record { round = 2; fed = cancel 0 1 0 }
+      record { round = 1; fed = Goal 0 1 (pos 5) }
+      ∷ record { round = 2; fed = Cancel 0 1 0 }
       ∷ [];
 }
 
@@ -256,13 +257,13 @@ woken_by_cancel = record {
     nodes = codes "n" ∷ [];
     groups = record { node = 0; name = None; exclusive = true } ∷ [];
     entities =
-        record { name = codes "a"; is = server (record { group = 0; depth = 10; result_timeout = None; on_goal = instr.Decide (operand.Value (pos 2)) ∷ []; on_cancel = instr.Decide (operand.Value (pos 2)) ∷ []; script = instr.Wait (operand.Value (pos 100)) ∷ instr.Skip operand.Aux 1 ∷ instr.Succeed (operand.Value (pos 1)) ∷ instr.Canceled (operand.Value (pos 2)) ∷ [] }) }
+        record { name = codes "a"; is = Server (record { group = 0; depth = 10; result_timeout = None; on_goal = instr.Decide (operand.Value (pos 2)) ∷ []; on_cancel = instr.Decide (operand.Value (pos 2)) ∷ []; script = instr.Wait (operand.Value (pos 100)) ∷ instr.Skip operand.Aux 1 ∷ instr.Succeed (operand.Value (pos 1)) ∷ instr.Canceled (operand.Value (pos 2)) ∷ [] }) }
         ∷ [];
   };
   moments = 10 ∷ 20 ∷ 30 ∷ 40 ∷ [];
   feed =
-      record { round = 1; fed = goal 0 1 (pos 5) }
-      ∷ record { round = 3; fed = cancel 0 1 0 }
+      record { round = 1; fed = Goal 0 1 (pos 5) }
+      ∷ record { round = 3; fed = Cancel 0 1 0 }
       ∷ [];
 }
 
@@ -282,12 +283,12 @@ canceled_unasked = record {
     nodes = codes "n" ∷ [];
     groups = record { node = 0; name = None; exclusive = true } ∷ [];
     entities =
-        record { name = codes "a"; is = server (record { group = 0; depth = 10; result_timeout = None; on_goal = instr.Decide (operand.Value (pos 2)) ∷ []; on_cancel = instr.Decide (operand.Value (pos 2)) ∷ []; script = instr.Canceled (operand.Value (pos 7)) ∷ [] }) }
+        record { name = codes "a"; is = Server (record { group = 0; depth = 10; result_timeout = None; on_goal = instr.Decide (operand.Value (pos 2)) ∷ []; on_cancel = instr.Decide (operand.Value (pos 2)) ∷ []; script = instr.Canceled (operand.Value (pos 7)) ∷ [] }) }
         ∷ [];
   };
   moments = 10 ∷ 20 ∷ [];
   feed =
-      record { round = 1; fed = goal 0 1 (pos 5) }
+      record { round = 1; fed = Goal 0 1 (pos 5) }
       ∷ [];
 }
 
@@ -305,13 +306,13 @@ held_id = record {
     nodes = codes "n" ∷ [];
     groups = record { node = 0; name = None; exclusive = true } ∷ [];
     entities =
-        record { name = codes "a"; is = server (record { group = 0; depth = 10; result_timeout = None; on_goal = instr.Decide (operand.Value (pos 3)) ∷ []; on_cancel = instr.Decide (operand.Value (pos 2)) ∷ []; script = [] }) }
+        record { name = codes "a"; is = Server (record { group = 0; depth = 10; result_timeout = None; on_goal = instr.Decide (operand.Value (pos 3)) ∷ []; on_cancel = instr.Decide (operand.Value (pos 2)) ∷ []; script = [] }) }
         ∷ [];
   };
   moments = 10 ∷ 20 ∷ [];
   feed =
-      record { round = 1; fed = goal 0 1 (pos 5) }
-      ∷ record { round = 2; fed = goal 0 1 (pos 6) }
+      record { round = 1; fed = Goal 0 1 (pos 5) }
+      ∷ record { round = 2; fed = Goal 0 1 (pos 6) }
       ∷ [];
 }
 

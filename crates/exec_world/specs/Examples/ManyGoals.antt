@@ -1,7 +1,8 @@
 -- A worked example: sixteen goals of one server, entity 3, that all end in one round, beside three timers.
 use Rattle.std.specs.Prelude.{pos, List, [], ◌∷◌, codes, true, false, None, Some}
-use Rattle.exec_graph.specs.Graph.{timer, server}
-use Rattle.exec_graph.specs.Plan.{PlanData, goal}
+use Rattle.exec_graph.specs.declared.entity.Declared.TheVariants.{Timer, Server}
+use Rattle.exec_graph.specs.Plan.{PlanData}
+use Rattle.exec_graph.specs.declared.plan.Fed.TheVariants.{Goal}
 use Rattle.exec_msg.specs.declared.goal.GoalStatus.TheVariants as status
 use Rattle.exec_msg.specs.declared.kind.Kind.TheVariants as kind
 use Rattle.exec_msg.specs.declared.line.Line.{Line}
@@ -23,30 +24,30 @@ many_goals = record {
         ∷ record { node = 0; name = Some (codes "R"); exclusive = false }
         ∷ [];
     entities =
-        record { name = codes "ta"; is = timer (record { group = 1; period = 20; script = instr.Log operand.Now ∷ [] }) }
-        ∷ record { name = codes "tb1"; is = timer (record { group = 2; period = 20; script = instr.Set (destination.Variable 0) operation.Add (operand.Variable 0) (operand.Value (pos 3)) ∷ instr.Log (operand.Variable 0) ∷ [] }) }
-        ∷ record { name = codes "tb2"; is = timer (record { group = 2; period = 20; script = instr.Set (destination.Variable 0) operation.Mul (operand.Variable 0) (operand.Value (pos 2)) ∷ instr.Log (operand.Variable 0) ∷ [] }) }
-        ∷ record { name = codes "a"; is = server (record { group = 3; depth = 10; result_timeout = None; on_goal = instr.Decide (operand.Value (pos 2)) ∷ []; on_cancel = []; script = instr.Set (destination.Register 0) operation.Sub (operand.Value (pos 20)) operand.Now ∷ instr.Wait (operand.Register 0) ∷ instr.Succeed operand.In ∷ [] }) }
+        record { name = codes "ta"; is = Timer (record { group = 1; period = 20; script = instr.Log operand.Now ∷ [] }) }
+        ∷ record { name = codes "tb1"; is = Timer (record { group = 2; period = 20; script = instr.Set (destination.Variable 0) operation.Add (operand.Variable 0) (operand.Value (pos 3)) ∷ instr.Log (operand.Variable 0) ∷ [] }) }
+        ∷ record { name = codes "tb2"; is = Timer (record { group = 2; period = 20; script = instr.Set (destination.Variable 0) operation.Mul (operand.Variable 0) (operand.Value (pos 2)) ∷ instr.Log (operand.Variable 0) ∷ [] }) }
+        ∷ record { name = codes "a"; is = Server (record { group = 3; depth = 10; result_timeout = None; on_goal = instr.Decide (operand.Value (pos 2)) ∷ []; on_cancel = []; script = instr.Set (destination.Register 0) operation.Sub (operand.Value (pos 20)) operand.Now ∷ instr.Wait (operand.Register 0) ∷ instr.Succeed operand.In ∷ [] }) }
         ∷ [];
   };
   moments = 1 ∷ 2 ∷ 3 ∷ 4 ∷ 5 ∷ 6 ∷ 7 ∷ 8 ∷ 9 ∷ 10 ∷ 11 ∷ 12 ∷ 13 ∷ 14 ∷ 15 ∷ 16 ∷ 17 ∷ 18 ∷ 19 ∷ 20 ∷ [];
   feed =
-      record { round = 1; fed = goal 3 1 (pos 1) }
-      ∷ record { round = 2; fed = goal 3 2 (pos 2) }
-      ∷ record { round = 3; fed = goal 3 3 (pos 3) }
-      ∷ record { round = 4; fed = goal 3 4 (pos 4) }
-      ∷ record { round = 5; fed = goal 3 5 (pos 5) }
-      ∷ record { round = 6; fed = goal 3 6 (pos 6) }
-      ∷ record { round = 7; fed = goal 3 7 (pos 7) }
-      ∷ record { round = 8; fed = goal 3 8 (pos 8) }
-      ∷ record { round = 9; fed = goal 3 9 (pos 9) }
-      ∷ record { round = 10; fed = goal 3 16 (pos 10) }
-      ∷ record { round = 11; fed = goal 3 17 (pos 11) }
-      ∷ record { round = 12; fed = goal 3 18 (pos 12) }
-      ∷ record { round = 13; fed = goal 3 19 (pos 13) }
-      ∷ record { round = 14; fed = goal 3 20 (pos 14) }
-      ∷ record { round = 15; fed = goal 3 21 (pos 15) }
-      ∷ record { round = 16; fed = goal 3 22 (pos 16) }
+      record { round = 1; fed = Goal 3 1 (pos 1) }
+      ∷ record { round = 2; fed = Goal 3 2 (pos 2) }
+      ∷ record { round = 3; fed = Goal 3 3 (pos 3) }
+      ∷ record { round = 4; fed = Goal 3 4 (pos 4) }
+      ∷ record { round = 5; fed = Goal 3 5 (pos 5) }
+      ∷ record { round = 6; fed = Goal 3 6 (pos 6) }
+      ∷ record { round = 7; fed = Goal 3 7 (pos 7) }
+      ∷ record { round = 8; fed = Goal 3 8 (pos 8) }
+      ∷ record { round = 9; fed = Goal 3 9 (pos 9) }
+      ∷ record { round = 10; fed = Goal 3 16 (pos 10) }
+      ∷ record { round = 11; fed = Goal 3 17 (pos 11) }
+      ∷ record { round = 12; fed = Goal 3 18 (pos 12) }
+      ∷ record { round = 13; fed = Goal 3 19 (pos 13) }
+      ∷ record { round = 14; fed = Goal 3 20 (pos 14) }
+      ∷ record { round = 15; fed = Goal 3 21 (pos 15) }
+      ∷ record { round = 16; fed = Goal 3 22 (pos 16) }
       ∷ [];
 }
 

@@ -1,7 +1,8 @@
 -- Worked examples: full queues of actions.
 use Rattle.std.specs.Prelude.{pos, List, [], ◌∷◌, codes, true, None, Some}
-use Rattle.exec_graph.specs.Graph.{timer, server, action_client}
-use Rattle.exec_graph.specs.Plan.{PlanData, goal}
+use Rattle.exec_graph.specs.declared.entity.Declared.TheVariants.{Timer, Server, ActionClient}
+use Rattle.exec_graph.specs.Plan.{PlanData}
+use Rattle.exec_graph.specs.declared.plan.Fed.TheVariants.{Goal}
 use Rattle.exec_msg.specs.declared.goal.GoalStatus.TheVariants as status
 use Rattle.exec_msg.specs.declared.goal.ReturnCode.TheVariants as code
 use Rattle.exec_msg.specs.declared.kind.Kind.TheVariants as kind
@@ -20,10 +21,10 @@ full_goal_queue = record {
     nodes = codes "n" ∷ [];
     groups = record { node = 0; name = None; exclusive = true } ∷ [];
     entities =
-        record { name = codes "t"; is = timer (record { group = 0; period = 1; script = instr.Goal 2 (operand.Value (pos 1)) ∷ instr.Goal 3 (operand.Value (pos 2)) ∷ instr.Goal 2 (operand.Value (pos 3)) ∷ [] }) }
-        ∷ record { name = codes "a"; is = server (record { group = 0; depth = 1; result_timeout = None; on_goal = instr.Decide (operand.Value (pos 2)) ∷ []; on_cancel = instr.Decide (operand.Value (pos 2)) ∷ []; script = instr.Yield ∷ [] }) }
-        ∷ record { name = codes "k1"; is = action_client (record { group = 0; server = 1; depth = 1; on_response = instr.Log operand.Aux ∷ []; on_code = []; on_feedback = []; on_result = None }) }
-        ∷ record { name = codes "k2"; is = action_client (record { group = 0; server = 1; depth = 1; on_response = instr.Log operand.In ∷ []; on_code = []; on_feedback = []; on_result = None }) }
+        record { name = codes "t"; is = Timer (record { group = 0; period = 1; script = instr.Goal 2 (operand.Value (pos 1)) ∷ instr.Goal 3 (operand.Value (pos 2)) ∷ instr.Goal 2 (operand.Value (pos 3)) ∷ [] }) }
+        ∷ record { name = codes "a"; is = Server (record { group = 0; depth = 1; result_timeout = None; on_goal = instr.Decide (operand.Value (pos 2)) ∷ []; on_cancel = instr.Decide (operand.Value (pos 2)) ∷ []; script = instr.Yield ∷ [] }) }
+        ∷ record { name = codes "k1"; is = ActionClient (record { group = 0; server = 1; depth = 1; on_response = instr.Log operand.Aux ∷ []; on_code = []; on_feedback = []; on_result = None }) }
+        ∷ record { name = codes "k2"; is = ActionClient (record { group = 0; server = 1; depth = 1; on_response = instr.Log operand.In ∷ []; on_code = []; on_feedback = []; on_result = None }) }
         ∷ [];
   };
   moments = 0 ∷ 1 ∷ 1 ∷ 2 ∷ 2 ∷ 3 ∷ [];
@@ -56,17 +57,17 @@ full_cancel_queue = record {
     nodes = codes "n" ∷ [];
     groups = record { node = 0; name = None; exclusive = true } ∷ [];
     entities =
-        record { name = codes "t"; is = timer (record { group = 0; period = 2; script = instr.CancelAll 2 (operand.Value (pos 0)) ∷ instr.CancelAll 3 operand.Now ∷ instr.CancelGoal 2 (operand.Value (pos 1)) (operand.Value (pos 3)) ∷ [] }) }
-        ∷ record { name = codes "a"; is = server (record { group = 0; depth = 1; result_timeout = None; on_goal = instr.Decide (operand.Value (pos 2)) ∷ []; on_cancel = instr.Decide (operand.Value (pos 2)) ∷ []; script = instr.Yield ∷ [] }) }
-        ∷ record { name = codes "k1"; is = action_client (record { group = 0; server = 1; depth = 1; on_response = []; on_code = instr.Log operand.Aux ∷ []; on_feedback = []; on_result = None }) }
-        ∷ record { name = codes "k2"; is = action_client (record { group = 0; server = 1; depth = 1; on_response = []; on_code = instr.Log operand.In ∷ []; on_feedback = []; on_result = None }) }
+        record { name = codes "t"; is = Timer (record { group = 0; period = 2; script = instr.CancelAll 2 (operand.Value (pos 0)) ∷ instr.CancelAll 3 operand.Now ∷ instr.CancelGoal 2 (operand.Value (pos 1)) (operand.Value (pos 3)) ∷ [] }) }
+        ∷ record { name = codes "a"; is = Server (record { group = 0; depth = 1; result_timeout = None; on_goal = instr.Decide (operand.Value (pos 2)) ∷ []; on_cancel = instr.Decide (operand.Value (pos 2)) ∷ []; script = instr.Yield ∷ [] }) }
+        ∷ record { name = codes "k1"; is = ActionClient (record { group = 0; server = 1; depth = 1; on_response = []; on_code = instr.Log operand.Aux ∷ []; on_feedback = []; on_result = None }) }
+        ∷ record { name = codes "k2"; is = ActionClient (record { group = 0; server = 1; depth = 1; on_response = []; on_code = instr.Log operand.In ∷ []; on_feedback = []; on_result = None }) }
         ∷ [];
   };
   moments = 1 ∷ 2 ∷ 3 ∷ 4 ∷ 5 ∷ [];
   feed =
-      record { round = 1; fed = goal 1 1 (pos 1) }
-      ∷ record { round = 2; fed = goal 1 (goal_id 0 1) (pos 2) }
-      ∷ record { round = 3; fed = goal 1 3 (pos 3) }
+      record { round = 1; fed = Goal 1 1 (pos 1) }
+      ∷ record { round = 2; fed = Goal 1 (goal_id 0 1) (pos 2) }
+      ∷ record { round = 3; fed = Goal 1 3 (pos 3) }
       ∷ [];
 }
 
@@ -98,10 +99,10 @@ full_feedback_queue = record {
     nodes = codes "n" ∷ [];
     groups = record { node = 0; name = None; exclusive = true } ∷ [];
     entities =
-        record { name = codes "t"; is = timer (record { group = 0; period = 9; script = instr.Goal 2 (operand.Value (pos 1)) ∷ instr.Goal 2 (operand.Value (pos 2)) ∷ instr.Goal 3 (operand.Value (pos 3)) ∷ [] }) }
-        ∷ record { name = codes "a"; is = server (record { group = 0; depth = 10; result_timeout = None; on_goal = instr.Decide (operand.Value (pos 2)) ∷ []; on_cancel = instr.Decide (operand.Value (pos 2)) ∷ []; script = instr.Feedback operand.In ∷ instr.Feedback operand.Now ∷ instr.Yield ∷ instr.Feedback (operand.Value (pos 3)) ∷ instr.Succeed operand.In ∷ [] }) }
-        ∷ record { name = codes "k1"; is = action_client (record { group = 0; server = 1; depth = 1; on_response = []; on_code = []; on_feedback = instr.Log operand.Aux ∷ []; on_result = None }) }
-        ∷ record { name = codes "k2"; is = action_client (record { group = 0; server = 1; depth = 1; on_response = []; on_code = []; on_feedback = instr.Log operand.In ∷ []; on_result = None }) }
+        record { name = codes "t"; is = Timer (record { group = 0; period = 9; script = instr.Goal 2 (operand.Value (pos 1)) ∷ instr.Goal 2 (operand.Value (pos 2)) ∷ instr.Goal 3 (operand.Value (pos 3)) ∷ [] }) }
+        ∷ record { name = codes "a"; is = Server (record { group = 0; depth = 10; result_timeout = None; on_goal = instr.Decide (operand.Value (pos 2)) ∷ []; on_cancel = instr.Decide (operand.Value (pos 2)) ∷ []; script = instr.Feedback operand.In ∷ instr.Feedback operand.Now ∷ instr.Yield ∷ instr.Feedback (operand.Value (pos 3)) ∷ instr.Succeed operand.In ∷ [] }) }
+        ∷ record { name = codes "k1"; is = ActionClient (record { group = 0; server = 1; depth = 1; on_response = []; on_code = []; on_feedback = instr.Log operand.Aux ∷ []; on_result = None }) }
+        ∷ record { name = codes "k2"; is = ActionClient (record { group = 0; server = 1; depth = 1; on_response = []; on_code = []; on_feedback = instr.Log operand.In ∷ []; on_result = None }) }
         ∷ [];
   };
   moments = 9 ∷ 10 ∷ 11 ∷ 12 ∷ 13 ∷ 14 ∷ [];
@@ -141,10 +142,10 @@ full_result_queue = record {
     nodes = codes "n" ∷ [];
     groups = record { node = 0; name = None; exclusive = true } ∷ [];
     entities =
-        record { name = codes "t"; is = timer (record { group = 0; period = 9; script = instr.Goal 2 (operand.Value (pos 1)) ∷ instr.Goal 2 (operand.Value (pos 2)) ∷ instr.Goal 2 (operand.Value (pos 3)) ∷ instr.Goal 3 (operand.Value (pos 4)) ∷ [] }) }
-        ∷ record { name = codes "a"; is = server (record { group = 0; depth = 4; result_timeout = None; on_goal = instr.Decide (operand.Value (pos 2)) ∷ []; on_cancel = instr.Decide (operand.Value (pos 2)) ∷ []; script = instr.Set (destination.Register 0) operation.Sub (operand.Value (pos 15)) operand.Now ∷ instr.Wait (operand.Register 0) ∷ instr.Succeed operand.In ∷ [] }) }
-        ∷ record { name = codes "k1"; is = action_client (record { group = 0; server = 1; depth = 1; on_response = []; on_code = []; on_feedback = []; on_result = Some (instr.Log operand.Aux ∷ []) }) }
-        ∷ record { name = codes "k2"; is = action_client (record { group = 0; server = 1; depth = 1; on_response = []; on_code = []; on_feedback = []; on_result = Some (instr.Log operand.In ∷ []) }) }
+        record { name = codes "t"; is = Timer (record { group = 0; period = 9; script = instr.Goal 2 (operand.Value (pos 1)) ∷ instr.Goal 2 (operand.Value (pos 2)) ∷ instr.Goal 2 (operand.Value (pos 3)) ∷ instr.Goal 3 (operand.Value (pos 4)) ∷ [] }) }
+        ∷ record { name = codes "a"; is = Server (record { group = 0; depth = 4; result_timeout = None; on_goal = instr.Decide (operand.Value (pos 2)) ∷ []; on_cancel = instr.Decide (operand.Value (pos 2)) ∷ []; script = instr.Set (destination.Register 0) operation.Sub (operand.Value (pos 15)) operand.Now ∷ instr.Wait (operand.Register 0) ∷ instr.Succeed operand.In ∷ [] }) }
+        ∷ record { name = codes "k1"; is = ActionClient (record { group = 0; server = 1; depth = 1; on_response = []; on_code = []; on_feedback = []; on_result = Some (instr.Log operand.Aux ∷ []) }) }
+        ∷ record { name = codes "k2"; is = ActionClient (record { group = 0; server = 1; depth = 1; on_response = []; on_code = []; on_feedback = []; on_result = Some (instr.Log operand.In ∷ []) }) }
         ∷ [];
   };
   moments = 9 ∷ 10 ∷ 11 ∷ 12 ∷ 13 ∷ 14 ∷ 15 ∷ 16 ∷ 17 ∷ [];

@@ -1,0 +1,246 @@
+-- What a graph is fed by a draft.
+use Rattle.std.proofs.Common.{◌≡◌, ℕ, ◌+◌, Bool, true, false, cond, not, ◌&&◌, length, map, IsTrue, List, [], ◌∷◌, ◌++◌, Option, None, Some, All, is_some, option_map, unwrap_or, nat_le, slice_get, bytes_eq, refl, ap, ap₂, sym, ◌∙◌, subst, arith, zero-add}
+use Rattle.std.specs.List.{list_all, position_from}
+use Rattle.std.specs.Option.{option_map_or}
+use Rattle.std.proofs.lemmas.List.Elements.{All-nil, All-cons}
+use Rattle.exec_doc.specs.Document.{fed_in, entry_in}
+use Rattle.exec_doc.specs.declared.draft.FedDraft.{FedDraft}
+use Rattle.exec_doc.specs.declared.draft.FedDraft.TheVariants as draft
+use Rattle.exec_doc.specs.declared.draft.EntryDraft.{EntryDraft}
+use Rattle.exec_doc.specs.Placing.{topic_at, server_at, id_or_0, fed_by, entry_by}
+use Rattle.exec_doc.specs.Refusals as refusals
+use Rattle.exec_doc.specs.Refusals.{id_of, feeds}
+use Rattle.exec_graph.specs.Draft.{GraphDraft}
+use Rattle.exec_graph.specs.Feeding.{goes_somewhere}
+use Rattle.exec_graph.specs.Graph.{EntityData, GraphData, is_topic, is_server}
+use Rattle.exec_graph.specs.Lawful.{is_at}
+use Rattle.exec_graph.specs.Numbers as numbers
+use Rattle.exec_graph.specs.Numbers.{Placed, entities_of, topic_named, server_named}
+use Rattle.exec_graph.specs.Options.{◌>>=◌, each}
+use Rattle.exec_graph.specs.Resolved.{entity_in, topic_in, graph_in}
+use Rattle.exec_graph.specs.Schedule.{stamp_of, is_identified}
+use Rattle.exec_graph.specs.declared.entity.Declared.{Declared}
+use Rattle.exec_graph.specs.declared.plan.Fed.{Fed}
+use Rattle.exec_graph.specs.declared.plan.Fed.TheVariants.{Message, Goal, Cancel}
+use Rattle.exec_graph.specs.declared.plan.Feed.{Feed}
+use Rattle.exec_graph.proofs.Bools.{and_left, and_right, both_true}
+use Rattle.exec_graph.proofs.Resolving.{graph_of, AreEntities, built}
+use Rattle.exec_graph.proofs.Positions.{at_position}
+use Rattle.exec_graph.proofs.Reading.{then_read, AreRead, are_read, some_is, as_many, seen_alike, each_some}
+
+-- ---- what is found in a graph
+
+found_there : (test : EntityData → Bool) (also : EntityData → Bool) (entities : List EntityData) (number : ℕ) → position_from (λ entity. test entity && also entity) 0 entities ≡ Some number → option_map_or test (slice_get entities number) false ≡ true
+found_there test also entities number found =
+    let at = at_position (λ entity. test entity && also entity) 0 entities number found in
+    let same : number ≡ at.place = omega (arith, at.counted) in
+    let there : slice_get entities number ≡ Some at.element = ap (slice_get entities) same ∙ at.there in
+    rw there (and_left (test at.element) (also at.element) at.passes)
+
+topic_there : (made : GraphData) (name : List ℕ) (number : ℕ) → topic_at made name ≡ Some number → is_at is_topic made number ≡ true
+topic_there made name number found = found_there (λ entity. is_topic entity.is) (λ entity. bytes_eq entity.name name) made.entities number found
+
+server_there : (made : GraphData) (name : List ℕ) (number : ℕ) → server_at made name ≡ Some number → is_at is_server made number ≡ true
+server_there made name number found = found_there (λ entity. is_server entity.is) (λ entity. bytes_eq entity.name name) made.entities number found
+
+-- what is made of something that is there
+then_made : {A B : Type 0} (K : Type 0) (f : A → B) (o : Option A) (b : B) → option_map f o ≡ Some b → ((a : A) → o ≡ Some a → f a ≡ b → K) → K
+then_made K f None b e next = absurd cc
+then_made K f (Some a) b e next = next a refl cc
+
+-- ---- what is fed to a graph
+
+-- what is fed to a graph has the stamp of its draft, and goes to what is there
+record IsPlaced (made : GraphData) (drafted : FedDraft) (fed : Fed) : Type 0 where
+  pub stamp : stamp_of fed ≡ refusals.stamp_of drafted
+  pub goes : goes_somewhere made fed ≡ true
+
+fed_placed : (made : GraphData) (drafted : FedDraft) (fed : Fed) → fed_by made drafted ≡ Some fed → IsPlaced made drafted fed
+fed_placed made (draft.Message name value) fed e =
+    then_made _ _ (topic_at made name) fed e (λ topic found is.
+    subst (IsPlaced made (draft.Message name value)) is (record { stamp = refl; goes = topic_there made name topic found }))
+fed_placed made (draft.Goal name text value) fed e =
+    then_made _ _ (server_at made name) fed e (λ server found is.
+    subst (IsPlaced made (draft.Goal name text value)) is (record { stamp = refl; goes = server_there made name server found }))
+fed_placed made (draft.Cancel name text stamp) fed e =
+    then_made _ _ (server_at made name) fed e (λ server found is.
+    subst (IsPlaced made (draft.Cancel name text stamp)) is (record { stamp = refl; goes = server_there made name server found }))
+
+-- an entry has its draft's round
+record IsEntry (made : GraphData) (drafted : EntryDraft) (entry : Feed) : Type 0 where
+  pub round : entry.round ≡ drafted.round
+  pub fed : fed_by made drafted.fed ≡ Some entry.fed
+
+entry_placed : (made : GraphData) (drafted : EntryDraft) (entry : Feed) → entry_by made drafted ≡ Some entry → IsEntry made drafted entry
+entry_placed made drafted entry e =
+    then_made _ _ (fed_by made drafted.fed) entry e (λ fed found is.
+    subst (IsEntry made drafted) is (record { round = refl; fed = found }))
+
+-- all that is fed goes to what is there
+goes_each : (made : GraphData) (drafted : List EntryDraft) (feed : List Feed) → AreRead (entry_by made) drafted feed → All (λ entry. IsTrue (goes_somewhere made entry.fed)) feed
+goes_each made [] [] reads = All-nil (λ entry. IsTrue (goes_somewhere made entry.fed))
+goes_each made [] (entry ∷ feed) reads = absurd reads
+goes_each made (d ∷ drafted) [] reads = absurd reads
+goes_each made (d ∷ drafted) (entry ∷ feed) reads =
+    All-cons (λ entry. IsTrue (goes_somewhere made entry.fed)) entry feed
+    (fed_placed made d.fed entry.fed (entry_placed made d entry reads.0).fed).goes
+    (goes_each made drafted feed reads.1)
+
+pub goes : (made : GraphData) (drafted : List EntryDraft) (feed : List Feed) → each (entry_by made) drafted ≡ Some feed → All (λ entry. IsTrue (goes_somewhere made entry.fed)) feed
+goes made drafted feed e = goes_each made drafted feed (are_read (entry_by made) drafted feed e)
+
+goes_tested : (made : GraphData) (drafted : List EntryDraft) (feed : List Feed) → AreRead (entry_by made) drafted feed → list_all (λ entry. goes_somewhere made entry.fed) feed ≡ true
+goes_tested made [] [] reads = refl
+goes_tested made [] (entry ∷ feed) reads = absurd reads
+goes_tested made (d ∷ drafted) [] reads = absurd reads
+goes_tested made (d ∷ drafted) (entry ∷ feed) reads =
+    both_true (goes_somewhere made entry.fed) (list_all (λ entry. goes_somewhere made entry.fed) feed)
+    (fed_placed made d.fed entry.fed (entry_placed made d entry reads.0).fed).goes
+    (goes_tested made drafted feed reads.1)
+
+-- so the test of it holds
+pub goes_all : (made : GraphData) (drafted : List EntryDraft) (feed : List Feed) → each (entry_by made) drafted ≡ Some feed → list_all (λ entry. goes_somewhere made entry.fed) feed ≡ true
+goes_all made drafted feed e = goes_tested made drafted feed (are_read (entry_by made) drafted feed e)
+
+-- what is fed has the schedule of its draft
+pub record HasSchedule (drafted : List EntryDraft) (feed : List Feed) : Type 0 where
+  pub many : length feed ≡ length drafted
+  pub rounds : map (λ entry. entry.round) feed ≡ map (λ entry. entry.round) drafted
+  pub stamps : map (λ entry. stamp_of entry.fed) feed ≡ map (λ entry. refusals.stamp_of entry.fed) drafted
+
+pub has_schedule : (made : GraphData) (drafted : List EntryDraft) (feed : List Feed) → each (entry_by made) drafted ≡ Some feed → HasSchedule drafted feed
+has_schedule made drafted feed e =
+    let reads = are_read (entry_by made) drafted feed e in
+    record {
+      many = as_many (entry_by made) drafted feed reads;
+      rounds = seen_alike (entry_by made) (λ entry. entry.round) (λ entry. entry.round) drafted feed (λ d entry h. (entry_placed made d entry h).round) reads;
+      stamps = seen_alike (entry_by made) (λ entry. refusals.stamp_of entry.fed) (λ entry. stamp_of entry.fed) drafted feed (λ d entry h. (fed_placed made d.fed entry.fed (entry_placed made d entry h).fed).stamp) reads;
+    }
+
+-- ---- names of the draft
+
+skip_topics : (test : EntityData → Bool) (topics : List (List ℕ)) (entities : List EntityData) (first : ℕ) → ((name : List ℕ) → test (topic_in name) ≡ false)
+    → position_from test first (map topic_in topics ++ entities) ≡ position_from test (first + length topics) entities
+skip_topics test [] entities first fails =
+    let e : first ≡ first + 0 = omega arith in
+    ap (λ (n : ℕ). position_from test n entities) e
+skip_topics test (topic ∷ topics) entities first fails =
+    let e : (first + 1) + length topics ≡ first + length (topic ∷ topics) = omega arith in
+    rw (fails topic) (skip_topics test topics entities (first + 1) fails ∙ ap (λ (n : ℕ). position_from test n entities) e)
+
+-- no entity is a topic
+no_topics : (source : GraphDraft) (name : List ℕ) (placed : List Placed) (entities : List EntityData) (first : ℕ) → AreRead (entity_in source) placed entities
+    → position_from (λ entity. is_topic entity.is && bytes_eq entity.name name) first entities ≡ None
+no_topics source name [] [] first reads = refl
+no_topics source name [] (entity ∷ entities) first reads = absurd reads
+no_topics source name (p ∷ placed) [] first reads = absurd reads
+no_topics source name (p ∷ placed) (entity ∷ entities) first reads =
+    rw ((built source p entity reads.0).made.topic) (no_topics source name placed entities (first + 1) reads.1)
+
+topics_first : (source : GraphDraft) (name : List ℕ) (topics : List (List ℕ)) (entities : List EntityData) (first : ℕ) → AreEntities source entities
+    → position_from (λ entity. is_topic entity.is && bytes_eq entity.name name) first (map topic_in topics ++ entities) ≡ position_from (λ topic. bytes_eq topic name) first topics
+topics_first source name [] entities first reads = no_topics source name (entities_of source) entities first reads
+topics_first source name (topic ∷ topics) entities first reads =
+    ap (λ (o : Option ℕ). cond (bytes_eq topic name) (Some first) o) (topics_first source name topics entities (first + 1) reads)
+
+servers_alike : (source : GraphDraft) (name : List ℕ) (placed : List Placed) (entities : List EntityData) (first : ℕ) → AreRead (entity_in source) placed entities
+    → position_from (λ entity. is_server entity.is && bytes_eq entity.name name) first entities
+    ≡ position_from (λ p. numbers.is_server p.entity.is && bytes_eq p.entity.name name) first placed
+servers_alike source name [] [] first reads = refl
+servers_alike source name [] (entity ∷ entities) first reads = absurd reads
+servers_alike source name (p ∷ placed) [] first reads = absurd reads
+servers_alike source name (p ∷ placed) (entity ∷ entities) first reads =
+    let build = built source p entity reads.0 in
+    ap₂ (λ (b : Bool) (o : Option ℕ). cond b (Some first) o)
+    (ap₂ (λ (b : Bool) (n : List ℕ). b && bytes_eq n name) build.made.server build.named)
+    (servers_alike source name placed entities (first + 1) reads.1)
+
+-- a graph finds its draft's names at their numbers
+pub record Finds (source : GraphDraft) (made : GraphData) : Type 0 where
+  pub topic : (name : List ℕ) → topic_at made name ≡ topic_named source name
+  pub server : (name : List ℕ) → server_at made name ≡ server_named source name
+
+pub finds : (source : GraphDraft) (made : GraphData) → graph_in source ≡ Some made → Finds source made
+finds source made e =
+    then_read _ (each (entity_in source) (entities_of source)) _ made e (λ entities read is.
+    let reads = are_read (entity_in source) (entities_of source) entities read in
+    subst (Finds source) (some_is (graph_of source entities) made is) (record {
+      topic = λ name. topics_first source name source.topics entities 0 reads;
+      server = λ name. skip_topics (λ entity. is_server entity.is && bytes_eq entity.name name) source.topics entities 0 (λ topic. refl)
+          ∙ ap (λ (n : ℕ). position_from (λ entity. is_server entity.is && bytes_eq entity.name name) n entities) (zero-add (length source.topics))
+          ∙ servers_alike source name (entities_of source) entities (length source.topics) reads;
+    }))
+
+-- ---- the feed of the draft
+
+made_there : {A B : Type 0} (f : A → B) (o : Option A) → is_some o ≡ true → is_some (option_map f o) ≡ true
+made_there f None e = e
+made_there f (Some a) e = refl
+
+fed_there : (source : GraphDraft) (made : GraphData) → Finds source made → (drafted : FedDraft) → feeds source drafted ≡ true → is_some (fed_by made drafted) ≡ true
+fed_there source made find (draft.Message name value) e = made_there _ (topic_at made name) (ap is_some (find.topic name) ∙ e)
+fed_there source made find (draft.Goal name text value) e = made_there _ (server_at made name) (ap is_some (find.server name) ∙ e)
+fed_there source made find (draft.Cancel name text stamp) e = made_there _ (server_at made name) (ap is_some (find.server name) ∙ e)
+
+entries_there : (source : GraphDraft) (made : GraphData) → Finds source made → (drafted : List EntryDraft) → list_all (λ entry. feeds source entry.fed) drafted ≡ true → list_all (λ entry. is_some (entry_by made entry)) drafted ≡ true
+entries_there source made find [] e = refl
+entries_there source made find (d ∷ drafted) e =
+    both_true (is_some (entry_by made d)) (list_all (λ entry. is_some (entry_by made entry)) drafted)
+    (made_there _ (fed_by made d.fed) (fed_there source made find d.fed (and_left (feeds source d.fed) (list_all (λ entry. feeds source entry.fed) drafted) e)))
+    (entries_there source made find drafted (and_right (feeds source d.fed) (list_all (λ entry. feeds source entry.fed) drafted) e))
+
+-- what is declared is there
+pub feed_there : (source : GraphDraft) (made : GraphData) (drafted : List EntryDraft) → graph_in source ≡ Some made → list_all (λ entry. feeds source entry.fed) drafted ≡ true → each (entry_by made) drafted ≡ None → ⊥
+feed_there source made drafted e fed none =
+    let there = each_some (entry_by made) drafted (entries_there source made (finds source made e) drafted fed) in
+    let same = ap is_some none in
+    absurd cc
+
+-- what is fed to a graph is what its draft says, where that is identified, and goals have identifiers
+record IsSaid (source : GraphDraft) (drafted : FedDraft) (fed : Fed) : Type 0 where
+  pub said : fed_in source drafted ≡ Some fed
+  pub identified : is_identified fed ≡ true
+
+fed_said : (source : GraphDraft) (made : GraphData) → Finds source made → (drafted : FedDraft) (fed : Fed) → fed_by made drafted ≡ Some fed → refusals.is_identified drafted ≡ true → IsSaid source drafted fed
+fed_said source made find (draft.Message name value) fed e identified =
+    then_made _ _ (topic_at made name) fed e (λ topic found is.
+    let named : topic_named source name ≡ Some topic = sym (find.topic name) ∙ found in
+    subst (IsSaid source (draft.Message name value)) is (record { said = rw named refl; identified = refl }))
+fed_said source made find (draft.Goal name text value) fed e identified =
+    then_made _ _ (server_at made name) fed e (λ server found is.
+    let named : server_named source name ≡ Some server = sym (find.server name) ∙ found in
+    subst (IsSaid source (draft.Goal name text value)) is (goal server named (id_of text) refl identified)) where
+      goal : (server : ℕ) → server_named source name ≡ Some server → (id : Option ℕ) → id_of text ≡ id → option_map_or (λ n. nat_le 1 n) id false ≡ true → IsSaid source (draft.Goal name text value) (Goal server (unwrap_or (id_of text) 0) value)
+      goal server named None is e = absurd cc
+      goal server named (Some id) is e = record { said = rw (named, is) refl; identified = rw is e }
+fed_said source made find (draft.Cancel name text stamp) fed e identified =
+    then_made _ _ (server_at made name) fed e (λ server found is.
+    let named : server_named source name ≡ Some server = sym (find.server name) ∙ found in
+    subst (IsSaid source (draft.Cancel name text stamp)) is (cancel server named (id_of text) refl identified)) where
+      cancel : (server : ℕ) → server_named source name ≡ Some server → (id : Option ℕ) → id_of text ≡ id → is_some id ≡ true → IsSaid source (draft.Cancel name text stamp) (Cancel server (unwrap_or (id_of text) 0) stamp)
+      cancel server named None is e = absurd cc
+      cancel server named (Some id) is e = record { said = rw (named, is) refl; identified = refl }
+
+-- so is the feed
+pub record AreSaid (source : GraphDraft) (drafted : List EntryDraft) (feed : List Feed) : Type 0 where
+  pub said : each (entry_in source) drafted ≡ Some feed
+  pub identified : list_all (λ entry. is_identified entry.fed) feed ≡ true
+
+entry_said : (source : GraphDraft) (d : EntryDraft) (entry : Feed) → entry.round ≡ d.round → fed_in source d.fed ≡ Some entry.fed → entry_in source d ≡ Some entry
+entry_said source d entry round said = rw said (rw (← round) refl)
+
+each_said : (source : GraphDraft) (made : GraphData) → Finds source made → (drafted : List EntryDraft) (feed : List Feed) → AreRead (entry_by made) drafted feed → list_all (λ entry. refusals.is_identified entry.fed) drafted ≡ true → AreSaid source drafted feed
+each_said source made find [] [] reads e = record { said = refl; identified = refl }
+each_said source made find [] (entry ∷ feed) reads e = absurd reads
+each_said source made find (d ∷ drafted) [] reads e = absurd reads
+each_said source made find (d ∷ drafted) (entry ∷ feed) reads e =
+    let at = entry_placed made d entry reads.0 in
+    let here = fed_said source made find d.fed entry.fed at.fed (and_left (refusals.is_identified d.fed) (list_all (λ entry. refusals.is_identified entry.fed) drafted) e) in
+    let others = each_said source made find drafted feed reads.1 (and_right (refusals.is_identified d.fed) (list_all (λ entry. refusals.is_identified entry.fed) drafted) e) in
+    record {
+      said = rw (entry_said source d entry at.round here.said, others.said) refl;
+      identified = both_true (is_identified entry.fed) (list_all (λ entry. is_identified entry.fed) feed) here.identified others.identified;
+    }
+
+pub are_said : (source : GraphDraft) (made : GraphData) (drafted : List EntryDraft) (feed : List Feed) → graph_in source ≡ Some made → each (entry_by made) drafted ≡ Some feed → list_all (λ entry. refusals.is_identified entry.fed) drafted ≡ true → AreSaid source drafted feed
+are_said source made drafted feed e read identified = each_said source made (finds source made e) drafted feed (are_read (entry_by made) drafted feed read) identified

@@ -1,0 +1,57 @@
+-- What a reader answers of drafts: a plan, or the refusal.
+use Rattle.std.specs.Prelude.{◌≡◌, ℕ, ◌⊎◌, List, [], ◌∷◌, Bool, true, false, not, ◌&&◌, if◌then◌else◌, Option, None, Some, find, Result, Ok, Err}
+use Rattle.std.specs.List.{list_all}
+use Rattle.exec_doc.specs.Draft.{DocumentDraft}
+use Rattle.exec_doc.specs.declared.draft.EntryDraft.{EntryDraft}
+use Rattle.exec_doc.specs.Refusals.{feeds, is_within, has_fault, codes_in_order}
+use Rattle.exec_doc.specs.declared.refused.Refused.{Refused}
+use Rattle.exec_doc.specs.declared.refused.Refused.TheVariants as refused
+use Rattle.exec_graph.specs.Draft.{GraphDraft}
+use Rattle.exec_graph.specs.Graph.{GraphData}
+use Rattle.exec_graph.specs.Refusals.{fault_in}
+use Rattle.exec_graph.specs.Resolved.{graph_in}
+use Rattle.exec_graph.specs.declared.fault.PlanFault.{PlanFault}
+use Rattle.exec_graph.specs.declared.fault.PlanFault.TheVariants as plan_fault
+use Rattle.exec_graph.specs.Faults.{has_faulty_script, shares_variables, is_small, is_well_named}
+
+-- the refusal of a draft: the first code that holds of it
+abbrev pub draft_refusal : DocumentDraft → Option Refused
+draft_refusal document = find (λ code. has_fault code document) codes_in_order
+
+-- something where a test holds
+abbrev pub only_if : {A : Type 0} → Bool → A → Option A
+only_if holds found = if holds then Some found else None
+
+-- whether a code up to that of group variables holds of a graph with a schedule that is within its limits or isn't
+abbrev pub has_graph_fault : GraphDraft → Bool → Refused → Bool
+has_graph_fault graph within refused.Name = not (is_well_named graph)
+has_graph_fault graph within refused.Limit = not (is_small graph && within)
+has_graph_fault graph within refused.Script = has_faulty_script graph
+has_graph_fault graph within refused.GroupVariable = shares_variables graph
+has_graph_fault graph within _ = false
+
+-- the refusal of such a graph
+abbrev pub graph_refusal : GraphDraft → Bool → Option Refused
+graph_refusal graph within = find (has_graph_fault graph within) codes_in_order
+
+-- a document of this graph, these moments and this feed, for which no code up to that of group variables holds
+pub record IsReady (document : DocumentDraft) (graph : GraphData) (moments : List ℕ) (feed : List EntryDraft) : Type 0 where
+  pub version : document.version ≡ 1
+  pub faultless : fault_in document.graph ≡ None
+  pub made : graph_in document.graph ≡ Some graph
+  pub feeding : list_all (λ entry. feeds document.graph entry.fed) document.feed ≡ true
+  pub within : is_within document ≡ true
+  pub ticks : document.moments ≡ moments
+  pub entries : document.feed ≡ feed
+
+-- the code of a plan's fault
+abbrev pub code_of : PlanFault → Refused
+code_of plan_fault.Limit = refused.Limit
+code_of plan_fault.Clock = refused.Clock
+code_of plan_fault.Id = refused.Id
+code_of plan_fault.Memory = refused.Memory
+
+-- what is found where nothing is refused, and else the refusal; unless memory was refused
+abbrev pub Answers : {A : Type 0} → Option Refused → Option A → Result A Refused → Type 0
+Answers refusal said (Ok found) = (refusal ≡ None) × (said ≡ Some found)
+Answers refusal said (Err code) = (code ≡ refused.Memory) ⊎ (refusal ≡ Some code)

@@ -1,0 +1,33 @@
+//! From a JSON value to the draft of a document, object by object.
+mod entities;
+mod feed;
+mod fields;
+mod nodes;
+mod scripts;
+
+ghost use Rattle.serde_json.specs.View.{view};
+ghost use Rattle.exec_doc.specs.Forms.{draft_of};
+ghost use Rattle.exec_doc.specs.Reading.{Gives};
+
+use crate::draft::DocumentDraft;
+use crate::refused::Refused;
+use feed::feed;
+use fields::{list, required};
+use serde_json::Value;
+use std::alloc::Global;
+
+/// The draft of a document.
+///
+/// # Errors
+/// [`Refused::Shape`] where the value hasn't the forms of a document, [`Refused::Memory`] where a growth was refused.
+pub fn draft_of<'a>(alloc: Global, document: &'a Value) -> Result<DocumentDraft<'a>, Refused>
+    ensures { Gives (λ draft. draft) result (draft_of (view document.now)) }
+{
+    Ok(DocumentDraft {
+        version: required(alloc, document, "version")?,
+        topics: list(alloc, document, "topics")?,
+        nodes: list(alloc, document, "nodes")?,
+        moments: list(alloc, document, "moments")?,
+        feed: feed(alloc, document)?,
+    })
+}

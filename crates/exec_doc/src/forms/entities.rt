@@ -1,0 +1,164 @@
+ghost use Rattle.std.specs.Prelude.{◌≡◌, ◌++◌, OnOk, IfErr, map};
+ghost use Rattle.serde_json.specs.View.{view};
+ghost use Rattle.exec_doc.specs.Forms.{depth_field, timer_form, subscription_form, service_form, client_form, server_form, action_client_form, entity, list};
+ghost use Rattle.exec_graph.specs.Options.{each};
+ghost use Rattle.exec_doc.specs.Kinds.{form_of};
+ghost use Rattle.exec_doc.specs.Reading.{Gives, Fails, IsAppended};
+
+use crate::forms::fields::{optional, required};
+use crate::forms::scripts::script_field;
+use crate::refused::Refused;
+use exec_graph::{
+    ActionClientDraft, ClientDraft, Drafted, EntityDraft, ServerDraft, ServiceDraft,
+    SubscriptionDraft, TimerDraft,
+};
+use exec_msg::limits::DEFAULT_DEPTH;
+use serde_json::Value;
+use std::alloc::Global;
+
+/// A kind of entity.
+#[derive(Clone, Copy, Debug)]
+pub enum EntityKind {
+    /// Timers.
+    Timer,
+    /// Subscriptions.
+    Subscription,
+    /// Services.
+    Service,
+    /// Service clients.
+    Client,
+    /// Action servers.
+    Server,
+    /// Action clients.
+    ActionClient,
+}
+
+/// Appends the entities of a kind that a node lists in a field.
+#[tactic(auto, using(crate::proofs::Lists::any_list))]
+pub fn append_entities(
+    alloc: Global,
+    node: &Value,
+    name: &str,
+    kind: EntityKind,
+    entities: &mut Vec<EntityDraft>,
+) -> Result<(), Refused>
+    ensures ok { OnOk result (IsAppended (list (entity (form_of kind)) name.now (view node.now)) entities.old.items entities.new.items) }
+    ensures err { IfErr result (λ code. Fails code (list (entity (form_of kind)) name.now (view node.now))) }
+{
+    match node.get(name) {
+        Some(value) => append_each(
+            alloc,
+            value.as_array().ok_or(Refused::Shape)?,
+            kind,
+            entities,
+        ),
+        None => Ok(()),
+    }
+}
+
+fn append_each(
+    alloc: Global,
+    values: &[Value],
+    kind: EntityKind,
+    entities: &mut Vec<EntityDraft>,
+) -> Result<(), Refused>
+    ensures ok { OnOk result (IsAppended (each (entity (form_of kind)) (map view values.now)) entities.old.items entities.new.items) }
+    ensures err { IfErr result (λ code. Fails code (each (entity (form_of kind)) (map view values.now))) }
+{
+    for value in values {
+        entities.push(entity(alloc, value, kind)?)?;
+    }
+    Ok(())
+}
+
+fn entity(alloc: Global, value: &Value, kind: EntityKind) -> Result<EntityDraft, Refused>
+    ensures { Gives (λ found. found) result (entity (form_of kind) (view value.now)) }
+{
+    Ok(EntityDraft {
+        name: required(alloc, value, "name")?,
+        group: optional(alloc, value, "group")?,
+        is: drafted(alloc, value, kind)?,
+    })
+}
+
+fn drafted(alloc: Global, value: &Value, kind: EntityKind) -> Result<Drafted, Refused>
+    ensures { Gives (λ found. found) result (form_of kind (view value.now)) }
+{
+    match kind {
+        EntityKind::Timer => timer(alloc, value),
+        EntityKind::Subscription => subscription(alloc, value),
+        EntityKind::Service => service(alloc, value),
+        EntityKind::Client => client(alloc, value),
+        EntityKind::Server => server(alloc, value),
+        EntityKind::ActionClient => action_client(alloc, value),
+    }
+}
+
+fn timer(alloc: Global, value: &Value) -> Result<Drafted, Refused>
+    ensures { Gives (λ found. found) result (timer_form (view value.now)) }
+{
+    Ok(Drafted::Timer(TimerDraft {
+        period: required(alloc, value, "period")?,
+        script: script_field(alloc, value, "script")?,
+    }))
+}
+
+fn subscription(alloc: Global, value: &Value) -> Result<Drafted, Refused>
+    ensures { Gives (λ found. found) result (subscription_form (view value.now)) }
+{
+    Ok(Drafted::Subscription(SubscriptionDraft {
+        topic: required(alloc, value, "topic")?,
+        depth: depth_field(alloc, value)?,
+        script: script_field(alloc, value, "script")?,
+    }))
+}
+
+fn service(alloc: Global, value: &Value) -> Result<Drafted, Refused>
+    ensures { Gives (λ found. found) result (service_form (view value.now)) }
+{
+    Ok(Drafted::Service(ServiceDraft {
+        depth: depth_field(alloc, value)?,
+        script: script_field(alloc, value, "script")?,
+    }))
+}
+
+fn client(alloc: Global, value: &Value) -> Result<Drafted, Refused>
+    ensures { Gives (λ found. found) result (client_form (view value.now)) }
+{
+    Ok(Drafted::Client(ClientDraft {
+        service: required(alloc, value, "service")?,
+        depth: depth_field(alloc, value)?,
+        script: script_field(alloc, value, "script")?,
+    }))
+}
+
+fn server(alloc: Global, value: &Value) -> Result<Drafted, Refused>
+    ensures { Gives (λ found. found) result (server_form (view value.now)) }
+{
+    Ok(Drafted::Server(ServerDraft {
+        depth: depth_field(alloc, value)?,
+        result_timeout: optional(alloc, value, "result_timeout")?,
+        on_goal: script_field(alloc, value, "on_goal")?,
+        on_cancel: script_field(alloc, value, "on_cancel")?,
+        script: script_field(alloc, value, "script")?,
+    }))
+}
+
+fn action_client(alloc: Global, value: &Value) -> Result<Drafted, Refused>
+    ensures { Gives (λ found. found) result (action_client_form (view value.now)) }
+{
+    Ok(Drafted::ActionClient(ActionClientDraft {
+        server: required(alloc, value, "action")?,
+        depth: depth_field(alloc, value)?,
+        on_response: script_field(alloc, value, "on_response")?,
+        on_code: script_field(alloc, value, "on_code")?,
+        on_feedback: script_field(alloc, value, "on_feedback")?,
+        on_result: optional(alloc, value, "on_result")?,
+    }))
+}
+
+fn depth_field(alloc: Global, value: &Value) -> Result<u64, Refused>
+    ensures { Gives (λ found. found) result (depth_field (view value.now)) }
+{
+    Ok(optional(alloc, value, "depth")?.unwrap_or(DEFAULT_DEPTH))
+}

@@ -1,0 +1,199 @@
+-- Entries that are added one after another, each of a new name.
+use Rattle.std.proofs.Common.{◌≡◌, ◌⊎◌, inl, inr, ℕ, zero, suc, ◌+◌, ◌<◌, Bool, true, false, not, ◌||◌, if◌then◌else◌, List, [], ◌∷◌, ◌++◌, length, map, drop, get_or, Option, None, Some, option_and_then, String, Global, string_bytes, refl, sym, ap, ◌∙◌, append_assoc, append-nil}
+use Rattle.std.specs.List.{list_any}
+use Rattle.std.specs.Option.{option_map}
+use Rattle.std.specs.Str.{bytes_eq}
+use Rattle.std.proofs.lemmas.List.{map-append}
+use Rattle.std.proofs.lemmas.List.Folds.{list_any-append}
+use Rattle.indexmap.specs.IndexMap.{insert_entry}
+use Rattle.exec_graph.specs.Directory.{DirectoryData, directory_of}
+use Rattle.exec_graph.specs.Draft.{GraphDraft}
+use Rattle.exec_graph.specs.Entries.{entity_of}
+use Rattle.exec_graph.specs.Entries.{entities_of as entries_of}
+use Rattle.exec_graph.specs.Faults.{names_of}
+use Rattle.exec_graph.specs.Graph.{EntityData}
+use Rattle.exec_graph.specs.Names.{are_distinct}
+use Rattle.exec_graph.specs.Numbers.{Placed, entities_of, groups_of}
+use Rattle.exec_graph.specs.Options.{each}
+use Rattle.exec_graph.specs.Resolved.{entity_in, topic_in}
+use Rattle.exec_graph.specs.declared.entity.CallbackGroup.{CallbackGroup}
+use Rattle.exec_graph.specs.declared.entity.Declared.{Declared}
+use Rattle.exec_graph.proofs.Bools.{and_left, and_right, or_left, or_right, not_true, both_true}
+use Rattle.exec_graph.proofs.NameLists.{from_place}
+use Rattle.exec_graph.proofs.NamesAt.{bytes_sym}
+
+-- the name of what is declared, and of what is placed
+abbrev pub title : EntityData → List ℕ
+title entity = entity.name
+
+abbrev pub name_of : Placed → List ℕ
+name_of placed = placed.entity.name
+
+-- what a name is declared as
+abbrev pub entity : List ℕ → Declared → EntityData
+entity name is = record { name = name; is = is }
+
+-- whether a text is this name
+abbrev is_name : List ℕ → List ℕ → Bool
+is_name name other = bytes_eq other name
+
+-- ---- one entry
+
+abbrev keys_eq : String Global → String Global → Bool
+keys_eq a b = bytes_eq (string_bytes a) (string_bytes b)
+
+put : (b : Bool) (entry : String Global × Declared) (entries set : List (String Global × Declared)) (is : Declared) (last : List EntityData) → b ≡ false → entries_of set ≡ last →
+    entries_of (if b then (entry.0, is) ∷ entries else entry ∷ set) ≡ entity_of entry ∷ last
+put true entry entries set is last none others = absurd cc
+put false entry entries set is last none others = ap (λ (es : List EntityData). entity_of entry ∷ es) others
+
+-- an entry of a new name goes last
+new_entry : (entries : List (String Global × Declared)) (key : String Global) (is : Declared) → list_any (is_name (string_bytes key)) (map title (entries_of entries)) ≡ false →
+    entries_of (insert_entry keys_eq entries key is) ≡ entries_of entries ++ entity (string_bytes key) is ∷ []
+new_entry [] key is none = refl
+new_entry (entry ∷ entries) key is none =
+    put (keys_eq key entry.0) entry entries (insert_entry keys_eq entries key is) is (entries_of entries ++ entity (string_bytes key) is ∷ [])
+    (bytes_sym (string_bytes key) (string_bytes entry.0) ∙ or_left (bytes_eq (string_bytes entry.0) (string_bytes key)) (list_any (is_name (string_bytes key)) (map title (entries_of entries))) none)
+    (new_entry entries key is (or_right (bytes_eq (string_bytes entry.0) (string_bytes key)) (list_any (is_name (string_bytes key)) (map title (entries_of entries))) none))
+
+-- the same where the text is known
+pub appended : (name : List ℕ) (old new : List (String Global × Declared)) (key : String Global) (is : Declared) → string_bytes key ≡ name → new ≡ insert_entry keys_eq old key is →
+    list_any (is_name name) (map title (entries_of old)) ≡ false → entries_of new ≡ entries_of old ++ entity name is ∷ []
+appended name old new key is text inserted none =
+    ap entries_of inserted
+    ∙ new_entry old key is (ap (λ (name : List ℕ). list_any (is_name name) (map title (entries_of old))) text ∙ none)
+    ∙ ap (λ (name : List ℕ). entries_of old ++ entity name is ∷ []) text
+
+-- ---- names that differ
+
+or_false : (a b : Bool) → a ≡ false → b ≡ false → (a || b) ≡ false
+or_false true b e f = e
+or_false false b e f = f
+
+-- a text among others, which all differ, isn't one of those in front
+not_in_front : (front : List (List ℕ)) (text : List ℕ) (rest : List (List ℕ)) → are_distinct (front ++ text ∷ rest) ≡ true → list_any (is_name text) front ≡ false
+not_in_front [] text rest distinct = refl
+not_in_front (other ∷ front) text rest distinct =
+    let apart : list_any (is_name other) (front ++ text ∷ rest) ≡ false = not_true (list_any (is_name other) (front ++ text ∷ rest)) (and_left (not (list_any (is_name other) (front ++ text ∷ rest))) (are_distinct (front ++ text ∷ rest)) distinct) in
+    let behind : list_any (is_name other) (text ∷ rest) ≡ false = or_right (list_any (is_name other) front) (list_any (is_name other) (text ∷ rest)) (sym (list_any-append (is_name other) front (text ∷ rest)) ∙ apart) in
+    or_false (bytes_eq other text) (list_any (is_name text) front)
+    (bytes_sym other text ∙ or_left (bytes_eq text other) (list_any (is_name other) rest) behind)
+    (not_in_front front text rest (and_right (not (list_any (is_name other) (front ++ text ∷ rest))) (are_distinct (front ++ text ∷ rest)) distinct))
+
+-- those in front differ where all do
+front_distinct : (front rest : List (List ℕ)) → are_distinct (front ++ rest) ≡ true → are_distinct front ≡ true
+front_distinct [] rest distinct = refl
+front_distinct (text ∷ front) rest distinct =
+    let apart : list_any (is_name text) (front ++ rest) ≡ false = not_true (list_any (is_name text) (front ++ rest)) (and_left (not (list_any (is_name text) (front ++ rest))) (are_distinct (front ++ rest)) distinct) in
+    both_true (not (list_any (is_name text) front)) (are_distinct front)
+    (ap not (or_left (list_any (is_name text) front) (list_any (is_name text) rest) (sym (list_any-append (is_name text) front rest) ∙ apart)))
+    (front_distinct front rest (and_right (not (list_any (is_name text) (front ++ rest))) (are_distinct (front ++ rest)) distinct))
+
+-- ---- topics
+
+topic_names : (texts : List (List ℕ)) → map title (map topic_in texts) ≡ texts
+topic_names [] = refl
+topic_names (text ∷ texts) = ap (λ (ts : List (List ℕ)). text ∷ ts) (topic_names texts)
+
+one_more : (all front after rest : List EntityData) (next : EntityData) → are_distinct (map title all) ≡ true → front ++ next ∷ rest ≡ all →
+    (list_any (is_name next.name) (map title front) ≡ false → after ≡ front ++ next ∷ []) → after ++ rest ≡ all
+one_more all front after rest next distinct are appends =
+    let split : map title front ++ next.name ∷ map title rest ≡ map title all = sym (map-append title front (next ∷ rest)) ∙ ap (map title) are in
+    let none : list_any (is_name next.name) (map title front) ≡ false = not_in_front (map title front) next.name (map title rest) (ap are_distinct split ∙ distinct) in
+    ap (λ (es : List EntityData). es ++ rest) (appends none) ∙ append_assoc front (next ∷ []) rest ∙ are
+
+-- the topics so far gain the next
+pub next_topic : (topics : List (String Global)) (i : ℕ) (topic : String Global) (front after : List EntityData) (text : List ℕ) → i < length topics → topic ≡ get_or topics i topic → text ≡ string_bytes topic →
+    (list_any (is_name text) (map title front) ≡ false → after ≡ front ++ topic_in text ∷ []) →
+    (are_distinct (map string_bytes topics) ≡ true → front ++ map topic_in (map string_bytes (drop i topics)) ≡ map topic_in (map string_bytes topics)) →
+    are_distinct (map string_bytes topics) ≡ true → after ++ map topic_in (map string_bytes (drop (i + 1) topics)) ≡ map topic_in (map string_bytes topics)
+next_topic topics i topic front after text within there same appends holds distinct =
+    let here : drop i topics ≡ topic ∷ drop (i + 1) topics = from_place topics i topic within there in
+    one_more (map topic_in (map string_bytes topics)) front after (map topic_in (map string_bytes (drop (i + 1) topics))) (topic_in text)
+    (ap are_distinct (topic_names (map string_bytes topics)) ∙ distinct)
+    (ap (λ (name : List ℕ). front ++ topic_in name ∷ map topic_in (map string_bytes (drop (i + 1) topics))) same
+    ∙ ap (λ (ts : List (String Global)). front ++ map topic_in (map string_bytes ts)) (sym here) ∙ holds distinct)
+    appends
+
+-- ---- entities
+
+-- what stands so far, and then what is left, is all
+abbrev pub Stands : List (List ℕ) → DirectoryData → List CallbackGroup → List Placed → List EntityData → Type 0
+Stands topics directory groups left front =
+    (source : GraphDraft) → are_distinct (names_of source) ≡ true → topics ≡ source.topics → directory ≡ directory_of source → groups ≡ groups_of source →
+    (map title front ++ map name_of left ≡ names_of source)
+    × (option_map (λ others. front ++ others) (each (entity_in source) left) ≡ option_map (λ others. map topic_in source.topics ++ others) (each (entity_in source) (entities_of source)))
+
+-- the topics stand first
+pub starts : (topics : List (List ℕ)) (directory : DirectoryData) (groups : List CallbackGroup) (left : List Placed) (front : List EntityData) → left ≡ directory.entities → (are_distinct topics ≡ true → front ≡ map topic_in topics) → Stands topics directory groups left front
+starts topics directory groups left front all are = λ source distinct named from grouped.
+    let those : left ≡ entities_of source = all ∙ ap (λ (d : DirectoryData). d.entities) from in
+    let first : front ≡ map topic_in source.topics = are (ap are_distinct named ∙ front_distinct source.topics (map name_of (entities_of source)) distinct) ∙ ap (map topic_in) named in (
+      ap (λ (es : List EntityData). map title es ++ map name_of left) first ∙ ap (λ (ts : List (List ℕ)). ts ++ map name_of left) (topic_names source.topics) ∙ ap (λ (ps : List Placed). source.topics ++ map name_of ps) those,
+      (λ i. option_map (λ others. first i ++ others) (each (entity_in source) (those i))),
+    )
+
+read_one : (front : List EntityData) (next : EntityData) (rest : Option (List EntityData)) → option_map (λ others. (front ++ next ∷ []) ++ others) rest ≡ option_map (λ others. front ++ others) (option_and_then (λ ys. Some (next ∷ ys)) rest)
+read_one front next None = refl
+read_one front next (Some others) = ap (λ (es : List EntityData). Some es) (append_assoc front (next ∷ []) others)
+
+-- what stands gains the next
+pub next_stands : (topics : List (List ℕ)) (directory : DirectoryData) (groups : List CallbackGroup) (placeds : List Placed) (i : ℕ) (placed : Placed) (front after : List EntityData) (text : List ℕ) (is : Declared) → i < length placeds → placed ≡ get_or placeds i placed → text ≡ name_of placed →
+    ((source : GraphDraft) → are_distinct (names_of source) ≡ true → directory ≡ directory_of source → groups ≡ groups_of source → entity_in source placed ≡ Some (entity (name_of placed) is)) →
+    (list_any (is_name text) (map title front) ≡ false → after ≡ front ++ entity text is ∷ []) →
+    Stands topics directory groups (drop i placeds) front → Stands topics directory groups (drop (i + 1) placeds) after
+next_stands topics directory groups placeds i placed front after text is within there same gives appends holds = λ source distinct named from grouped.
+    let rest : List Placed = drop (i + 1) placeds in
+    let here : drop i placeds ≡ placed ∷ rest = from_place placeds i placed within there in
+    let before = holds source distinct named from grouped in
+    let names : map title front ++ text ∷ map name_of rest ≡ names_of source =
+    ap (λ (name : List ℕ). map title front ++ name ∷ map name_of rest) same ∙ ap (λ (ps : List Placed). map title front ++ map name_of ps) (sym here) ∙ before.0 in
+    let last : after ≡ front ++ entity text is ∷ [] = appends (not_in_front (map title front) text (map name_of rest) (ap are_distinct names ∙ distinct)) in (
+      ap (λ (es : List EntityData). map title es ++ map name_of rest) last
+          ∙ ap (λ (ns : List (List ℕ)). ns ++ map name_of rest) (map-append title front (entity text is ∷ []))
+          ∙ append_assoc (map title front) (text ∷ []) (map name_of rest)
+          ∙ names,
+      ap (λ (es : List EntityData). option_map (λ others. es ++ others) (each (entity_in source) rest)) last
+          ∙ read_one front (entity text is) (each (entity_in source) rest)
+          ∙ ap (λ (name : List ℕ). option_map (λ others. front ++ others) (option_and_then (λ ys. Some (entity name is ∷ ys)) (each (entity_in source) rest))) same
+          ∙ ap (λ (o : Option EntityData). option_map (λ others. front ++ others) (option_and_then (λ y. option_and_then (λ ys. Some (y ∷ ys)) (each (entity_in source) rest)) o)) (sym (gives source distinct from grouped))
+          ∙ ap (λ (ps : List Placed). option_map (λ others. front ++ others) (each (entity_in source) ps)) (sym here)
+          ∙ before.1,
+    )
+
+-- all stand where nothing is left
+pub all_stand : (topics : List (List ℕ)) (directory : DirectoryData) (groups : List CallbackGroup) (left : List Placed) (front : List EntityData) → left ≡ [] → Stands topics directory groups left front →
+    (source : GraphDraft) → are_distinct (names_of source) ≡ true → topics ≡ source.topics → directory ≡ directory_of source → groups ≡ groups_of source →
+    option_map (λ others. map topic_in source.topics ++ others) (each (entity_in source) (entities_of source)) ≡ Some front
+all_stand topics directory groups left front none holds source distinct named from grouped =
+    sym (holds source distinct named from grouped).1
+    ∙ ap (λ (ps : List Placed). option_map (λ others. front ++ others) (each (entity_in source) ps)) none
+    ∙ ap (λ (es : List EntityData). Some es) (append-nil front)
+
+-- ---- what is nothing
+
+then_none : {B : Type 0} (o : Option B) (rest : Option (List B)) → rest ≡ None → option_and_then (λ y. option_and_then (λ ys. Some (y ∷ ys)) rest) o ≡ None
+then_none {B} None rest none = refl
+then_none {B} (Some y) rest none = ap (λ (r : Option (List B)). option_and_then (λ ys. Some (y ∷ ys)) r) none
+
+none_behind : {A B : Type 0} (f : A → Option B) (i : ℕ) (xs : List A) → each f (drop i xs) ≡ None → each f xs ≡ None
+none_behind f zero xs none = none
+none_behind f (suc i) [] none = none
+none_behind f (suc i) (x ∷ xs) none = then_none (f x) (each f xs) (none_behind f i xs none)
+
+here_none : {A B : Type 0} (f : A → Option B) (x : A) (xs : List A) → f x ≡ None → each f (x ∷ xs) ≡ None
+here_none {A} {B} f x xs none = ap (λ (o : Option B). option_and_then (λ y. option_and_then (λ ys. Some (y ∷ ys)) (each f xs)) o) none
+
+-- where one is nothing, there is nothing at all
+none_at : (source : GraphDraft) (placeds : List Placed) (i : ℕ) (placed : Placed) → i < length placeds → placed ≡ get_or placeds i placed → placeds ≡ entities_of source → entity_in source placed ≡ None → each (entity_in source) (entities_of source) ≡ None
+none_at source placeds i placed within there those none =
+    ap (each (entity_in source)) (sym those)
+    ∙ none_behind (entity_in source) i placeds (ap (each (entity_in source)) (from_place placeds i placed within there) ∙ here_none (entity_in source) placed (drop (i + 1) placeds) none)
+
+-- the same where a fault says so
+pub fault_at : {M : Type 0} (directory : DirectoryData) (groups : List CallbackGroup) (placeds : List Placed) (i : ℕ) (placed : Placed) → i < length placeds → placed ≡ get_or placeds i placed → placeds ≡ directory.entities →
+    M ⊎ ((source : GraphDraft) → are_distinct (names_of source) ≡ true → directory ≡ directory_of source → groups ≡ groups_of source → entity_in source placed ≡ None) →
+    M ⊎ ((source : GraphDraft) → are_distinct (names_of source) ≡ true → directory ≡ directory_of source → groups ≡ groups_of source → each (entity_in source) (entities_of source) ≡ None)
+fault_at directory groups placeds i placed within there those (inl memory) = inl memory
+fault_at directory groups placeds i placed within there those (inr none) =
+    inr (λ source distinct from grouped. none_at source placeds i placed within there (those ∙ ap (λ (d : DirectoryData). d.entities) from) (none source distinct from grouped))

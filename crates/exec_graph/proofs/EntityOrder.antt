@@ -1,0 +1,34 @@
+-- The entities of all kinds, one kind after another.
+use Rattle.std.proofs.Common.{◌≡◌, ℕ, suc, ◌+◌, ◌<◌, length, get_or, drop, add-one, List, [], ◌∷◌, ◌++◌, flat_map, filter_map, Option, None, Some, refl, sym, ap, ◌∙◌, append_assoc}
+use Rattle.std.proofs.Math.Seq.{drop-cons}
+use Rattle.exec_graph.specs.Directory.{listed}
+
+-- what is gathered so far gains what the next gives
+pub next_gathered : {A B : Type 0} (f : A → List B) (xs : List A) (i : ℕ) (d : A) (front : List B) → i < length xs →
+    front ++ flat_map f (drop i xs) ≡ (front ++ f (get_or xs i d)) ++ flat_map f (drop (i + 1) xs)
+next_gathered {A} {B} f xs i d front within =
+    ap (λ (rest : List A). front ++ flat_map f rest) (drop-cons xs i d within ∙ ap (λ (n : ℕ). get_or xs i d ∷ drop n xs) (sym (add-one i)))
+    ∙ sym (append_assoc front (f (get_or xs i d)) (flat_map f (drop (i + 1) xs)))
+
+from_place : {X : Type 0} (xs : List X) (i : ℕ) (x : X) → i < length xs → x ≡ get_or xs i x → drop i xs ≡ x ∷ drop (i + 1) xs
+from_place {X} xs i x within there = drop-cons xs i x within ∙ ap (λ (y : X). y ∷ drop (suc i) xs) (sym there) ∙ ap (λ (n : ℕ). x ∷ drop n xs) (sym (add-one i))
+
+-- the same where it is known what the next gives
+pub next_given : {A B : Type 0} (f : A → List B) (xs : List A) (i : ℕ) (x : A) (front more given : List B) → i < length xs → x ≡ get_or xs i x → more ≡ front ++ given → given ≡ f x →
+    more ++ flat_map f (drop (i + 1) xs) ≡ front ++ flat_map f (drop i xs)
+next_given {A} {B} f xs i x front more given within there is gives =
+    ap (λ (all : List B). all ++ flat_map f (drop (i + 1) xs)) (is ∙ ap (λ (g : List B). front ++ g) gives)
+    ∙ append_assoc front (f x) (flat_map f (drop (i + 1) xs))
+    ∙ ap (λ (rest : List A). front ++ flat_map f rest) (sym (from_place xs i x within there))
+
+kept_by : {A B : Type 0} (f : A → Option B) (x : A) (xs : List A) (found : Option B) → f x ≡ found → listed found ++ filter_map f xs ≡ filter_map f (x ∷ xs)
+kept_by f x xs None is = rw is refl
+kept_by f x xs (Some found) is = rw is refl
+
+-- what there is of the next is added
+pub next_listed : {A B : Type 0} (f : A → Option B) (xs : List A) (i : ℕ) (x : A) (front more : List B) (found : Option B) → i < length xs → x ≡ get_or xs i x → more ≡ front ++ listed found → found ≡ f x →
+    more ++ filter_map f (drop (i + 1) xs) ≡ front ++ filter_map f (drop i xs)
+next_listed {A} {B} f xs i x front more found within there is gives =
+    ap (λ (all : List B). all ++ filter_map f (drop (i + 1) xs)) is
+    ∙ append_assoc front (listed found) (filter_map f (drop (i + 1) xs))
+    ∙ ap (λ (all : List B). front ++ all) (kept_by f x (drop (i + 1) xs) found (sym gives) ∙ ap (filter_map f) (sym (from_place xs i x within there)))

@@ -1,0 +1,106 @@
+-- What a graph's draft keeps that has no fault.
+use Rattle.std.proofs.Common.{◌≡◌, Bool, true, false, cond, not, ◌&&◌, ◌||◌, length, map, nat_le, sum_by, List, [], ◌∷◌, Option, None, Some, find, refl}
+use Rattle.std.specs.List.{list_all, list_any}
+use Rattle.exec_graph.specs.Draft.{GraphDraft}
+use Rattle.exec_graph.specs.Numbers.{entities_of}
+use Rattle.exec_graph.specs.Faults.{are_names, has_named_groups, names_of, is_resolved, is_within, has_short_scripts, is_of_variable, has_faulty_script, shares_variables, is_well_named, is_small}
+use Rattle.exec_graph.specs.Refusals.{has_fault, faults_in_order, fault_in}
+use Rattle.exec_graph.specs.Scripts.{script_faults}
+use Rattle.exec_msg.specs.declared.limits.TheConstants.{NODES, NAMED_GROUPS, TOPICS, ENTITIES}
+use Rattle.exec_graph.proofs.Bools.{and_left, and_right, or_left, or_right, not_false, neither}
+
+-- what each fault leaves of a draft that hasn't it
+pub record IsKept (source : GraphDraft) : Type 0 where
+  pub node_names : are_names (map (λ node. node.name) source.nodes) ≡ true
+  pub group_names : list_all has_named_groups source.nodes ≡ true
+  pub names : are_names (names_of source) ≡ true
+  pub resolved : list_all (is_resolved source) (entities_of source) ≡ true
+  pub few_nodes : nat_le (length source.nodes) NODES ≡ true
+  pub few_groups : nat_le (sum_by (λ node. length node.groups) source.nodes) NAMED_GROUPS ≡ true
+  pub few_topics : nat_le (length source.topics) TOPICS ≡ true
+  pub few_entities : nat_le (length (entities_of source)) ENTITIES ≡ true
+  pub within : list_all (λ placed. is_within placed.entity.is && has_short_scripts placed.entity.is) (entities_of source) ≡ true
+  pub faultless : script_faults source ≡ []
+
+-- ---- a test that nothing passes
+
+none_here : {A : Type 0} (x : A) (rest : Option A) (b c : Bool) → cond b (Some x) rest ≡ None → (rest ≡ None → c ≡ false) → (b || c) ≡ false
+none_here x rest true c found others = absurd cc
+none_here x rest false c found others = others found
+
+pub none_passes : {A : Type 0} (test : A → Bool) (xs : List A) → find test xs ≡ None → list_any test xs ≡ false
+none_passes test [] found = refl
+none_passes test (x ∷ xs) found = none_here x (find test xs) (test x) (list_any test xs) found (none_passes test xs)
+
+-- ---- what is kept
+
+-- what the names of a graph keep
+pub record AreKept (source : GraphDraft) : Type 0 where
+  pub node_names : are_names (map (λ node. node.name) source.nodes) ≡ true
+  pub group_names : list_all has_named_groups source.nodes ≡ true
+  pub names : are_names (names_of source) ≡ true
+  pub resolved : list_all (is_resolved source) (entities_of source) ≡ true
+
+pub names_kept : (source : GraphDraft) → is_well_named source ≡ true → AreKept source
+names_kept source named =
+    let names_1 = are_names (map (λ node. node.name) source.nodes) in
+    let names_2 = names_1 && list_all has_named_groups source.nodes in
+    let names_3 = names_2 && are_names (names_of source) in
+    let named_3 = and_left names_3 (list_all (is_resolved source) (entities_of source)) named in
+    let named_2 = and_left names_2 (are_names (names_of source)) named_3 in
+    record {
+      node_names = and_left names_1 (list_all has_named_groups source.nodes) named_2;
+      group_names = and_right names_1 (list_all has_named_groups source.nodes) named_2;
+      names = and_right names_2 (are_names (names_of source)) named_3;
+      resolved = and_right names_3 (list_all (is_resolved source) (entities_of source)) named;
+    }
+
+-- what the numbers of a graph keep
+pub record IsSmall (source : GraphDraft) : Type 0 where
+  pub few_nodes : nat_le (length source.nodes) NODES ≡ true
+  pub few_groups : nat_le (sum_by (λ node. length node.groups) source.nodes) NAMED_GROUPS ≡ true
+  pub few_topics : nat_le (length source.topics) TOPICS ≡ true
+  pub few_entities : nat_le (length (entities_of source)) ENTITIES ≡ true
+  pub within : list_all (λ placed. is_within placed.entity.is && has_short_scripts placed.entity.is) (entities_of source) ≡ true
+
+pub small_kept : (source : GraphDraft) → is_small source ≡ true → IsSmall source
+small_kept source small =
+    let limits_1 = nat_le (length source.nodes) NODES in
+    let limits_2 = limits_1 && nat_le (sum_by (λ node. length node.groups) source.nodes) NAMED_GROUPS in
+    let limits_3 = limits_2 && nat_le (length source.topics) TOPICS in
+    let limits_4 = limits_3 && nat_le (length (entities_of source)) ENTITIES in
+    let kept_4 = and_left limits_4 (list_all (λ placed. is_within placed.entity.is && has_short_scripts placed.entity.is) (entities_of source)) small in
+    let kept_3 = and_left limits_3 (nat_le (length (entities_of source)) ENTITIES) kept_4 in
+    let kept_2 = and_left limits_2 (nat_le (length source.topics) TOPICS) kept_3 in
+    record {
+      few_nodes = and_left limits_1 (nat_le (sum_by (λ node. length node.groups) source.nodes) NAMED_GROUPS) kept_2;
+      few_groups = and_right limits_1 (nat_le (sum_by (λ node. length node.groups) source.nodes) NAMED_GROUPS) kept_2;
+      few_topics = and_right limits_2 (nat_le (length source.topics) TOPICS) kept_3;
+      few_entities = and_right limits_3 (nat_le (length (entities_of source)) ENTITIES) kept_4;
+      within = and_right limits_4 (list_all (λ placed. is_within placed.entity.is && has_short_scripts placed.entity.is) (entities_of source)) small;
+    }
+
+-- a draft without a fault keeps what each of them asks
+pub kept : (source : GraphDraft) → fault_in source ≡ None → IsKept source
+kept source found =
+    let variables = shares_variables source || false in
+    let scripts = has_faulty_script source || variables in
+    let limits = not (is_small source) || scripts in
+    let past_names = none_passes (λ fault. has_fault fault source) faults_in_order found in
+    let past_limits = or_right (not (is_well_named source)) limits past_names in
+    let past_scripts = or_right (not (is_small source)) scripts past_limits in
+    let past_variables = or_right (has_faulty_script source) variables past_scripts in
+    let names = names_kept source (not_false (is_well_named source) (or_left (not (is_well_named source)) limits past_names)) in
+    let small = small_kept source (not_false (is_small source) (or_left (not (is_small source)) scripts past_limits)) in
+    record {
+      node_names = names.node_names;
+      group_names = names.group_names;
+      names = names.names;
+      resolved = names.resolved;
+      few_nodes = small.few_nodes;
+      few_groups = small.few_groups;
+      few_topics = small.few_topics;
+      few_entities = small.few_entities;
+      within = small.within;
+      faultless = neither is_of_variable (script_faults source) (or_left (has_faulty_script source) variables past_scripts) (or_left (shares_variables source) false past_variables);
+    }

@@ -1,0 +1,167 @@
+-- What a directory finds is what the draft of a graph declares.
+use Rattle.std.proofs.Common.{◌≡◌, ℕ, zero, suc, ◌+◌, ◌-◌, ◌<◌, ◌≤◌, Bool, true, false, not, ◌&&◌, ◌||◌, cond, if◌then◌else◌, nat_lt, length, map, List, [], ◌∷◌, ◌++◌, Option, None, Some, is_some, option_and_then, slice_get, refl, sym, ap, subst, ◌∙◌, append_assoc, append-nil, arith}
+use Rattle.std.specs.List.{list_any, list_all, position_from}
+use Rattle.std.specs.Option.{option_map}
+use Rattle.std.specs.Str.{bytes_eq}
+use Rattle.std.proofs.lemmas.Bool.{lt-ltb, le-ltb}
+use Rattle.std.proofs.lemmas.List.{length-append}
+use Rattle.std.proofs.lemmas.List.Folds.{list_any-append}
+use Rattle.std.proofs.lemmas.Slice.Eq.{bytes_eq-Decides}
+use Rattle.exec_graph.specs.Directory.{DirectoryData, where_so, passing, topic_in, entity_in, directory_of, number_of}
+use Rattle.exec_graph.specs.Draft.{GraphDraft}
+use Rattle.exec_graph.specs.Faults.{names_of}
+use Rattle.exec_graph.specs.Names.{are_distinct}
+use Rattle.exec_graph.specs.Numbers.{Placed, entities_of, topic_named, entity_named}
+use Rattle.exec_graph.proofs.Bools.{and_left, and_right, or_left, or_right, not_false}
+
+-- the name of an entity
+abbrev name_of : Placed → List ℕ
+name_of placed = placed.entity.name
+
+-- whether a text is this name
+abbrev is_name : List ℕ → List ℕ → Bool
+is_name name other = bytes_eq other name
+
+-- whether an entity passes and has this name
+abbrev is_wanted : (Placed → Bool) → List ℕ → Placed → Bool
+is_wanted test name placed = test placed && bytes_eq placed.entity.name name
+
+not_true : (b : Bool) → not b ≡ true → b ≡ false
+not_true true is = absurd cc
+not_true false is = refl
+
+-- ---- names that stand once
+
+unfound_by : (test b : Bool) (first : ℕ) (rest : Option ℕ) → b ≡ false → rest ≡ None → cond (test && b) (Some first) rest ≡ None
+unfound_by true true first rest is none = absurd cc
+unfound_by true false first rest is none = none
+unfound_by false b first rest is none = none
+
+-- entities of other names
+unfound : (test : Placed → Bool) (name : List ℕ) (first : ℕ) (entities : List Placed) → list_any (is_name name) (map name_of entities) ≡ false → position_from (is_wanted test name) first entities ≡ None
+unfound test name first [] none = refl
+unfound test name first (placed ∷ entities) none =
+    unfound_by (test placed) (bytes_eq (name_of placed) name) first (position_from (is_wanted test name) (first + 1) entities)
+    (or_left (bytes_eq (name_of placed) name) (list_any (is_name name) (map name_of entities)) none)
+    (unfound test name (first + 1) entities (or_right (bytes_eq (name_of placed) name) (list_any (is_name name) (map name_of entities)) none))
+
+-- a name that stands before others, which all differ, isn't among them
+stands_once : (name text : List ℕ) (texts : List (List ℕ)) → bytes_eq text name ≡ true → are_distinct (text ∷ texts) ≡ true → list_any (is_name name) texts ≡ false
+stands_once name text texts same distinct =
+    let is : text ≡ name = (bytes_eq-Decides text name).0 same in
+    subst (λ (wanted : List ℕ). list_any (is_name wanted) texts ≡ false) is
+    (not_true (list_any (is_name text) texts) (and_left (not (list_any (is_name text) texts)) (are_distinct texts) distinct))
+
+-- ---- entities
+
+-- the entity at a number behind so many topics, with the number
+abbrev placed_at : ℕ → List Placed → ℕ → Option (ℕ × Placed)
+placed_at topics entities number = if nat_lt number topics then None else option_map (λ placed. (number, placed)) (slice_get entities (number - topics))
+
+at_end : (front : List Placed) (placed : Placed) (entities : List Placed) → slice_get (front ++ placed ∷ entities) (length front) ≡ Some placed
+at_end [] placed entities = refl
+at_end (other ∷ front) placed entities = at_end front placed entities
+
+found_here : (topics : ℕ) (front : List Placed) (placed : Placed) (entities : List Placed) → placed_at topics (front ++ placed ∷ entities) (topics + length front) ≡ Some (topics + length front, placed)
+found_here topics front placed entities =
+    let back : topics + length front - topics ≡ length front = omega arith in
+    rw (le-ltb (topics + length front) topics (omega arith), back, at_end front placed entities) refl
+
+here_by : (t : Bool) (number : ℕ) (rest : Option ℕ) → rest ≡ None → where_so t number ≡ cond (t && true) (Some number) rest
+here_by true number rest none = refl
+here_by false number rest none = sym none
+
+later_by : (t : Bool) (number : ℕ) (rest : Option ℕ) → rest ≡ cond (t && false) (Some number) rest
+later_by true number rest = refl
+later_by false number rest = refl
+
+module _ (test : Placed → Bool) (name : List ℕ) (topics : ℕ) where
+  -- what is found among entities, behind those in front
+  abbrev found_among : List Placed → Option ℕ → Option ℕ
+  found_among all number = option_and_then (passing test) (option_and_then (placed_at topics all) number)
+
+  among_by : (b : Bool) (front : List Placed) (placed : Placed) (entities : List Placed) (first : ℕ) → first ≡ topics + length front → bytes_eq (name_of placed) name ≡ b → are_distinct (map name_of (placed ∷ entities)) ≡ true →
+      (found_among (front ++ placed ∷ entities) (position_from (is_name name) (first + 1) (map name_of entities)) ≡ position_from (is_wanted test name) (first + 1) entities) →
+      found_among (front ++ placed ∷ entities) (cond b (Some first) (position_from (is_name name) (first + 1) (map name_of entities)))
+      ≡ cond (test placed && b) (Some first) (position_from (is_wanted test name) (first + 1) entities)
+  among_by true front placed entities first is same distinct others =
+      rw is (ap (option_and_then (passing test)) (found_here topics front placed entities)
+      ∙ here_by (test placed) (topics + length front) (position_from (is_wanted test name) (topics + length front + 1) entities)
+      (unfound test name (topics + length front + 1) entities (stands_once name (name_of placed) (map name_of entities) same distinct)))
+  among_by false front placed entities first is same distinct others =
+      others ∙ later_by (test placed) first (position_from (is_wanted test name) (first + 1) entities)
+
+  among : (front entities : List Placed) (first : ℕ) → first ≡ topics + length front → are_distinct (map name_of entities) ≡ true →
+      found_among (front ++ entities) (position_from (is_name name) first (map name_of entities)) ≡ position_from (is_wanted test name) first entities
+  among front [] first is distinct = refl
+  among front (placed ∷ entities) first is distinct =
+      let next : first + 1 ≡ topics + length (front ++ placed ∷ []) = omega (arith, is, length-append front (placed ∷ [])) in
+      ap (λ (b : Bool). found_among (front ++ placed ∷ entities) (cond b (Some first) (position_from (is_name name) (first + 1) (map name_of entities)))) refl
+      ∙ among_by (bytes_eq (name_of placed) name) front placed entities first is refl distinct
+      (ap (λ (all : List Placed). found_among all (position_from (is_name name) (first + 1) (map name_of entities))) (sym (append_assoc front (placed ∷ []) entities))
+      ∙ among (front ++ placed ∷ []) entities (first + 1) next (and_right (not (list_any (is_name (name_of placed)) (map name_of entities))) (are_distinct (map name_of entities)) distinct))
+
+  below : (first : ℕ) (entities : List Placed) → first < topics → option_and_then (passing test) (placed_at topics entities first) ≡ None
+  below first entities less = rw (lt-ltb first topics less) refl
+
+  behind_by : (b : Bool) (text : List ℕ) (texts : List (List ℕ)) (entities : List Placed) (first : ℕ) → first < topics → bytes_eq text name ≡ b → are_distinct (text ∷ texts ++ map name_of entities) ≡ true →
+      found_among entities (position_from (is_name name) (first + 1) (texts ++ map name_of entities)) ≡ position_from (is_wanted test name) topics entities →
+      found_among entities (cond b (Some first) (position_from (is_name name) (first + 1) (texts ++ map name_of entities))) ≡ position_from (is_wanted test name) topics entities
+  behind_by true text texts entities first less same distinct others =
+      below first entities less
+      ∙ sym (unfound test name topics entities (or_right (list_any (is_name name) texts) (list_any (is_name name) (map name_of entities))
+      (sym (list_any-append (is_name name) texts (map name_of entities)) ∙ stands_once name text (texts ++ map name_of entities) same distinct)))
+  behind_by false text texts entities first less same distinct others = others
+
+  behind : (texts : List (List ℕ)) (entities : List Placed) (first : ℕ) → topics ≡ first + length texts → are_distinct (texts ++ map name_of entities) ≡ true →
+      found_among entities (position_from (is_name name) first (texts ++ map name_of entities)) ≡ position_from (is_wanted test name) topics entities
+  behind [] entities first is distinct =
+      let same : first ≡ topics = omega (arith, is) in
+      rw same (among [] entities topics (omega arith) distinct)
+  behind (text ∷ texts) entities first is distinct =
+      behind_by (bytes_eq text name) text texts entities first (omega (arith, is)) refl distinct
+      (behind texts entities (first + 1) (omega (arith, is)) (and_right (not (list_any (is_name text) (texts ++ map name_of entities))) (are_distinct (texts ++ map name_of entities)) distinct))
+
+-- an entity is found by its name
+pub entity_found : (draft : GraphDraft) (test : Placed → Bool) (name : List ℕ) → are_distinct (names_of draft) ≡ true → entity_in (directory_of draft) test name ≡ entity_named draft test name
+entity_found draft test name distinct = behind test name (length draft.topics) draft.topics (entities_of draft) 0 (omega arith) distinct
+
+-- ---- topics
+
+abbrev topic_at : ℕ → ℕ → Option ℕ
+topic_at topics number = where_so (nat_lt number topics) number
+
+beyond_by : (topics : ℕ) (first : ℕ) (b : Bool) (rest : Option ℕ) → topics ≤ first → option_and_then (topic_at topics) rest ≡ None → option_and_then (topic_at topics) (cond b (Some first) rest) ≡ None
+beyond_by topics first true rest above others = let e : topics + (first - topics) ≡ first = omega (arith, above) in rw (← e) (rw (le-ltb (topics + (first - topics)) topics (omega arith)) refl)
+beyond_by topics first false rest above others = others
+
+beyond : (name : List ℕ) (topics first : ℕ) (texts : List (List ℕ)) → topics ≤ first → option_and_then (topic_at topics) (position_from (is_name name) first texts) ≡ None
+beyond name topics first [] above = refl
+beyond name topics first (text ∷ texts) above = beyond_by topics first (bytes_eq text name) (position_from (is_name name) (first + 1) texts) above (beyond name topics (first + 1) texts (omega (arith, above)))
+
+topic_by : (b : Bool) (topics first : ℕ) (rest found : Option ℕ) → first < topics → option_and_then (topic_at topics) rest ≡ found → option_and_then (topic_at topics) (cond b (Some first) rest) ≡ cond b (Some first) found
+topic_by true topics first rest found less others = rw (lt-ltb first topics less) refl
+topic_by false topics first rest found less others = others
+
+topic_among : (name : List ℕ) (topics first : ℕ) (texts others : List (List ℕ)) → topics ≡ first + length texts → option_and_then (topic_at topics) (position_from (is_name name) first (texts ++ others)) ≡ position_from (is_name name) first texts
+topic_among name topics first [] others is = beyond name topics first others (omega (arith, is))
+topic_among name topics first (text ∷ texts) others is =
+    topic_by (bytes_eq text name) topics first (position_from (is_name name) (first + 1) (texts ++ others)) (position_from (is_name name) (first + 1) texts) (omega (arith, is))
+    (topic_among name topics (first + 1) texts others (omega (arith, is)))
+
+-- a topic is found by its name
+pub topic_found : (draft : GraphDraft) (name : List ℕ) → topic_in (directory_of draft) name ≡ topic_named draft name
+topic_found draft name = topic_among name (length draft.topics) 0 draft.topics (map name_of (entities_of draft)) (omega arith)
+
+-- ---- the same where a directory is that of a draft
+
+module _ (draft : GraphDraft) (directory : DirectoryData) (is : directory ≡ directory_of draft) where
+  -- what a topic's name finds
+  pub topic_is : (name text : List ℕ) (found : Option ℕ) → text ≡ name → found ≡ topic_in directory text → topic_named draft name ≡ found
+  topic_is name text found same finds =
+      sym (topic_found draft name) ∙ (λ i. topic_in (sym is i) (sym same i)) ∙ sym finds
+
+  -- what an entity's name finds
+  pub entity_is : (test : Placed → Bool) (name text : List ℕ) (found : Option ℕ) → are_distinct (names_of draft) ≡ true → text ≡ name → found ≡ entity_in directory test text → entity_named draft test name ≡ found
+  entity_is test name text found distinct same finds =
+      sym (entity_found draft test name distinct) ∙ (λ i. entity_in (sym is i) test (sym same i)) ∙ sym finds

@@ -1,0 +1,152 @@
+-- What names find in the graph of a document.
+use Rattle.std.proofs.Common.{◌≡◌, ℕ, ◌+◌, Bool, true, false, not, ◌&&◌, ◌==◌, length, map, List, ◌++◌, Some, slice_get, bytes_eq, refl, ap, ◌∙◌, subst, arith}
+use Rattle.std.specs.Option.{option_map_or}
+use Rattle.std.proofs.lemmas.Bool.{eqb-true}
+use Rattle.std.proofs.lemmas.List.{length-map}
+use Rattle.exec_graph.specs.Resolved.{declared, entity_in, topic_in, graph_in}
+use Rattle.exec_graph.specs.Draft.{GraphDraft}
+use Rattle.exec_graph.specs.declared.draft.Drafted.{Drafted}
+use Rattle.exec_graph.specs.Numbers as numbers
+use Rattle.exec_graph.specs.Numbers.{Placed, entities_of, topic_named, entity_named, service_named, server_named, named_in_node, scope_of, is_group, same_name, groups_of, group_named}
+use Rattle.exec_graph.specs.Scripts.{is_reentrant}
+use Rattle.exec_graph.specs.Options.{each}
+use Rattle.exec_graph.specs.Graph.{EntityData, GraphData, is_topic, is_service, is_client, is_server, is_action_client, group_of}
+use Rattle.exec_graph.specs.declared.entity.CallbackGroup.{CallbackGroup}
+use Rattle.exec_graph.specs.declared.entity.Declared.{Declared}
+use Rattle.exec_graph.specs.Lawful.{is_at, is_of_node, is_at_node}
+use Rattle.exec_graph.proofs.Bools.{and_left, and_right, both_true}
+use Rattle.exec_graph.proofs.Known.{Knows}
+use Rattle.exec_graph.proofs.Made.{IsMade, made}
+use Rattle.exec_graph.proofs.Positions.{at_position, slice_get-map, slice_get-front, slice_get-behind}
+use Rattle.exec_graph.proofs.Reading.{then_read, AreRead, are_read, read_at, some_is}
+
+-- the graph of a document, whose entities are these
+abbrev pub graph_of : GraphDraft → List EntityData → GraphData
+graph_of source entities = record {
+  nodes = map (λ node. node.name) source.nodes;
+  groups = groups_of source;
+  entities = map topic_in source.topics ++ entities;
+}
+
+-- its entities are what is read of the document's
+abbrev pub AreEntities : GraphDraft → List EntityData → Type 0
+AreEntities source entities = AreRead (entity_in source) (entities_of source) entities
+
+-- ---- entities
+
+-- an entity: the number of its group, its name, and what it has of its draft
+pub record IsBuilt (source : GraphDraft) (placed : Placed) (entity : EntityData) : Type 0 where
+  pub number : ℕ
+  pub found : group_named source placed.node placed.entity.group ≡ Some number
+  pub named : entity.name ≡ placed.entity.name
+  pub read : declared source (scope_of source placed.node) number placed.entity.is ≡ Some entity.is
+  pub made : IsMade (scope_of source placed.node) number placed.entity.is entity.is
+
+pub built : (source : GraphDraft) (placed : Placed) (entity : EntityData) → entity_in source placed ≡ Some entity → IsBuilt source placed entity
+built source placed entity e =
+    then_read _ (group_named source placed.node placed.entity.group) _ entity e (λ number found e1.
+    then_read _ (declared source (scope_of source placed.node) number placed.entity.is) _ entity e1 (λ is read e2.
+    subst (IsBuilt source placed) (some_is (record { name = placed.entity.name; is = is }) entity e2)
+    (record { number = number; found = found; named = refl; read = read; made = made source (scope_of source placed.node) number placed.entity.is is read })))
+
+-- ---- groups
+
+-- the group of an entity: it is of its node, and is reentrant where it isn't mutually exclusive
+pub record HasGroup (source : GraphDraft) (placed : Placed) (number : ℕ) : Type 0 where
+  pub group : CallbackGroup
+  pub there : slice_get (groups_of source) number ≡ Some group
+  pub node : group.node ≡ placed.node
+  pub reentrant : is_reentrant source placed ≡ not group.exclusive
+
+pub has_group : (source : GraphDraft) (placed : Placed) (number : ℕ) → group_named source placed.node placed.entity.group ≡ Some number → HasGroup source placed number
+has_group source placed number found =
+    let at = at_position (is_group placed.node placed.entity.group) 0 (groups_of source) number found in
+    let same : number ≡ at.place = omega (arith, at.counted) in
+    record {
+      group = at.element;
+      there = ap (slice_get (groups_of source)) same ∙ at.there;
+      node = eqb-true at.element.node placed.node (and_left (at.element.node == placed.node) (same_name at.element.name placed.entity.group) at.passes);
+      reentrant = rw at.found refl;
+    }
+
+-- ---- what is found
+
+found_at : (test : EntityData → Bool) (entities : List EntityData) (number : ℕ) (entity : EntityData) → slice_get entities number ≡ Some entity → test entity ≡ true → option_map_or test (slice_get entities number) false ≡ true
+found_at test entities number entity there passes = rw there passes
+
+pub topic_there : (source : GraphDraft) (entities : List EntityData) (name : List ℕ) (number : ℕ) → topic_named source name ≡ Some number → is_at is_topic (graph_of source entities) number ≡ true
+topic_there source entities name number found =
+    let at = at_position (λ topic. bytes_eq topic name) 0 source.topics number found in
+    let same : number ≡ at.place = omega (arith, at.counted) in
+    let there = slice_get-front (map topic_in source.topics) entities at.place (topic_in at.element) (slice_get-map topic_in source.topics at.place at.element at.there) in
+    found_at (λ entity. is_topic entity.is) (map topic_in source.topics ++ entities) number (topic_in at.element) (ap (slice_get (map topic_in source.topics ++ entities)) same ∙ there) refl
+
+-- an entity of a name that passes a test, at its number
+pub record IsEntityAt (source : GraphDraft) (entities : List EntityData) (test : Placed → Bool) (number : ℕ) : Type 0 where
+  pub placed : Placed
+  pub entity : EntityData
+  pub passes : test placed ≡ true
+  pub read : entity_in source placed ≡ Some entity
+  pub there : slice_get (map topic_in source.topics ++ entities) number ≡ Some entity
+
+pub entity_there : (source : GraphDraft) (entities : List EntityData) (test : Placed → Bool) (name : List ℕ) (number : ℕ) → AreEntities source entities → entity_named source test name ≡ Some number → IsEntityAt source entities test number
+entity_there source entities test name number reads found =
+    let at = at_position (λ placed. test placed && bytes_eq placed.entity.name name) (length source.topics) (entities_of source) number found in
+    let read = read_at (entity_in source) (entities_of source) entities at.place at.element reads at.there in
+    let same : number ≡ length (map topic_in source.topics) + at.place = omega (arith, at.counted, length-map source.topics topic_in) in
+    record {
+      placed = at.element;
+      entity = read.element;
+      passes = and_left (test at.element) (bytes_eq at.element.entity.name name) at.passes;
+      read = read.is;
+      there = ap (slice_get (map topic_in source.topics ++ entities)) same ∙ slice_get-behind (map topic_in source.topics) entities at.place ∙ read.there;
+    }
+
+pub service_there : (source : GraphDraft) (entities : List EntityData) (name : List ℕ) (number : ℕ) → AreEntities source entities → service_named source name ≡ Some number → is_at is_service (graph_of source entities) number ≡ true
+service_there source entities name number reads found =
+    let at = entity_there source entities (λ placed. numbers.is_service placed.entity.is) name number reads found in
+    found_at (λ entity. is_service entity.is) (map topic_in source.topics ++ entities) number at.entity at.there ((built source at.placed at.entity at.read).made.service ∙ at.passes)
+
+pub server_there : (source : GraphDraft) (entities : List EntityData) (name : List ℕ) (number : ℕ) → AreEntities source entities → server_named source name ≡ Some number → is_at is_server (graph_of source entities) number ≡ true
+server_there source entities name number reads found =
+    let at = entity_there source entities (λ placed. numbers.is_server placed.entity.is) name number reads found in
+    found_at (λ entity. is_server entity.is) (map topic_in source.topics ++ entities) number at.entity at.there ((built source at.placed at.entity at.read).made.server ∙ at.passes)
+
+-- ---- what scripts may use
+
+of_node : (source : GraphDraft) (entities : List EntityData) (node : ℕ) (placed : Placed) (entity : EntityData) → IsBuilt source placed entity → (placed.node == node) ≡ true → is_of_node (graph_of source entities) node (group_of entity.is) ≡ true
+of_node source entities node placed entity build here =
+    let has = has_group source placed build.number build.found in
+    let is : has.group.node == node ≡ true = ap (λ (n : ℕ). n == node) has.node ∙ here in
+    let there : slice_get (groups_of source) (group_of entity.is) ≡ Some has.group = ap (slice_get (groups_of source)) build.made.grouped ∙ has.there in
+    rw there is
+
+in_node : (source : GraphDraft) (entities : List EntityData) (node : ℕ) (kind : Drafted → Bool) (test : Declared → Bool) → ((placed : Placed) (entity : EntityData) → IsBuilt source placed entity → test entity.is ≡ kind placed.entity.is) → (name : List ℕ) (number : ℕ) → AreEntities source entities → named_in_node source node kind name ≡ Some number → is_at_node test (graph_of source entities) node number ≡ true
+in_node source entities node kind test agrees name number reads found =
+    let at = entity_there source entities (λ placed. kind placed.entity.is && (placed.node == node)) name number reads found in
+    let build = built source at.placed at.entity at.read in
+    let is = agrees at.placed at.entity build ∙ and_left (kind at.placed.entity.is) (at.placed.node == node) at.passes in
+    let here = of_node source entities node at.placed at.entity build (and_right (kind at.placed.entity.is) (at.placed.node == node) at.passes) in
+    found_at (λ entity. test entity.is && is_of_node (graph_of source entities) node (group_of entity.is)) (map topic_in source.topics ++ entities) number at.entity at.there
+    (both_true (test at.entity.is) (is_of_node (graph_of source entities) node (group_of at.entity.is)) is here)
+
+pub knows : (source : GraphDraft) (entities : List EntityData) (node : ℕ) → AreEntities source entities → Knows (scope_of source node) (graph_of source entities) node
+knows source entities node reads = record {
+  topics = topic_there source entities;
+  clients = λ name number found. in_node source entities node numbers.is_client is_client (λ placed entity build. build.made.client) name number reads found;
+  action_clients = λ name number found. in_node source entities node numbers.is_action_client is_action_client (λ placed entity build. build.made.action_client) name number reads found;
+  servers = λ name number found. in_node source entities node numbers.is_server is_server (λ placed entity build. build.made.server) name number reads found;
+}
+
+-- ---- the graph of a draft
+
+pub topic_found : (source : GraphDraft) (made : GraphData) (name : List ℕ) (number : ℕ) → graph_in source ≡ Some made → topic_named source name ≡ Some number → is_at is_topic made number ≡ true
+topic_found source made name number is found =
+    then_read _ (each (entity_in source) (entities_of source)) _ made is (λ entities read e.
+    subst (λ (shape : GraphData). is_at is_topic shape number ≡ true) (some_is (graph_of source entities) made e) (topic_there source entities name number found))
+
+pub server_found : (source : GraphDraft) (made : GraphData) (name : List ℕ) (number : ℕ) → graph_in source ≡ Some made → server_named source name ≡ Some number → is_at is_server made number ≡ true
+server_found source made name number is found =
+    then_read _ (each (entity_in source) (entities_of source)) _ made is (λ entities read e.
+    subst (λ (shape : GraphData). is_at is_server shape number ≡ true) (some_is (graph_of source entities) made e)
+    (server_there source entities name number (are_read (entity_in source) (entities_of source) entities read) found))

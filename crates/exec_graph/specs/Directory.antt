@@ -1,0 +1,134 @@
+-- A directory of what a graph declares, which finds names by hash.
+use Rattle.std.specs.Prelude.{ℕ, ◌-◌, List, [], ◌∷◌, ◌++◌, length, map, Bool, true, false, not, ◌&&◌, ◌==◌, nat_lt, is_some, if◌then◌else◌, Option, None, Some, option_and_then, slice_get}
+use Rattle.std.specs.List.{filter_map, list_any, position_from}
+use Rattle.std.specs.List.{find as first}
+use Rattle.std.specs.Option.{option_map, option_map_or}
+use Rattle.exec_graph.specs.Scripts.{scripts_of, fault_of}
+use Rattle.exec_graph.specs.declared.entity.CallbackGroup.{CallbackGroup}
+use Rattle.exec_script.specs.declared.fault.ScriptFault.{ScriptFault}
+use Rattle.std.specs.Str.{bytes_eq}
+use Rattle.exec_graph.specs.Draft.{GraphDraft}
+use Rattle.exec_graph.specs.declared.draft.NodeDraft.{NodeDraft}
+use Rattle.exec_graph.specs.declared.draft.Drafted.{Drafted}
+use Rattle.exec_graph.specs.declared.draft.Drafted.TheVariants.{Subscription, Client, ActionClient}
+use Rattle.exec_graph.specs.Faults.{names_of}
+use Rattle.exec_graph.specs.Names.{is_name}
+use Rattle.exec_graph.specs.Numbers.{Placed, entities_of, is_service, is_client, is_action_client, is_server, is_group}
+use Rattle.exec_script.specs.Spelling.{ScopeNames}
+
+-- ---- names
+
+-- a value where a test holds
+abbrev pub where_so : {A : Type 0} → Bool → A → Option A
+where_so true value = Some value
+where_so false value = None
+
+-- names in order, and then texts that are names and new one after another
+abbrev pub names_from : List (List ℕ) → List (List ℕ) → Option (List (List ℕ))
+names_from names [] = Some names
+names_from names (text ∷ texts) =
+    if is_name text && not (list_any (λ other. bytes_eq other text) names) then names_from (names ++ text ∷ []) texts else None
+
+-- the names of a node's groups
+abbrev pub group_names : NodeDraft → List (List ℕ)
+group_names node = map (λ group. group.name) node.groups
+
+-- ---- the directory
+
+-- how many topics there are, the names of topics and entities at their numbers, the names of each node's groups, and the
+-- entities in the order of their numbers
+pub record DirectoryData : Type 0 where
+  pub topics : ℕ
+  pub names : List (List ℕ)
+  pub groups : List (List (List ℕ))
+  pub entities : List Placed
+
+-- the directory of a draft
+abbrev pub directory_of : GraphDraft → DirectoryData
+directory_of draft = record {
+  topics = length draft.topics;
+  names = names_of draft;
+  groups = map group_names draft.nodes;
+  entities = entities_of draft;
+}
+
+-- the number of a name
+abbrev pub number_of : DirectoryData → List ℕ → Option ℕ
+number_of directory name = position_from (λ other. bytes_eq other name) 0 directory.names
+
+-- a number that is a topic's
+abbrev pub topic_at : DirectoryData → ℕ → Option ℕ
+topic_at directory number = where_so (nat_lt number directory.topics) number
+
+-- the number of the topic of a name
+abbrev pub topic_in : DirectoryData → List ℕ → Option ℕ
+topic_in directory name = option_and_then (topic_at directory) (number_of directory name)
+
+-- the entity at a number, with the number
+abbrev pub placed_at : DirectoryData → ℕ → Option (ℕ × Placed)
+placed_at directory number =
+    if nat_lt number directory.topics then None else option_map (λ placed. (number, placed)) (slice_get directory.entities (number - directory.topics))
+
+-- the entity of a name, with its number
+abbrev pub find : DirectoryData → List ℕ → Option (ℕ × Placed)
+find directory name = option_and_then (placed_at directory) (number_of directory name)
+
+-- the number of an entity that passes a test
+abbrev pub passing : (Placed → Bool) → ℕ × Placed → Option ℕ
+passing test found = where_so (test found.1) found.0
+
+-- the number of the entity of a name that passes a test
+abbrev pub entity_in : DirectoryData → (Placed → Bool) → List ℕ → Option ℕ
+entity_in directory test name = option_and_then (passing test) (find directory name)
+
+-- whether these names, which are those of a node's groups, have one; the default group has none
+abbrev pub has_in : Option (List (List ℕ)) → Option (List ℕ) → Bool
+has_in None name = false
+has_in (Some names) None = true
+has_in (Some names) (Some name) = is_some (position_from (λ other. bytes_eq other name) 0 names)
+
+-- whether a node has a group of a name
+abbrev pub has_group : DirectoryData → ℕ → Option (List ℕ) → Bool
+has_group directory node name = has_in (slice_get directory.groups node) name
+
+-- whether what an entity refers to is declared
+abbrev pub refers : DirectoryData → Drafted → Bool
+refers directory (Subscription entity) = is_some (topic_in directory entity.topic)
+refers directory (Client entity) = is_some (entity_in directory (λ placed. is_service placed.entity.is) entity.service)
+refers directory (ActionClient entity) = is_some (entity_in directory (λ placed. is_server placed.entity.is) entity.server)
+refers directory _ = true
+
+-- whether the group of an entity and what it refers to are declared
+abbrev pub resolves : DirectoryData → Placed → Bool
+resolves directory placed = has_group directory placed.node placed.entity.group && refers directory placed.entity.is
+
+-- the draft of these topics and nodes
+abbrev pub draft_of : List (List ℕ) → List NodeDraft → GraphDraft
+draft_of topics nodes = record { topics = topics; nodes = nodes }
+
+-- the names that the scripts of a node may use
+abbrev pub scope_in : DirectoryData → ℕ → ScopeNames
+scope_in directory node = record {
+  topic = topic_in directory;
+  client = entity_in directory (λ placed. is_client placed.entity.is && (placed.node == node));
+  action_client = entity_in directory (λ placed. is_action_client placed.entity.is && (placed.node == node));
+  server = entity_in directory (λ placed. is_server placed.entity.is && (placed.node == node));
+}
+
+-- a node of a directory
+pub record NodeData : Type 0 where
+  pub directory : DirectoryData
+  pub node : ℕ
+
+-- whether the group of an entity is reentrant, where these are the groups
+abbrev pub is_reentrant_in : List CallbackGroup → Placed → Bool
+is_reentrant_in groups placed = option_map_or (λ group. not group.exclusive) (first (is_group placed.node placed.entity.group) groups) false
+
+-- the faults of an entity's scripts
+abbrev pub faults_in : DirectoryData → List CallbackGroup → Placed → List ScriptFault
+faults_in directory groups placed = filter_map (fault_of (scope_in directory placed.node) (is_reentrant_in groups placed)) (scripts_of placed.entity.is)
+
+-- what there is, as a list
+abbrev pub listed : {A : Type 0} → Option A → List A
+listed None = []
+listed (Some value) = value ∷ []

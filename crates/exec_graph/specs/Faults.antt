@@ -1,0 +1,87 @@
+-- What is refused of a graph: names, limits and scripts, each read where what stands before it here is kept.
+use Rattle.std.specs.List.{list_all, list_any, sum_by}
+use Rattle.std.specs.Prelude.{ℕ, List, ◌++◌, length, map, Bool, true, false, not, ◌&&◌, nat_le, is_some}
+use Rattle.exec_graph.specs.Draft.{GraphDraft}
+use Rattle.exec_graph.specs.declared.draft.NodeDraft.{NodeDraft}
+use Rattle.exec_graph.specs.declared.draft.Drafted.{Drafted}
+use Rattle.exec_graph.specs.declared.draft.Drafted.TheVariants.{Timer, Subscription, Service, Client, Server, ActionClient}
+use Rattle.exec_graph.specs.Numbers.{Placed, entities_of, topic_named, service_named, server_named, group_named}
+use Rattle.exec_graph.specs.Scripts.{scripts_of, script_faults}
+use Rattle.exec_graph.specs.Lawful.{is_from_1, is_timeout}
+use Rattle.exec_graph.specs.Names.{is_name, are_distinct}
+use Rattle.exec_msg.specs.declared.limits.TheConstants.{NODES, NAMED_GROUPS, TOPICS, ENTITIES, INSTRUCTIONS, DEPTH, TICKS}
+use Rattle.exec_script.specs.declared.fault.ScriptFault.TheVariants as fault
+use Rattle.exec_script.specs.declared.fault.ScriptFault.{ScriptFault}
+
+-- ---- names
+
+-- each is a name, and no two are the same
+abbrev pub are_names : List (List ℕ) → Bool
+are_names texts = list_all is_name texts && are_distinct texts
+
+-- a node's groups have names of their own
+abbrev pub has_named_groups : NodeDraft → Bool
+has_named_groups node = are_names (map (λ group. group.name) node.groups)
+
+-- what an entity refers to is declared: a subscription's topic, a client's service, an action client's server
+abbrev pub refers : GraphDraft → Drafted → Bool
+refers draft (Subscription entity) = is_some (topic_named draft entity.topic)
+refers draft (Client entity) = is_some (service_named draft entity.service)
+refers draft (ActionClient entity) = is_some (server_named draft entity.server)
+refers draft _ = true
+
+-- the group that an entity names is of its node, and what it refers to is declared
+abbrev pub is_resolved : GraphDraft → Placed → Bool
+is_resolved draft placed = is_some (group_named draft placed.node placed.entity.group) && refers draft placed.entity.is
+
+-- the names of topics and entities
+abbrev pub names_of : GraphDraft → List (List ℕ)
+names_of draft = draft.topics ++ map (λ placed. placed.entity.name) (entities_of draft)
+
+-- every name is a name; none stands twice among nodes, among the groups of a node, or among topics and entities; and what
+-- entities refer to is declared
+abbrev pub is_well_named : GraphDraft → Bool
+is_well_named draft =
+    are_names (map (λ node. node.name) draft.nodes)
+    && list_all has_named_groups draft.nodes
+    && are_names (names_of draft)
+    && list_all (is_resolved draft) (entities_of draft)
+
+-- ---- limits
+
+-- an entity's period, depth and timeout are within their limits
+abbrev pub is_within : Drafted → Bool
+is_within (Timer entity) = is_from_1 TICKS entity.period
+is_within (Subscription entity) = is_from_1 DEPTH entity.depth
+is_within (Service entity) = is_from_1 DEPTH entity.depth
+is_within (Client entity) = is_from_1 DEPTH entity.depth
+is_within (Server entity) = is_from_1 DEPTH entity.depth && is_timeout entity.result_timeout
+is_within (ActionClient entity) = is_from_1 DEPTH entity.depth
+
+-- so are its scripts
+abbrev pub has_short_scripts : Drafted → Bool
+has_short_scripts entity = list_all (λ script. nat_le (length script.words) INSTRUCTIONS) (scripts_of entity)
+
+-- no number and no length of a graph is beyond its limit
+abbrev pub is_small : GraphDraft → Bool
+is_small draft =
+    nat_le (length draft.nodes) NODES
+    && nat_le (sum_by (λ node. length node.groups) draft.nodes) NAMED_GROUPS
+    && nat_le (length draft.topics) TOPICS
+    && nat_le (length (entities_of draft)) ENTITIES
+    && list_all (λ placed. is_within placed.entity.is && has_short_scripts placed.entity.is) (entities_of draft)
+
+-- ---- scripts
+
+-- whether a fault is that of a group variable in a reentrant group
+abbrev pub is_of_variable : ScriptFault → Bool
+is_of_variable fault.GroupVariable = true
+is_of_variable _ = false
+
+-- a script is misspelt, names what isn't there, skips beyond its end, or has an instruction that isn't allowed in its place
+abbrev pub has_faulty_script : GraphDraft → Bool
+has_faulty_script draft = list_any (λ fault. not (is_of_variable fault)) (script_faults draft)
+
+-- a script of a reentrant group names a group variable
+abbrev pub shares_variables : GraphDraft → Bool
+shares_variables draft = list_any is_of_variable (script_faults draft)

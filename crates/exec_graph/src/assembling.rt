@@ -1,0 +1,197 @@
+//! How a graph is made of what was declared.
+ghost use Rattle.std.specs.Prelude.{◌≡◌, ◌⊎◌, ◌++◌, ◌≤◌, length, map, string_bytes, ◌∷◌, [], None, Some, true, false, not, IfOk, IfErr, OnOk};
+ghost use Rattle.std.specs.List.{list_any};
+ghost use Rattle.std.specs.Option.{option_map};
+ghost use Rattle.std.specs.Str.{bytes_eq};
+ghost use Rattle.exec_graph.specs.Directory.{directory_of, draft_of, where_so};
+ghost use Rattle.exec_graph.specs.Draft.{GraphDraft};
+ghost use Rattle.exec_graph.specs.Entries.{entities_of as entries_of};
+ghost use Rattle.exec_graph.specs.Faults.{is_of_variable, is_well_named};
+ghost use Rattle.exec_graph.specs.Faults as faults;
+ghost use Rattle.exec_graph.specs.Names.{are_distinct};
+ghost use Rattle.exec_graph.specs.Numbers.{groups_of};
+ghost use Rattle.exec_graph.specs.Numbers as numbers;
+ghost use Rattle.exec_graph.specs.Options.{each};
+ghost use Rattle.exec_graph.specs.Refusals.{fault_in};
+ghost use Rattle.exec_graph.specs.Resolved.{entity_in, graph_in, topic_in};
+ghost use Rattle.exec_graph.specs.declared.fault.GraphFault.TheVariants as graph_fault;
+
+use crate::declaring::declared;
+use crate::directory::{Directory, has_node_names};
+use crate::draft::NodeDraft;
+use crate::entity::{CallbackGroup, Declared};
+use crate::fault::GraphFault;
+use crate::graph::Graph;
+use crate::grouping::{callback_groups, group_named};
+use crate::limits::is_small;
+use crate::numbering::PlacedEntity;
+use crate::scope::NodeScope;
+use crate::scripts::script_faults;
+use exec_msg::{Memory, Names};
+use exec_script::ScriptFault;
+use indexmap::IndexMap;
+use std::alloc::Global;
+
+// The graph of topics and nodes, or the least fault of what they declare.
+pub(crate) fn graph_of(
+    alloc: Global,
+    topics: &[String],
+    nodes: &[NodeDraft],
+) -> Result<Graph, GraphFault>
+    ensures graph { IfOk result (λ graph. (fault_in (draft_of (map string_bytes topics.now) nodes.now) ≡ None)
+        × (graph_in (draft_of (map string_bytes topics.now) nodes.now) ≡ Some graph)) }
+    ensures fault { IfErr result (λ fault. (fault ≡ graph_fault.Memory) ⊎ (fault_in (draft_of (map string_bytes topics.now) nodes.now) ≡ Some fault)) }
+{
+    let Some(directory) = well_named(alloc, topics, nodes)? else {
+        return Err(GraphFault::Name);
+    };
+    if !is_small(topics, nodes, directory.entities()) {
+        return Err(GraphFault::Limit);
+    }
+    let groups = callback_groups(alloc, nodes)?;
+    let faults = script_faults(alloc, &directory, &groups)?;
+    if is_any_faulty(&faults) {
+        return Err(GraphFault::Script);
+    }
+    if !faults.is_empty() {
+        return Err(GraphFault::GroupVariable);
+    }
+    let entities = entities_of(alloc, topics, &directory, &groups)?;
+    let names = names_of(alloc, topics, directory.entities())?;
+    let nodes = node_names(alloc, nodes)?;
+    Ok(Graph {
+        nodes: Names::of(nodes),
+        groups,
+        entities,
+        names: Names::of(names),
+    })
+}
+
+// What topics and nodes declare, where all of it is well named.
+fn well_named<'a>(
+    alloc: Global,
+    topics: &[String],
+    nodes: &'a [NodeDraft],
+) -> Result<Option<Directory<'a>>, Memory>
+    ensures { IfOk result (λ found. found ≡ where_so (is_well_named (draft_of (map string_bytes topics.now) nodes.now)) (directory_of (draft_of (map string_bytes topics.now) nodes.now))) }
+{
+    if !has_node_names(alloc, nodes)? {
+        return Ok(None);
+    }
+    let Some(directory) = Directory::of(alloc, topics, nodes)? else {
+        return Ok(None);
+    };
+    if !directory.is_resolved() {
+        return Ok(None);
+    }
+    Ok(Some(directory))
+}
+
+// Whether a fault isn't that of a group variable in a reentrant group.
+fn is_any_faulty(faults: &[ScriptFault]) -> bool
+    ensures { result ≡ list_any (λ fault. not (is_of_variable fault)) faults.now }
+{
+    for fault in faults {
+        if !matches!(fault, ScriptFault::GroupVariable) {
+            return true;
+        }
+    }
+    false
+}
+
+// The topics and entities at their numbers.
+fn entities_of(
+    alloc: Global,
+    topics: &[String],
+    directory: &Directory<'_>,
+    groups: &[CallbackGroup],
+) -> Result<IndexMap<String, Declared>, GraphFault>
+    requires names { length directory.now.names ≤ 65536 }
+    requires groups { length groups.now ≤ 65536 }
+    ensures entities { IfOk result (λ entities. (source : GraphDraft) → are_distinct (faults.names_of source) ≡ true → map string_bytes topics.now ≡ source.topics → directory.now ≡ directory_of source → groups.now ≡ groups_of source →
+        option_map (λ others. map topic_in source.topics ++ others) (each (entity_in source) (numbers.entities_of source)) ≡ Some (entries_of entities.entries)) }
+    ensures fault { IfErr result (λ fault. (fault ≡ graph_fault.Memory) ⊎ ((source : GraphDraft) → are_distinct (faults.names_of source) ≡ true → directory.now ≡ directory_of source → groups.now ≡ groups_of source →
+        each (entity_in source) (numbers.entities_of source) ≡ None)) }
+{
+    let mut entities = topics_of(alloc, topics)?;
+    for placed in directory.entities() {
+        let is = resolved(alloc, directory, groups, placed)?;
+        append(alloc, placed.entity.name.as_str(), is, &mut entities)?;
+    }
+    Ok(entities)
+}
+
+// The topics at their numbers.
+fn topics_of(alloc: Global, topics: &[String]) -> Result<IndexMap<String, Declared>, Memory>
+    ensures { IfOk result (λ entities. are_distinct (map string_bytes topics.now) ≡ true → entries_of entities.entries ≡ map topic_in (map string_bytes topics.now)) }
+{
+    let mut entities = IndexMap::new(alloc);
+    for topic in topics {
+        append(alloc, topic.as_str(), Declared::Topic, &mut entities)?;
+    }
+    Ok(entities)
+}
+
+// Adds what a new name is declared as.
+fn append(
+    alloc: Global,
+    name: &str,
+    is: Declared,
+    entities: &mut IndexMap<String, Declared>,
+) -> Result<(), Memory>
+    ensures { OnOk result (list_any (λ other. bytes_eq other name.now) (map (λ entity. entity.name) (entries_of entities.old.entries)) ≡ false →
+        entries_of entities.new.entries ≡ entries_of entities.old.entries ++ record { name = name.now; is = is } ∷ []) }
+{
+    entities.insert(String::from_str(alloc, name)?, is)?;
+    Ok(())
+}
+
+// What an entity is.
+fn resolved(
+    alloc: Global,
+    directory: &Directory<'_>,
+    groups: &[CallbackGroup],
+    placed: &PlacedEntity<'_>,
+) -> Result<Declared, GraphFault>
+    requires names { length directory.now.names ≤ 65536 }
+    requires groups { length groups.now ≤ 65536 }
+    ensures is { IfOk result (λ is. (source : GraphDraft) → are_distinct (faults.names_of source) ≡ true → directory.now ≡ directory_of source → groups.now ≡ groups_of source →
+        entity_in source placed.now ≡ Some (record { name = placed.now.entity.name; is = is })) }
+    ensures fault { IfErr result (λ fault. (fault ≡ graph_fault.Memory) ⊎ ((source : GraphDraft) → are_distinct (faults.names_of source) ≡ true → directory.now ≡ directory_of source → groups.now ≡ groups_of source →
+        entity_in source placed.now ≡ None)) }
+{
+    let Some(group) = group_named(groups, placed.node, &placed.entity.group) else {
+        return Err(GraphFault::Name);
+    };
+    let scope = NodeScope::of(directory, placed.node);
+    declared(alloc, &scope, group, &placed.entity.is)
+}
+
+// The names of topics and entities at their numbers.
+fn names_of(
+    alloc: Global,
+    topics: &[String],
+    entities: &[PlacedEntity<'_>],
+) -> Result<Vec<String>, Memory>
+    ensures { IfOk result (λ names. map string_bytes names.items ≡ map string_bytes topics.now ++ map (λ placed. placed.entity.name) entities.now) }
+{
+    let mut names = Vec::new(alloc);
+    for topic in topics {
+        names.push(String::from_str(alloc, topic.as_str())?)?;
+    }
+    for placed in entities {
+        names.push(String::from_str(alloc, placed.entity.name.as_str())?)?;
+    }
+    Ok(names)
+}
+
+// The names of nodes at their numbers.
+fn node_names(alloc: Global, nodes: &[NodeDraft]) -> Result<Vec<String>, Memory>
+    ensures { IfOk result (λ names. map string_bytes names.items ≡ map (λ node. node.name) nodes.now) }
+{
+    let mut names = Vec::new(alloc);
+    for node in nodes {
+        names.push(String::from_str(alloc, node.name.as_str())?)?;
+    }
+    Ok(names)
+}

@@ -1,0 +1,96 @@
+ghost use Rattle.std.specs.Prelude.{◌≡◌};
+ghost use Rattle.exec_graph.specs.Refusals.{number_of};
+ghost use Rattle.exec_graph.specs.Schedule.{plan_number_of};
+ghost use Rattle.exec_graph.specs.declared.fault.GraphFault.TheVariants as graph_fault;
+ghost use Rattle.exec_graph.specs.declared.fault.PlanFault.TheVariants as plan_fault;
+
+use exec_msg::Memory;
+use std::alloc::{AllocError, AllocFailed};
+use thiserror::Error;
+
+/// Why a draft is no graph, each with its number: the least that holds.
+#[derive(Clone, Copy, Debug, PartialEq, Eq, Error)]
+pub enum GraphFault {
+    /// A name isn't one, stands twice, or isn't declared.
+    #[error("a wrong name")]
+    Name = 4,
+    /// A number or a length is beyond its limit.
+    #[error("beyond a limit")]
+    Limit = 5,
+    /// A script is misspelt, names what isn't there, skips beyond its end, or has an instruction out of place.
+    #[error("a faulty script")]
+    Script = 6,
+    /// A script of a reentrant group names a group variable.
+    #[error("a group variable in a reentrant group")]
+    GroupVariable = 7,
+    /// A growth was refused.
+    #[error("out of memory")]
+    Memory = 10,
+}
+
+impl GraphFault {
+    /// The number of the fault, from 4 to 10.
+    pub fn number(self) -> u8
+        ensures { result ≡ number_of self }
+    {
+        self as u8
+    }
+}
+
+impl From<Memory> for GraphFault {
+    ghost from_gives = { λ _ fault. fault ≡ graph_fault.Memory };
+
+    fn from(_refused: Memory) -> GraphFault {
+        GraphFault::Memory
+    }
+}
+
+impl From<AllocError> for GraphFault {
+    ghost from_gives = { λ _ fault. fault ≡ graph_fault.Memory };
+
+    fn from(_refused: AllocError) -> GraphFault {
+        GraphFault::Memory
+    }
+}
+
+impl<T: Drop> From<AllocFailed<T>> for GraphFault {
+    ghost from_gives = { λ _ fault. fault ≡ graph_fault.Memory };
+
+    fn from(_refused: AllocFailed<T>) -> GraphFault {
+        GraphFault::Memory
+    }
+}
+
+/// Why a graph, moments and a feed are no plan, each with its number: the least that holds.
+#[derive(Clone, Copy, Debug, PartialEq, Eq, Error)]
+pub enum PlanFault {
+    /// A number or a length is beyond its limit.
+    #[error("beyond a limit")]
+    Limit = 5,
+    /// A moment is below the one before it, or a round of the feed isn't one of the plan.
+    #[error("out of order")]
+    Clock = 8,
+    /// The identifier of a goal that is fed is 0.
+    #[error("no identifier")]
+    Id = 9,
+    /// A growth was refused.
+    #[error("out of memory")]
+    Memory = 10,
+}
+
+impl PlanFault {
+    /// The number of the fault, from 5 to 10.
+    pub fn number(self) -> u8
+        ensures { result ≡ plan_number_of self }
+    {
+        self as u8
+    }
+}
+
+impl<T: Drop> From<AllocFailed<T>> for PlanFault {
+    ghost from_gives = { λ _ fault. fault ≡ plan_fault.Memory };
+
+    fn from(_refused: AllocFailed<T>) -> PlanFault {
+        PlanFault::Memory
+    }
+}

@@ -1,0 +1,118 @@
+use crate::entity::{CallbackGroup, Declared, GroupNo};
+use exec_msg::{EntityNo, Names};
+use indexmap::IndexMap;
+use std::marker::Model;
+
+/// A lawful graph: its nodes, their callback groups, and its topics and entities, each at its number. Every name is
+/// resolved, each entity has one callback group, each script is allowed in its place, and all limits hold.
+#[derive(Drop)]
+pub struct Graph {
+    pub(crate) nodes: Names,
+    pub(crate) groups: Vec<CallbackGroup>,
+    // Each at its number.
+    pub(crate) entities: IndexMap<String, Declared>,
+    // The keys once more, as those who write lines read them.
+    pub(crate) names: Names,
+}
+
+impl Model for Graph {
+    ghost use Rattle.std.specs.Prelude.{◌≡◌};
+    ghost use Rattle.exec_graph.specs.Entries.{entities_of};
+    ghost use Rattle.exec_graph.specs.Graph.{GraphData, names_of};
+    ghost use Rattle.exec_graph.specs.Lawful.{IsLawful};
+
+    ghost Value = { GraphData };
+
+    ghost view = { λ graph. record { nodes = graph.nodes; groups = graph.groups.items; entities = entities_of graph.entities.entries } };
+
+    ghost invariant = { λ graph.
+        IsLawful (record { nodes = graph.nodes; groups = graph.groups.items; entities = entities_of graph.entities.entries })
+        × (graph.names ≡ names_of (record { nodes = graph.nodes; groups = graph.groups.items; entities = entities_of graph.entities.entries })) };
+}
+
+impl Graph {
+    ghost use Rattle.std.specs.Prelude.{◌≡◌, ◌<◌, ◌≤◌, ◌&&◌, length, not, slice_get, Some, IsTrue};
+    ghost use Rattle.std.specs.List.{position_from};
+    ghost use Rattle.std.specs.Str.{bytes_eq};
+    ghost use Rattle.exec_graph.specs.Graph.{names_of, declared_at, group_of, is_topic, is_server};
+    ghost use Rattle.exec_graph.specs.Lawful.{IsLawful, is_at};
+
+    /// The names of the nodes, at their numbers.
+    pub fn nodes(&self) -> &Names
+        ensures { result.now ≡ self.now.nodes }
+    {
+        &self.nodes
+    }
+
+    /// The names of topics and entities, at their numbers.
+    pub fn names(&self) -> &Names
+        ensures { result.now ≡ names_of self.now }
+    {
+        &self.names
+    }
+
+    /// How many topics and entities there are, at most 768.
+    pub fn len(&self) -> usize
+        ensures count { result ≡ length self.now.entities }
+        ensures bound { result ≤ 768 }
+        ensures lawful { IsLawful self.now }
+    {
+        self.entities.len()
+    }
+
+    /// What a number stands for.
+    pub fn declared(&self, no: EntityNo) -> &Declared
+        requires { no < length self.now.entities }
+        ensures { result.now ≡ declared_at self.now no }
+    {
+        &self.entities[no.0 as usize]
+    }
+
+    /// The callback groups at their numbers: node by node, each node's default group first and then its named groups.
+    pub fn groups(&self) -> &[CallbackGroup]
+        ensures { result.now ≡ self.now.groups }
+    {
+        self.groups.as_slice()
+    }
+
+    /// The callback group of an entity.
+    pub fn group_of(&self, no: EntityNo) -> GroupNo
+        requires { IsTrue (is_at (λ declared. not (is_topic declared)) self.now no) }
+        ensures group { result ≡ group_of (declared_at self.now no) }
+        ensures bound { result < length self.now.groups }
+    {
+        // So that the type's invariant is known here.
+        let _ = &self.nodes;
+        self.declared(no).group()
+    }
+
+    /// Whether a callback group is mutually exclusive, else it is reentrant.
+    pub fn is_exclusive(&self, group: GroupNo) -> bool
+        requires { group < length self.now.groups }
+        ensures { (found : _) → slice_get self.now.groups group ≡ Some found → result ≡ found.exclusive }
+    {
+        self.groups[group.0 as usize].exclusive
+    }
+
+    /// The topic of a name.
+    pub fn topic_at(&self, name: &str) -> Option<EntityNo>
+        ensures { result ≡ position_from (λ entity. is_topic entity.is && bytes_eq entity.name name.now) 0 self.now.entities }
+    {
+        let (place, _, declared) = self.entities.get_full(name)?;
+        match declared {
+            Declared::Topic => Some(EntityNo(place as u16)),
+            _ => None,
+        }
+    }
+
+    /// The action server of a name.
+    pub fn server_at(&self, name: &str) -> Option<EntityNo>
+        ensures { result ≡ position_from (λ entity. is_server entity.is && bytes_eq entity.name name.now) 0 self.now.entities }
+    {
+        let (place, _, declared) = self.entities.get_full(name)?;
+        match declared {
+            Declared::Server(_) => Some(EntityNo(place as u16)),
+            _ => None,
+        }
+    }
+}

@@ -1,0 +1,117 @@
+//! The entities of a graph in the order of their numbers.
+ghost use Rattle.std.specs.Prelude.{◌≡◌, ◌++◌, map, IfOk, OnOk};
+ghost use Rattle.std.specs.List.{filter};
+ghost use Rattle.exec_graph.specs.Kinds.{is_of, placed_in, numbered};
+ghost use Rattle.exec_graph.specs.Numbers.{entities_from};
+
+use crate::draft::{Drafted, EntityDraft, NodeDraft};
+use exec_msg::Memory;
+use std::alloc::Global;
+use std::marker::Model;
+
+// An entity with the number of its node, from 0.
+#[derive(Drop)]
+pub(crate) struct PlacedEntity<'a> {
+    pub(crate) node: usize,
+    pub(crate) entity: &'a EntityDraft,
+}
+
+impl<'a> Model for PlacedEntity<'a> {
+    ghost use Rattle.exec_graph.specs.Numbers.{Placed};
+
+    ghost Value = { Placed };
+
+    ghost view = { λ placed. record { node = placed.node; entity = placed.entity.now } };
+}
+
+// The kinds of entities.
+#[derive(Clone, Copy)]
+pub(crate) enum EntityKind {
+    Timer,
+    Subscription,
+    Service,
+    Client,
+    Server,
+    ActionClient,
+}
+
+impl EntityKind {
+    // All of them in the order of numbers.
+    const IN_ORDER: [EntityKind; 6] = [
+        EntityKind::Timer,
+        EntityKind::Subscription,
+        EntityKind::Service,
+        EntityKind::Client,
+        EntityKind::Server,
+        EntityKind::ActionClient,
+    ];
+
+    // Whether an entity is of this kind.
+    pub(crate) fn has(self, entity: &Drafted) -> bool
+        ensures { result ≡ is_of self entity.now }
+    {
+        match (self, entity) {
+            (EntityKind::Timer, Drafted::Timer(_))
+            | (EntityKind::Subscription, Drafted::Subscription(_))
+            | (EntityKind::Service, Drafted::Service(_))
+            | (EntityKind::Client, Drafted::Client(_))
+            | (EntityKind::Server, Drafted::Server(_))
+            | (EntityKind::ActionClient, Drafted::ActionClient(_)) => true,
+            _ => false,
+        }
+    }
+}
+
+// The entities of all nodes in the order of their numbers: by kind, then by node, then as the node lists them.
+pub(crate) fn numbered<'a>(
+    alloc: Global,
+    nodes: &'a [NodeDraft],
+) -> Result<Vec<PlacedEntity<'a>>, Memory>
+    ensures { IfOk result (λ entities. entities.items ≡ numbered nodes.now) }
+{
+    let declared = declared(alloc, nodes)?;
+    let mut entities = Vec::new(alloc);
+    for kind in EntityKind::IN_ORDER {
+        append_kind(&declared, kind, &mut entities)?;
+    }
+    Ok(entities)
+}
+
+fn append_kind<'a>(
+    declared: &[PlacedEntity<'a>],
+    kind: EntityKind,
+    entities: &mut Vec<PlacedEntity<'a>>,
+) -> Result<(), Memory>
+    ensures { OnOk result (entities.new.items ≡ entities.old.items ++ filter (λ placed. is_of kind placed.entity.is) declared.now) }
+{
+    for placed in declared {
+        if kind.has(&placed.entity.is) {
+            let PlacedEntity { node, entity } = *placed;
+            entities.push(PlacedEntity { node, entity })?;
+        }
+    }
+    Ok(())
+}
+
+fn declared<'a>(alloc: Global, nodes: &'a [NodeDraft]) -> Result<Vec<PlacedEntity<'a>>, Memory>
+    ensures { IfOk result (λ entities. entities.items ≡ entities_from 0 nodes.now) }
+{
+    let mut entities = Vec::new(alloc);
+    for (node, draft) in nodes.iter().enumerate() {
+        append_node(node, draft.entities.as_slice(), &mut entities)?;
+    }
+    Ok(entities)
+}
+
+fn append_node<'a>(
+    node: usize,
+    drafts: &'a [EntityDraft],
+    entities: &mut Vec<PlacedEntity<'a>>,
+) -> Result<(), Memory>
+    ensures { OnOk result (entities.new.items ≡ entities.old.items ++ map (placed_in node) drafts.now) }
+{
+    for entity in drafts {
+        entities.push(PlacedEntity { node, entity })?;
+    }
+    Ok(())
+}

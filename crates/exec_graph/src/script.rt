@@ -1,0 +1,85 @@
+use exec_script::{Instr, Word};
+use std::marker::Model;
+use std::sync::Arc;
+
+/// A script as a document spells it, seen by contracts as a list of lists of words.
+#[derive(Debug, Drop)]
+pub struct Spelled {
+    words: Vec<Vec<Word>>,
+}
+
+impl Model for Spelled {
+    ghost use Rattle.std.specs.Prelude.{List, map};
+    ghost use Rattle.exec_script.specs.declared.word.Word.{Word};
+
+    ghost Value = { List (List Word) };
+
+    ghost view = { λ script. map (λ words. words.items) script.words.items };
+}
+
+impl Spelled {
+    ghost use Rattle.std.specs.Prelude.{◌≡◌, map};
+
+    /// The script of a vector of instructions. It takes no memory.
+    pub fn of(words: Vec<Vec<Word>>) -> Spelled
+        ensures { result ≡ map (λ words. words.items) words.items }
+    {
+        Spelled { words }
+    }
+
+    /// The instructions in their order.
+    pub fn as_slice(&self) -> &[Vec<Word>]
+        ensures { map (λ words. words.items) result.now ≡ self.now }
+    {
+        self.words.as_slice()
+    }
+
+    /// The vector of the instructions. It takes no memory.
+    pub fn into_vec(self) -> Vec<Vec<Word>>
+        ensures { map (λ words. words.items) result.items ≡ self }
+    {
+        self.words
+    }
+}
+
+/// A script that is shared, seen by contracts as its instructions.
+#[derive(Drop)]
+pub struct Script {
+    instructions: Arc<Vec<Instr>>,
+}
+
+impl Model for Script {
+    ghost use Rattle.std.specs.Arc.{arc_value};
+    ghost use Rattle.std.specs.Prelude.{List};
+    ghost use Rattle.exec_script.specs.declared.instr.Instr.{Instr};
+
+    ghost Value = { List Instr };
+
+    ghost view = { λ script. (arc_value script.instructions).items };
+}
+
+impl Script {
+    ghost use Rattle.std.specs.Arc.{arc_value};
+    ghost use Rattle.std.specs.Prelude.{◌≡◌};
+
+    /// The script of these instructions. It takes no memory.
+    pub fn of(instructions: Arc<Vec<Instr>>) -> Script
+        ensures { result ≡ (arc_value instructions).items }
+    {
+        Script { instructions }
+    }
+
+    /// The instructions in their order.
+    pub fn as_slice(&self) -> &[Instr]
+        ensures { result.now ≡ self.now }
+    {
+        self.instructions.as_slice()
+    }
+
+    /// The instructions as they are shared, so that a caller takes part in them without a copy.
+    pub fn shared(&self) -> &Arc<Vec<Instr>>
+        ensures { (arc_value result.now).items ≡ self.now }
+    {
+        &self.instructions
+    }
+}

@@ -1,0 +1,77 @@
+use crate::{
+    Drafted, EntityDraft, GraphBuilder, GraphFault, GroupDraft, Items, NodeDraft, PlanFault,
+    ServerDraft, Spelled, schedule_fits,
+};
+use exec_msg::Moment;
+use exec_msg::limits::{FEED, TICKS};
+use exec_script::WordText;
+use std::alloc::{AllocError, Global};
+use std::test::Fail;
+
+fn text(alloc: Global, text: &str) -> Result<WordText, AllocError> {
+    Ok(WordText::of(String::from_str(alloc, text)?))
+}
+
+fn nothing(alloc: Global) -> Spelled {
+    Spelled::of(Vec::new(alloc))
+}
+
+fn server(alloc: Global, name: &str) -> Result<EntityDraft, AllocError> {
+    let server = ServerDraft {
+        depth: 10,
+        result_timeout: None,
+        on_goal: nothing(alloc),
+        on_cancel: nothing(alloc),
+        script: nothing(alloc),
+    };
+    Ok(EntityDraft {
+        name: text(alloc, name)?,
+        group: None,
+        is: Drafted::Server(server),
+    })
+}
+
+fn node(alloc: Global, name: &str, entity: EntityDraft) -> Result<NodeDraft, Fail> {
+    let mut entities = Vec::new(alloc);
+    entities.push(entity)?;
+    let groups: Vec<GroupDraft> = Vec::new(alloc);
+    Ok(NodeDraft {
+        name: text(alloc, name)?,
+        groups: Items::of(groups),
+        entities: Items::of(entities),
+    })
+}
+
+#[test]
+fn a_builder_knows_what_is_declared(rt: HostRuntime) -> Result<(), Fail> {
+    let alloc = rt.alloc();
+    let mut builder = GraphBuilder::new(alloc);
+    builder.topic(String::from_str(alloc, "x")?)?;
+    builder.node(node(alloc, "n", server(alloc, "a")?)?)?;
+    assert!(&rt; builder.topic_named("x"));
+    assert!(&rt; !builder.topic_named("a"));
+    assert!(&rt; builder.action_named("a"));
+    assert!(&rt; !builder.action_named("n"));
+    Ok(())
+}
+
+#[test]
+fn a_schedule_fits_up_to_its_limits(rt: HostRuntime) -> Result<(), Fail> {
+    let mut moments = Vec::new(rt.alloc());
+    for moment in Moment::new(TICKS) {
+        moments.push(moment)?;
+    }
+    assert!(&rt; moments.len() == 1);
+    assert!(&rt; schedule_fits(&moments, FEED, TICKS));
+    assert!(&rt; !schedule_fits(&moments, FEED + 1, TICKS));
+    assert!(&rt; !schedule_fits(&moments, FEED, TICKS + 1));
+    Ok(())
+}
+
+#[test]
+fn faults_have_their_numbers(rt: HostRuntime) {
+    assert!(&rt; GraphFault::Name.number() == 4);
+    assert!(&rt; GraphFault::Memory.number() == 10);
+    assert!(&rt; PlanFault::Limit.number() == 5);
+    assert!(&rt; PlanFault::Id.number() == 9);
+}
