@@ -1,4 +1,4 @@
-"""Runs the program of this repository on documents of timers alone, and measures the runs."""
+"""Runs the program of this repository on documents, and measures the runs."""
 
 import json
 import os
@@ -32,15 +32,26 @@ def document(timers, script, rounds):
 
 def measure(path, text):
     """The seconds, the bytes of the transcript and the greatest resident memory in bytes."""
-    with tempfile.TemporaryFile() as source, tempfile.TemporaryFile() as sink:
+    with tempfile.TemporaryFile() as source:
         source.write(text)
-        source.seek(0)
+        return measure_file(path, source)
+
+
+def measure_file(path, source, status=0, line=b""):
+    """The same for the document in an open file, where the run is to end with a status and a line on standard error.
+
+    The system counts the memory of this process as the run's too, so no less than that is seen.
+    """
+    source.seek(0)
+    environment = {"GLIBC_TUNABLES": TUNABLES, **os.environ}
+    with tempfile.TemporaryFile() as sink, tempfile.TemporaryFile() as errors:
         start = time.perf_counter()
-        environment = {"GLIBC_TUNABLES": TUNABLES, **os.environ}
-        child = subprocess.Popen([path, "1", "1"], stdin=source, stdout=sink, env=environment)
-        _, status, usage = os.wait4(child.pid, 0)
+        child = subprocess.Popen([path, "1", "1"], stdin=source, stdout=sink, stderr=errors, env=environment)
+        _, ended, usage = os.wait4(child.pid, 0)
         seconds = time.perf_counter() - start
-        child.returncode = os.waitstatus_to_exitcode(status)
-        if child.returncode != 0:
-            sys.exit(f"{path} ended with status {child.returncode}")
+        child.returncode = os.waitstatus_to_exitcode(ended)
+        errors.seek(0)
+        told = errors.read()
+        if (child.returncode, told) != (status, line):
+            sys.exit(f"{path} ended with status {child.returncode} and said {told}")
         return seconds, os.fstat(sink.fileno()).st_size, usage.ru_maxrss * 1024

@@ -1,5 +1,5 @@
 -- What is read of a feed keeps what its draft keeps.
-use Rattle.std.proofs.Common.{◌≡◌, ℕ, ◌-◌, ◌^◌, Bool, true, false, not, ◌&&◌, nat_le, length, map, List, [], ◌∷◌, Option, None, Some, is_some, refl, ap, ap₂, sym, ◌∙◌, subst}
+use Rattle.std.proofs.Common.{◌≡◌, ℕ, ◌-◌, ◌^◌, Bool, true, false, ◌&&◌, nat_le, length, map, List, [], ◌∷◌, Option, None, Some, is_some, refl, ap, ap₂, sym, ◌∙◌, subst}
 use Rattle.std.specs.List.{list_all}
 use Rattle.std.specs.Option.{option_map_or}
 use Rattle.std.proofs.lemmas.Bool.{le-leb}
@@ -15,7 +15,7 @@ use Rattle.exec_graph.specs.Feeding.{goes_somewhere, has_128_bits}
 use Rattle.exec_graph.specs.Graph.{GraphData, is_topic, is_server}
 use Rattle.exec_graph.specs.Lawful.{is_at}
 use Rattle.exec_graph.specs.Numbers.{topic_named, server_named}
-use Rattle.exec_graph.specs.Schedule.{schedule_fits, greatest, stamp_of, is_in_order, is_identified, has_plan_fault, plan_fault_in}
+use Rattle.exec_graph.specs.Schedule.{schedule_fits, greatest, stamp_of, is_in_order, is_identified, plan_fault_in}
 use Rattle.exec_graph.specs.declared.plan.Fed.{Fed}
 use Rattle.exec_graph.specs.declared.plan.Fed.TheVariants.{Message, Goal, Cancel}
 use Rattle.exec_graph.specs.declared.plan.Feed.{Feed}

@@ -1,5 +1,5 @@
 -- What a graph is fed by a draft.
-use Rattle.std.proofs.Common.{◌≡◌, ℕ, ◌+◌, Bool, true, false, cond, not, ◌&&◌, length, map, IsTrue, List, [], ◌∷◌, ◌++◌, Option, None, Some, All, is_some, option_map, unwrap_or, nat_le, slice_get, bytes_eq, refl, ap, ap₂, sym, ◌∙◌, subst, arith, zero-add}
+use Rattle.std.proofs.Common.{◌≡◌, ℕ, ◌+◌, Bool, true, false, cond, ◌&&◌, length, map, IsTrue, List, [], ◌∷◌, ◌++◌, Option, None, Some, All, is_some, option_map, unwrap_or, nat_le, slice_get, bytes_eq, refl, ap, ap₂, sym, ◌∙◌, subst, arith, zero-add}
 use Rattle.std.specs.List.{list_all, position_from}
 use Rattle.std.specs.Option.{option_map_or}
 use Rattle.std.proofs.lemmas.List.Elements.{All-nil, All-cons}
@@ -7,7 +7,7 @@ use Rattle.exec_doc.specs.Document.{fed_in, entry_in}
 use Rattle.exec_doc.specs.declared.draft.FedDraft.{FedDraft}
 use Rattle.exec_doc.specs.declared.draft.FedDraft.TheVariants as draft
 use Rattle.exec_doc.specs.declared.draft.EntryDraft.{EntryDraft}
-use Rattle.exec_doc.specs.Placing.{topic_at, server_at, id_or_0, fed_by, entry_by}
+use Rattle.exec_doc.specs.Placing.{topic_at, server_at, fed_by, entry_by}
 use Rattle.exec_doc.specs.Refusals as refusals
 use Rattle.exec_doc.specs.Refusals.{id_of, feeds}
 use Rattle.exec_graph.specs.Draft.{GraphDraft}
@@ -16,12 +16,11 @@ use Rattle.exec_graph.specs.Graph.{EntityData, GraphData, is_topic, is_server}
 use Rattle.exec_graph.specs.Lawful.{is_at}
 use Rattle.exec_graph.specs.Numbers as numbers
 use Rattle.exec_graph.specs.Numbers.{Placed, entities_of, topic_named, server_named}
-use Rattle.exec_graph.specs.Options.{◌>>=◌, each}
+use Rattle.exec_graph.specs.Options.{each}
 use Rattle.exec_graph.specs.Resolved.{entity_in, topic_in, graph_in}
 use Rattle.exec_graph.specs.Schedule.{stamp_of, is_identified}
-use Rattle.exec_graph.specs.declared.entity.Declared.{Declared}
 use Rattle.exec_graph.specs.declared.plan.Fed.{Fed}
-use Rattle.exec_graph.specs.declared.plan.Fed.TheVariants.{Message, Goal, Cancel}
+use Rattle.exec_graph.specs.declared.plan.Fed.TheVariants.{Goal, Cancel}
 use Rattle.exec_graph.specs.declared.plan.Feed.{Feed}
 use Rattle.exec_graph.proofs.Bools.{and_left, and_right, both_true}
 use Rattle.exec_graph.proofs.Resolving.{graph_of, AreEntities, built}

@@ -1,5 +1,5 @@
 -- What is answered of a document for which no code up to that of group variables holds.
-use Rattle.std.proofs.Common.{◌≡◌, ℕ, ◌⊎◌, inl, inr, Bool, true, false, length, map, List, Option, None, Some, Err, is_some, refl, ap, ap₂, sym, ◌∙◌, subst}
+use Rattle.std.proofs.Common.{◌≡◌, ℕ, ◌⊎◌, inl, inr, Bool, true, false, length, map, List, Option, None, Some, Err, ap, ap₂, sym, ◌∙◌, subst}
 use Rattle.std.specs.List.{list_all}
 use Rattle.exec_doc.specs.Answering.{Answers, IsReady, draft_refusal, code_of}
 use Rattle.exec_doc.specs.Document.{entry_in, plan_of}
@@ -12,14 +12,14 @@ use Rattle.exec_doc.specs.declared.refused.Refused.{Refused}
 use Rattle.exec_doc.specs.declared.refused.Refused.TheVariants as refused
 use Rattle.exec_graph.specs.Draft.{GraphDraft}
 use Rattle.exec_graph.specs.Graph.{GraphData}
-use Rattle.exec_graph.specs.Options.{◌>>=◌, each}
+use Rattle.exec_graph.specs.Options.{each}
 use Rattle.exec_graph.specs.Plan.{PlanData}
 use Rattle.exec_graph.specs.Resolved.{graph_in}
 use Rattle.exec_graph.specs.Schedule.{schedule_fits, greatest, stamp_of, is_in_order, is_identified, plan_fault_in}
 use Rattle.exec_graph.specs.declared.fault.PlanFault.{PlanFault}
 use Rattle.exec_graph.specs.declared.fault.PlanFault.TheVariants as plan_fault
 use Rattle.exec_graph.specs.declared.plan.Feed.{Feed}
-use Rattle.exec_doc.proofs.Placed.{HasSchedule, has_schedule, feed_there, are_said}
+use Rattle.exec_doc.proofs.Placed.{has_schedule, feed_there, are_said}
 use Rattle.exec_doc.proofs.Refusing.{late, plan_by, by_late, plan_tests, in_order}
 
 -- its feed goes to what is there

@@ -1,5 +1,5 @@
 -- What is known of a schedule that was read.
-use Rattle.std.proofs.Common.{◌≡◌, ℕ, ◌&&◌, Bool, true, false, nat_le, List, [], ◌∷◌, Option, None, Some, option_map, refl, ap, sym, ◌∙◌, ◌+◌, ◌<◌, ◌≤◌, arith, length, get_or, drop, map, max}
+use Rattle.std.proofs.Common.{◌≡◌, ℕ, ◌&&◌, Bool, true, false, List, [], ◌∷◌, Option, Some, refl, ap, sym, ◌∙◌, ◌+◌, ◌<◌, ◌≤◌, arith, length, get_or, drop, map, max}
 use Rattle.std.specs.List.{list_all}
 use Rattle.std.proofs.Math.Nat.{max-zero}
 use Rattle.std.proofs.lemmas.List.{drop_all}

@@ -1,5 +1,5 @@
 -- What a reader answers of drafts: a plan, or the refusal.
-use Rattle.std.specs.Prelude.{◌≡◌, ℕ, ◌⊎◌, List, [], ◌∷◌, Bool, true, false, not, ◌&&◌, if◌then◌else◌, Option, None, Some, find, Result, Ok, Err}
+use Rattle.std.specs.Prelude.{◌≡◌, ℕ, ◌⊎◌, List, Bool, true, false, not, ◌&&◌, if◌then◌else◌, Option, None, Some, find, Result, Ok, Err}
 use Rattle.std.specs.List.{list_all}
 use Rattle.exec_doc.specs.Draft.{DocumentDraft}
 use Rattle.exec_doc.specs.declared.draft.EntryDraft.{EntryDraft}

@@ -5,7 +5,6 @@ use Rattle.exec_doc.specs.declared.draft.FedDraft.{FedDraft}
 use Rattle.exec_doc.specs.declared.draft.EntryDraft.{EntryDraft}
 use Rattle.exec_doc.specs.Draft.{DocumentDraft}
 use Rattle.exec_graph.specs.Draft.{GraphDraft}
-use Rattle.exec_graph.specs.declared.draft.Drafted.{Drafted}
 use Rattle.exec_doc.specs.declared.draft.FedDraft.TheVariants as draft
 use Rattle.exec_doc.specs.Forms.{draft_of}
 use Rattle.exec_graph.specs.Numbers.{topic_named, server_named}

@@ -1,4 +1,3 @@
 pub mod Goals
 pub mod Groups
 pub mod Services
-pub mod Timers

@@ -1,3 +1,13 @@
+mod faults;
+mod fields;
+mod identifiers;
+mod limits;
+mod memory;
+mod names;
+mod scripts;
+mod table;
+mod texts;
+
 use crate::read_document;
 use std::alloc::Global;
 use std::process::Abort;
@@ -12,7 +22,7 @@ fn code_of(alloc: Global, document: &str) -> u8 {
 
 // A function of its own, since each assertion in a test makes the test's proof longer.
 fn answers(rt: &impl Abort, alloc: Global, document: &str, code: u8) {
-    assert_eq!(rt; code_of(alloc, document), code);
+    assert_eq!(rt; code_of(alloc, document), code, "at {document}");
 }
 
 #[test]
@@ -80,4 +90,60 @@ fn feeds_are_refused(rt: HostRuntime) {
         "{\"version\":1,\"nodes\":[{\"name\":\"n\",\"actions\":[{\"name\":\"a\"}]}],\"moments\":[1],\"feed\":[{\"round\":1,\"action\":\"a\",\"cancel\":\"1\"}]}",
         9,
     );
+}
+
+fn all_answer(rt: &impl Abort, alloc: Global, documents: &[&str], code: u8) {
+    for (place, document) in documents.iter().enumerate() {
+        assert_eq!(rt; (place, code_of(alloc, *document)), (place, code));
+    }
+}
+
+#[test]
+fn table_1(rt: HostRuntime) {
+    all_answer(&rt, rt.alloc(), &table::NOT_JSON, 1);
+}
+
+#[test]
+fn table_2(rt: HostRuntime) {
+    all_answer(&rt, rt.alloc(), &table::SHAPE, 2);
+}
+
+#[test]
+fn table_3(rt: HostRuntime) {
+    all_answer(&rt, rt.alloc(), &table::VERSION, 3);
+}
+
+#[test]
+fn table_4(rt: HostRuntime) {
+    all_answer(&rt, rt.alloc(), &table::NAME, 4);
+}
+
+#[test]
+fn table_5(rt: HostRuntime) {
+    all_answer(&rt, rt.alloc(), &table::LIMIT, 5);
+}
+
+#[test]
+fn table_6(rt: HostRuntime) {
+    all_answer(&rt, rt.alloc(), &table::SCRIPT, 6);
+}
+
+#[test]
+fn table_7(rt: HostRuntime) {
+    all_answer(&rt, rt.alloc(), &table::GROUP_VARIABLE, 7);
+}
+
+#[test]
+fn table_8(rt: HostRuntime) {
+    all_answer(&rt, rt.alloc(), &table::CLOCK, 8);
+}
+
+#[test]
+fn table_9(rt: HostRuntime) {
+    all_answer(&rt, rt.alloc(), &table::ID, 9);
+}
+
+#[test]
+fn table_0(rt: HostRuntime) {
+    all_answer(&rt, rt.alloc(), &table::READ, 0);
 }

@@ -1,5 +1,5 @@
 -- A draft without a fault has a graph.
-use Rattle.std.proofs.Common.{◌≡◌, ℕ, Bool, true, is_some, List, [], ◌∷◌, Option, None, Some, flat_map, filter_map, refl}
+use Rattle.std.proofs.Common.{◌≡◌, ℕ, Bool, true, is_some, List, [], ◌∷◌, None, flat_map, filter_map, refl}
 use Rattle.std.specs.List.{list_all}
 use Rattle.exec_graph.specs.Resolved.{script_in, result_script_in, declared, entity_in, graph_in}
 use Rattle.exec_graph.specs.Draft.{GraphDraft}
@@ -8,7 +8,7 @@ use Rattle.exec_graph.specs.declared.draft.ServerDraft.{ServerDraft}
 use Rattle.exec_graph.specs.declared.draft.Drafted.{Drafted}
 use Rattle.exec_graph.specs.declared.draft.Drafted.TheVariants.{Timer, Subscription, Service, Client, Server, ActionClient}
 use Rattle.exec_graph.specs.Numbers.{Placed, entities_of, topic_named, service_named, server_named, group_named, scope_of}
-use Rattle.exec_graph.specs.Options.{◌>>=◌, each}
+use Rattle.exec_graph.specs.Options.{each}
 use Rattle.exec_graph.specs.Faults.{refers, is_resolved}
 use Rattle.exec_graph.specs.Refusals.{fault_in}
 use Rattle.exec_graph.specs.Scripts.{Spelt, scripts_of, result_script, is_reentrant, fault_of, entity_faults}

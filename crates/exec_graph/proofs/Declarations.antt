@@ -1,5 +1,5 @@
 -- What is declared, and the sets of its names.
-use Rattle.std.proofs.Common.{◌≡◌, ℕ, suc, ◌+◌, Bool, true, false, cond, if◌then◌else◌, ◌&&◌, ◌||◌, is_some, Result, Ok, Err, OnOk, OnErr, List, [], ◌∷◌, ◌++◌, map, length, take, Option, None, Some, flat_map, refl, ap, ap₂, sym, subst, ◌∙◌, bytes_eq}
+use Rattle.std.proofs.Common.{◌≡◌, ℕ, suc, ◌+◌, Bool, true, false, cond, if◌then◌else◌, ◌&&◌, ◌||◌, is_some, Result, Ok, Err, OnOk, OnErr, List, [], ◌∷◌, ◌++◌, map, length, take, Option, Some, refl, ap, ap₂, sym, subst, ◌∙◌, bytes_eq}
 use Rattle.std.specs.List.{filter, list_any, position_from}
 use Rattle.std.proofs.Math.Seq.{take-append_seam}
 use Rattle.std.proofs.lemmas.List.{append-nil, append_assoc, map-append}
@@ -8,7 +8,7 @@ use Rattle.std.proofs.lemmas.List.Folds.{list_any-append}
 use Rattle.std.proofs.lemmas.Slice.Eq.{bytes_eq-Decides}
 use Rattle.exec_graph.specs.Declaring.{server_names, actions_of, is_among, HasNamesOf, Extends}
 use Rattle.exec_graph.specs.Draft.{GraphDraft}
-use Rattle.exec_graph.specs.Numbers.{is_timer, is_subscription, is_service, is_client, is_server, is_action_client, Placed, entities_from, entities_of, topic_named, server_named}
+use Rattle.exec_graph.specs.Numbers.{is_timer, is_subscription, is_service, is_client, is_server, is_action_client, Placed, entities_from, entities_of, server_named}
 use Rattle.exec_graph.specs.declared.draft.Drafted.{Drafted}
 use Rattle.exec_graph.specs.declared.draft.Drafted.TheVariants.{Timer, Subscription, Service, Client, Server, ActionClient}
 use Rattle.exec_graph.specs.declared.draft.EntityDraft.{EntityDraft}

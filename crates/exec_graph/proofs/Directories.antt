@@ -1,5 +1,5 @@
 -- How a directory is made of names that are added one after another.
-use Rattle.std.proofs.Common.{◌≡◌, ℕ, Bool, true, false, not, ◌&&◌, if◌then◌else◌, List, [], ◌∷◌, ◌++◌, Option, None, Some, option_and_then, refl, sym, ap, ◌∙◌}
+use Rattle.std.proofs.Common.{◌≡◌, ℕ, Bool, true, false, ◌&&◌, if◌then◌else◌, List, [], ◌∷◌, ◌++◌, Option, None, Some, option_and_then, refl, sym, ap, ◌∙◌}
 use Rattle.exec_graph.specs.Directory.{DirectoryData, names_from, where_so}
 use Rattle.exec_graph.specs.Faults.{are_names}
 use Rattle.exec_graph.specs.Numbers.{Placed}

@@ -1,5 +1,5 @@
 -- The entities of all kinds, one kind after another.
-use Rattle.std.proofs.Common.{◌≡◌, ℕ, suc, ◌+◌, ◌<◌, length, get_or, drop, add-one, List, [], ◌∷◌, ◌++◌, flat_map, filter_map, Option, None, Some, refl, sym, ap, ◌∙◌, append_assoc}
+use Rattle.std.proofs.Common.{◌≡◌, ℕ, suc, ◌+◌, ◌<◌, length, get_or, drop, add-one, List, ◌∷◌, ◌++◌, flat_map, filter_map, Option, None, Some, refl, sym, ap, ◌∙◌, append_assoc}
 use Rattle.std.proofs.Math.Seq.{drop-cons}
 use Rattle.exec_graph.specs.Directory.{listed}
 

@@ -11,6 +11,7 @@ pub mod Entities
 pub mod EntityOrder
 pub mod EntityResolving
 pub mod Faultless
+pub mod Found
 pub mod Groups
 pub mod Kept
 pub mod Known

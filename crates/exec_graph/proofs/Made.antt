@@ -2,7 +2,6 @@
 use Rattle.std.proofs.Common.{◌≡◌, ℕ, false, List, Option, None, Some, option_map, refl, subst}
 use Rattle.exec_graph.specs.Resolved.{script_in, result_script_in, declared}
 use Rattle.exec_graph.specs.Draft.{GraphDraft}
-use Rattle.exec_graph.specs.declared.draft.ActionClientDraft.{ActionClientDraft}
 use Rattle.exec_graph.specs.declared.draft.Drafted.{Drafted}
 use Rattle.exec_graph.specs.declared.draft.Drafted.TheVariants as draft
 use Rattle.exec_graph.specs.Numbers as numbers

@@ -1,5 +1,5 @@
 -- The kinds of entities, and their order.
-use Rattle.std.specs.Prelude.{ℕ, List, Bool, ◌≡◌, map}
+use Rattle.std.specs.Prelude.{ℕ, List, Bool}
 use Rattle.std.specs.List.{filter, flat_map}
 use Rattle.exec_graph.specs.declared.draft.NodeDraft.{NodeDraft}
 use Rattle.exec_graph.specs.declared.draft.EntityDraft.{EntityDraft}

@@ -1,6 +1,7 @@
 //! Laws of graphs: each function's contract says one, and its body is empty or calls the law that it rests on.
-ghost use Rattle.std.specs.Prelude.{◌≡◌, ℕ, ◌<◌, ◌≤◌, ◌==◌, ℤ, List, length, Bool, true, false, cond, Option, None, Some, is_some, IsTrue};
-ghost use Rattle.std.specs.List.{filter, list_all};
+ghost use Rattle.std.specs.Prelude.{◌≡◌, ℕ, ◌<◌, ◌≤◌, ◌==◌, ℤ, List, length, Bool, true, false, cond, Option, None, Some, is_some, IsTrue, ◌&&◌};
+ghost use Rattle.std.specs.List.{filter, list_all, position_from};
+ghost use Rattle.std.specs.Str.{bytes_eq};
 ghost use Rattle.exec_graph.specs.Draft.{GraphDraft};
 ghost use Rattle.exec_graph.specs.Feeding.{goes_somewhere, has_128_bits};
 ghost use Rattle.exec_graph.specs.Graph.{GraphData, declared_at, entities_where, is_topic, is_server};
@@ -43,6 +44,22 @@ pub fn names_find_what_they_are_declared_as()
     ensures topic { (draft : GraphDraft) (graph : GraphData) (name : List ℕ) (number : ℕ) → graph_in draft ≡ Some graph → topic_named draft name ≡ Some number →
         IsTrue (is_at is_topic graph number) }
     ensures server { (draft : GraphDraft) (graph : GraphData) (name : List ℕ) (number : ℕ) → graph_in draft ≡ Some graph → server_named draft name ≡ Some number →
+        IsTrue (is_at is_server graph number) }
+{}
+
+/// A graph finds the topics and servers of its draft at the numbers of their names.
+pub fn graphs_find_what_their_drafts_name()
+    ensures topic { (draft : GraphDraft) (graph : GraphData) (name : List ℕ) → graph_in draft ≡ Some graph →
+        position_from (λ entity. is_topic entity.is && bytes_eq entity.name name) 0 graph.entities ≡ topic_named draft name }
+    ensures server { (draft : GraphDraft) (graph : GraphData) (name : List ℕ) → graph_in draft ≡ Some graph →
+        position_from (λ entity. is_server entity.is && bytes_eq entity.name name) 0 graph.entities ≡ server_named draft name }
+{}
+
+/// What a graph finds by name stands at its number.
+pub fn what_is_found_stands_at_its_number()
+    ensures topic { (graph : GraphData) (name : List ℕ) (number : ℕ) → position_from (λ entity. is_topic entity.is && bytes_eq entity.name name) 0 graph.entities ≡ Some number →
+        IsTrue (is_at is_topic graph number) }
+    ensures server { (graph : GraphData) (name : List ℕ) (number : ℕ) → position_from (λ entity. is_server entity.is && bytes_eq entity.name name) 0 graph.entities ≡ Some number →
         IsTrue (is_at is_server graph number) }
 {}
 

@@ -1,3 +1,9 @@
+mod drafts;
+mod faults;
+mod graphs;
+mod plans;
+mod refused;
+
 use crate::{
     Drafted, EntityDraft, GraphBuilder, GraphFault, GroupDraft, Items, NodeDraft, PlanFault,
     ServerDraft, Spelled, schedule_fits,
@@ -6,7 +12,14 @@ use exec_msg::Moment;
 use exec_msg::limits::{FEED, TICKS};
 use exec_script::WordText;
 use std::alloc::{AllocError, Global};
+use std::fmt::Debug;
+use std::process::Abort;
 use std::test::Fail;
+
+// A function of its own, since each assertion in a test makes the test's proof longer.
+fn same<T: PartialEq + Debug + Drop>(rt: &impl Abort, found: T, wanted: T) {
+    assert_eq!(rt; found, wanted);
+}
 
 fn text(alloc: Global, text: &str) -> Result<WordText, AllocError> {
     Ok(WordText::of(String::from_str(alloc, text)?))

@@ -1,9 +1,7 @@
-mod Each
 mod KnownBytes
-mod Lists
-mod Naming
-mod Nodes
+mod Listing
+mod OnTimers
 mod Rounds
 mod Running
-mod Sound
+mod Starting
 mod Taking

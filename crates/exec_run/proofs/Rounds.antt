@@ -1,122 +1,188 @@
--- A round runs the callbacks of the timers that are due, in the order of their places.
-use Rattle.std.proofs.Common.{◌≡◌, ℕ, ◌+◌, ℤ, pos, None, ◌<◌, ◌≤◌, Bool, true, false, List, [], ◌∷◌, length, get_or, drop, map, refl, sym, ap, ◌∙◌, arith}
-use Rattle.std.specs.List.{All}
-use Rattle.std.proofs.lemmas.List.{length-map, length-replicate, length-drop, drop_more, drop_all}
-use Rattle.std.proofs.lemmas.List.Elements.{All-nil, All-cons}
-use Rattle.exec_msg.specs.Timer.{TimerState, is_due, called}
-use Rattle.exec_msg.specs.declared.kind.Kind.TheVariants.{Timer}
+-- A round of a world of timers alone runs the callbacks of those that are due, and leaves such a world.
+use Rattle.std.proofs.Common.{◌≡◌, ◌==◌, ℕ, zero, suc, ◌+◌, ◌<◌, ◌≤◌, add-one, ℤ, replicate, Bool, true, false, List, [], ◌∷◌, ◌++◌, length, get_or, drop, map, refl, sym, ap, subst, ◌∙◌, arith}
+use Rattle.std.specs.List.{All, filter, filter_map, flat_map, fold}
+use Rattle.std.proofs.lemmas.List.{append-nil, drop_more, drop_all, length-map, length-replicate}
+use Rattle.std.proofs.lemmas.List.Elements.{All-nil, All-push, All-head, All-tail}
+use Rattle.std.proofs.lemmas.List.Folds.{fold-map}
+use Rattle.exec_graph.specs.Graph.{GraphData, declared_at, is_timer, names_of}
+use Rattle.exec_graph.specs.Plan.{PlanData}
+use Rattle.exec_graph.specs.declared.entity.Declared.{Declared}
+use Rattle.exec_graph.specs.declared.entity.Declared.TheVariants.{Topic, Timer, Subscription, Service, Client, Server, ActionClient}
+use Rattle.exec_graph.specs.declared.plan.Feed.{Feed}
+use Rattle.exec_msg.specs.Line.{IsNamed}
+use Rattle.exec_msg.specs.Timer.{is_due}
 use Rattle.exec_msg.specs.declared.line.Line.{Line}
 use Rattle.exec_msg.specs.declared.line.Line.TheVariants as line
+use Rattle.exec_run.proofs.Listing.{up, timers_listed, no_servers, no_clients, no_action_clients, no_queues, ready_timers, due_within}
+use Rattle.exec_run.proofs.OnTimers.{AreTimers, are_timers, declared_timer, lawful_entity, none_later, nothing_fed}
+use Rattle.exec_run.proofs.Running.{AreOfTimers, call_at, run_keeps_alone, timer_names_nothing}
+use Rattle.exec_run.specs.Timers.{IsOfTimers, HasTimersAlone, due_entity, timer_ready}
 use Rattle.exec_script.specs.Zeros.{zeros}
-use Rattle.exec_run.specs.Plan.{TimerData, PlanData, timer_at}
-use Rattle.exec_run.specs.World.{WorldState, Ready, due, input_of, add_line, run_line, give, variables_of, with_variables, run_ready, run_all}
-use Rattle.exec_script.specs.Script.{CallInput, call_of}
-use Rattle.exec_script.specs.declared.effects.Effect.{Effect}
-use Rattle.std.specs.List.{fold}
-use Rattle.exec_run.specs.Transcript.{timer_ready, due_places, due_timers, taken, take_inputs, round, rounds, new_timer, first_world, Fits}
-use Rattle.exec_run.proofs.Running.{give_all, call_at, called_world, run_by_call, run_keeps_timers, run_keeps_groups}
+use Rattle.exec_world.specs.Ready.{Ready, call_input, due, take_inputs, timer_taken, queue_taken, client_taken}
+use Rattle.exec_world.specs.Run.{run}
+use Rattle.exec_world.specs.Transcript.{expire, expire_lines, server_expired, feed, feed_one, run_all, snapshot_and_run, round, rounds, new_timer, new_action_clients, first_world, finish, lines_of, pending_by}
+use Rattle.exec_world.specs.World.{WorldState, ServerEntry, ClientEntry, ActionClientEntry, Queue, TimerEntry, add_line}
 
--- the ready callback of the timer at a place
-abbrev pub ready_at : ℕ → PlanData → ℕ → Ready
-ready_at moment plan place = timer_ready moment (timer_at plan place) place
+-- a plan's entities are timers
+pub timers_of : (plan : PlanData) → IsOfTimers plan → AreTimers plan.graph.entities
+timers_of plan of = are_timers plan.graph of.lawful.graph of.timers
 
--- one more timer, at a place that is within
-one_within : (moment at n : ℕ) (state : TimerState) (states : List TimerState) (b : Bool) → is_due state moment ≡ b → at < n → All (λ place. place < n) (due_places moment (at + 1) states) → All (λ place. place < n) (due_places moment at (state ∷ states))
-one_within moment at n state states true passed here others = rw passed (All-cons (λ place. place < n) at (due_places moment (at + 1) states) here others)
-one_within moment at n state states false kept here others = rw kept others
+-- as many names as entities
+pub as_many_names : (graph : GraphData) → length (names_of graph) ≡ length graph.entities
+as_many_names graph = length-map graph.entities (λ entity. entity.name)
 
--- a place that is due is that of a timer
-pub places_within : (moment at n : ℕ) (states : List TimerState) → at + length states ≤ n → All (λ place. place < n) (due_places moment at states)
-places_within moment at n [] bound = All-nil (λ place. place < n)
-places_within moment at n (state ∷ states) bound =
-    one_within moment at n state states (is_due state moment) refl (omega arith) (places_within moment (at + 1) n states (omega arith))
+-- ---- a timer's callback
 
--- one more timer, with the callback of its place
-one_ready : (moment : ℕ) (plan : PlanData) (at : ℕ) (timer : TimerData) (timers : List TimerData) (state : TimerState) (states : List TimerState) (b : Bool) → is_due state moment ≡ b → timer ≡ timer_at plan at → due_timers moment (at + 1) timers states ≡ map (ready_at moment plan) (due_places moment (at + 1) states) → due_timers moment at (timer ∷ timers) (state ∷ states) ≡ map (ready_at moment plan) (due_places moment at (state ∷ states))
-one_ready moment plan at timer timers state states true passed there others =
-    rw (passed, others) (ap (λ (t : TimerData). timer_ready moment t at ∷ map (ready_at moment plan) (due_places moment (at + 1) states)) there)
-one_ready moment plan at timer timers state states false kept there others = rw kept others
+pub of_timers_at : (plan : PlanData) → IsOfTimers plan → (moment entity : ℕ) (world : WorldState) → entity < length plan.graph.entities → AreOfTimers (call_at plan.graph moment entity world).given
+of_timers_at plan of moment entity world within =
+    timer_names_nothing plan.graph (none_later plan.graph of.timers) (declared_at plan.graph entity)
+    (declared_timer plan.graph entity (timers_of plan of) within)
+    (lawful_entity plan.graph entity of.lawful.graph (timers_of plan of) within) _ (call_input moment due)
 
--- the timers that are due are those at the places that are due
-ready_places : (moment : ℕ) (plan : PlanData) (at : ℕ) (timers : List TimerData) (states : List TimerState) → timers ≡ drop at plan.timers → length states ≡ length timers → due_timers moment at timers states ≡ map (ready_at moment plan) (due_places moment at states)
-ready_places moment plan at [] [] rest same = refl
-ready_places moment plan at [] (state ∷ states) rest same = absurd (omega arith)
-ready_places moment plan at (timer ∷ timers) [] rest same = absurd (omega arith)
-ready_places moment plan at (timer ∷ timers) (state ∷ states) rest same =
-    let within : at < length plan.timers = omega (arith, ap (λ (ts : List TimerData). length ts) rest, length-drop at plan.timers) in
-    let next = drop_more plan.timers at (record { name = []; period = 0; group = 0; script = [] }) within in
-    let here : timer ≡ timer_at plan at = cc in
-    let others : timers ≡ drop (at + 1) plan.timers = cc in
-    one_ready moment plan at timer timers state states (is_due state moment) refl here
-    (ready_places moment plan (at + 1) timers states others (omega arith))
+pub alone_run : (plan : PlanData) → IsOfTimers plan → (moment entity : ℕ) (world : WorldState) → entity < length plan.graph.entities → HasTimersAlone plan.graph world → HasTimersAlone plan.graph (run plan.graph moment (timer_ready plan.graph entity) world)
+alone_run plan of moment entity world within alone =
+    run_keeps_alone plan.graph moment entity world (of_timers_at plan of moment entity world within) (omega (arith, as_many_names plan.graph)) alone
 
--- a round runs the timers at the places that are due
-pub round_by_places : (plan : PlanData) (number moment : ℕ) (world : WorldState) → Fits plan world → run_all moment (map (ready_at moment plan) (due_places moment 0 world.timers)) (take_inputs moment (add_line (line.Round number moment) world)) ≡ round plan number moment world
-round_by_places plan number moment world fits =
-    ap (λ (readies : List Ready). run_all moment readies (take_inputs moment (add_line (line.Round number moment) world)))
-    (sym (ready_places moment plan 0 plan.timers world.timers refl fits.timers))
+-- callbacks of timers, one after another
+abbrev pub run_timers : GraphData → ℕ → WorldState → List ℕ → WorldState
+run_timers graph moment world entities = fold (λ world entity. run graph moment (timer_ready graph entity) world) world entities
 
--- the callback at the next place runs
-pub run_next : (moment : ℕ) (plan : PlanData) (places : List ℕ) (i : ℕ) (world : WorldState) → i < length places → run_all moment (map (ready_at moment plan) (drop (i + 1) places)) (run_ready moment (ready_at moment plan (get_or places i 0)) world) ≡ run_all moment (map (ready_at moment plan) (drop i places)) world
-run_next moment plan places i world within = sym (rw (drop_more places i 0 within) refl)
+alone_all : (plan : PlanData) → IsOfTimers plan → (moment : ℕ) (entities : List ℕ) (world : WorldState) → All (λ entity. entity < length plan.graph.entities) entities → HasTimersAlone plan.graph world → HasTimersAlone plan.graph (run_timers plan.graph moment world entities)
+alone_all plan of moment [] world within alone = alone
+alone_all plan of moment (entity ∷ entities) world within alone =
+    alone_all plan of moment entities (run plan.graph moment (timer_ready plan.graph entity) world) (All-tail (λ one. one < length plan.graph.entities) entity entities within)
+    (alone_run plan of moment entity world (All-head (λ one. one < length plan.graph.entities) entity entities within) alone)
 
--- no place is left
-pub run_last : (moment : ℕ) (plan : PlanData) (places : List ℕ) (i : ℕ) (world : WorldState) → length places ≤ i → run_all moment (map (ready_at moment plan) (drop i places)) world ≡ world
-run_last moment plan places i world past = rw (drop_all i places past) refl
+-- ---- a round
+
+pub alone_line : (graph : GraphData) (added : Line) (world : WorldState) → IsNamed (names_of graph) added → HasTimersAlone graph world → HasTimersAlone graph (add_line added world)
+alone_line graph added world here alone = record {
+  timers = alone.timers;
+  queues = alone.queues;
+  servers = alone.servers;
+  clients = alone.clients;
+  groups = alone.groups;
+  named = All-push (IsNamed (names_of graph)) world.lines added alone.named here;
+}
+
+same_entity : (moment : ℕ) (entry : TimerEntry) (b : Bool) → is_due entry.timer moment ≡ b → (timer_taken moment entry).entity ≡ entry.entity
+same_entity moment entry true e = rw e refl
+same_entity moment entry false e = rw e refl
+
+same_entities : (moment : ℕ) (timers : List TimerEntry) → map (λ entry. entry.entity) (map (timer_taken moment) timers) ≡ map (λ entry. entry.entity) timers
+same_entities moment [] = refl
+same_entities moment (entry ∷ timers) =
+    ap (λ (entity : ℕ). entity ∷ map (λ other. other.entity) (map (timer_taken moment) timers)) (same_entity moment entry (is_due entry.timer moment) refl)
+    ∙ ap (λ (rest : List ℕ). entry.entity ∷ rest) (same_entities moment timers)
+
+pub alone_taken : (graph : GraphData) (moment : ℕ) (world : WorldState) → HasTimersAlone graph world → HasTimersAlone graph (take_inputs moment world)
+alone_taken graph moment world alone = record {
+  timers = same_entities moment world.timers ∙ alone.timers;
+  queues = ap (λ (queues : List Queue). map queue_taken queues) alone.queues;
+  servers = alone.servers;
+  clients = ap (λ (clients : List ClientEntry). map (client_taken world) clients) alone.clients;
+  groups = alone.groups;
+  named = alone.named;
+}
+
+-- without servers nothing expires
+none_expires : (graph : GraphData) (moment : ℕ) (world : WorldState) → world.servers ≡ [] → expire graph moment world ≡ world
+none_expires graph moment world none =
+    ap (λ (servers : List ServerEntry). record world { lines = world.lines ++ flat_map (expire_lines graph moment) servers; servers = map (server_expired graph moment) servers }) none
+    ∙ ap (λ (lines : List Line). record world { lines = lines; servers = [] }) (append-nil world.lines)
+    ∙ ap (λ (servers : List ServerEntry). record world { servers = servers }) (sym none)
+
+feed_same : (plan : PlanData) (number : ℕ) (world : WorldState) → plan.feed ≡ [] → feed plan number world ≡ world
+feed_same plan number world none =
+    ap (λ (entries : List Feed). fold (λ before entry. feed_one plan.graph entry.fed before) world (filter (λ entry. entry.round == number) entries)) none
+
+-- a round runs the timers that are due
+pub round_by_timers : (plan : PlanData) → IsOfTimers plan → (number moment : ℕ) (world : WorldState) → HasTimersAlone plan.graph world →
+    run_timers plan.graph moment (take_inputs moment (add_line (line.Round number moment) world)) (filter_map (due_entity moment) world.timers) ≡ round plan number moment world
+round_by_timers plan of number moment world alone =
+    let lined : WorldState = add_line (line.Round number moment) world in
+    sym (
+    ap (λ (w : WorldState). snapshot_and_run plan.graph moment (feed plan number w)) (none_expires plan.graph moment lined alone.servers)
+    ∙ ap (snapshot_and_run plan.graph moment) (feed_same plan number lined (nothing_fed plan of))
+    ∙ ap (λ (readies : List Ready). run_all plan.graph moment readies (take_inputs moment lined)) (ready_timers plan.graph moment lined (timers_of plan of) alone.timers)
+    ∙ fold-map (λ before one. run plan.graph moment one before) (timer_ready plan.graph) (take_inputs moment lined) (filter_map (due_entity moment) world.timers))
+
+pub alone_round : (plan : PlanData) → IsOfTimers plan → (number moment : ℕ) (world : WorldState) → HasTimersAlone plan.graph world → HasTimersAlone plan.graph (round plan number moment world)
+alone_round plan of number moment world alone =
+    subst (HasTimersAlone plan.graph) (round_by_timers plan of number moment world alone)
+    (alone_all plan of moment (filter_map (due_entity moment) world.timers) (take_inputs moment (add_line (line.Round number moment) world))
+    (due_within plan.graph moment world.timers (timers_of plan of) alone.timers)
+    (alone_taken plan.graph moment (add_line (line.Round number moment) world) (alone_line plan.graph (line.Round number moment) world tt alone)))
 
 -- the next round
 pub round_next : (plan : PlanData) (moments : List ℕ) (i number moment : ℕ) (world : WorldState) → i < length moments → moment ≡ get_or moments i moment → rounds plan (number + 1) (drop (i + 1) moments) (round plan number moment world) ≡ rounds plan number (drop i moments) world
 round_next plan moments i number moment world within there =
-    sym (rw (drop_more moments i moment within, ← there) refl)
+    ap (λ (n : ℕ). rounds plan n (drop (i + 1) moments) (round plan number moment world)) (add-one number)
+    ∙ sym (rw (drop_more moments i moment within, ← there) refl)
 
 -- no round is left
 pub round_last : (plan : PlanData) (moments : List ℕ) (i number : ℕ) (world : WorldState) → length moments ≤ i → rounds plan number (drop i moments) world ≡ world
 round_last plan moments i number world past = rw (drop_all i moments past) refl
 
--- the world before the first round fits
-pub fits_first : (plan : PlanData) → Fits plan (first_world plan)
-fits_first plan = record { timers = length-map plan.timers new_timer; groups = length-replicate plan.groups zeros }
+alone_rounds : (plan : PlanData) → IsOfTimers plan → (number : ℕ) (moments : List ℕ) (world : WorldState) → HasTimersAlone plan.graph world → HasTimersAlone plan.graph (rounds plan number moments world)
+alone_rounds plan of number [] world alone = alone
+alone_rounds plan of number (moment ∷ moments) world alone = alone_rounds plan of (suc number) moments (round plan number moment world) (alone_round plan of number moment world alone)
 
--- it does after a run
-pub fits_run : (plan : PlanData) (moment : ℕ) (ready : Ready) (world : WorldState) → Fits plan world → Fits plan (run_ready moment ready world)
-fits_run plan moment ready world fits = record {
-  timers = ap (λ (states : List TimerState). length states) (run_keeps_timers moment ready world) ∙ fits.timers;
-  groups = run_keeps_groups moment ready world ∙ fits.groups;
+-- ---- the first world
+
+one_entity : (number : ℕ) (declared : Declared) (rest : List TimerEntry) → is_timer declared ≡ true → map (λ entry. entry.entity) (new_timer number declared ++ rest) ≡ number ∷ map (λ entry. entry.entity) rest
+one_entity number (Timer entity) rest h = refl
+one_entity number Topic rest h = absurd cc
+one_entity number (Subscription entity) rest h = absurd cc
+one_entity number (Service entity) rest h = absurd cc
+one_entity number (Client entity) rest h = absurd cc
+one_entity number (Server entity) rest h = absurd cc
+one_entity number (ActionClient entity) rest h = absurd cc
+
+new_entities : (graph : GraphData) → AreTimers graph.entities → (k n : ℕ) → k + n ≤ length graph.entities → map (λ entry. entry.entity) (flat_map (λ number. new_timer number (declared_at graph number)) (up k n)) ≡ up k n
+new_entities graph timers k zero within = refl
+new_entities graph timers k (suc n) within =
+    one_entity k (declared_at graph k) (flat_map (λ number. new_timer number (declared_at graph number)) (up (suc k) n)) (declared_timer graph k timers (omega arith))
+    ∙ ap (λ (rest : List ℕ). k ∷ rest) (new_entities graph timers (suc k) n (omega arith))
+
+pub alone_first : (graph : GraphData) → AreTimers graph.entities → HasTimersAlone graph (first_world graph)
+alone_first graph timers = record {
+  timers =
+      ap (λ (numbers : List ℕ). map (λ entry. entry.entity) (flat_map (λ number. new_timer number (declared_at graph number)) numbers)) (timers_listed graph timers)
+      ∙ new_entities graph timers 0 (length graph.entities) (omega arith)
+      ∙ sym (timers_listed graph timers);
+  queues = ap (map (λ waitable. record { entity = waitable.entity; kind = waitable.kind; items = [] })) (no_queues graph timers);
+  servers = ap (map (λ number. record { entity = number; goals = [] })) (no_servers graph timers);
+  clients = ap (map (λ number. record { entity = number; calls = 0; pending = [] })) (no_clients graph timers);
+  groups = length-replicate (length graph.groups) zeros;
+  named = All-nil (IsNamed (names_of graph));
 }
 
--- after several
-fits_all : (plan : PlanData) (moment : ℕ) (readies : List Ready) (world : WorldState) → Fits plan world → Fits plan (run_all moment readies world)
-fits_all plan moment [] world fits = fits
-fits_all plan moment (ready ∷ readies) world fits = fits_all plan moment readies (run_ready moment ready world) (fits_run plan moment ready world fits)
+-- the first world has nothing of other entities
+pub first_is : (graph : GraphData) → AreTimers graph.entities → (timers : List TimerEntry) (variables : List (List ℤ)) (lines : List Line) → timers ≡ (first_world graph).timers → variables ≡ replicate (length graph.groups) zeros → lines ≡ [] →
+    record { timers = timers; queues = []; servers = []; clients = []; action_clients = []; variables = variables; lines = lines } ≡ first_world graph
+first_is graph are timers variables lines timers_are variables_are lines_are =
+    let first : WorldState = first_world graph in
+    let alone : HasTimersAlone graph first = alone_first graph are in
+    ap (λ (ts : List TimerEntry). record { timers = ts; queues = []; servers = []; clients = []; action_clients = []; variables = variables; lines = lines }) timers_are
+    ∙ ap (λ (vs : List (List ℤ)). record { timers = first.timers; queues = []; servers = []; clients = []; action_clients = []; variables = vs; lines = lines }) variables_are
+    ∙ ap (λ (ls : List Line). record { timers = first.timers; queues = []; servers = []; clients = []; action_clients = []; variables = first.variables; lines = ls }) lines_are
+    ∙ ap (λ (qs : List Queue). record first { queues = qs; servers = []; clients = []; action_clients = [] }) (sym alone.queues)
+    ∙ ap (λ (ss : List ServerEntry). record first { servers = ss; clients = []; action_clients = [] }) (sym alone.servers)
+    ∙ ap (λ (cs : List ClientEntry). record first { clients = cs; action_clients = [] }) (sym alone.clients)
+    ∙ ap (λ (cs : List ActionClientEntry). record first { action_clients = cs }) (sym (ap (new_action_clients 0) (no_action_clients graph are)))
 
--- once the inputs are taken
-pub fits_taken : (plan : PlanData) (moment : ℕ) (world : WorldState) → Fits plan world → Fits plan (take_inputs moment world)
-fits_taken plan moment world fits = record { timers = length-map world.timers (taken moment) ∙ fits.timers; groups = fits.groups }
+-- ---- the last world
 
--- with one more line
-pub fits_line : (plan : PlanData) (added : Line) (world : WorldState) → Fits plan world → Fits plan (add_line added world)
-fits_line plan added world fits = record { timers = fits.timers; groups = fits.groups }
+-- without service clients the end is the one closing line
+pub ends : (number : ℕ) (world : WorldState) → world.clients ≡ [] → add_line (line.End number) world ≡ finish number world
+ends number world none =
+    sym (ap (λ (clients : List ClientEntry). record world { lines = world.lines ++ (flat_map (λ entry. pending_by entry.entity (length entry.pending)) clients ++ line.End number ∷ []) }) none)
 
--- and after a round
-pub fits_round : (plan : PlanData) (number moment : ℕ) (world : WorldState) → Fits plan world → Fits plan (round plan number moment world)
-fits_round plan number moment world fits =
-    fits_all plan moment (due_timers moment 0 plan.timers world.timers) (take_inputs moment (add_line (line.Round number moment) world))
-    (fits_taken plan moment (add_line (line.Round number moment) world) (fits_line plan (line.Round number moment) world fits))
-
--- a timer's callback runs: its line, the call of its script, and each effect of the call
-pub timer_runs : (moment place : ℕ) (plan : PlanData) (timer : TimerData) (first : ℤ) (input : CallInput) (world lined called final : WorldState) (effects : List Effect) → timer ≡ timer_at plan place → first ≡ pos moment → input ≡ input_of moment (due moment) → lined ≡ add_line (line.Run place Timer first (pos 0) None) world → called ≡ with_variables timer.group (call_of timer.script (variables_of timer.group lined) input).variables lined → effects ≡ (call_of timer.script (variables_of timer.group lined) input).given → final ≡ fold (λ world effect. give place effect world) called effects → final ≡ run_ready moment (timer_ready moment (timer_at plan place) place) world
-timer_runs moment place plan timer first input world lined called final effects there first_is input_is lined_is called_is effects_is final_is =
-    let begun : lined ≡ add_line (run_line place (due moment)) world = lined_is ∙ ap (λ (z : ℤ). add_line (line.Run place Timer z (pos 0) None) world) first_is in
-    let left : called ≡ called_world moment (timer_ready moment timer place) world =
-    called_is
-    ∙ ap (λ (w : WorldState). with_variables timer.group (call_of timer.script (variables_of timer.group w) input).variables w) begun
-    ∙ ap (λ (i : CallInput). with_variables timer.group (call_of timer.script (variables_of timer.group world) i).variables (add_line (run_line place (due moment)) world)) input_is in
-    let given : effects ≡ (call_at moment (timer_ready moment timer place) world).given =
-    effects_is
-    ∙ ap (λ (w : WorldState). (call_of timer.script (variables_of timer.group w) input).given) begun
-    ∙ ap (λ (i : CallInput). (call_of timer.script (variables_of timer.group world) i).given) input_is in
-    final_is
-    ∙ ap (λ (w : WorldState). give_all (give place) w effects) left
-    ∙ ap (λ (es : List Effect). give_all (give place) (called_world moment (timer_ready moment timer place) world) es) given
-    ∙ run_by_call moment (timer_ready moment timer place) world
-    ∙ ap (λ (t : TimerData). run_ready moment (timer_ready moment t place) world) there
+-- each line of a transcript is about what has a name
+pub lines_named : (plan : PlanData) → IsOfTimers plan → All (IsNamed (names_of plan.graph)) (lines_of plan)
+lines_named plan of =
+    let before : WorldState = rounds plan 1 plan.moments (first_world plan.graph) in
+    let alone : HasTimersAlone plan.graph before = alone_rounds plan of 1 plan.moments (first_world plan.graph) (alone_first plan.graph (timers_of plan of)) in
+    subst (λ (w : WorldState). All (IsNamed (names_of plan.graph)) w.lines) (ends (length plan.moments) before alone.clients)
+    (All-push (IsNamed (names_of plan.graph)) before.lines (line.End (length plan.moments)) alone.named tt)

@@ -1,8 +1,5 @@
-pub mod Document
+pub mod Alone
 pub mod Examples
-pub mod Plan
 pub mod Program
-pub mod Reading
-pub mod Transcript
+pub mod Timers
 pub mod Words
-pub mod World

@@ -1,27 +1,54 @@
-ghost use Rattle.std.specs.Prelude.{◌≡◌, IfOk, MatchResult};
+ghost use Rattle.std.specs.Prelude.{◌≡◌, IfOk, IfErr};
 ghost use Rattle.std.specs.List.{All};
+ghost use Rattle.exec_graph.specs.Plan.{PlanData};
 ghost use Rattle.exec_msg.specs.Line.{IsNamed, transcript_text};
-ghost use Rattle.exec_run.specs.Document.{Says, IsRefused};
-ghost use Rattle.exec_run.specs.Plan.{PlanData};
-ghost use Rattle.exec_run.specs.Transcript.{text_of};
+ghost use Rattle.exec_run.specs.Alone.{SaysTimers, IsFaultOf, is_later, is_of_timers};
+ghost use Rattle.exec_world.specs.Transcript.{text_of};
 
-use crate::document::read_plan;
 use crate::fault::AloneFault;
 use crate::world::World;
-use exec_msg::{Line, Memory, Names, write_line};
+use exec_doc::read_document;
+use exec_graph::{Declared, Graph};
+use exec_msg::{EntityNo, Line, Memory, Names, write_line};
 use std::alloc::Global;
 
-/// Runs a document of timers alone on one thread, and gives the text of its transcript.
+/// Runs a document of timers alone on one thread, and gives the text of its transcript; or why it isn't run.
 pub fn run_alone(alloc: Global, document: &[u8]) -> Result<Vec<u8>, AloneFault>
-    ensures text { IfOk result (λ text. (plan : PlanData) × Says document.now plan × (text.items ≡ text_of plan)) }
-    ensures all { (plan : PlanData) → Says document.now plan
-        → MatchResult result (λ text. text.items ≡ text_of plan) (λ fault. fault ≡ AloneFault.Memory) }
-    ensures later { result ≡ Err AloneFault.Later → IsRefused document.now }
+    ensures text { IfOk result (λ text. (plan : PlanData) × SaysTimers document.now plan × (text.items ≡ text_of plan)) }
+    ensures fault { IfErr result (λ fault. IsFaultOf document.now fault) }
 {
-    let plan = read_plan(alloc, document)?;
+    let plan = read_document(alloc, document)?;
+    if !is_of_timers(plan.graph()) {
+        return Err(AloneFault::Later);
+    }
     let mut world = World::new(alloc, &plan)?;
     world.run(alloc, &plan)?;
-    Ok(text_of(alloc, world.lines(), &plan.names)?)
+    Ok(text_of(alloc, world.lines(), plan.graph().names())?)
+}
+
+fn is_of_timers(graph: &Graph) -> bool
+    ensures { result ≡ is_of_timers graph.now }
+{
+    for number in 0..graph.len() {
+        if is_later(graph.declared(EntityNo(number as u16))) {
+            return false;
+        }
+    }
+    true
+}
+
+// Whether this isn't run yet. A subscription has a topic beside it, which isn't.
+fn is_later(declared: &Declared) -> bool
+    ensures { result ≡ is_later declared.now }
+{
+    match declared {
+        Declared::Timer(_) | Declared::Subscription(_) => false,
+        Declared::Topic
+        | Declared::Service(_)
+        | Declared::Client(_)
+        | Declared::Server(_)
+        | Declared::ActionClient(_) => true,
+    }
 }
 
 fn text_of(alloc: Global, lines: &[Line], names: &Names) -> Result<Vec<u8>, Memory>

@@ -2,10 +2,8 @@
 #![tactic(auto)]
 
 mod alone;
-mod document;
 mod examples;
 mod fault;
-mod plan;
 mod program;
 mod world;
 

@@ -6,13 +6,17 @@ mod words;
 ghost use Rattle.std.specs.Prelude.{◌≡◌, ◌≢◌, ◌⊎◌, ℕ, ◌+◌, ◌<◌, ◌≤◌, List, ◌↔◌, take, length, IfSome, OnOk, OnErr};
 ghost use Rattle.std.specs.Io.KnownBytes.{Keeps, Appends, Consumes, IsAtEnd};
 ghost use Rattle.exec_run.specs.Program.{failure_line, status_of, failure_of_words, failure_of_read, AreLawful};
-ghost use Rattle.exec_run.specs.Document.{Says, IsRefused};
-ghost use Rattle.exec_run.specs.Plan.{PlanData};
-ghost use Rattle.exec_run.specs.Transcript.{text_of};
+ghost use Rattle.exec_doc.specs.declared.refused.Refused.TheVariants as code;
+ghost use Rattle.exec_graph.specs.Plan.{PlanData};
+ghost use Rattle.exec_run.specs.Alone.{SaysTimers, IsFaultOf};
+ghost use Rattle.exec_run.specs.declared.fault.AloneFault.{AloneFault};
+ghost use Rattle.exec_run.specs.declared.fault.AloneFault.TheVariants as fault;
+ghost use Rattle.exec_world.specs.Transcript.{text_of};
 ghost use Rattle.exec_run.specs.declared.program.Failure.TheVariants.{Refused, WriteFailed};
 
 use crate::alone::run_alone;
 use crate::fault::AloneFault;
+use exec_doc::Refused;
 use std::alloc::Global;
 use std::io::{Read, Write};
 pub use streams::{DOCUMENT_LIMIT, ReadFault, WriteFault, read_document, write_text};
@@ -52,8 +56,7 @@ impl Failure {
         ensures { result.now ≡ failure_line self }
     {
         match self {
-            Failure::Refused(AloneFault::Memory) => "refused 10\n",
-            Failure::Refused(AloneFault::Later) => "refused 11\n",
+            Failure::Refused(fault) => fault.line(),
             Failure::Usage => "usage: exec_run <workers 1-64> <quantum 1-1024>\n",
             Failure::WriteFailed => "write failed\n",
             Failure::ReadFailed => "read failed\n",
@@ -78,7 +81,7 @@ impl From<WordsFault> for Failure {
 
     fn from(fault: WordsFault) -> Failure {
         match fault {
-            WordsFault::Memory => Failure::Refused(AloneFault::Memory),
+            WordsFault::Memory => Failure::Refused(AloneFault::Refused(Refused::Memory)),
             WordsFault::NotText => Failure::Usage,
         }
     }
@@ -89,7 +92,7 @@ impl From<ReadFault> for Failure {
 
     fn from(fault: ReadFault) -> Failure {
         match fault {
-            ReadFault::Memory => Failure::Refused(AloneFault::Memory),
+            ReadFault::Memory => Failure::Refused(AloneFault::Refused(Refused::Memory)),
             ReadFault::Failed | ReadFault::TooLong => Failure::ReadFailed,
         }
     }
@@ -132,16 +135,17 @@ pub fn execute<R: Read, O: Write, E: Write>(
     ensures taken { (bytes : List ℕ) × Consumes (R.remaining input.old) (R.remaining input.new) bytes
         × (length bytes ≤ DOCUMENT_LIMIT + 1) }
     ensures written { result ≡ Status.Written → IfSome (R.remaining input.old) (λ document. (plan : PlanData)
-        × Says document plan × Appends (O.contents output.old) (O.contents output.new) (text_of plan)) }
+        × SaysTimers document plan × Appends (O.contents output.old) (O.contents output.new) (text_of plan)) }
     ensures cut_off { result ≡ Status.WriteFailed → IfSome (R.remaining input.old) (λ document. (plan : PlanData)
-        × (count : ℕ) × Says document plan
+        × (count : ℕ) × SaysTimers document plan
         × Appends (O.contents output.old) (O.contents output.new) (take count (text_of plan))) }
     ensures unwritten { result ≢ Status.Written → result ≢ Status.WriteFailed
         → Keeps (O.contents output.old) (O.contents output.new) }
     ensures silent { result ≡ Status.Written → Keeps (E.contents errors.old) (E.contents errors.new) }
     ensures told { result ≢ Status.Written → (failure : Failure) × (count : ℕ) × (status_of failure ≡ result)
         × Appends (E.contents errors.old) (E.contents errors.new) (take count (failure_line failure))
-        × (failure ≡ Failure.Refused AloneFault.Later → AreLawful words × IfSome (R.remaining input.old) IsRefused) }
+        × ((told : AloneFault) → failure ≡ Failure.Refused told → told ≢ fault.Refused code.Memory
+        → AreLawful words × IfSome (R.remaining input.old) (λ document. IsFaultOf document told)) }
 {
     match transcribe(alloc, words, input, output) {
         Ok(()) => Status::Written,
@@ -159,20 +163,20 @@ fn transcribe<R: Read, O: Write>(
     output: &mut O,
 ) -> Result<(), Failure>
     ensures usage { (result ≡ Err Failure.Usage) ↔ (¬ AreLawful words × words ≢ Err WordsFault.Memory) }
-    ensures no_memory_for_words { words ≡ Err WordsFault.Memory → result ≡ Err (Failure.Refused AloneFault.Memory) }
+    ensures no_memory_for_words { words ≡ Err WordsFault.Memory → result ≡ Err (Failure.Refused (fault.Refused code.Memory)) }
     ensures whole_document { OnOk result (IsAtEnd (R.remaining input.new)) }
     ensures too_long { AreLawful words → IfSome (R.remaining input.old) (λ bytes. DOCUMENT_LIMIT < length bytes
-        → (result ≡ Err Failure.ReadFailed) ⊎ (result ≡ Err (Failure.Refused AloneFault.Memory))) }
+        → (result ≡ Err Failure.ReadFailed) ⊎ (result ≡ Err (Failure.Refused (fault.Refused code.Memory)))) }
     ensures words_first { ¬ AreLawful words → Keeps (R.remaining input.old) (R.remaining input.new) }
     ensures taken { (bytes : List ℕ) × Consumes (R.remaining input.old) (R.remaining input.new) bytes
         × (length bytes ≤ DOCUMENT_LIMIT + 1) }
     ensures written { OnOk result (IfSome (R.remaining input.old) (λ document. (plan : PlanData)
-        × Says document plan × Appends (O.contents output.old) (O.contents output.new) (text_of plan))) }
+        × SaysTimers document plan × Appends (O.contents output.old) (O.contents output.new) (text_of plan))) }
     ensures cut_off { result ≡ Err Failure.WriteFailed → IfSome (R.remaining input.old) (λ document. (plan : PlanData)
-        × (count : ℕ) × Says document plan
+        × (count : ℕ) × SaysTimers document plan
         × Appends (O.contents output.old) (O.contents output.new) (take count (text_of plan))) }
-    ensures later { result ≡ Err (Failure.Refused AloneFault.Later)
-        → AreLawful words × IfSome (R.remaining input.old) IsRefused }
+    ensures refused { (told : AloneFault) → result ≡ Err (Failure.Refused told) → told ≢ fault.Refused code.Memory
+        → AreLawful words × IfSome (R.remaining input.old) (λ document. IsFaultOf document told) }
     ensures unwritten { OnErr result (result ≢ Err Failure.WriteFailed
         → Keeps (O.contents output.old) (O.contents output.new)) }
 {

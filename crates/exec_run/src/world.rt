@@ -1,46 +1,102 @@
-ghost use Rattle.std.specs.Prelude.{◌≡◌, map, replicate, OnOk, IfOk};
+ghost use Rattle.std.specs.Prelude.{◌≡◌, ◌++◌, [], map, replicate, IsTrue, OnOk, IfOk};
+ghost use Rattle.std.specs.Option.{unwrap_or};
+ghost use Rattle.std.specs.List.{filter_map};
+ghost use Rattle.exec_graph.specs.Graph.{script_for};
+ghost use Rattle.exec_graph.specs.Lawful.{is_within};
+ghost use Rattle.exec_msg.specs.declared.kind.Kind.TheVariants as kind;
+ghost use Rattle.exec_run.specs.Timers.{due_entity};
 ghost use Rattle.exec_script.specs.Zeros.{zeros};
-ghost use Rattle.std.specs.List.{All};
-ghost use Rattle.exec_msg.specs.Timer.{IsPeriod};
-ghost use Rattle.exec_run.specs.Transcript.{new_timer, taken, due_places};
+ghost use Rattle.exec_world.specs.Ready.{timer_taken};
+ghost use Rattle.exec_world.specs.Transcript.{new_timer, first_world};
 
-use crate::plan::{Plan, TimerEntity};
+use exec_graph::{Declared, Graph, GroupNo, Plan};
 use exec_msg::{EntityNo, Kind, Line, LineList, Memory, Moment, Timer};
 use exec_script::{Bank, Effect, Effects, Input, Instr, Role, run_call};
 use std::alloc::Global;
 use std::marker::Model;
 
-/// What changes while a plan is run.
+/// A timer of a graph.
+#[derive(Clone, Copy, Debug, PartialEq, Eq)]
+struct EntityTimer {
+    entity: EntityNo,
+    timer: Timer,
+}
+
+impl Model for EntityTimer {
+    ghost use Rattle.exec_world.specs.World.{TimerEntry};
+
+    ghost Value = { TimerEntry };
+
+    ghost view = { λ entry. record { entity = entry.entity; timer = entry.timer } };
+
+    ghost inverse = { λ entry. record { entity = entry.entity; timer = entry.timer } };
+}
+
+impl EntityTimer {
+    ghost use Rattle.std.specs.Prelude.{◌≡◌};
+    ghost use Rattle.exec_run.specs.Timers.{due_entity};
+    ghost use Rattle.exec_world.specs.Ready.{timer_taken};
+
+    // Makes the timer's call where it is due, and then gives its entity.
+    fn take(&mut self, now: Moment) -> Option<EntityNo>
+        ensures timer { self.new ≡ timer_taken now self.old }
+        ensures due { result ≡ due_entity now self.old }
+    {
+        if self.timer.due(now) {
+            self.timer.call(now);
+            Some(self.entity)
+        } else {
+            None
+        }
+    }
+}
+
+/// What changes while a plan of timers alone is run.
 #[derive(Debug, Drop)]
 pub struct World {
-    timers: Vec<Timer>,
+    timers: Vec<EntityTimer>,
     banks: Vec<Bank>,
     lines: LineList,
 }
 
 impl Model for World {
-    ghost use Rattle.exec_run.specs.World.{WorldState};
+    ghost use Rattle.std.specs.Prelude.{[]};
+    ghost use Rattle.exec_world.specs.World.{WorldState};
 
     ghost Value = { WorldState };
 
-    ghost view = { λ world. record { timers = world.timers.items; variables = world.banks.items; lines = world.lines } };
+    ghost view = { λ world. record {
+      timers = world.timers.items;
+      queues = [];
+      servers = [];
+      clients = [];
+      action_clients = [];
+      variables = world.banks.items;
+      lines = world.lines;
+    } };
 }
 
 impl World {
-    ghost use Rattle.std.specs.List.{fold};
-    ghost use Rattle.exec_run.specs.World.{WorldState, add_line, give, variables_of, with_variables, run_ready};
-    ghost use Rattle.std.specs.Prelude.{◌≡◌, ◌<◌, length, OnOk, IfOk};
+    ghost use Rattle.std.specs.Prelude.{◌≡◌, ◌<◌, length, true, OnOk, IfOk};
+    ghost use Rattle.std.specs.List.{All, filter_map, fold};
+    ghost use Rattle.exec_graph.specs.Graph.{GraphData};
+    ghost use Rattle.exec_run.specs.Timers.{IsOfTimers, HasTimersAlone, due_entity, timer_ready, timer_caller, names_nothing};
     ghost use Rattle.exec_script.specs.Script.{call_of};
-    ghost use Rattle.exec_run.specs.Plan.{timer_at};
-    ghost use Rattle.exec_run.specs.Transcript.{timer_ready, take_inputs, due_places, round, first_world, last_world, Fits};
+    ghost use Rattle.exec_world.specs.Give.{give};
+    ghost use Rattle.exec_world.specs.Ready.{take_inputs};
+    ghost use Rattle.exec_world.specs.Run.{run};
+    ghost use Rattle.exec_world.specs.Transcript.{round, first_world, last_world};
+    ghost use Rattle.exec_world.specs.World.{add_line, variables_of, with_variables};
 
-    /// The world of a plan before its first round.
+    /// The world of a plan of timers alone before its first round.
     pub fn new(alloc: Global, plan: &Plan) -> Result<World, Memory>
-        ensures { IfOk result (λ world. world ≡ first_world plan.now) }
+        requires { IsOfTimers plan.now }
+        ensures { IfOk result (λ world. world ≡ first_world plan.now.graph) }
     {
+        let graph = plan.graph();
         Ok(World {
-            timers: new_timers(alloc, &plan.timers)?,
-            banks: new_banks(alloc, plan.groups)?,
+            timers: new_timers(alloc, graph)?,
+            banks: new_banks(alloc, graph.groups().len())?,
             lines: LineList::new(alloc),
         })
     }
@@ -52,13 +108,14 @@ impl World {
         self.lines.as_slice()
     }
 
-    /// Runs all rounds of the plan, and ends the transcript.
+    /// Runs all rounds of the plan, and closes the transcript.
     pub fn run(&mut self, alloc: Global, plan: &Plan) -> Result<(), Memory>
-        requires { self.old ≡ first_world plan.now }
+        requires plan { IsOfTimers plan.now }
+        requires first { self.old ≡ first_world plan.now.graph }
         ensures { OnOk result (self.new ≡ last_world plan.now) }
     {
         let mut number = 0;
-        for moment in &plan.moments {
+        for moment in plan.moments() {
             number += 1;
             self.round(alloc, plan, number, *moment)?;
         }
@@ -66,7 +123,8 @@ impl World {
     }
 
     fn round(&mut self, alloc: Global, plan: &Plan, number: u64, now: Moment) -> Result<(), Memory>
-        requires { Fits plan.now self.old }
+        requires plan { IsOfTimers plan.now }
+        requires timers { HasTimersAlone plan.now.graph self.old }
         ensures { OnOk result (self.new ≡ round plan.now number now self.old) }
     {
         self.add_line(Line::Round {
@@ -74,15 +132,15 @@ impl World {
             moment: now,
         })?;
         let due = self.take_due(alloc, now)?;
-        for place in &due {
-            self.run_timer(alloc, plan, *place, now)?;
+        for entity in &due {
+            self.run_timer(alloc, plan, *entity, now)?;
         }
         Ok(())
     }
 
-    fn take_due(&mut self, alloc: Global, now: Moment) -> Result<Vec<usize>, Memory>
+    fn take_due(&mut self, alloc: Global, now: Moment) -> Result<Vec<EntityNo>, Memory>
         ensures world { OnOk result (self.new ≡ take_inputs now self.old) }
-        ensures due { IfOk result (λ due. due.items ≡ due_places now 0 self.old.timers) }
+        ensures due { IfOk result (λ due. due.items ≡ filter_map (due_entity now) self.old.timers) }
     {
         take_due(alloc, &mut self.timers, now)
     }
@@ -91,15 +149,15 @@ impl World {
         &mut self,
         alloc: Global,
         plan: &Plan,
-        place: usize,
+        entity: EntityNo,
         now: Moment,
     ) -> Result<(), Memory>
-        requires place { place < length plan.now.timers }
-        requires fits { Fits plan.now self.old }
-        ensures { OnOk result (self.new ≡ run_ready now (timer_ready now (timer_at plan.now place) place) self.old) }
+        requires plan { IsOfTimers plan.now }
+        requires entity { entity < length plan.now.graph.entities }
+        requires timers { HasTimersAlone plan.now.graph self.old }
+        ensures { OnOk result (self.new ≡ run plan.now.graph now (timer_ready plan.now.graph entity) self.old) }
     {
-        let timer = &plan.timers[place];
-        let entity = EntityNo(place as u16);
+        let graph = plan.graph();
         let input = Input {
             first: now.ticks() as i64,
             aux: 0,
@@ -112,14 +170,15 @@ impl World {
             aux: input.aux,
             id: None,
         })?;
-        let effects = self.call(alloc, timer.group, &timer.script, &input)?;
+        let script = timer_script(graph.declared(entity));
+        let effects = self.call(alloc, graph.group_of(entity), script, &input)?;
         self.give_all(entity, effects.list.as_slice())
     }
 
     fn call(
         &mut self,
         alloc: Global,
-        group: usize,
+        group: GroupNo,
         script: &[Instr],
         input: &Input,
     ) -> Result<Effects, Memory>
@@ -128,11 +187,13 @@ impl World {
             (call_of script.now (variables_of group self.old) input.now).variables self.old) }
         ensures effects { IfOk result (λ effects. effects.list ≡ (call_of script.now (variables_of group self.old) input.now).given) }
     {
-        run_call(alloc, script, Role::Callback, &mut self.banks[group], input)
+        let bank = &mut self.banks[group.0 as usize];
+        run_call(alloc, script, Role::Callback, bank, input)
     }
 
     fn give_all(&mut self, entity: EntityNo, effects: &[Effect]) -> Result<(), Memory>
-        ensures { OnOk result (self.new ≡ fold (λ world effect. give entity effect world) self.old effects.now) }
+        requires { All (λ effect. names_nothing effect ≡ true) effects.now }
+        ensures { (graph : GraphData) → OnOk result (self.new ≡ fold (λ world effect. give graph (timer_caller entity) effect world) self.old effects.now) }
     {
         for effect in effects {
             self.give(entity, *effect)?;
@@ -140,8 +201,10 @@ impl World {
         Ok(())
     }
 
+    // Feedback goes nowhere, since no goal is polled.
     fn give(&mut self, entity: EntityNo, effect: Effect) -> Result<(), Memory>
-        ensures { OnOk result (self.new ≡ give entity effect self.old) }
+        requires { names_nothing effect ≡ true }
+        ensures { (graph : GraphData) → OnOk result (self.new ≡ give graph (timer_caller entity) effect self.old) }
     {
         match effect {
             Effect::Log(value) => self.add_line(Line::Log { entity, value }),
@@ -156,15 +219,42 @@ impl World {
     }
 }
 
-fn new_timers(alloc: Global, declared: &[TimerEntity]) -> Result<Vec<Timer>, Memory>
-    requires { All (λ timer. IsPeriod timer.period) declared.now }
-    ensures { IfOk result (λ timers. timers.items ≡ map new_timer declared.now) }
+// The script of a timer's callbacks; what is no timer has none.
+fn timer_script(declared: &Declared) -> &[Instr]
+    ensures { result.now ≡ unwrap_or (script_for kind.Timer declared.now) [] }
+{
+    match declared {
+        Declared::Timer(timer) => timer.script.as_slice(),
+        _ => &[],
+    }
+}
+
+fn new_timers(alloc: Global, graph: &Graph) -> Result<Vec<EntityTimer>, Memory>
+    ensures { IfOk result (λ timers. timers.items ≡ (first_world graph.now).timers) }
 {
     let mut timers = Vec::new(alloc);
-    for timer in declared {
-        timers.push(Timer::new(timer.period))?;
+    for number in 0..graph.len() {
+        let entity = EntityNo(number as u16);
+        push_timer(&mut timers, entity, graph.declared(entity))?;
     }
     Ok(timers)
+}
+
+fn push_timer(
+    timers: &mut Vec<EntityTimer>,
+    entity: EntityNo,
+    declared: &Declared,
+) -> Result<(), Memory>
+    requires { IsTrue (is_within declared.now) }
+    ensures { OnOk result (timers.new.items ≡ timers.old.items ++ new_timer entity declared.now) }
+{
+    if let Declared::Timer(declared) = declared {
+        timers.push(EntityTimer {
+            entity,
+            timer: Timer::new(declared.period),
+        })?;
+    }
+    Ok(())
 }
 
 fn new_banks(alloc: Global, groups: usize) -> Result<Vec<Bank>, Memory>
@@ -177,15 +267,14 @@ fn new_banks(alloc: Global, groups: usize) -> Result<Vec<Bank>, Memory>
     Ok(banks)
 }
 
-fn take_due(alloc: Global, timers: &mut [Timer], now: Moment) -> Result<Vec<usize>, Memory>
-    ensures timers { OnOk result (timers.new ≡ map (taken now) timers.old) }
-    ensures due { IfOk result (λ due. due.items ≡ due_places now 0 timers.old) }
+fn take_due(alloc: Global, timers: &mut [EntityTimer], now: Moment) -> Result<Vec<EntityNo>, Memory>
+    ensures timers { OnOk result (timers.new ≡ map (timer_taken now) timers.old) }
+    ensures due { IfOk result (λ due. due.items ≡ filter_map (due_entity now) timers.old) }
 {
     let mut due = Vec::new(alloc);
     for place in 0..timers.len() {
-        if timers[place].due(now) {
-            timers[place].call(now);
-            due.push(place)?;
+        if let Some(entity) = timers[place].take(now) {
+            due.push(entity)?;
         }
     }
     Ok(due)

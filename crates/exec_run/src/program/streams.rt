@@ -26,7 +26,7 @@ pub struct WriteFault;
 
 /// Reads a document: all that the reader has, up to its end. Each turn takes at least one byte, or
 /// ends the reading; an error of whatever kind ends it as a fault. The reader is asked for one byte
-/// more than a document may have, and for no byte after that.
+/// more than a document may have, and for no byte after that. The room beyond the end is given back.
 pub fn read_document<R: Read>(alloc: Global, input: &mut R) -> Result<Vec<u8>, ReadFault>
     ensures fits { IfOk result (λ document. vec_len document ≤ DOCUMENT_LIMIT) }
     ensures whole { IfOk result (λ document. IfSome (R.remaining input.old) (λ bytes. document.items ≡ bytes)) }
@@ -45,6 +45,7 @@ pub fn read_document<R: Read>(alloc: Global, input: &mut R) -> Result<Vec<u8>, R
         let count = read_at(input, document.as_mut_slice(), filled)?;
         if count == 0 {
             document.truncate(filled);
+            document.shrink_to_fit();
             return Ok(document);
         }
         filled += count;

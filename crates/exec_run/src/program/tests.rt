@@ -2,7 +2,7 @@ mod documents;
 mod fakes;
 
 use super::{Status, WordsFault, execute, read_words};
-use documents::{ACCEPTED, EXAMPLES, REFUSED, TWO_TIMERS};
+use documents::{ACCEPTED, EXAMPLES, LATER, REFUSED, TWO_TIMERS};
 use fakes::{Arguments, End, Sink, Source, Spaces};
 use std::alloc::{AllocError, Global};
 use std::fmt::Write;
@@ -71,6 +71,30 @@ fn writes_the_transcripts(rt: HostRuntime) -> Result<(), Fail> {
     Ok(())
 }
 
+// Run with each allocation refused in turn, too. What is refused before the run leaves nothing to look at.
+#[test]
+fn tells_a_refused_growth(rt: HostRuntime) {
+    let alloc = rt.alloc();
+    let (document, transcript) = EXAMPLES[1];
+    let (Ok(words), Ok(mut output), Ok(mut errors)) = (
+        words(alloc, &["1", "1"]),
+        Vec::with_capacity(alloc, transcript.len()),
+        Vec::with_capacity(alloc, USAGE.len()),
+    ) else {
+        return;
+    };
+    let mut input = document.as_bytes();
+    let status = execute(alloc, Ok(words), &mut input, &mut output, &mut errors);
+    let run = Outcome {
+        status,
+        output,
+        errors,
+    };
+    let is_written = run.is(Status::Written, transcript.as_bytes(), "");
+    let is_told = run.is(Status::Refused, b"", "refused 10\n");
+    assert!(rt; is_written || is_told, "{run:?}");
+}
+
 #[test]
 fn writes_what_the_rules_say(rt: HostRuntime) -> Result<(), Fail> {
     let alloc = rt.alloc();
@@ -125,7 +149,7 @@ fn takes_as_much_as_the_limits_say(rt: HostRuntime) -> Result<(), Fail> {
         let is_right = if is_accepted {
             run.is(Status::Written, b"end 0\n", "")
         } else {
-            run.is(Status::Refused, b"", "refused 11\n")
+            run.is(Status::Refused, b"", "refused 5\n")
         };
         assert!(rt; is_right, "{run:?} at {nodes}, {timers}, {instructions}");
     }
@@ -167,7 +191,7 @@ fn reads_the_words_as_text(rt: HostRuntime) {
         (&[b"exec_run", b"2", b"\xff"], Status::Usage, USAGE),
         (&[b"\xc3", b"2", b"1"], Status::Usage, USAGE),
         (&[b"exec_run", b"2", b"1", b"1"], Status::Usage, USAGE),
-        (&[b"exec_run", b"2", b"1"], Status::Refused, "refused 11\n"),
+        (&[b"exec_run", b"2", b"1"], Status::Refused, "refused 1\n"),
         (&[], Status::Usage, USAGE),
     ];
     for (arguments, status, line) in tables {
@@ -181,7 +205,22 @@ fn reads_the_words_as_text(rt: HostRuntime) {
 #[test]
 fn refuses_bad_documents(rt: HostRuntime) -> Result<(), Fail> {
     let alloc = rt.alloc();
-    for document in REFUSED {
+    for (document, line) in REFUSED {
+        let run = run(
+            alloc,
+            Ok(words(alloc, &["1", "1"])?),
+            &mut document.as_bytes(),
+        );
+        let is_refused = run.is(Status::Refused, b"", line);
+        assert!(rt; is_refused, "{run:?} at {document}");
+    }
+    Ok(())
+}
+
+#[test]
+fn tells_what_is_not_run_yet(rt: HostRuntime) -> Result<(), Fail> {
+    let alloc = rt.alloc();
+    for document in LATER {
         let run = run(
             alloc,
             Ok(words(alloc, &["1", "1"])?),
@@ -190,15 +229,21 @@ fn refuses_bad_documents(rt: HostRuntime) -> Result<(), Fail> {
         let is_refused = run.is(Status::Refused, b"", "refused 11\n");
         assert!(rt; is_refused, "{run:?} at {document}");
     }
+    Ok(())
+}
+
+#[test]
+fn refuses_what_is_no_json(rt: HostRuntime) -> Result<(), Fail> {
+    let alloc = rt.alloc();
     let whole = TWO_TIMERS.as_bytes();
     for end in 0..whole.len() {
         let run = run(alloc, Ok(words(alloc, &["1", "1"])?), &mut &whole[..end]);
-        let is_refused = run.is(Status::Refused, b"", "refused 11\n");
+        let is_refused = run.is(Status::Refused, b"", "refused 1\n");
         assert!(rt; is_refused, "{run:?} at {end} bytes");
     }
     let not_text: &[u8] = b"{\"version\":1,\"x\":\"\xff\"}";
     let run = run(alloc, Ok(words(alloc, &["1", "1"])?), &mut &*not_text);
-    assert!(rt; run.is(Status::Refused, b"", "refused 11\n"), "{run:?}");
+    assert!(rt; run.is(Status::Refused, b"", "refused 1\n"), "{run:?}");
     Ok(())
 }
 
@@ -218,7 +263,7 @@ fn refuses_deep_documents(rt: HostRuntime) -> Result<(), Fail> {
         Ok(words(alloc, &["1", "1"])?),
         &mut document.as_bytes(),
     );
-    assert!(rt; run.is(Status::Refused, b"", "refused 11\n"), "{run:?}");
+    assert!(rt; run.is(Status::Refused, b"", "refused 1\n"), "{run:?}");
     Ok(())
 }
 
@@ -231,7 +276,7 @@ fn reads_up_to_the_limit(rt: HostRuntime) -> Result<(), Fail> {
         &mut Spaces(16_777_216),
     );
     assert!(rt;
-        run_at_limit.is(Status::Refused, b"", "refused 11\n"),
+        run_at_limit.is(Status::Refused, b"", "refused 1\n"),
         "{run_at_limit:?}"
     );
     let mut input = Spaces(16_777_300);
@@ -294,7 +339,7 @@ fn fails_where_its_writer_fails(rt: HostRuntime) -> Result<(), Fail> {
 #[test]
 fn keeps_its_status_where_the_errors_fail(rt: HostRuntime) -> Result<(), Fail> {
     let alloc = rt.alloc();
-    for calls in 0..5 {
+    for calls in 0..=5 {
         let mut errors = Sink {
             taken: Vec::new(alloc),
             step: 2,
@@ -305,7 +350,7 @@ fn keeps_its_status_where_the_errors_fail(rt: HostRuntime) -> Result<(), Fail> {
         let words = words(alloc, &["1", "1"])?;
         let status = execute(alloc, Ok(words), &mut Spaces(3), &mut output, &mut errors);
         assert_eq!(rt; status, Status::Refused);
-        assert_eq!(rt; errors.taken.as_slice(), &b"refused 11\n"[..2 * calls]);
+        assert_eq!(rt; errors.taken.as_slice(), &b"refused 1\n"[..2 * calls]);
     }
     Ok(())
 }

@@ -1,8 +1,7 @@
-use Rattle.std.proofs.Common.{inr, is_some, ap, sym, subst, ◌∙◌, ◌≡◌, false, true}
+use Rattle.std.proofs.Common.{inr, is_some, ap, sym, ◌∙◌, ◌≡◌}
 use Rattle.std.proofs.lemmas.Result.{err_from_is_err_and}
 use Rattle.exec_doc.specs.Document.{plan_of}
 use Rattle.exec_doc.specs.Draft.{DocumentDraft}
-use Rattle.exec_doc.specs.Refusals.{is_within}
 use Rattle.exec_graph.specs.Refusals.{fault_in}
 use Rattle.exec_graph.specs.Resolved.{graph_in}
 use Rattle.exec_doc.proofs.Ready.{declared_is, within_is, by_code}

@@ -1,7 +1,5 @@
-use Rattle.std.proofs.Common.{◌≡◌, List, ℕ, [], ◌∷◌, ◌++◌, Result, Ok, Err, OnOk, subst, ap, ◌∙◌}
-use Rattle.exec_graph.specs.Declaring.{server_names, HasNamesOf, is_among}
-use Rattle.exec_graph.specs.declared.draft.Drafted.TheVariants.{Server}
-use Rattle.exec_graph.specs.declared.draft.EntityDraft.{EntityDraft}
+use Rattle.std.proofs.Common.{List, ℕ, [], ◌∷◌, ◌++◌, subst, ap, ◌∙◌}
+use Rattle.exec_graph.specs.Declaring.{HasNamesOf}
 use Rattle.exec_graph.proofs.Declarations.{has_one_more, on_ok, named_server}
 use Rattle.exec_graph.proofs.builder.note_server.Goals as goal
 

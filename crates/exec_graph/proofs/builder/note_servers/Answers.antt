@@ -1,4 +1,4 @@
-use Rattle.std.proofs.Common.{◌≡◌, subst, sym, ap, ◌∙◌, List, ℕ, [], ◌∷◌, ◌++◌, ◌+◌, take}
+use Rattle.std.proofs.Common.{◌≡◌, subst, sym, ap, ◌∙◌, List, [], ◌∷◌, ◌++◌, ◌+◌, take}
 use Rattle.std.proofs.lemmas.List.{take_more}
 use Rattle.exec_graph.specs.Declaring.{HasNamesOf, server_names}
 use Rattle.exec_graph.specs.declared.draft.EntityDraft.{EntityDraft}

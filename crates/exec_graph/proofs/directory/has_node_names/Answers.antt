@@ -1,4 +1,4 @@
-use Rattle.std.proofs.Common.{◌∙◌, sym, ap, map}
+use Rattle.std.proofs.Common.{◌∙◌, sym, map}
 use Rattle.exec_graph.proofs.NameLists.{next_name, no_name, no_more, are_so, are_not}
 use Rattle.exec_graph.proofs.directory.has_node_names.Goals as goal
 

@@ -1,6 +1,5 @@
 use Rattle.std.proofs.Common.{◌≡◌, length, nat_le, drop}
 use Rattle.std.specs.List.{sum_by}
-use Rattle.exec_graph.specs.Draft.{GraphDraft}
 use Rattle.exec_msg.specs.declared.limits.TheConstants.{NAMED_GROUPS}
 use Rattle.exec_graph.proofs.limits.has_few_groups.Given as goal
 

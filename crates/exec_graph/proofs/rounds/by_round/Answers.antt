@@ -1,6 +1,5 @@
-use Rattle.std.proofs.Common.{◌≡◌, ◌∙◌, ◌-◌, ◌+◌, ◌<◌, Vec, List, [], ◌∷◌, ◌++◌, map, length, set, get_or, take, true, ap, sym, arith}
+use Rattle.std.proofs.Common.{◌≡◌, ◌∙◌, ◌-◌, ◌+◌, Vec, List, [], ◌∷◌, ◌++◌, length, set, get_or, take, ap, sym, arith}
 use Rattle.std.specs.declared.alloc.Global.{Global}
-use Rattle.std.specs.List.{list_all}
 use Rattle.std.proofs.lemmas.List.{length-map, take_more}
 use Rattle.exec_graph.specs.Feeding.{feeds_from}
 use Rattle.exec_graph.specs.Lawful.{is_from_1}

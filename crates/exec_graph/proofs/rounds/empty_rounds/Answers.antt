@@ -1,4 +1,4 @@
-use Rattle.std.proofs.Common.{◌≡◌, ◌∙◌, Vec, List, [], ◌∷◌, ◌++◌, map, ap, ap₂, sym, suc, drop, ◌+◌, arith}
+use Rattle.std.proofs.Common.{◌≡◌, ◌∙◌, Vec, List, [], ◌∷◌, ◌++◌, map, ap, sym, suc, drop, ◌+◌}
 use Rattle.std.specs.declared.alloc.Global.{Global}
 use Rattle.std.proofs.lemmas.List.{append-nil, map-append, drop_all}
 use Rattle.exec_graph.specs.Feeding.{feeds_from}

@@ -1,4 +1,4 @@
-use Rattle.std.proofs.Common.{◌≡◌, ◌∙◌, List, [], ◌∷◌, ◌++◌, map, set, ap, sym}
+use Rattle.std.proofs.Common.{◌∙◌, [], ◌∷◌, ◌++◌, map, set, ap, sym}
 use Rattle.std.proofs.lemmas.List.{map-set, get_or-map}
 use Rattle.exec_graph.proofs.rounds.put.Goals as goal
 

@@ -1,6 +1,7 @@
-use Rattle.std.proofs.Common.{◌≡◌, map, take}
-use Rattle.exec_run.specs.Transcript.{new_timer}
+use Rattle.std.proofs.Common.{◌≡◌, ◌++◌}
+use Rattle.exec_run.proofs.Starting.{timers_from}
 use Rattle.exec_run.proofs.world.new_timers.Given as goal
 
-abbrev pub invariant-loop-timer : goal.invariant-loop-timer
-invariant-loop-timer l = l.timers.items ≡ map new_timer (take l.timer-index l.declared)
+-- the timers so far are followed by those of the numbers that are left
+abbrev pub invariant-loop-number : goal.invariant-loop-number
+invariant-loop-number l = l.timers.items ++ timers_from l.graph l.number ≡ timers_from l.graph 0

@@ -1,9 +1,11 @@
 use Rattle.std.proofs.Common.{◌≡◌, ◌++◌, map, take, drop}
-use Rattle.exec_run.specs.Transcript.{taken, due_places}
+use Rattle.std.specs.List.{filter_map}
+use Rattle.exec_run.specs.Timers.{due_entity}
+use Rattle.exec_world.specs.Ready.{timer_taken}
 use Rattle.exec_run.proofs.world.take_due.Given as goal
 
--- the timers so far are taken, and those that are due have their places
+-- the timers so far are taken, and those that were due have their entities
 abbrev pub invariant-loop-place : goal.invariant-loop-place
 invariant-loop-place l =
-    (l.timers ≡ map (taken l.now) (take l.place l.initial.timers) ++ drop l.place l.initial.timers)
-    × (l.due.items ++ due_places l.now l.place (drop l.place l.initial.timers) ≡ due_places l.now 0 l.initial.timers)
+    (l.timers ≡ map (timer_taken l.now) (take l.place l.initial.timers) ++ drop l.place l.initial.timers)
+    × (l.due.items ++ filter_map (due_entity l.now) (drop l.place l.initial.timers) ≡ filter_map (due_entity l.now) l.initial.timers)

@@ -61,8 +61,9 @@ pub const EXAMPLES: [(&str, &str); 5] = [
 
 /// More documents with their transcripts: lists that are empty and fields that are unknown, a field
 /// that stands twice, variables of two nodes, a node named as its timer, skips, comparisons, the
-/// greatest period at the greatest moment, and one moment in several rounds.
-pub const ACCEPTED: [(&str, &str); 9] = [
+/// greatest period at the greatest moment, one moment in several rounds, groups of one node with and without
+/// variables, groups of one name in two nodes, and the greatest moment.
+pub const ACCEPTED: [(&str, &str); 12] = [
     (
         r#"{"version":1,"topics":[],"feed":[],"nodes":[{"name":"n","group":5,"groups":[],"timers":[],"subscriptions":[],"services":[],"clients":[],"actions":[],"action_clients":[]}],"moments":[],"more":{"a":[null]}}"#,
         "end 0\n",
@@ -142,80 +143,274 @@ pub const ACCEPTED: [(&str, &str); 9] = [
          log u 1\n\
          end 4\n",
     ),
+    (
+        r#"{"version":1,"nodes":[{"name":"n","groups":[{"name":"g","kind":"exclusive"}],"timers":[{"name":"a","period":1,"script":[["set","g0","add","g0",1],["log","g0"]]},{"name":"b","period":1,"group":"g","script":[["set","g0","add","g0",5],["log","g0"]]},{"name":"c","period":1,"group":"g","script":[["set","g0","mul","g0",2],["log","g0"]]}]}],"moments":[1,2]}"#,
+        "round 1 1\n\
+         run a timer 1 0\n\
+         log a 1\n\
+         run b timer 1 0\n\
+         log b 5\n\
+         run c timer 1 0\n\
+         log c 10\n\
+         round 2 2\n\
+         run a timer 2 0\n\
+         log a 2\n\
+         run b timer 2 0\n\
+         log b 15\n\
+         run c timer 2 0\n\
+         log c 30\n\
+         end 2\n",
+    ),
+    (
+        r#"{"version":1,"nodes":[{"name":"n","groups":[{"name":"r","kind":"reentrant"},{"name":"w","kind":"exclusive"}],"timers":[{"name":"a","period":2,"group":"r","script":[["set","r0","add","r0",3],["log","r0"]]},{"name":"b","period":1,"group":"w","script":[["set","g7","sub","g7",1],["log","g7"]]}]},{"name":"m","groups":[{"name":"w","kind":"exclusive"}],"timers":[{"name":"c","period":1,"group":"w","script":[["set","g7","add","g7","now"],["log","g7"]]},{"name":"d","period":1,"script":[["log","g7"]]}]}],"moments":[1,2]}"#,
+        "round 1 1\n\
+         run b timer 1 0\n\
+         log b -1\n\
+         run c timer 1 0\n\
+         log c 1\n\
+         run d timer 1 0\n\
+         log d 0\n\
+         round 2 2\n\
+         run a timer 2 0\n\
+         log a 3\n\
+         run b timer 2 0\n\
+         log b -2\n\
+         run c timer 2 0\n\
+         log c 3\n\
+         run d timer 2 0\n\
+         log d 0\n\
+         end 2\n",
+    ),
+    (
+        r#"{"version":1,"moments":[4611686018427387904]}"#,
+        "round 1 4611686018427387904\n\
+         end 1\n",
+    ),
 ];
 
-/// Documents that are refused: not JSON, a field of a wrong form, a name, a number out of its range, a
-/// script that is misspelt or out of place, and what isn't run yet.
-pub const REFUSED: [&str; 71] = [
-    r#"null"#,
-    r#"[]"#,
-    r#"5"#,
-    r#""x""#,
-    r#"{}"#,
-    r#"{"version":1}x"#,
-    r#"{"version":1}{"version":1}"#,
-    r#"{"version":"1"}"#,
-    r#"{"version":2}"#,
-    r#"{"version":-1}"#,
-    r#"{"version":null}"#,
-    r#"{"version":[1]}"#,
-    r#"{"version":1,"nodes":null}"#,
-    r#"{"version":1,"nodes":{}}"#,
-    r#"{"version":1,"nodes":[5]}"#,
-    r#"{"version":1,"nodes":[{}]}"#,
-    r#"{"version":1,"nodes":[{"name":5}]}"#,
-    r#"{"version":1,"nodes":[{"name":null}]}"#,
-    r#"{"version":1,"nodes":[{"name":""}]}"#,
-    r#"{"version":1,"nodes":[{"name":"a b"}]}"#,
-    r#"{"version":1,"nodes":[{"name":"é"}]}"#,
-    r#"{"version":1,"nodes":[{"name":"nnnnnnnnnnnnnnnnnnnnnnnnnnnnnnnnnnnnnnnnnnnnnnnnnnnnnnnnnnnnnnnnn"}]}"#,
-    r#"{"version":1,"nodes":[{"name":"n"},{"name":"n"}]}"#,
-    r#"{"version":1,"nodes":[{"name":"n","timers":null}]}"#,
-    r#"{"version":1,"nodes":[{"name":"n","timers":{}}]}"#,
-    r#"{"version":1,"nodes":[{"name":"n","groups":null}]}"#,
-    r#"{"version":1,"nodes":[{"name":"n","services":[{"name":"s"}]}]}"#,
-    r#"{"version":1,"topics":null}"#,
+/// Documents that are refused, each with the line that says its code: bytes that are no JSON, a field of a wrong form,
+/// a name, a number out of its range, a script that is misspelt or out of place, a clock that goes back, and an
+/// identifier of zeros.
+pub const REFUSED: [(&str, &str); 79] = [
+    (r#"{"version":1}x"#, "refused 1\n"),
+    (r#"{"version":1}{"version":1}"#, "refused 1\n"),
+    (r#"{"version":1"#, "refused 1\n"),
+    (r#"null"#, "refused 2\n"),
+    (r#"[]"#, "refused 2\n"),
+    (r#"5"#, "refused 2\n"),
+    (r#""x""#, "refused 2\n"),
+    (r#"{}"#, "refused 2\n"),
+    (r#"{"version":"1"}"#, "refused 2\n"),
+    (r#"{"version":-1}"#, "refused 2\n"),
+    (r#"{"version":null}"#, "refused 2\n"),
+    (r#"{"version":[1]}"#, "refused 2\n"),
+    (r#"{"version":1,"nodes":null}"#, "refused 2\n"),
+    (r#"{"version":1,"nodes":{}}"#, "refused 2\n"),
+    (r#"{"version":1,"nodes":[5]}"#, "refused 2\n"),
+    (r#"{"version":1,"nodes":[{}]}"#, "refused 2\n"),
+    (r#"{"version":1,"nodes":[{"name":5}]}"#, "refused 2\n"),
+    (r#"{"version":1,"nodes":[{"name":null}]}"#, "refused 2\n"),
+    (
+        r#"{"version":1,"nodes":[{"name":"n","timers":null}]}"#,
+        "refused 2\n",
+    ),
+    (
+        r#"{"version":1,"nodes":[{"name":"n","timers":{}}]}"#,
+        "refused 2\n",
+    ),
+    (
+        r#"{"version":1,"nodes":[{"name":"n","groups":null}]}"#,
+        "refused 2\n",
+    ),
+    (r#"{"version":1,"topics":null}"#, "refused 2\n"),
+    (r#"{"version":1,"feed":null}"#, "refused 2\n"),
+    (r#"{"version":1,"feed":[5]}"#, "refused 2\n"),
+    (
+        r#"{"version":1,"nodes":[{"name":"n","timers":[5]}]}"#,
+        "refused 2\n",
+    ),
+    (
+        r#"{"version":1,"nodes":[{"name":"n","timers":[{}]}]}"#,
+        "refused 2\n",
+    ),
+    (
+        r#"{"version":1,"nodes":[{"name":"n","timers":[{"name":"t"}]}]}"#,
+        "refused 2\n",
+    ),
+    (
+        r#"{"version":1,"nodes":[{"name":"n","timers":[{"name":"t","period":-1}]}]}"#,
+        "refused 2\n",
+    ),
+    (
+        r#"{"version":1,"nodes":[{"name":"n","timers":[{"name":"t","period":"1"}]}]}"#,
+        "refused 2\n",
+    ),
+    (
+        r#"{"version":1,"nodes":[{"name":"n","timers":[{"name":"t","period":1.5}]}]}"#,
+        "refused 2\n",
+    ),
+    (
+        r#"{"version":1,"nodes":[{"name":"n","timers":[{"name":"t","period":null}]}]}"#,
+        "refused 2\n",
+    ),
+    (
+        r#"{"version":1,"nodes":[{"name":"n","timers":[{"name":"t","period":18446744073709551616}]}]}"#,
+        "refused 2\n",
+    ),
+    (
+        r#"{"version":1,"nodes":[{"name":"n","timers":[{"period":1}]}]}"#,
+        "refused 2\n",
+    ),
+    (
+        r#"{"version":1,"nodes":[{"name":"n","timers":[{"name":"t","period":1,"script":null}]}]}"#,
+        "refused 2\n",
+    ),
+    (
+        r#"{"version":1,"nodes":[{"name":"n","timers":[{"name":"t","period":1,"script":{}}]}]}"#,
+        "refused 2\n",
+    ),
+    (
+        r#"{"version":1,"nodes":[{"name":"n","timers":[{"name":"t","period":1,"script":[5]}]}]}"#,
+        "refused 2\n",
+    ),
+    (
+        r#"{"version":1,"nodes":[{"name":"n","timers":[{"name":"t","period":1,"script":[null]}]}]}"#,
+        "refused 2\n",
+    ),
+    (
+        r#"{"version":1,"nodes":[{"name":"n","timers":[{"name":"t","period":1,"script":[["log",true]]}]}]}"#,
+        "refused 2\n",
+    ),
+    (
+        r#"{"version":1,"nodes":[{"name":"n","timers":[{"name":"t","period":1,"script":[["log",null]]}]}]}"#,
+        "refused 2\n",
+    ),
+    (
+        r#"{"version":1,"nodes":[{"name":"n","timers":[{"name":"t","period":1,"script":[["log",9223372036854775808]]}]}]}"#,
+        "refused 2\n",
+    ),
+    (
+        r#"{"version":1,"nodes":[{"name":"n","timers":[{"name":"t","period":1,"script":[["log",1.5]]}]}]}"#,
+        "refused 2\n",
+    ),
+    (r#"{"version":1,"moments":null}"#, "refused 2\n"),
+    (r#"{"version":1,"moments":{}}"#, "refused 2\n"),
+    (r#"{"version":1,"moments":["1"]}"#, "refused 2\n"),
+    (r#"{"version":1,"moments":[-1]}"#, "refused 2\n"),
+    (r#"{"version":1,"moments":[1.5]}"#, "refused 2\n"),
+    (r#"{"version":1,"moments":[null]}"#, "refused 2\n"),
+    (
+        r#"{"version":1,"nodes":[{"name":"n","groups":[{"name":"g","kind":"shared"}]}]}"#,
+        "refused 2\n",
+    ),
+    (r#"{"version":2}"#, "refused 3\n"),
+    (r#"{"version":3}"#, "refused 3\n"),
+    (r#"{"version":3,"moments":[5,4]}"#, "refused 3\n"),
+    (r#"{"version":1,"nodes":[{"name":""}]}"#, "refused 4\n"),
+    (r#"{"version":1,"nodes":[{"name":"a b"}]}"#, "refused 4\n"),
+    (r#"{"version":1,"nodes":[{"name":"é"}]}"#, "refused 4\n"),
+    (
+        r#"{"version":1,"nodes":[{"name":"nnnnnnnnnnnnnnnnnnnnnnnnnnnnnnnnnnnnnnnnnnnnnnnnnnnnnnnnnnnnnnnnn"}]}"#,
+        "refused 4\n",
+    ),
+    (
+        r#"{"version":1,"nodes":[{"name":"n"},{"name":"n"}]}"#,
+        "refused 4\n",
+    ),
+    (
+        r#"{"version":1,"nodes":[{"name":"n","timers":[{"name":"t","period":1},{"name":"t","period":1}]}]}"#,
+        "refused 4\n",
+    ),
+    (
+        r#"{"version":1,"nodes":[{"name":"n","timers":[{"name":"t","period":1,"group":"g"}]}]}"#,
+        "refused 4\n",
+    ),
+    (r#"{"version":1,"topics":["x","x"]}"#, "refused 4\n"),
+    (
+        r#"{"version":1,"nodes":[{"name":"n","groups":[{"name":"g","kind":"exclusive"},{"name":"g","kind":"reentrant"}]}]}"#,
+        "refused 4\n",
+    ),
+    (
+        r#"{"version":1,"nodes":[{"name":"n","timers":[{"name":"t","period":0}]}]}"#,
+        "refused 5\n",
+    ),
+    (
+        r#"{"version":1,"nodes":[{"name":"n","timers":[{"name":"t","period":4611686018427387905}]}]}"#,
+        "refused 5\n",
+    ),
+    (
+        r#"{"version":1,"moments":[4611686018427387905]}"#,
+        "refused 5\n",
+    ),
+    (
+        r#"{"version":1,"nodes":[{"name":"n","timers":[{"name":"t","period":1,"script":[[]]}]}]}"#,
+        "refused 6\n",
+    ),
+    (
+        r#"{"version":1,"nodes":[{"name":"n","timers":[{"name":"t","period":1,"script":[["halt"]]}]}]}"#,
+        "refused 6\n",
+    ),
+    (
+        r#"{"version":1,"nodes":[{"name":"n","timers":[{"name":"t","period":1,"script":[["log"]]}]}]}"#,
+        "refused 6\n",
+    ),
+    (
+        r#"{"version":1,"nodes":[{"name":"n","timers":[{"name":"t","period":1,"script":[["log",1,2]]}]}]}"#,
+        "refused 6\n",
+    ),
+    (
+        r#"{"version":1,"nodes":[{"name":"n","timers":[{"name":"t","period":1,"script":[["log","r8"]]}]}]}"#,
+        "refused 6\n",
+    ),
+    (
+        r#"{"version":1,"nodes":[{"name":"n","timers":[{"name":"t","period":1,"script":[["set","in","add",1,2]]}]}]}"#,
+        "refused 6\n",
+    ),
+    (
+        r#"{"version":1,"nodes":[{"name":"n","timers":[{"name":"t","period":1,"script":[["set","r0","div",1,2]]}]}]}"#,
+        "refused 6\n",
+    ),
+    (
+        r#"{"version":1,"nodes":[{"name":"n","timers":[{"name":"t","period":1,"script":[["skip",1,1]]}]}]}"#,
+        "refused 6\n",
+    ),
+    (
+        r#"{"version":1,"nodes":[{"name":"n","timers":[{"name":"t","period":1,"script":[["skip",1,0],["log",1]]}]}]}"#,
+        "refused 6\n",
+    ),
+    (
+        r#"{"version":1,"nodes":[{"name":"n","timers":[{"name":"t","period":1,"script":[["yield"]]}]}]}"#,
+        "refused 6\n",
+    ),
+    (
+        r#"{"version":1,"nodes":[{"name":"n","timers":[{"name":"t","period":1,"script":[["pub","t",1]]}]}]}"#,
+        "refused 6\n",
+    ),
+    (
+        r#"{"version":1,"nodes":[{"name":"n","timers":[{"name":"t","period":1,"script":[["pub","x",1]]}]}],"moments":[]}"#,
+        "refused 6\n",
+    ),
+    (
+        r#"{"version":1,"nodes":[{"name":"n","groups":[{"name":"r","kind":"reentrant"}],"timers":[{"name":"t","period":1,"group":"r","script":[["log","g0"]]}]}]}"#,
+        "refused 7\n",
+    ),
+    (r#"{"version":1,"moments":[5,4]}"#, "refused 8\n"),
+    (
+        r#"{"version":1,"moments":[1],"topics":["x"],"feed":[{"round":2,"topic":"x","value":1}]}"#,
+        "refused 8\n",
+    ),
+    (
+        r#"{"version":1,"nodes":[{"name":"n","actions":[{"name":"a","on_goal":[["decide",3]],"on_cancel":[["decide",2]],"script":[]}]}],"moments":[10],"feed":[{"round":1,"action":"a","goal":"00000000-0000-0000-0000-000000000000","value":5}]}"#,
+        "refused 9\n",
+    ),
+];
+
+/// Documents that aren't run yet: a topic, a service, a client, a server, an action client, and a subscription that is fed.
+pub const LATER: [&str; 6] = [
     r#"{"version":1,"topics":["t"]}"#,
-    r#"{"version":1,"feed":null}"#,
-    r#"{"version":1,"feed":[5]}"#,
-    r#"{"version":1,"nodes":[{"name":"n","timers":[5]}]}"#,
-    r#"{"version":1,"nodes":[{"name":"n","timers":[{}]}]}"#,
-    r#"{"version":1,"nodes":[{"name":"n","timers":[{"name":"t"}]}]}"#,
-    r#"{"version":1,"nodes":[{"name":"n","timers":[{"name":"t","period":0}]}]}"#,
-    r#"{"version":1,"nodes":[{"name":"n","timers":[{"name":"t","period":-1}]}]}"#,
-    r#"{"version":1,"nodes":[{"name":"n","timers":[{"name":"t","period":"1"}]}]}"#,
-    r#"{"version":1,"nodes":[{"name":"n","timers":[{"name":"t","period":1.5}]}]}"#,
-    r#"{"version":1,"nodes":[{"name":"n","timers":[{"name":"t","period":null}]}]}"#,
-    r#"{"version":1,"nodes":[{"name":"n","timers":[{"name":"t","period":4611686018427387905}]}]}"#,
-    r#"{"version":1,"nodes":[{"name":"n","timers":[{"name":"t","period":18446744073709551616}]}]}"#,
-    r#"{"version":1,"nodes":[{"name":"n","timers":[{"period":1}]}]}"#,
-    r#"{"version":1,"nodes":[{"name":"n","timers":[{"name":"t","period":1},{"name":"t","period":1}]}]}"#,
-    r#"{"version":1,"nodes":[{"name":"n","timers":[{"name":"t","period":1,"group":"g"}]}]}"#,
-    r#"{"version":1,"nodes":[{"name":"n","timers":[{"name":"t","period":1,"script":null}]}]}"#,
-    r#"{"version":1,"nodes":[{"name":"n","timers":[{"name":"t","period":1,"script":{}}]}]}"#,
-    r#"{"version":1,"nodes":[{"name":"n","timers":[{"name":"t","period":1,"script":[5]}]}]}"#,
-    r#"{"version":1,"nodes":[{"name":"n","timers":[{"name":"t","period":1,"script":[null]}]}]}"#,
-    r#"{"version":1,"nodes":[{"name":"n","timers":[{"name":"t","period":1,"script":[[]]}]}]}"#,
-    r#"{"version":1,"nodes":[{"name":"n","timers":[{"name":"t","period":1,"script":[["halt"]]}]}]}"#,
-    r#"{"version":1,"nodes":[{"name":"n","timers":[{"name":"t","period":1,"script":[["log"]]}]}]}"#,
-    r#"{"version":1,"nodes":[{"name":"n","timers":[{"name":"t","period":1,"script":[["log",1,2]]}]}]}"#,
-    r#"{"version":1,"nodes":[{"name":"n","timers":[{"name":"t","period":1,"script":[["log",true]]}]}]}"#,
-    r#"{"version":1,"nodes":[{"name":"n","timers":[{"name":"t","period":1,"script":[["log",null]]}]}]}"#,
-    r#"{"version":1,"nodes":[{"name":"n","timers":[{"name":"t","period":1,"script":[["log","r8"]]}]}]}"#,
-    r#"{"version":1,"nodes":[{"name":"n","timers":[{"name":"t","period":1,"script":[["log",9223372036854775808]]}]}]}"#,
-    r#"{"version":1,"nodes":[{"name":"n","timers":[{"name":"t","period":1,"script":[["log",1.5]]}]}]}"#,
-    r#"{"version":1,"nodes":[{"name":"n","timers":[{"name":"t","period":1,"script":[["set","in","add",1,2]]}]}]}"#,
-    r#"{"version":1,"nodes":[{"name":"n","timers":[{"name":"t","period":1,"script":[["set","r0","div",1,2]]}]}]}"#,
-    r#"{"version":1,"nodes":[{"name":"n","timers":[{"name":"t","period":1,"script":[["skip",1,1]]}]}]}"#,
-    r#"{"version":1,"nodes":[{"name":"n","timers":[{"name":"t","period":1,"script":[["skip",1,0],["log",1]]}]}]}"#,
-    r#"{"version":1,"nodes":[{"name":"n","timers":[{"name":"t","period":1,"script":[["yield"]]}]}]}"#,
-    r#"{"version":1,"nodes":[{"name":"n","timers":[{"name":"t","period":1,"script":[["pub","t",1]]}]}]}"#,
-    r#"{"version":1,"moments":null}"#,
-    r#"{"version":1,"moments":{}}"#,
-    r#"{"version":1,"moments":["1"]}"#,
-    r#"{"version":1,"moments":[-1]}"#,
-    r#"{"version":1,"moments":[1.5]}"#,
-    r#"{"version":1,"moments":[null]}"#,
-    r#"{"version":1,"moments":[4611686018427387905]}"#,
-    r#"{"version":1,"moments":[5,4]}"#,
+    r#"{"version":1,"nodes":[{"name":"n","services":[{"name":"s"}]}]}"#,
+    r#"{"version":1,"nodes":[{"name":"n","services":[{"name":"s"}],"clients":[{"name":"c","service":"s"}]}]}"#,
+    r#"{"version":1,"nodes":[{"name":"n","actions":[{"name":"a"}]}]}"#,
+    r#"{"version":1,"nodes":[{"name":"n","actions":[{"name":"a"}],"action_clients":[{"name":"c","action":"a"}]}]}"#,
+    r#"{"version":1,"topics":["x"],"nodes":[{"name":"n","timers":[{"name":"t","period":1,"script":[["pub","x","now"]]}],"subscriptions":[{"name":"s","topic":"x","script":[["log","in"]]}]}],"moments":[1],"feed":[{"round":1,"topic":"x","value":2}]}"#,
 ];

@@ -1,5 +1,5 @@
-use Rattle.std.proofs.Common.{sym, ap, ◌∙◌, []}
-use Rattle.exec_graph.specs.Graph.{GraphData, declared_at}
+use Rattle.std.proofs.Common.{sym, ◌∙◌, []}
+use Rattle.exec_graph.specs.Graph.{declared_at}
 use Rattle.exec_graph.specs.declared.entity.Declared.TheVariants.{Topic}
 use Rattle.exec_graph.proofs.Looking.{declared_by}
 use Rattle.exec_graph.proofs.graph.Graph.declared.Goals as goal

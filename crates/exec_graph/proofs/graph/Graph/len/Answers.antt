@@ -1,7 +1,6 @@
-use Rattle.std.proofs.Common.{◌≡◌, ℕ, ◌≤◌, length, not, List, refl, sym, ap, subst, ◌∙◌, arith}
-use Rattle.std.specs.List.{filter}
+use Rattle.std.proofs.Common.{◌≡◌, ◌≤◌, length, not, refl, sym, ap, subst, ◌∙◌, arith}
 use Rattle.std.proofs.lemmas.List.Filters.{length-filter_both}
-use Rattle.exec_graph.specs.Graph.{GraphData, EntityData, is_topic}
+use Rattle.exec_graph.specs.Graph.{GraphData, is_topic}
 use Rattle.std.proofs.lemmas.List.{length-map}
 use Rattle.exec_graph.specs.Entries.{entity_of}
 use Rattle.exec_graph.specs.Lawful.{IsLawful}

@@ -1,4 +1,4 @@
-use Rattle.std.proofs.Common.{◌≡◌, ◌∙◌, ap, sym, List, ℕ, [], ◌∷◌, ◌++◌, Bool, true, false, if◌then◌else◌}
+use Rattle.std.proofs.Common.{◌≡◌, ◌∙◌, sym, List, ℕ, [], ◌∷◌, ◌++◌, Bool, true, false, if◌then◌else◌}
 use Rattle.exec_graph.proofs.NamesAt.{added_last}
 use Rattle.exec_graph.proofs.texts.TextSet.insert.Goals as goal
 

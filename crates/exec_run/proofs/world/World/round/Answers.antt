@@ -1,36 +1,65 @@
-use Rattle.std.proofs.Common.{◌≡◌, ℕ, ◌+◌, ◌<◌, List, length, get_or, map, drop, ap, sym, ◌∙◌, arith}
+use Rattle.std.proofs.Common.{◌≡◌, ℕ, ◌<◌, List, length, take, refl, ap, sym, subst, ◌∙◌}
+use Rattle.std.specs.List.{fold, filter_map}
+use Rattle.std.proofs.lemmas.List.{take_all}
 use Rattle.std.proofs.lemmas.List.Elements.{All-same, All-get_or}
-use Rattle.exec_run.specs.World.{WorldState, run_all}
-use Rattle.exec_run.specs.Transcript.{due_places, take_inputs}
-use Rattle.exec_run.proofs.Rounds.{ready_at, places_within, run_next, run_last, fits_run, round_by_places}
+use Rattle.std.proofs.lemmas.List.Sums.{fold_more}
+use Rattle.exec_msg.specs.declared.line.Line.TheVariants as line
+use Rattle.exec_run.specs.Timers.{HasTimersAlone, due_entity, timer_ready}
+use Rattle.exec_run.proofs.Listing.{due_within}
+use Rattle.exec_run.proofs.Rounds.{alone_line, alone_run, alone_taken, round_by_timers, run_timers, timers_of}
+use Rattle.exec_world.specs.Ready.{take_inputs}
+use Rattle.exec_world.specs.Run.{run}
+use Rattle.exec_world.specs.World.{WorldState, add_line}
 use Rattle.exec_run.proofs.world.World.round.Goals as goal
 
-pub run_timer-requires-clause-place : goal.run_timer-requires-clause-place
-run_timer-requires-clause-place c =
-    let places : List ℕ = c.deref-place-items.result.now in
-    let are : places ≡ due_places c.args.now 0 c.args.self.now.timers =
-    c.deref-place-items.ensures.value ∙ c.in_ok-due.ensures.due ∙ ap (λ (w : WorldState). due_places c.args.now 0 w.timers) c.in_ok-add_line.ensures in
-    All-get_or (λ place. place < length c.args.plan.now.timers) places c.loop-place.place-index 0 c.loop-place-test.true
-    (All-same (λ place. place < length c.args.plan.now.timers) places (due_places c.args.now 0 c.args.self.now.timers) are
-    (places_within c.args.now 0 (length c.args.plan.now.timers) c.args.self.now.timers (omega (arith, c.requires.timers))))
-
-pub loop-place-preserved : goal.loop-place-preserved
-loop-place-preserved c = record {
-  left =
-      ap (λ (w : WorldState). run_all c.args.now (map (ready_at c.args.now c.args.plan.now) (drop (c.loop-place.place-index + 1) c.deref-place-items.result.now)) w) c.in_ok-run_timer.ensures
-      ∙ run_next c.args.now c.args.plan.now c.deref-place-items.result.now c.loop-place.place-index c.loop-place.self c.loop-place-test.true
-      ∙ c.loop-place.invariant.left;
-  fits = rw c.in_ok-run_timer.ensures (fits_run c.args.plan.now c.args.now (ready_at c.args.now c.args.plan.now (get_or c.deref-place-items.result.now c.loop-place.place-index 0)) c.loop-place.self c.loop-place.invariant.fits);
+pub loop-entity-init : goal.loop-entity-init
+loop-entity-init c = record {
+  ran = refl;
+  alone = subst (HasTimersAlone c.args.plan.now.graph) (sym (c.in_ok-due.ensures.world ∙ ap (take_inputs c.args.now) c.in_ok-add_line.ensures))
+      (alone_taken c.args.plan.now.graph c.args.now (add_line (line.Round c.args.number c.args.now) c.args.self.now)
+      (alone_line c.args.plan.now.graph (line.Round c.args.number c.args.now) c.args.self.now tt c.requires.timers));
 }
+
+pub run_timer-requires-clause-entity : goal.run_timer-requires-clause-entity
+run_timer-requires-clause-entity c =
+    let graph = c.args.plan.now.graph in
+    let entities : List ℕ = c.deref-entity-items.result.now in
+    let are : entities ≡ filter_map (due_entity c.args.now) c.args.self.now.timers =
+    c.deref-entity-items.ensures.value ∙ c.in_ok-due.ensures.due ∙ ap (λ (w : WorldState). filter_map (due_entity c.args.now) w.timers) c.in_ok-add_line.ensures in
+    subst (λ (entity : ℕ). entity < length graph.entities) (sym c.entity-item.is)
+    (All-get_or (λ entity. entity < length graph.entities) entities c.loop-entity.entity-index c.entity-item.result c.loop-entity-test.true
+    (All-same (λ entity. entity < length graph.entities) entities (filter_map (due_entity c.args.now) c.args.self.now.timers) are
+    (due_within graph c.args.now c.args.self.now.timers (timers_of c.args.plan.now c.requires.plan) c.requires.timers.timers)))
+
+pub loop-entity-preserved : goal.loop-entity-preserved
+loop-entity-preserved c =
+    let graph = c.args.plan.now.graph in
+    let entities : List ℕ = c.deref-entity-items.result.now in
+    let step = λ (world : WorldState) (entity : ℕ). run graph c.args.now (timer_ready graph entity) world in
+    let are : entities ≡ filter_map (due_entity c.args.now) c.args.self.now.timers =
+    c.deref-entity-items.ensures.value ∙ c.in_ok-due.ensures.due ∙ ap (λ (w : WorldState). filter_map (due_entity c.args.now) w.timers) c.in_ok-add_line.ensures in
+    let within : c.entity-item.result < length graph.entities =
+    subst (λ (entity : ℕ). entity < length graph.entities) (sym c.entity-item.is)
+    (All-get_or (λ entity. entity < length graph.entities) entities c.loop-entity.entity-index c.entity-item.result c.loop-entity-test.true
+    (All-same (λ entity. entity < length graph.entities) entities (filter_map (due_entity c.args.now) c.args.self.now.timers) are
+    (due_within graph c.args.now c.args.self.now.timers (timers_of c.args.plan.now c.requires.plan) c.requires.timers.timers))) in
+    record {
+      ran =
+          c.in_ok-run_timer.ensures
+          ∙ ap (λ (world : WorldState). step world c.entity-item.result) c.loop-entity.invariant.ran
+          ∙ ap (step (fold step c.take_due.new.self (take c.loop-entity.entity-index entities))) c.entity-item.is
+          ∙ sym (fold_more step c.take_due.new.self entities c.loop-entity.entity-index c.entity-item.result c.loop-entity-test.true);
+      alone = subst (HasTimersAlone graph) (sym c.in_ok-run_timer.ensures)
+          (alone_run c.args.plan.now c.requires.plan c.args.now c.entity-item.result c.loop-entity.self within c.loop-entity.invariant.alone);
+    }
 
 pub returns : goal.returns
 returns c =
-    let places : List ℕ = c.deref-place-items.result.now in
-    let are : places ≡ due_places c.args.now 0 c.args.self.now.timers =
-    c.deref-place-items.ensures.value ∙ c.in_ok-due.ensures.due ∙ ap (λ (w : WorldState). due_places c.args.now 0 w.timers) c.in_ok-add_line.ensures in
-    sym (run_last c.args.now c.args.plan.now places c.loop-place.place-index c.loop-place.self c.loop-place-test.false)
-    ∙ c.loop-place.invariant.left
-    ∙ ap (λ (ps : List ℕ). run_all c.args.now (map (ready_at c.args.now c.args.plan.now) ps) c.take_due.new.self) are
-    ∙ ap (λ (w : WorldState). run_all c.args.now (map (ready_at c.args.now c.args.plan.now) (due_places c.args.now 0 c.args.self.now.timers)) w)
-    (c.in_ok-due.ensures.world ∙ ap (λ (w : WorldState). take_inputs c.args.now w) c.in_ok-add_line.ensures)
-    ∙ round_by_places c.args.plan.now c.args.number c.args.now c.args.self.now c.requires
+    let graph = c.args.plan.now.graph in
+    let entities : List ℕ = c.deref-entity-items.result.now in
+    let are : entities ≡ filter_map (due_entity c.args.now) c.args.self.now.timers =
+    c.deref-entity-items.ensures.value ∙ c.in_ok-due.ensures.due ∙ ap (λ (w : WorldState). filter_map (due_entity c.args.now) w.timers) c.in_ok-add_line.ensures in
+    c.loop-entity.invariant.ran
+    ∙ ap (run_timers graph c.args.now c.take_due.new.self) (take_all c.loop-entity.entity-index entities c.loop-entity-test.false ∙ are)
+    ∙ ap (λ (w : WorldState). run_timers graph c.args.now w (filter_map (due_entity c.args.now) c.args.self.now.timers)) (c.in_ok-due.ensures.world ∙ ap (take_inputs c.args.now) c.in_ok-add_line.ensures)
+    ∙ round_by_timers c.args.plan.now c.requires.plan c.args.number c.args.now c.args.self.now c.requires.timers

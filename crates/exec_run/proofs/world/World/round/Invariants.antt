@@ -1,13 +1,12 @@
-use Rattle.std.proofs.Common.{◌≡◌, map, drop}
-use Rattle.exec_run.specs.World.{run_all}
-use Rattle.exec_run.specs.Transcript.{Fits}
-use Rattle.exec_run.proofs.Rounds.{ready_at}
+use Rattle.std.proofs.Common.{◌≡◌, take}
+use Rattle.std.specs.List.{fold}
+use Rattle.exec_run.specs.Timers.{HasTimersAlone, timer_ready}
+use Rattle.exec_world.specs.Run.{run}
 use Rattle.exec_run.proofs.world.World.round.Given as goal
 
--- the callbacks that are left lead from here to where all of them lead from the start
-abbrev pub invariant-loop-place : goal.invariant-loop-place
-invariant-loop-place l = record {
-  left : run_all l.now (map (ready_at l.now l.plan) (drop l.place-index l.place-items)) l.self
-      ≡ run_all l.now (map (ready_at l.now l.plan) l.place-items) l.initial.self;
-  fits : Fits l.plan l.self;
+-- the callbacks so far have run, and the world is one of the graph's timers alone
+abbrev pub invariant-loop-entity : goal.invariant-loop-entity
+invariant-loop-entity l = record {
+  ran : l.self ≡ fold (λ world entity. run l.plan.graph l.now (timer_ready l.plan.graph entity) world) l.initial.self (take l.entity-index l.entity-items);
+  alone : HasTimersAlone l.plan.graph l.self;
 }

@@ -1,5 +1,6 @@
 use Rattle.std.proofs.Common.{◌≡◌, ◌+◌, drop}
-use Rattle.exec_run.specs.Transcript.{Fits, rounds}
+use Rattle.exec_run.specs.Timers.{HasTimersAlone}
+use Rattle.exec_world.specs.Transcript.{rounds}
 use Rattle.exec_run.proofs.world.World.run.Given as goal
 
 -- the rounds that are left lead from here to where all of them lead from the start
@@ -8,5 +9,5 @@ invariant-loop-moment l = record {
   counted : l.number ≡ l.moment-index;
   left : rounds l.plan (l.number + 1) (drop l.moment-index l.moment-items) l.self
       ≡ rounds l.plan 1 l.moment-items l.initial.self;
-  fits : Fits l.plan l.self;
+  alone : HasTimersAlone l.plan.graph l.self;
 }

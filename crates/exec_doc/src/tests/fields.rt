@@ -1,0 +1,658 @@
+//! Each field of each object: missing, of each wrong form, and written twice, where the last one counts; and the fields
+//! that an object doesn't have, which are ignored whatever they hold.
+use super::answers;
+use std::alloc::{AllocError, Global};
+use std::process::Abort;
+use std::test::Fail;
+
+/// The form of a field.
+#[derive(Clone, Copy)]
+enum Form {
+    /// An integer from 0 to 2^64 - 1.
+    Count,
+    /// An integer from -2^63 to 2^63 - 1.
+    Value,
+    Text,
+    Texts,
+    Counts,
+    Objects,
+    Script,
+    /// The kind of a group.
+    Kind,
+    /// None: the field mustn't be there.
+    Nothing,
+}
+
+/// A field: its name, a value of its form, the form, and whether it is required.
+type Field<'a> = (&'a str, &'a str, Form, bool);
+
+/// An object of a document: the document's text before its fields and behind its brace.
+#[derive(Clone, Copy)]
+struct Object<'a> {
+    before: &'a str,
+    fields: &'a [Field<'a>],
+    after: &'a str,
+}
+
+/// The names of all fields of all objects, and of none.
+const NAMES: &[&str] = &[
+    "version",
+    "topics",
+    "nodes",
+    "moments",
+    "feed",
+    "name",
+    "groups",
+    "timers",
+    "subscriptions",
+    "services",
+    "clients",
+    "actions",
+    "action_clients",
+    "kind",
+    "group",
+    "period",
+    "script",
+    "topic",
+    "depth",
+    "service",
+    "action",
+    "result_timeout",
+    "on_goal",
+    "on_cancel",
+    "on_response",
+    "on_code",
+    "on_feedback",
+    "on_result",
+    "round",
+    "value",
+    "goal",
+    "cancel",
+    "stamp",
+    "",
+    "Version",
+    "Name",
+    "periods",
+    "result-timeout",
+];
+
+const NO_COUNTS: &[&str] = &[
+    "null",
+    "true",
+    r#""1""#,
+    "-1",
+    "1.0",
+    "1.5",
+    "1e0",
+    "-0",
+    "[1]",
+    "{}",
+    "18446744073709551616",
+    "1e300",
+];
+
+const NO_VALUES: &[&str] = &[
+    "null",
+    "false",
+    r#""1""#,
+    "1.0",
+    "-1.5",
+    "1E0",
+    "-0",
+    "[1]",
+    "{}",
+    "9223372036854775808",
+    "-9223372036854775809",
+];
+
+const NO_TEXTS: &[&str] = &["null", "true", "1", "0.5", r#"["x"]"#, "{}"];
+
+const NO_LISTS_OF_TEXTS: &[&str] = &[
+    "null",
+    "true",
+    "1",
+    r#""x""#,
+    "{}",
+    "[null]",
+    "[1]",
+    r#"[["x"]]"#,
+    "[{}]",
+    r#"["x",true]"#,
+];
+
+const NO_LISTS_OF_COUNTS: &[&str] = &[
+    "null",
+    "true",
+    "1",
+    r#""1""#,
+    "{}",
+    "[null]",
+    "[true]",
+    r#"["1"]"#,
+    "[-1]",
+    "[1.5]",
+    "[1e3]",
+    "[-0]",
+    "[[1]]",
+    "[{}]",
+    "[18446744073709551616]",
+    "[0,null]",
+];
+
+const NO_LISTS_OF_OBJECTS: &[&str] = &[
+    "null", "true", "1", r#""x""#, "{}", "[null]", "[1]", r#"["x"]"#, "[[]]", "[{}]",
+];
+
+const NO_SCRIPTS: &[&str] = &[
+    "null",
+    "true",
+    "1",
+    r#""log""#,
+    "{}",
+    "[null]",
+    "[1]",
+    r#"["log",1]"#,
+    "[{}]",
+    "[[null]]",
+    "[[[]]]",
+    r#"[["log",true]]"#,
+    r#"[["log",1.5]]"#,
+    r#"[["log",1e0]]"#,
+    r#"[["log",-0]]"#,
+    r#"[["log",["in"]]]"#,
+    r#"[["log",{}]]"#,
+    r#"[["log",9223372036854775808]]"#,
+    r#"[["log",-9223372036854775809]]"#,
+    r#"[["log",1],["log",null]]"#,
+    r#"[["log",1],null]"#,
+];
+
+const NO_KINDS: &[&str] = &[
+    "null",
+    "true",
+    "1",
+    r#"["exclusive"]"#,
+    "{}",
+    r#""""#,
+    r#""both""#,
+    r#""Exclusive""#,
+    r#""reentrant ""#,
+    r#""exclusiv""#,
+];
+
+const ANYTHING: &[&str] = &["null", "true", "1", r#""x""#, "[]", "{}"];
+
+// Values that have not the form.
+fn wrong(form: Form) -> &'static [&'static str] {
+    match form {
+        Form::Count => NO_COUNTS,
+        Form::Value => NO_VALUES,
+        Form::Text => NO_TEXTS,
+        Form::Texts => NO_LISTS_OF_TEXTS,
+        Form::Counts => NO_LISTS_OF_COUNTS,
+        Form::Objects => NO_LISTS_OF_OBJECTS,
+        Form::Script => NO_SCRIPTS,
+        Form::Kind => NO_KINDS,
+        Form::Nothing => ANYTHING,
+    }
+}
+
+impl Object<'_> {
+    // The document with this text in the place of a field, or behind the last field.
+    fn document(&self, alloc: Global, changed: usize, text: &str) -> Result<String, AllocError> {
+        let mut document = String::from_str(alloc, self.before)?;
+        for (place, (name, value, form, _)) in self.fields.iter().enumerate() {
+            if place == changed {
+                document.push_str(text)?;
+            } else if !matches!(form, Form::Nothing) {
+                write_field(&mut document, name, value)?;
+            }
+        }
+        if changed >= self.fields.len() {
+            document.push_str(text)?;
+        }
+        document.push_str(r#""x":null}"#)?;
+        document.push_str(self.after)?;
+        Ok(document)
+    }
+
+    fn has(&self, name: &str) -> bool {
+        self.fields.iter().any(|field| field.0 == name)
+    }
+}
+
+fn write_field(document: &mut String, name: &str, value: &str) -> Result<(), AllocError> {
+    write!(document, "\"{name}\":{value},")
+}
+
+fn misses(rt: &impl Abort, alloc: Global, object: &Object<'_>) -> Result<(), Fail> {
+    for (place, (_, _, _, is_required)) in object.fields.iter().enumerate() {
+        let document = object.document(alloc, place, "")?;
+        answers(rt, alloc, &document, if *is_required { 2 } else { 0 });
+    }
+    Ok(())
+}
+
+// A value beside the right one, or alone.
+fn takes_none(
+    rt: &impl Abort,
+    alloc: Global,
+    object: &Object<'_>,
+    place: usize,
+    wrong: &str,
+) -> Result<(), Fail> {
+    let Some((name, value, form, _)) = object.fields.get(place) else {
+        return Ok(());
+    };
+    let mut text = String::new(alloc);
+    write_field(&mut text, name, wrong)?;
+    answers(rt, alloc, &object.document(alloc, place, &text)?, 2);
+    write_field(&mut text, name, value)?;
+    let code = if matches!(form, Form::Nothing) { 2 } else { 0 };
+    answers(rt, alloc, &object.document(alloc, place, &text)?, code);
+    write_field(&mut text, name, wrong)?;
+    answers(rt, alloc, &object.document(alloc, place, &text)?, 2);
+    Ok(())
+}
+
+fn takes_no_other(rt: &impl Abort, alloc: Global, object: &Object<'_>) -> Result<(), Fail> {
+    for (place, (_, _, form, _)) in object.fields.iter().enumerate() {
+        for wrong in wrong(*form) {
+            takes_none(rt, alloc, object, place, wrong)?;
+        }
+    }
+    Ok(())
+}
+
+fn ignores(rt: &impl Abort, alloc: Global, object: &Object<'_>) -> Result<(), Fail> {
+    for name in NAMES {
+        if !object.has(name) {
+            for value in ANYTHING {
+                let mut text = String::new(alloc);
+                write_field(&mut text, name, value)?;
+                let document = object.document(alloc, object.fields.len(), &text)?;
+                answers(rt, alloc, &document, 0);
+            }
+        }
+    }
+    Ok(())
+}
+
+fn has_its_fields(rt: &impl Abort, alloc: Global, object: &Object<'_>) -> Result<(), Fail> {
+    misses(rt, alloc, object)?;
+    takes_no_other(rt, alloc, object)?;
+    ignores(rt, alloc, object)
+}
+
+#[test]
+fn fields_of_documents(rt: HostRuntime) -> Result<(), Fail> {
+    let document = Object {
+        before: "{",
+        fields: &[
+            ("version", "1", Form::Count, true),
+            ("topics", r#"["x"]"#, Form::Texts, false),
+            ("nodes", r#"[{"name":"n"}]"#, Form::Objects, false),
+            ("moments", "[0,18,18]", Form::Counts, false),
+            ("feed", "[]", Form::Objects, false),
+        ],
+        after: "",
+    };
+    has_its_fields(&rt, rt.alloc(), &document)
+}
+
+#[test]
+fn fields_of_nodes(rt: HostRuntime) -> Result<(), Fail> {
+    let node = Object {
+        before: r#"{"version":1,"topics":["x"],"nodes":[{"name":"m","services":[{"name":"v"}],"actions":[{"name":"b"}]},{"#,
+        fields: &[
+            ("name", r#""n""#, Form::Text, true),
+            (
+                "groups",
+                r#"[{"name":"g","kind":"reentrant"}]"#,
+                Form::Objects,
+                false,
+            ),
+            (
+                "timers",
+                r#"[{"name":"t","period":1}]"#,
+                Form::Objects,
+                false,
+            ),
+            (
+                "subscriptions",
+                r#"[{"name":"s","topic":"x"}]"#,
+                Form::Objects,
+                false,
+            ),
+            ("services", r#"[{"name":"u"}]"#, Form::Objects, false),
+            (
+                "clients",
+                r#"[{"name":"c","service":"v"}]"#,
+                Form::Objects,
+                false,
+            ),
+            ("actions", r#"[{"name":"a"}]"#, Form::Objects, false),
+            (
+                "action_clients",
+                r#"[{"name":"k","action":"b"}]"#,
+                Form::Objects,
+                false,
+            ),
+        ],
+        after: "]}",
+    };
+    has_its_fields(&rt, rt.alloc(), &node)
+}
+
+#[test]
+fn fields_of_groups(rt: HostRuntime) -> Result<(), Fail> {
+    let group = Object {
+        before: r#"{"version":1,"nodes":[{"name":"n","groups":[{"#,
+        fields: &[
+            ("name", r#""g""#, Form::Text, true),
+            ("kind", r#""exclusive""#, Form::Kind, true),
+        ],
+        after: "]}]}",
+    };
+    has_its_fields(&rt, rt.alloc(), &group)
+}
+
+#[test]
+fn fields_of_timers(rt: HostRuntime) -> Result<(), Fail> {
+    let timer = Object {
+        before: r#"{"version":1,"nodes":[{"name":"n","groups":[{"name":"g","kind":"exclusive"}],"timers":[{"#,
+        fields: &[
+            ("name", r#""t""#, Form::Text, true),
+            ("group", r#""g""#, Form::Text, false),
+            ("period", "1", Form::Count, true),
+            ("script", r#"[["log","g0"]]"#, Form::Script, false),
+        ],
+        after: "]}]}",
+    };
+    has_its_fields(&rt, rt.alloc(), &timer)
+}
+
+#[test]
+fn fields_of_subscriptions(rt: HostRuntime) -> Result<(), Fail> {
+    let subscription = Object {
+        before: r#"{"version":1,"topics":["x"],"nodes":[{"name":"n","groups":[{"name":"g","kind":"exclusive"}],"subscriptions":[{"#,
+        fields: &[
+            ("name", r#""s""#, Form::Text, true),
+            ("group", r#""g""#, Form::Text, false),
+            ("topic", r#""x""#, Form::Text, true),
+            ("depth", "1024", Form::Count, false),
+            ("script", r#"[["log","in"]]"#, Form::Script, false),
+        ],
+        after: "]}]}",
+    };
+    has_its_fields(&rt, rt.alloc(), &subscription)
+}
+
+#[test]
+fn fields_of_services(rt: HostRuntime) -> Result<(), Fail> {
+    let service = Object {
+        before: r#"{"version":1,"nodes":[{"name":"n","groups":[{"name":"g","kind":"exclusive"}],"services":[{"#,
+        fields: &[
+            ("name", r#""v""#, Form::Text, true),
+            ("group", r#""g""#, Form::Text, false),
+            ("depth", "1", Form::Count, false),
+            ("script", r#"[["reply","in"]]"#, Form::Script, false),
+        ],
+        after: "]}]}",
+    };
+    has_its_fields(&rt, rt.alloc(), &service)
+}
+
+#[test]
+fn fields_of_clients(rt: HostRuntime) -> Result<(), Fail> {
+    let client = Object {
+        before: r#"{"version":1,"nodes":[{"name":"n","groups":[{"name":"g","kind":"exclusive"}],"services":[{"name":"v"}],"clients":[{"#,
+        fields: &[
+            ("name", r#""c""#, Form::Text, true),
+            ("group", r#""g""#, Form::Text, false),
+            ("service", r#""v""#, Form::Text, true),
+            ("depth", "7", Form::Count, false),
+            ("script", r#"[["call","c","aux"]]"#, Form::Script, false),
+        ],
+        after: "]}]}",
+    };
+    has_its_fields(&rt, rt.alloc(), &client)
+}
+
+#[test]
+fn fields_of_servers(rt: HostRuntime) -> Result<(), Fail> {
+    let server = Object {
+        before: r#"{"version":1,"nodes":[{"name":"n","groups":[{"name":"g","kind":"exclusive"}],"actions":[{"#,
+        fields: &[
+            ("name", r#""a""#, Form::Text, true),
+            ("group", r#""g""#, Form::Text, false),
+            ("depth", "7", Form::Count, false),
+            ("result_timeout", "0", Form::Count, false),
+            ("on_goal", r#"[["decide",2]]"#, Form::Script, false),
+            ("on_cancel", r#"[["decide",1]]"#, Form::Script, false),
+            ("script", r#"[["succeed",1]]"#, Form::Script, false),
+        ],
+        after: "]}]}",
+    };
+    has_its_fields(&rt, rt.alloc(), &server)
+}
+
+#[test]
+fn fields_of_action_clients(rt: HostRuntime) -> Result<(), Fail> {
+    let client = Object {
+        before: r#"{"version":1,"nodes":[{"name":"n","groups":[{"name":"g","kind":"exclusive"}],"actions":[{"name":"a"}],"action_clients":[{"#,
+        fields: &[
+            ("name", r#""k""#, Form::Text, true),
+            ("group", r#""g""#, Form::Text, false),
+            ("action", r#""a""#, Form::Text, true),
+            ("depth", "7", Form::Count, false),
+            ("on_response", r#"[["log",1]]"#, Form::Script, false),
+            ("on_code", r#"[["goal","k",1]]"#, Form::Script, false),
+            ("on_feedback", "[]", Form::Script, false),
+            ("on_result", r#"[["execute","a"]]"#, Form::Script, false),
+        ],
+        after: "]}]}",
+    };
+    has_its_fields(&rt, rt.alloc(), &client)
+}
+
+#[test]
+fn fields_of_messages(rt: HostRuntime) -> Result<(), Fail> {
+    let entry = Object {
+        before: r#"{"version":1,"topics":["x"],"moments":[0],"feed":[{"#,
+        fields: &[
+            ("round", "1", Form::Count, true),
+            ("topic", r#""x""#, Form::Text, true),
+            ("value", "-1", Form::Value, true),
+            ("goal", "1", Form::Nothing, false),
+            ("cancel", "1", Form::Nothing, false),
+        ],
+        after: "]}",
+    };
+    has_its_fields(&rt, rt.alloc(), &entry)
+}
+
+#[test]
+fn fields_of_goal_requests(rt: HostRuntime) -> Result<(), Fail> {
+    let entry = Object {
+        before: r#"{"version":1,"nodes":[{"name":"n","actions":[{"name":"a"}]}],"moments":[0],"feed":[{"#,
+        fields: &[
+            ("round", "1", Form::Count, true),
+            ("action", r#""a""#, Form::Text, true),
+            (
+                "goal",
+                r#""00000000-0000-0000-0000-000000000001""#,
+                Form::Text,
+                true,
+            ),
+            ("value", "9223372036854775807", Form::Value, true),
+            ("topic", "1", Form::Nothing, false),
+            ("cancel", "1", Form::Nothing, false),
+        ],
+        after: "]}",
+    };
+    has_its_fields(&rt, rt.alloc(), &entry)
+}
+
+#[test]
+fn fields_of_cancel_requests(rt: HostRuntime) -> Result<(), Fail> {
+    let entry = Object {
+        before: r#"{"version":1,"nodes":[{"name":"n","actions":[{"name":"a"}]}],"moments":[0],"feed":[{"#,
+        fields: &[
+            ("round", "1", Form::Count, true),
+            ("action", r#""a""#, Form::Text, true),
+            (
+                "cancel",
+                r#""00000000-0000-0000-0000-000000000000""#,
+                Form::Text,
+                true,
+            ),
+            ("stamp", "5", Form::Count, false),
+            ("topic", "1", Form::Nothing, false),
+            ("goal", "1", Form::Nothing, false),
+        ],
+        after: "]}",
+    };
+    has_its_fields(&rt, rt.alloc(), &entry)
+}
+
+/// Fields of their form: the document's text before a field, its name, a value that is refused, one that isn't, the text
+/// behind the field, and the code.
+const REFUSED: &[(&str, &str, &str, &str, &str, u8)] = &[
+    ("{", "version", "2", "1", "}", 3),
+    (
+        r#"{"version":1,"#,
+        "topics",
+        r#"["x","x"]"#,
+        r#"["x"]"#,
+        "}",
+        4,
+    ),
+    (r#"{"version":1,"#, "moments", "[2,1]", "[1,2]", "}", 8),
+    (
+        r#"{"version":1,"topics":["x"],"moments":[1],"#,
+        "feed",
+        r#"[{"round":2,"topic":"x","value":1}]"#,
+        "[]",
+        "}",
+        8,
+    ),
+    (
+        r#"{"version":1,"nodes":[{"#,
+        "name",
+        r#""-""#,
+        r#""n""#,
+        "}]}",
+        4,
+    ),
+    (
+        r#"{"version":1,"nodes":[{"name":"n","timers":[{"name":"t","period":1,"group":"g","script":[["log","g0"]]}],"groups":[{"name":"g","#,
+        "kind",
+        r#""reentrant""#,
+        r#""exclusive""#,
+        "}]}]}",
+        7,
+    ),
+    (
+        r#"{"version":1,"nodes":[{"name":"n","timers":[{"name":"t","#,
+        "period",
+        "0",
+        "1",
+        "}]}]}",
+        5,
+    ),
+    (
+        r#"{"version":1,"nodes":[{"name":"n","groups":[{"name":"g","kind":"exclusive"}],"timers":[{"name":"t","period":1,"#,
+        "group",
+        r#""h""#,
+        r#""g""#,
+        "}]}]}",
+        4,
+    ),
+    (
+        r#"{"version":1,"nodes":[{"name":"n","timers":[{"name":"t","period":1,"#,
+        "script",
+        r#"[["reply",1]]"#,
+        r#"[["log",1]]"#,
+        "}]}]}",
+        6,
+    ),
+    (
+        r#"{"version":1,"nodes":[{"name":"n","services":[{"name":"v","#,
+        "depth",
+        "1025",
+        "1024",
+        "}]}]}",
+        5,
+    ),
+    (
+        r#"{"version":1,"nodes":[{"name":"n","services":[{"name":"v"}],"clients":[{"name":"c","#,
+        "service",
+        r#""c""#,
+        r#""v""#,
+        "}]}]}",
+        4,
+    ),
+    (
+        r#"{"version":1,"nodes":[{"name":"n","actions":[{"name":"a","#,
+        "result_timeout",
+        "4611686018427387905",
+        "4611686018427387904",
+        "}]}]}",
+        5,
+    ),
+    (
+        r#"{"version":1,"topics":["x"],"moments":[1],"feed":[{"topic":"x","value":1,"#,
+        "round",
+        "2",
+        "1",
+        "}]}",
+        8,
+    ),
+    (
+        r#"{"version":1,"topics":["x"],"moments":[1],"feed":[{"round":1,"value":1,"#,
+        "topic",
+        r#""y""#,
+        r#""x""#,
+        "}]}",
+        4,
+    ),
+    (
+        r#"{"version":1,"nodes":[{"name":"n","actions":[{"name":"a"}]}],"moments":[1],"feed":[{"round":1,"action":"a","value":1,"#,
+        "goal",
+        r#""00000000-0000-0000-0000-000000000000""#,
+        r#""00000000-0000-0000-0000-000000000001""#,
+        "}]}",
+        9,
+    ),
+    (
+        r#"{"version":1,"nodes":[{"name":"n","actions":[{"name":"a"}]}],"moments":[1],"feed":[{"round":1,"action":"a","#,
+        "cancel",
+        r#""0""#,
+        r#""00000000-0000-0000-0000-000000000000""#,
+        "}]}",
+        9,
+    ),
+    (
+        r#"{"version":1,"nodes":[{"name":"n","actions":[{"name":"a"}]}],"moments":[1],"feed":[{"round":1,"action":"a","cancel":"00000000-0000-0000-0000-000000000000","#,
+        "stamp",
+        "4611686018427387905",
+        "4611686018427387904",
+        "}]}",
+        5,
+    ),
+];
+
+#[test]
+fn the_last_of_two_fields_counts(rt: HostRuntime) -> Result<(), Fail> {
+    let alloc = rt.alloc();
+    for (before, name, refused, right, after, code) in REFUSED {
+        let document = format!(in alloc; "{before}\"{name}\":{refused}{after}")?;
+        answers(&rt, alloc, &document, *code);
+        let document = format!(in alloc; "{before}\"{name}\":{refused},\"{name}\":{right}{after}")?;
+        answers(&rt, alloc, &document, 0);
+        let document = format!(in alloc; "{before}\"{name}\":{right},\"{name}\":{refused}{after}")?;
+        answers(&rt, alloc, &document, *code);
+    }
+    Ok(())
+}

@@ -1,0 +1,75 @@
+-- What a graph finds by name: what its draft names, at the same number.
+use Rattle.std.proofs.Common.{◌≡◌, ℕ, ◌+◌, Bool, true, false, cond, ◌&&◌, length, map, List, [], ◌∷◌, ◌++◌, Option, None, Some, bytes_eq, slice_get, refl, ap, ap₂, ◌∙◌, subst, arith, zero-add}
+use Rattle.std.specs.List.{position_from}
+use Rattle.std.specs.Option.{option_map_or}
+use Rattle.exec_graph.specs.Draft.{GraphDraft}
+use Rattle.exec_graph.specs.Graph.{EntityData, GraphData, is_topic, is_server}
+use Rattle.exec_graph.specs.Numbers as numbers
+use Rattle.exec_graph.specs.Numbers.{Placed, entities_of, topic_named, server_named}
+use Rattle.exec_graph.specs.Options.{each}
+use Rattle.exec_graph.specs.Resolved.{entity_in, topic_in, graph_in}
+use Rattle.exec_graph.proofs.Bools.{and_left}
+use Rattle.exec_graph.proofs.Positions.{at_position}
+use Rattle.exec_graph.proofs.Reading.{then_read, AreRead, are_read, some_is}
+use Rattle.exec_graph.proofs.Resolving.{graph_of, AreEntities, built}
+
+-- the first that passes two tests passes the first of them, and stands there
+pub found_there : (test : EntityData → Bool) (also : EntityData → Bool) (entities : List EntityData) (number : ℕ) → position_from (λ entity. test entity && also entity) 0 entities ≡ Some number → option_map_or test (slice_get entities number) false ≡ true
+found_there test also entities number found =
+    let at = at_position (λ entity. test entity && also entity) 0 entities number found in
+    let same : number ≡ at.place = omega (arith, at.counted) in
+    let there : slice_get entities number ≡ Some at.element = ap (slice_get entities) same ∙ at.there in
+    rw there (and_left (test at.element) (also at.element) at.passes)
+
+-- a test that no topic passes is asked behind the topics
+skip_topics : (test : EntityData → Bool) (topics : List (List ℕ)) (entities : List EntityData) (first : ℕ) → ((name : List ℕ) → test (topic_in name) ≡ false)
+    → position_from test first (map topic_in topics ++ entities) ≡ position_from test (first + length topics) entities
+skip_topics test [] entities first fails =
+    let e : first ≡ first + 0 = omega arith in
+    ap (λ (n : ℕ). position_from test n entities) e
+skip_topics test (topic ∷ topics) entities first fails =
+    let e : (first + 1) + length topics ≡ first + length (topic ∷ topics) = omega arith in
+    rw (fails topic) (skip_topics test topics entities (first + 1) fails ∙ ap (λ (n : ℕ). position_from test n entities) e)
+
+-- no entity is a topic
+no_topics : (source : GraphDraft) (name : List ℕ) (placed : List Placed) (entities : List EntityData) (first : ℕ) → AreRead (entity_in source) placed entities
+    → position_from (λ entity. is_topic entity.is && bytes_eq entity.name name) first entities ≡ None
+no_topics source name [] [] first reads = refl
+no_topics source name [] (entity ∷ entities) first reads = absurd reads
+no_topics source name (p ∷ placed) [] first reads = absurd reads
+no_topics source name (p ∷ placed) (entity ∷ entities) first reads =
+    rw ((built source p entity reads.0).made.topic) (no_topics source name placed entities (first + 1) reads.1)
+
+topics_first : (source : GraphDraft) (name : List ℕ) (topics : List (List ℕ)) (entities : List EntityData) (first : ℕ) → AreEntities source entities
+    → position_from (λ entity. is_topic entity.is && bytes_eq entity.name name) first (map topic_in topics ++ entities) ≡ position_from (λ topic. bytes_eq topic name) first topics
+topics_first source name [] entities first reads = no_topics source name (entities_of source) entities first reads
+topics_first source name (topic ∷ topics) entities first reads =
+    ap (λ (o : Option ℕ). cond (bytes_eq topic name) (Some first) o) (topics_first source name topics entities (first + 1) reads)
+
+servers_alike : (source : GraphDraft) (name : List ℕ) (placed : List Placed) (entities : List EntityData) (first : ℕ) → AreRead (entity_in source) placed entities
+    → position_from (λ entity. is_server entity.is && bytes_eq entity.name name) first entities
+    ≡ position_from (λ p. numbers.is_server p.entity.is && bytes_eq p.entity.name name) first placed
+servers_alike source name [] [] first reads = refl
+servers_alike source name [] (entity ∷ entities) first reads = absurd reads
+servers_alike source name (p ∷ placed) [] first reads = absurd reads
+servers_alike source name (p ∷ placed) (entity ∷ entities) first reads =
+    let build = built source p entity reads.0 in
+    ap₂ (λ (b : Bool) (o : Option ℕ). cond b (Some first) o)
+    (ap₂ (λ (b : Bool) (n : List ℕ). b && bytes_eq n name) build.made.server build.named)
+    (servers_alike source name placed entities (first + 1) reads.1)
+
+-- a graph finds the names of its draft at their numbers
+pub record Finds (source : GraphDraft) (made : GraphData) : Type 0 where
+  pub topic : (name : List ℕ) → position_from (λ entity. is_topic entity.is && bytes_eq entity.name name) 0 made.entities ≡ topic_named source name
+  pub server : (name : List ℕ) → position_from (λ entity. is_server entity.is && bytes_eq entity.name name) 0 made.entities ≡ server_named source name
+
+pub finds : (source : GraphDraft) (made : GraphData) → graph_in source ≡ Some made → Finds source made
+finds source made e =
+    then_read _ (each (entity_in source) (entities_of source)) _ made e (λ entities read is.
+    let reads = are_read (entity_in source) (entities_of source) entities read in
+    subst (Finds source) (some_is (graph_of source entities) made is) (record {
+      topic = λ name. topics_first source name source.topics entities 0 reads;
+      server = λ name. skip_topics (λ entity. is_server entity.is && bytes_eq entity.name name) source.topics entities 0 (λ topic. refl)
+          ∙ ap (λ (n : ℕ). position_from (λ entity. is_server entity.is && bytes_eq entity.name name) n entities) (zero-add (length source.topics))
+          ∙ servers_alike source name (entities_of source) entities (length source.topics) reads;
+    }))
