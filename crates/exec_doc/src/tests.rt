@@ -1,3 +1,4 @@
+mod doubled;
 mod faults;
 mod fields;
 mod identifiers;
