@@ -23,18 +23,10 @@ use Rattle.exec_graph.specs.declared.plan.Fed.{Fed}
 use Rattle.exec_graph.specs.declared.plan.Fed.TheVariants.{Goal, Cancel}
 use Rattle.exec_graph.specs.declared.plan.Feed.{Feed}
 use Rattle.exec_graph.proofs.Bools.{and_left, and_right, both_true}
-use Rattle.exec_graph.proofs.Resolving.{graph_of, AreEntities, built}
-use Rattle.exec_graph.proofs.Positions.{at_position}
+use Rattle.exec_graph.proofs.Found.{found_there, Finds, finds}
 use Rattle.exec_graph.proofs.Reading.{then_read, AreRead, are_read, some_is, as_many, seen_alike, each_some}
 
 -- ---- what is found in a graph
-
-found_there : (test : EntityData → Bool) (also : EntityData → Bool) (entities : List EntityData) (number : ℕ) → position_from (λ entity. test entity && also entity) 0 entities ≡ Some number → option_map_or test (slice_get entities number) false ≡ true
-found_there test also entities number found =
-    let at = at_position (λ entity. test entity && also entity) 0 entities number found in
-    let same : number ≡ at.place = omega (arith, at.counted) in
-    let there : slice_get entities number ≡ Some at.element = ap (slice_get entities) same ∙ at.there in
-    rw there (and_left (test at.element) (also at.element) at.passes)
 
 topic_there : (made : GraphData) (name : List ℕ) (number : ℕ) → topic_at made name ≡ Some number → is_at is_topic made number ≡ true
 topic_there made name number found = found_there (λ entity. is_topic entity.is) (λ entity. bytes_eq entity.name name) made.entities number found
@@ -115,60 +107,6 @@ has_schedule made drafted feed e =
       rounds = seen_alike (entry_by made) (λ entry. entry.round) (λ entry. entry.round) drafted feed (λ d entry h. (entry_placed made d entry h).round) reads;
       stamps = seen_alike (entry_by made) (λ entry. refusals.stamp_of entry.fed) (λ entry. stamp_of entry.fed) drafted feed (λ d entry h. (fed_placed made d.fed entry.fed (entry_placed made d entry h).fed).stamp) reads;
     }
-
--- ---- names of the draft
-
-skip_topics : (test : EntityData → Bool) (topics : List (List ℕ)) (entities : List EntityData) (first : ℕ) → ((name : List ℕ) → test (topic_in name) ≡ false)
-    → position_from test first (map topic_in topics ++ entities) ≡ position_from test (first + length topics) entities
-skip_topics test [] entities first fails =
-    let e : first ≡ first + 0 = omega arith in
-    ap (λ (n : ℕ). position_from test n entities) e
-skip_topics test (topic ∷ topics) entities first fails =
-    let e : (first + 1) + length topics ≡ first + length (topic ∷ topics) = omega arith in
-    rw (fails topic) (skip_topics test topics entities (first + 1) fails ∙ ap (λ (n : ℕ). position_from test n entities) e)
-
--- no entity is a topic
-no_topics : (source : GraphDraft) (name : List ℕ) (placed : List Placed) (entities : List EntityData) (first : ℕ) → AreRead (entity_in source) placed entities
-    → position_from (λ entity. is_topic entity.is && bytes_eq entity.name name) first entities ≡ None
-no_topics source name [] [] first reads = refl
-no_topics source name [] (entity ∷ entities) first reads = absurd reads
-no_topics source name (p ∷ placed) [] first reads = absurd reads
-no_topics source name (p ∷ placed) (entity ∷ entities) first reads =
-    rw ((built source p entity reads.0).made.topic) (no_topics source name placed entities (first + 1) reads.1)
-
-topics_first : (source : GraphDraft) (name : List ℕ) (topics : List (List ℕ)) (entities : List EntityData) (first : ℕ) → AreEntities source entities
-    → position_from (λ entity. is_topic entity.is && bytes_eq entity.name name) first (map topic_in topics ++ entities) ≡ position_from (λ topic. bytes_eq topic name) first topics
-topics_first source name [] entities first reads = no_topics source name (entities_of source) entities first reads
-topics_first source name (topic ∷ topics) entities first reads =
-    ap (λ (o : Option ℕ). cond (bytes_eq topic name) (Some first) o) (topics_first source name topics entities (first + 1) reads)
-
-servers_alike : (source : GraphDraft) (name : List ℕ) (placed : List Placed) (entities : List EntityData) (first : ℕ) → AreRead (entity_in source) placed entities
-    → position_from (λ entity. is_server entity.is && bytes_eq entity.name name) first entities
-    ≡ position_from (λ p. numbers.is_server p.entity.is && bytes_eq p.entity.name name) first placed
-servers_alike source name [] [] first reads = refl
-servers_alike source name [] (entity ∷ entities) first reads = absurd reads
-servers_alike source name (p ∷ placed) [] first reads = absurd reads
-servers_alike source name (p ∷ placed) (entity ∷ entities) first reads =
-    let build = built source p entity reads.0 in
-    ap₂ (λ (b : Bool) (o : Option ℕ). cond b (Some first) o)
-    (ap₂ (λ (b : Bool) (n : List ℕ). b && bytes_eq n name) build.made.server build.named)
-    (servers_alike source name placed entities (first + 1) reads.1)
-
--- a graph finds its draft's names at their numbers
-pub record Finds (source : GraphDraft) (made : GraphData) : Type 0 where
-  pub topic : (name : List ℕ) → topic_at made name ≡ topic_named source name
-  pub server : (name : List ℕ) → server_at made name ≡ server_named source name
-
-pub finds : (source : GraphDraft) (made : GraphData) → graph_in source ≡ Some made → Finds source made
-finds source made e =
-    then_read _ (each (entity_in source) (entities_of source)) _ made e (λ entities read is.
-    let reads = are_read (entity_in source) (entities_of source) entities read in
-    subst (Finds source) (some_is (graph_of source entities) made is) (record {
-      topic = λ name. topics_first source name source.topics entities 0 reads;
-      server = λ name. skip_topics (λ entity. is_server entity.is && bytes_eq entity.name name) source.topics entities 0 (λ topic. refl)
-          ∙ ap (λ (n : ℕ). position_from (λ entity. is_server entity.is && bytes_eq entity.name name) n entities) (zero-add (length source.topics))
-          ∙ servers_alike source name (entities_of source) entities (length source.topics) reads;
-    }))
 
 -- ---- the feed of the draft
 

@@ -7,4 +7,5 @@ pub mod Kinds
 pub mod Placing
 pub mod Reading
 pub mod Refusals
+pub mod Tree
 pub mod Words

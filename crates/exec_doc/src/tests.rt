@@ -8,6 +8,7 @@ mod names;
 mod scripts;
 mod table;
 mod texts;
+mod values;
 
 use crate::read_document;
 use std::alloc::Global;

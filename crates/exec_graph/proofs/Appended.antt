@@ -20,7 +20,7 @@ use Rattle.exec_graph.specs.declared.entity.CallbackGroup.{CallbackGroup}
 use Rattle.exec_graph.specs.declared.entity.Declared.{Declared}
 use Rattle.exec_graph.proofs.Bools.{and_left, and_right, or_left, or_right, not_true, both_true}
 use Rattle.exec_graph.proofs.NameLists.{from_place}
-use Rattle.exec_graph.proofs.NamesAt.{bytes_sym}
+use Rattle.exec_graph.proofs.SameTexts.{bytes_sym}
 
 -- the name of what is declared, and of what is placed
 abbrev pub title : EntityData → List ℕ

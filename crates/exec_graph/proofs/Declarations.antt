@@ -1,7 +1,6 @@
 -- What is declared, and the sets of its names.
-use Rattle.std.proofs.Common.{◌≡◌, ℕ, suc, ◌+◌, Bool, true, false, cond, if◌then◌else◌, ◌&&◌, ◌||◌, is_some, Result, Ok, Err, OnOk, OnErr, List, [], ◌∷◌, ◌++◌, map, length, take, Option, Some, refl, ap, ap₂, sym, subst, ◌∙◌, bytes_eq}
+use Rattle.std.proofs.Common.{◌≡◌, ℕ, suc, ◌+◌, Bool, true, false, cond, if◌then◌else◌, ◌&&◌, ◌||◌, is_some, Result, Ok, Err, OnErr, List, [], ◌∷◌, ◌++◌, map, length, Option, Some, refl, ap, ap₂, sym, subst, ◌∙◌, bytes_eq}
 use Rattle.std.specs.List.{filter, list_any, position_from}
-use Rattle.std.proofs.Math.Seq.{take-append_seam}
 use Rattle.std.proofs.lemmas.List.{append-nil, append_assoc, map-append}
 use Rattle.std.proofs.lemmas.List.Elements.{filter-append}
 use Rattle.std.proofs.lemmas.List.Folds.{list_any-append}
@@ -13,7 +12,6 @@ use Rattle.exec_graph.specs.declared.draft.Drafted.{Drafted}
 use Rattle.exec_graph.specs.declared.draft.Drafted.TheVariants.{Timer, Subscription, Service, Client, Server, ActionClient}
 use Rattle.exec_graph.specs.declared.draft.EntityDraft.{EntityDraft}
 use Rattle.exec_graph.specs.declared.draft.NodeDraft.{NodeDraft}
-use Rattle.exec_graph.specs.declared.draft.ServerDraft.{ServerDraft}
 
 -- ---- what is found, and whether it is there
 
@@ -185,9 +183,6 @@ pub extended_further : (names more most : List (List ℕ)) → Extends names mor
 extended_further names more most first second =
     (first.0 ++ second.0, second.1 ∙ ap (λ (texts : List (List ℕ)). texts ++ second.0) first.1 ∙ append_assoc names first.0 second.0)
 
-pub cut_back : (names more : List (List ℕ)) → Extends names more → take (length names) more ≡ names
-cut_back names more extends = ap (take (length names)) extends.1 ∙ take-append_seam names extends.0
-
 -- ---- the servers of entities in turn
 
 server_names_with : (entities : List EntityDraft) (entity : EntityDraft) → server_names (entities ++ entity ∷ []) ≡ server_names entities ++ server_names (entity ∷ [])
@@ -207,15 +202,11 @@ actions_with (first ∷ nodes) node =
     ap (λ (names : List (List ℕ)). server_names first.entities ++ names) (actions_with nodes node)
     ∙ sym (append_assoc (server_names first.entities) (actions_of nodes) (server_names node.entities))
 
--- the name of a server that stands alone
-pub named_server : (entity : EntityDraft) (server : ServerDraft) → entity.is ≡ Server server → entity.name ∷ [] ≡ server_names (entity ∷ [])
-named_server entity server is = rw is refl
+-- the name of a server
+pub named_server : (entity : EntityDraft) → is_server entity.is ≡ true → entity.name ∷ [] ≡ server_names (entity ∷ [])
+named_server entity is = rw is refl
 
 -- ---- results
-
-pub on_ok : {X E : Type 0} {P Q : Type 0} (r : Result X E) → (P → Q) → OnOk r P → OnOk r Q
-on_ok (Ok x) next holds = next holds
-on_ok (Err e) next holds = tt
 
 pub on_err : {X E : Type 0} {P : Type 0} (r : Result X E) → P → OnErr r P
 on_err (Ok x) holds = tt

@@ -21,9 +21,10 @@ pub mod Looking
 pub mod Lookups
 pub mod Made
 pub mod NameLists
-pub mod NamesAt
 pub mod Positions
 pub mod Reading
 pub mod Resolving
+pub mod SameTexts
 pub mod Scheduled
+pub mod TextPlaces
 pub mod WellNamed

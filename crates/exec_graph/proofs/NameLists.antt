@@ -8,7 +8,7 @@ use Rattle.std.proofs.lemmas.List.Folds.{list_any-append}
 use Rattle.exec_graph.specs.Directory.{names_from, where_so}
 use Rattle.exec_graph.specs.Faults.{are_names}
 use Rattle.exec_graph.specs.Names.{is_name, are_distinct}
-use Rattle.exec_graph.proofs.NamesAt.{bytes_sym}
+use Rattle.exec_graph.proofs.SameTexts.{bytes_sym}
 
 -- ---- steps
 
@@ -122,29 +122,5 @@ are_not texts is = is_not (are_names texts) texts (is ∙ added_to_none texts)
 
 -- ---- lists of which each element passes a test
 
-some_by : {A : Type 0} (b : Bool) (x y : A) (front rest : List A) (all : Bool) → Some y ≡ where_so b x → where_so all ((front ++ y ∷ []) ++ rest) ≡ where_so (b && all) (front ++ x ∷ rest)
-some_by {A} true x y front rest all is =
-    let same : y ≡ x = cc in
-    ap (λ (ys : List A). where_so all ys) (append_assoc front (y ∷ []) rest ∙ ap (λ (z : A). front ++ z ∷ rest) same)
-some_by false x y front rest all is = absurd cc
-
-nothing_by : {A B : Type 0} (b : Bool) (x : A) (all : Bool) (ys : B) → None ≡ where_so b x → where_so (b && all) ys ≡ None
-nothing_by true x all ys is = absurd cc
-nothing_by false x all ys is = refl
-
 pub from_place : {X : Type 0} (xs : List X) (i : ℕ) (x : X) → i < length xs → x ≡ get_or xs i x → drop i xs ≡ x ∷ drop (i + 1) xs
 from_place {X} xs i x within there = drop-cons xs i x within ∙ ap (λ (y : X). y ∷ drop (suc i) xs) (sym there) ∙ ap (λ (n : ℕ). x ∷ drop n xs) (sym (add-one i))
-
-module _ {X A : Type 0} (test : X → Bool) (f : X → A) (xs : List X) (i : ℕ) (x : X) (front : List A) (within : i < length xs) (there : x ≡ get_or xs i x) where
-  -- one more that passes
-  pub next_passes : (y : A) → Some y ≡ where_so (test x) (f x) →
-      where_so (list_all test (drop (i + 1) xs)) ((front ++ y ∷ []) ++ map f (drop (i + 1) xs)) ≡ where_so (list_all test (drop i xs)) (front ++ map f (drop i xs))
-  next_passes y is =
-      some_by (test x) (f x) y front (map f (drop (i + 1) xs)) (list_all test (drop (i + 1) xs)) is
-      ∙ ap (λ (rest : List X). where_so (list_all test rest) (front ++ map f rest)) (sym (from_place xs i x within there))
-
-  -- one that doesn't
-  pub next_fails : None ≡ where_so (test x) (f x) → where_so (list_all test (drop i xs)) (front ++ map f (drop i xs)) ≡ None
-  next_fails is =
-      ap (λ (rest : List X). where_so (list_all test rest) (front ++ map f rest)) (from_place xs i x within there)
-      ∙ nothing_by (test x) (f x) (list_all test (drop (i + 1) xs)) (front ++ f x ∷ map f (drop (i + 1) xs)) is

@@ -11,6 +11,7 @@ pub mod Lawful
 pub mod Names
 pub mod Numbers
 pub mod Options
+pub mod Places
 pub mod Plan
 pub mod Refusals
 pub mod Resolved

@@ -5,9 +5,10 @@ ghost use Rattle.exec_graph.specs.Refusals.{fault_in};
 ghost use Rattle.exec_graph.specs.Resolved.{graph_in};
 
 use crate::assembling::graph_of;
-use crate::draft::{Drafted, EntityDraft, NodeDraft};
+use crate::draft::{EntityDraft, NodeDraft};
 use crate::fault::GraphFault;
 use crate::graph::Graph;
+use crate::numbering::EntityKind;
 use crate::texts::TextSet;
 use exec_msg::Memory;
 use std::alloc::Global;
@@ -50,7 +51,10 @@ impl GraphBuilder {
         }
     }
 
-    /// Declares a topic. Where memory is refused, all stays as it was.
+    /// Declares a topic.
+    ///
+    /// # Errors
+    /// [`Memory`] where a growth was refused. All stays as it was then.
     pub fn topic(&mut self, name: String) -> Result<(), Memory>
         ensures ok { OnOk result (self.new ≡ record self.old { topics = self.old.topics ++ string_bytes name ∷ [] }) }
         ensures err { OnErr result (self.new ≡ self.old) }
@@ -63,7 +67,10 @@ impl GraphBuilder {
         declared
     }
 
-    /// Declares a node with all that is its. Where memory is refused, all stays as it was.
+    /// Declares a node with all that is its.
+    ///
+    /// # Errors
+    /// [`Memory`] where a growth was refused. All stays as it was then.
     pub fn node(&mut self, node: NodeDraft) -> Result<(), Memory>
         ensures ok { OnOk result (self.new ≡ record self.old { nodes = self.old.nodes ++ node ∷ [] }) }
         ensures err { OnErr result (self.new ≡ self.old) }
@@ -90,7 +97,10 @@ impl GraphBuilder {
         self.action_names.contains(name)
     }
 
-    /// The graph, or the least fault of what was declared. The builder is given up on a fault.
+    /// The graph of what was declared. The builder is given up on a fault.
+    ///
+    /// # Errors
+    /// The least fault of what was declared, or [`GraphFault::Memory`] where a growth was refused.
     pub fn finish(self) -> Result<Graph, GraphFault>
         ensures graph { IfOk result (λ graph. (fault_in self ≡ None) × (graph_in self ≡ Some graph)) }
         ensures fault { IfErr result (λ fault. (fault ≡ GraphFault.Memory) ⊎ (fault_in self ≡ Some fault)) }
@@ -141,8 +151,8 @@ fn note_server(names: &mut TextSet, entity: &EntityDraft) -> Result<(), Memory>
     ensures names { OnOk result ((known : _) → HasNamesOf known names.old → HasNamesOf (known ++ server_names (entity.now ∷ [])) names.new) }
     ensures kept { Extends names.old names.new }
 {
-    match &entity.is {
-        Drafted::Server(_) => names.insert(entity.name.as_str()),
-        _ => Ok(()),
+    if EntityKind::Server.has(&entity.is) {
+        names.insert(entity.name.as_str())?;
     }
+    Ok(())
 }

@@ -7,8 +7,9 @@ ghost use Rattle.exec_graph.specs.Faults.{are_names, has_named_groups, names_of}
 ghost use Rattle.exec_graph.specs.Kinds.{is_of};
 
 use crate::draft::{Drafted, EntityDraft, GroupDraft, NodeDraft};
-use crate::naming::NameSet;
+use crate::naming::add_name;
 use crate::numbering::{EntityKind, PlacedEntity, numbered};
+use crate::texts::TextSet;
 use exec_msg::Memory;
 use exec_script::WordText;
 use std::alloc::Global;
@@ -19,8 +20,8 @@ use std::marker::Model;
 pub(crate) struct Directory<'a> {
     // How many of the names are topics'. Those of the entities stand behind them.
     topics: usize,
-    names: NameSet,
-    groups: Vec<NameSet>,
+    names: TextSet,
+    groups: Vec<TextSet>,
     entities: Vec<PlacedEntity<'a>>,
 }
 
@@ -48,7 +49,7 @@ impl<'a> Directory<'a> {
             return Ok(None);
         };
         let entities = numbered(alloc, nodes)?;
-        let mut names = NameSet::new(alloc);
+        let mut names = TextSet::new(alloc);
         if !add_topics(&mut names, topics)? {
             return Ok(None);
         }
@@ -162,7 +163,7 @@ impl<'a> Directory<'a> {
 }
 
 // Whether the names of a node's groups have one; the default group has none.
-fn has_group_in(names: &NameSet, group: &Option<WordText>) -> bool
+fn has_group_in(names: &TextSet, group: &Option<WordText>) -> bool
     ensures { result ≡ has_in (Some names.now) group.now }
 {
     match group {
@@ -175,9 +176,9 @@ fn has_group_in(names: &NameSet, group: &Option<WordText>) -> bool
 pub(crate) fn has_node_names(alloc: Global, nodes: &[NodeDraft]) -> Result<bool, Memory>
     ensures { IfOk result (λ lawful. lawful ≡ are_names (map (λ node. node.name) nodes.now)) }
 {
-    let mut names = NameSet::new(alloc);
+    let mut names = TextSet::new(alloc);
     for node in nodes {
-        if !names.add(node.name.as_str())? {
+        if !add_name(&mut names, node.name.as_str())? {
             return Ok(false);
         }
     }
@@ -185,7 +186,7 @@ pub(crate) fn has_node_names(alloc: Global, nodes: &[NodeDraft]) -> Result<bool,
 }
 
 // The names of each node's groups, where they are names and differ within each node.
-fn group_names(alloc: Global, nodes: &[NodeDraft]) -> Result<Option<Vec<NameSet>>, Memory>
+fn group_names(alloc: Global, nodes: &[NodeDraft]) -> Result<Option<Vec<TextSet>>, Memory>
     ensures { IfOk result (λ found. option_map (λ groups. groups.items) found ≡ where_so (list_all has_named_groups nodes.now) (map group_names nodes.now)) }
 {
     let mut groups = Vec::new(alloc);
@@ -198,34 +199,34 @@ fn group_names(alloc: Global, nodes: &[NodeDraft]) -> Result<Option<Vec<NameSet>
     Ok(Some(groups))
 }
 
-fn names_of_groups(alloc: Global, groups: &[GroupDraft]) -> Result<Option<NameSet>, Memory>
+fn names_of_groups(alloc: Global, groups: &[GroupDraft]) -> Result<Option<TextSet>, Memory>
     ensures { IfOk result (λ found. found ≡ where_so (are_names (map (λ group. group.name) groups.now)) (map (λ group. group.name) groups.now)) }
 {
-    let mut names = NameSet::new(alloc);
+    let mut names = TextSet::new(alloc);
     for group in groups {
-        if !names.add(group.name.as_str())? {
+        if !add_name(&mut names, group.name.as_str())? {
             return Ok(None);
         }
     }
     Ok(Some(names))
 }
 
-fn add_topics(names: &mut NameSet, topics: &[String]) -> Result<bool, Memory>
+fn add_topics(names: &mut TextSet, topics: &[String]) -> Result<bool, Memory>
     ensures { IfOk result (λ added. names_from names.old (map string_bytes topics.now) ≡ where_so added names.new) }
 {
     for topic in topics {
-        if !names.add(topic.as_str())? {
+        if !add_name(names, topic.as_str())? {
             return Ok(false);
         }
     }
     Ok(true)
 }
 
-fn add_entities(names: &mut NameSet, entities: &[PlacedEntity<'_>]) -> Result<bool, Memory>
+fn add_entities(names: &mut TextSet, entities: &[PlacedEntity<'_>]) -> Result<bool, Memory>
     ensures { IfOk result (λ added. names_from names.old (map (λ placed. placed.entity.name) entities.now) ≡ where_so added names.new) }
 {
     for placed in entities {
-        if !names.add(placed.entity.name.as_str())? {
+        if !add_name(names, placed.entity.name.as_str())? {
             return Ok(false);
         }
     }

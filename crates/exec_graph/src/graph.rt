@@ -31,7 +31,8 @@ impl Model for Graph {
 }
 
 impl Graph {
-    ghost use Rattle.std.specs.Prelude.{◌≡◌, ◌<◌, ◌≤◌, ◌&&◌, length, not, slice_get, Some, IsTrue};
+    ghost use Rattle.std.specs.Option.{option_map_or};
+    ghost use Rattle.std.specs.Prelude.{◌≡◌, ◌<◌, ◌≤◌, ◌&&◌, length, false, not, slice_get, IsTrue};
     ghost use Rattle.std.specs.List.{position_from};
     ghost use Rattle.std.specs.Str.{bytes_eq};
     ghost use Rattle.exec_graph.specs.Graph.{names_of, declared_at, group_of, is_topic, is_server};
@@ -86,12 +87,14 @@ impl Graph {
         self.declared(no).group()
     }
 
-    /// Whether a callback group is mutually exclusive, else it is reentrant.
+    /// Whether a callback group is mutually exclusive. A reentrant one isn't, and no group but the graph's is.
     pub fn is_exclusive(&self, group: GroupNo) -> bool
-        requires { group < length self.now.groups }
-        ensures { (found : _) → slice_get self.now.groups group ≡ Some found → result ≡ found.exclusive }
+        ensures { result ≡ option_map_or (λ found. found.exclusive) (slice_get self.now.groups group) false }
     {
-        self.groups[group.0 as usize].exclusive
+        match self.groups.get(group.0 as usize) {
+            Some(found) => found.exclusive,
+            None => false,
+        }
     }
 
     /// The topic of a name.

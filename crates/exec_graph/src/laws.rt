@@ -16,6 +16,8 @@ ghost use Rattle.exec_graph.specs.declared.plan.Feed.{Feed};
 ghost use Rattle.exec_script.specs.Script.{CallInput, resumed};
 ghost use Rattle.exec_script.specs.declared.effects.Effect.{Effect};
 
+use crate::{Graph, Plan, Script};
+
 /// A graph's entities that pass a test are listed once each, and nothing else is.
 pub fn entities_are_listed_once()
     ensures inside { (graph : GraphData) (test : Declared → Bool) (number : ℕ) → number < length graph.entities →
@@ -70,3 +72,12 @@ pub fn plans_without_faults_are_lawful()
         → list_all (λ entry. goes_somewhere graph entry.fed) feed ≡ true → list_all (λ entry. has_128_bits entry.fed) feed ≡ true
         → plan_fault_in moments feed ≡ None → IsLawfulPlan (record { graph = graph; moments = moments; feed = feed }) }
 {}
+
+/// A plan may be moved into another thread and shared with it, and so may its graph and a script.
+pub fn plans_cross_threads() {
+    crosses_threads::<Plan>();
+    crosses_threads::<Graph>();
+    crosses_threads::<Script>();
+}
+
+fn crosses_threads<T: Send + Sync>() {}

@@ -11,20 +11,27 @@ use std::marker::Model;
 pub enum Fed {
     /// A message to a topic.
     Message {
+        /// The topic.
         topic: EntityNo,
+        /// What it says.
         value: i64,
     },
-    /// A goal request to a server, with the goal's identifier, which isn't 0.
+    /// A goal request to an action server.
     Goal {
+        /// The action server.
         server: EntityNo,
+        /// The goal's identifier, which isn't 0.
         id: GoalId,
+        /// The goal.
         value: i64,
     },
-    /// A cancel request to a server: for the goal of an identifier, or none where that is 0, and for those accepted up to
-    /// a stamp in ticks, at most [`TICKS`](exec_msg::limits::TICKS), or none where that is 0.
+    /// A cancel request to an action server.
     Cancel {
+        /// The action server.
         server: EntityNo,
+        /// The identifier of the goal that is to be canceled, or 0 for none.
         id: GoalId,
+        /// In ticks, at most [`TICKS`](exec_msg::limits::TICKS): the goals accepted up to it are to be canceled. 0 for none.
         stamp: u64,
     },
 }
@@ -71,8 +78,11 @@ impl Plan {
     ghost use Rattle.exec_graph.specs.Lawful.{is_from_1, IsLawfulPlan};
     ghost use Rattle.exec_graph.specs.Schedule.{plan_fault_in};
 
-    /// The plan of a graph, the moment of each round, and what is fed to topics and servers of the graph; or the least
-    /// fault of moments and feed. What was handed in is given up on a fault.
+    /// The plan of a graph, the moment of each round, and what is fed to topics and servers of the graph. What was handed in
+    /// is given up on a fault.
+    ///
+    /// # Errors
+    /// The least fault of moments and feed, or [`PlanFault::Memory`] where a growth was refused.
     pub fn new(
         alloc: Global,
         graph: Graph,

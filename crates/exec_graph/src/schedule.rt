@@ -119,7 +119,7 @@ fn is_identified(entry: &Feed) -> bool
     match entry.fed {
         Fed::Message { .. } => true,
         Fed::Goal { id, .. } => id.number() >= 1,
-        // A cancel request may have any identifier.
+        // A cancel request may have any identifier: the comparison always holds, and tells the proof that it has 128 bits.
         Fed::Cancel { id, .. } => id.number() <= u128::MAX,
     }
 }

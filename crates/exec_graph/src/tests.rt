@@ -6,14 +6,15 @@ mod refused;
 
 use crate::{
     Drafted, EntityDraft, GraphBuilder, GraphFault, GroupDraft, Items, NodeDraft, PlanFault,
-    ServerDraft, Spelled, schedule_fits,
+    Script, ServerDraft, Spelled, schedule_fits,
 };
 use exec_msg::Moment;
 use exec_msg::limits::{FEED, TICKS};
-use exec_script::WordText;
+use exec_script::{Instr, Word, WordText};
 use std::alloc::{AllocError, Global};
 use std::fmt::Debug;
 use std::process::Abort;
+use std::sync::Arc;
 use std::test::Fail;
 
 // A function of its own, since each assertion in a test makes the test's proof longer.
@@ -78,6 +79,25 @@ fn a_schedule_fits_up_to_its_limits(rt: HostRuntime) -> Result<(), Fail> {
     assert!(&rt; schedule_fits(&moments, FEED, TICKS));
     assert!(&rt; !schedule_fits(&moments, FEED + 1, TICKS));
     assert!(&rt; !schedule_fits(&moments, FEED, TICKS + 1));
+    Ok(())
+}
+
+#[test]
+fn lists_are_given_back_and_scripts_are_shared(rt: HostRuntime) -> Result<(), Fail> {
+    let alloc = rt.alloc();
+    let mut numbers = Vec::new(alloc);
+    numbers.push(7)?;
+    same(&rt, Items::of(numbers).into_vec().as_slice(), &[7]);
+    let mut words = Vec::new(alloc);
+    words.push(Word::Number(7))?;
+    let mut script = Vec::new(alloc);
+    script.push(words)?;
+    same(&rt, Spelled::of(script).into_vec().len(), 1);
+    let mut instructions = Vec::new(alloc);
+    instructions.push(Instr::Yield)?;
+    let script = Script::of(Arc::new(alloc, instructions)?);
+    same(&rt, script.shared().as_slice(), &[Instr::Yield]);
+    same(&rt, script.shared().clone()?.as_slice(), script.as_slice());
     Ok(())
 }
 

@@ -5,7 +5,7 @@ use Rattle.std.specs.Option.{option_map_or}
 use Rattle.std.proofs.lemmas.List.Elements.{All-get_or, All-head, All-tail}
 use Rattle.std.proofs.lemmas.Option.{slice_get_within}
 use Rattle.exec_graph.specs.Graph.{EntityData, GraphData, declared_at, group_of, is_topic, is_timer, is_client, is_server, is_action_client}
-use Rattle.exec_graph.specs.Lawful.{IsLawful, IsLawfulAt, IsLawfulEntity, is_at, is_within, is_fed_well}
+use Rattle.exec_graph.specs.Lawful.{IsLawful, IsLawfulAt, IsLawfulEntity, is_at, is_fed_well}
 use Rattle.exec_graph.specs.Plan.{PlanData}
 use Rattle.exec_graph.specs.declared.entity.Declared.{Declared}
 use Rattle.exec_graph.specs.declared.entity.Declared.TheVariants.{Topic, Timer, Subscription, Service, Client, Server, ActionClient}
@@ -169,20 +169,6 @@ lawful_timer graph (ActionClient entity) h p = absurd cc
 -- a lawful timer of a graph
 pub lawful_entity : (graph : GraphData) (number : ℕ) → IsLawful graph → AreTimers graph.entities → number < length graph.entities → IsLawfulEntity graph (declared_at graph number)
 lawful_entity graph number lawful timers within = lawful_timer graph (declared_at graph number) (declared_timer graph number timers within) (lawful_at graph number lawful within)
-
-within_parts : (graph : GraphData) (declared : Declared) → IsTrue (is_topic declared) ⊎ IsLawfulEntity graph declared → IsTrue (is_within declared)
-within_parts graph Topic p = refl
-within_parts graph (Timer entity) (inl topic) = absurd cc
-within_parts graph (Subscription entity) (inl topic) = absurd cc
-within_parts graph (Service entity) (inl topic) = absurd cc
-within_parts graph (Client entity) (inl topic) = absurd cc
-within_parts graph (Server entity) (inl topic) = absurd cc
-within_parts graph (ActionClient entity) (inl topic) = absurd cc
-within_parts graph declared (inr lawful) = lawful.within
-
--- the numbers of what stands in a lawful graph are within their limits
-pub within_limits : (graph : GraphData) (number : ℕ) → IsLawful graph → number < length graph.entities → IsTrue (is_within (declared_at graph number))
-within_limits graph number lawful within = within_parts graph (declared_at graph number) (lawful_at graph number lawful within)
 
 -- its callback group is one of the graph's
 pub group_within : (graph : GraphData) (number : ℕ) → IsLawful graph → AreTimers graph.entities → number < length graph.entities → group_of (declared_at graph number) < length graph.groups

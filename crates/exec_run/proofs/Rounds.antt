@@ -1,7 +1,7 @@
 -- A round of a world of timers alone runs the callbacks of those that are due, and leaves such a world.
 use Rattle.std.proofs.Common.{◌≡◌, ◌==◌, ℕ, zero, suc, ◌+◌, ◌<◌, ◌≤◌, add-one, ℤ, replicate, Bool, true, false, List, [], ◌∷◌, ◌++◌, length, get_or, drop, map, refl, sym, ap, subst, ◌∙◌, arith}
 use Rattle.std.specs.List.{All, filter, filter_map, flat_map, fold}
-use Rattle.std.proofs.lemmas.List.{append-nil, drop_more, drop_all, length-map, length-replicate}
+use Rattle.std.proofs.lemmas.List.{append-nil, drop_more, length-map, length-replicate}
 use Rattle.std.proofs.lemmas.List.Elements.{All-nil, All-push, All-head, All-tail}
 use Rattle.std.proofs.lemmas.List.Folds.{fold-map}
 use Rattle.exec_graph.specs.Graph.{GraphData, declared_at, is_timer, names_of}
@@ -119,10 +119,6 @@ pub round_next : (plan : PlanData) (moments : List ℕ) (i number moment : ℕ) 
 round_next plan moments i number moment world within there =
     ap (λ (n : ℕ). rounds plan n (drop (i + 1) moments) (round plan number moment world)) (add-one number)
     ∙ sym (rw (drop_more moments i moment within, ← there) refl)
-
--- no round is left
-pub round_last : (plan : PlanData) (moments : List ℕ) (i number : ℕ) (world : WorldState) → length moments ≤ i → rounds plan number (drop i moments) world ≡ world
-round_last plan moments i number world past = rw (drop_all i moments past) refl
 
 alone_rounds : (plan : PlanData) → IsOfTimers plan → (number : ℕ) (moments : List ℕ) (world : WorldState) → HasTimersAlone plan.graph world → HasTimersAlone plan.graph (rounds plan number moments world)
 alone_rounds plan of number [] world alone = alone

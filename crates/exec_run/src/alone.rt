@@ -12,7 +12,11 @@ use exec_graph::{Declared, Graph};
 use exec_msg::{EntityNo, Line, Memory, Names, write_line};
 use std::alloc::Global;
 
-/// Runs a document of timers alone on one thread, and gives the text of its transcript; or why it isn't run.
+/// Runs a document of timers alone on one thread, and gives the text of its transcript.
+///
+/// # Errors
+/// [`AloneFault::Refused`] with the least code that holds of the bytes, or with 10 where a growth was refused, and
+/// [`AloneFault::Later`] where the document isn't one of timers alone.
 pub fn run_alone(alloc: Global, document: &[u8]) -> Result<Vec<u8>, AloneFault>
     ensures text { IfOk result (λ text. (plan : PlanData) × SaysTimers document.now plan × (text.items ≡ text_of plan)) }
     ensures fault { IfErr result (λ fault. IsFaultOf document.now fault) }

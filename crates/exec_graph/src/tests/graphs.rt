@@ -5,7 +5,7 @@ ghost use Rattle.exec_graph.specs.Lawful.{is_at};
 
 use super::drafts::builder_of;
 use super::same;
-use crate::{CallbackGroup, Declared, Graph, Script};
+use crate::{CallbackGroup, Declared, Graph, GroupNo, Script};
 use exec_msg::EntityNo;
 use exec_script::Instr;
 use std::alloc::{AllocError, Global};
@@ -215,6 +215,17 @@ fn has_groups(rt: &impl Abort, graph: &Graph) {
 fn a_graph_is_as_declared(rt: HostRuntime) -> Result<(), Fail> {
     let graph = builder_of(rt.alloc(), TWO_NODES)?.finish()?;
     is_of_two_nodes(&rt, rt.alloc(), &graph);
+    Ok(())
+}
+
+#[test]
+fn no_group_but_the_graphs_is_exclusive(rt: HostRuntime) -> Result<(), Fail> {
+    let graph = builder_of(rt.alloc(), TWO_NODES)?.finish()?;
+    for (number, wanted) in GROUPS.iter().enumerate() {
+        same(&rt, graph.is_exclusive(GroupNo(number as u16)), wanted.2);
+    }
+    same(&rt, graph.is_exclusive(GroupNo(6)), false);
+    same(&rt, graph.is_exclusive(GroupNo(u16::MAX)), false);
     Ok(())
 }
 

@@ -5,10 +5,10 @@ use Rattle.exec_graph.proofs.directory.add_topics.Goals as goal
 pub loop-topic-preserved : goal.loop-topic-preserved
 loop-topic-preserved c =
     next_name string_bytes c.args.topics.now c.loop-topic.topic-index c.topic-item.result c.loop-topic.names c.loop-topic-test.true c.topic-item.is
-    c.in_ok-add.field-0 c.as_str.result.now c.add.new.self c.if-not-branch.false c.as_str.ensures.value c.in_ok-add.ensures.added c.in_ok-add.ensures.names
+    c.in_ok-add_name.field-0 c.as_str.result.now c.add_name.new.names c.if-not-branch.false c.as_str.ensures.value c.in_ok-add_name.ensures.added c.in_ok-add_name.ensures.names
     ∙ c.loop-topic.invariant
 
 pub returns-then-not-branch : goal.returns-then-not-branch
 returns-then-not-branch c =
     sym c.loop-topic.invariant
-    ∙ no_name string_bytes c.args.topics.now c.loop-topic.topic-index c.topic-item.result c.loop-topic.names c.loop-topic-test.true c.topic-item.is c.in_ok-add.field-0 c.as_str.result.now c.if-not-branch.true c.as_str.ensures.value c.in_ok-add.ensures.added
+    ∙ no_name string_bytes c.args.topics.now c.loop-topic.topic-index c.topic-item.result c.loop-topic.names c.loop-topic-test.true c.topic-item.is c.in_ok-add_name.field-0 c.as_str.result.now c.if-not-branch.true c.as_str.ensures.value c.in_ok-add_name.ensures.added

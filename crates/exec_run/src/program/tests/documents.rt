@@ -2,9 +2,9 @@
 pub const TWO_TIMERS: &str =
     r#"{"version":1,"nodes":[{"name":"n","timers":[{"name":"t1","period":1,"script":[["set","g0","mul","g0",2],["log","g0"]]},{"name":"t2","period":1,"script":[["set","g0","add","g0",1],["log","g0"]]}]}],"moments":[1,2,3]}"#;
 
-/// Documents with their transcripts: none, one timer, a timer that comes late, two timers, and a sum
-/// that wraps.
-pub const EXAMPLES: [(&str, &str); 5] = [
+/// Documents with their transcripts, those of `examples/` among them: none, one timer, a timer that comes late, two timers,
+/// a sum that wraps, and groups of both kinds.
+pub const EXAMPLES: [(&str, &str); 6] = [
     (r#"{"version":1}"#, "end 0\n"),
     (
         r#"{"version":1,"nodes":[{"name":"n","timers":[{"name":"t","period":10,"script":[["log","now"]]}]}],"moments":[0,10,35,40]}"#,
@@ -56,6 +56,38 @@ pub const EXAMPLES: [(&str, &str); 5] = [
          run t timer 1 0\n\
          log t -9223372036854775808\n\
          end 1\n",
+    ),
+    (
+        r#"{"version":1,"nodes":[{"name":"drive","groups":[{"name":"wheels","kind":"exclusive"},{"name":"lights","kind":"reentrant"}],"timers":[{"name":"left","period":2,"group":"wheels","script":[["set","g0","add","g0",1],["log","g0"]]},{"name":"right","period":3,"group":"wheels","script":[["set","g0","add","g0",10],["log","g0"]]},{"name":"watch","period":2,"script":[["set","g0","add","g0",100],["log","g0"]]},{"name":"blink","period":4,"group":"lights","script":[["log","now"]]}]},{"name":"arm","groups":[{"name":"wheels","kind":"exclusive"}],"timers":[{"name":"grip","period":3,"group":"wheels","script":[["set","g0","sub","g0",1],["log","g0"]]}]}],"moments":[2,3,4,9]}"#,
+        "round 1 2\n\
+         run left timer 2 0\n\
+         log left 1\n\
+         run watch timer 2 0\n\
+         log watch 100\n\
+         round 2 3\n\
+         run right timer 3 0\n\
+         log right 11\n\
+         run grip timer 3 0\n\
+         log grip -1\n\
+         round 3 4\n\
+         run left timer 4 0\n\
+         log left 12\n\
+         run watch timer 4 0\n\
+         log watch 200\n\
+         run blink timer 4 0\n\
+         log blink 4\n\
+         round 4 9\n\
+         run left timer 9 0\n\
+         log left 13\n\
+         run right timer 9 0\n\
+         log right 23\n\
+         run watch timer 9 0\n\
+         log watch 300\n\
+         run blink timer 9 0\n\
+         log blink 9\n\
+         run grip timer 9 0\n\
+         log grip -2\n\
+         end 4\n",
     ),
 ];
 

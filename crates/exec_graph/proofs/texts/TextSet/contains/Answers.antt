@@ -1,10 +1,6 @@
-use Rattle.std.proofs.Common.{◌∙◌, ap}
-use Rattle.std.specs.List.{list_any}
-use Rattle.std.specs.Str.{bytes_eq}
-use Rattle.exec_graph.proofs.NamesAt.{any_named}
+use Rattle.std.proofs.Common.{◌∙◌, ap, is_some, bytes_eq}
+use Rattle.exec_graph.proofs.Declarations.{found_any}
 use Rattle.exec_graph.proofs.texts.TextSet.contains.Goals as goal
 
 pub returns : goal.returns
-returns c =
-    c.contains.ensures ∙ any_named c.args.text.now c.self.inside.texts.keys
-    ∙ ap (λ texts. list_any (λ other. bytes_eq other c.args.text.now) texts) c.self.view_is
+returns c = c.is_some.ensures ∙ ap is_some c.position.ensures.place ∙ found_any (λ other. bytes_eq other c.args.text.now) 0 c.args.self.now
