@@ -13,7 +13,7 @@ use Rattle.exec_graph.specs.declared.plan.Fed.TheVariants.{Message, Goal, Cancel
 use Rattle.exec_msg.specs.declared.limits.TheConstants.{NODES, NAMED_GROUPS, TOPICS, ENTITIES, INSTRUCTIONS, DEPTH, MOMENTS, FEED, TICKS}
 use Rattle.exec_script.specs.Legality.{legality_of}
 use Rattle.exec_script.specs.declared.instr.Instr.{Instr}
-use Rattle.exec_script.specs.declared.instr.Instr.TheVariants as instr
+use Rattle.exec_script.specs.Instruction as instr
 use Rattle.exec_script.specs.declared.place.Role.{Role}
 use Rattle.exec_script.specs.declared.place.Role.TheVariants as role
 

@@ -94,9 +94,9 @@ fn lists_are_given_back_and_scripts_are_shared(rt: HostRuntime) -> Result<(), Fa
     script.push(words)?;
     same(&rt, Spelled::of(script).into_vec().len(), 1);
     let mut instructions = Vec::new(alloc);
-    instructions.push(Instr::Yield)?;
+    instructions.push(Instr::pend())?;
     let script = Script::of(Arc::new(alloc, instructions)?);
-    same(&rt, script.shared().as_slice(), &[Instr::Yield]);
+    same(&rt, script.shared().as_slice(), &[Instr::pend()]);
     same(&rt, script.shared().clone()?.as_slice(), script.as_slice());
     Ok(())
 }

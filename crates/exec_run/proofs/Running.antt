@@ -18,7 +18,7 @@ use Rattle.exec_script.specs.Zeros.{zeros}
 use Rattle.exec_script.specs.declared.effects.Effect.{Effect}
 use Rattle.exec_script.specs.declared.effects.Effect.TheVariants as effect
 use Rattle.exec_script.specs.declared.instr.Instr.{Instr}
-use Rattle.exec_script.specs.declared.instr.Instr.TheVariants as instr
+use Rattle.exec_script.specs.Instruction as instr
 use Rattle.exec_script.specs.declared.step.Step.{Step}
 use Rattle.exec_script.specs.declared.step.Stop.TheVariants as stop
 use Rattle.exec_script.specs.declared.step.Step.TheVariants.{Store, Pass, Give, Answer, Wait, Yield, End}

@@ -1,5 +1,5 @@
 -- Following a script instruction by instruction, by the place that comes next.
-use Rattle.std.proofs.Common.{◌≡◌, ℕ, zero, suc, ◌+◌, ◌-◌, ◌^◌, ◌<◌, ◌≤◌, min, List, [], ◌∷◌, length, get_or, drop, take, ◌++◌, refl, sym, ap, ◌∙◌, ⊎_elim, arith, add-one}
+use Rattle.std.proofs.Common.{◌≡◌, ℕ, zero, suc, ◌+◌, ◌-◌, ◌^◌, ◌<◌, ◌≤◌, min, List, [], ◌∷◌, length, get_or, drop, refl, sym, ap, ◌∙◌, ⊎_elim, arith, add-one}
 use Rattle.std.proofs.lemmas.List.{drop-drop, drop_all}
 use Rattle.std.proofs.lemmas.Bool.{cases_lt}
 use Rattle.std.proofs.Math.Seq.{drop-cons}
@@ -41,16 +41,6 @@ follow_stop give input script pc instruction does state within there h stops =
     follow_one give input script pc instruction does state within there h
     ∙ ap (λ (n : ℕ). follow give input (drop (pc + 1) script) (pc + 1) n (after_step give (pc + 1) does state)) (stops (length (drop (pc + 1) script)))
     ∙ follow_all give input (drop (pc + 1) script) (pc + 1) (after_step give (pc + 1) does state)
-
--- what stands at a list's front still does when something is added at its end
-pub front_stays : {A : Type 0} (front list more : List A) → take (length front) list ≡ front → take (length front) (list ++ more) ≡ front
-front_stays [] list more h = refl
-front_stays (x ∷ front) [] more h = absurd cc
-front_stays (x ∷ front) (y ∷ list) more h =
-    let p : y ≡ x = cc in
-    let q : take (length front) list ≡ front = cc in
-    let r : take (length front) (list ++ more) ≡ front = front_stays front list more q in
-    cc
 
 -- the same rest is left, also where the place is beyond the greatest number
 same_rest : {S : Type 0} (give : Effect → S → S) (input : CallInput) (script : List Instr) (pc count next : ℕ) (state : ScriptState S) → length script < 2 ^ 64 → next ≡ min (pc + 1 + count) (2 ^ 64 - 1) → follow give input (drop (pc + 1 + count) script) (pc + 1 + count) 0 state ≡ follow give input (drop next script) next 0 state

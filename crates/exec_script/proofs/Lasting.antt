@@ -1,18 +1,20 @@
 -- Laws of following a script, each by induction over what is left of it.
-use Rattle.std.proofs.Common.{◌≡◌, ◌≢◌, ℕ, zero, suc, ◌+◌, ◌<◌, ◌≤◌, ℤ, List, [], ◌∷◌, ◌++◌, length, drop, Bool, true, false, not, ◌&&◌, ◌||◌, if◌then◌else◌, Option, Result, Ok, Err, IfSome, refl, ap, ◌∙◌, arith, length-drop, length-append, get_or, inl, inr}
+use Rattle.std.proofs.Common.{◌≡◌, ◌≢◌, ℕ, zero, suc, ◌+◌, ◌<◌, ◌≤◌, ℤ, List, [], ◌∷◌, ◌++◌, length, drop, Bool, true, false, not, ◌&&◌, ◌||◌, if◌then◌else◌, Option, None, Result, Ok, Err, IfSome, refl, sym, ap, ◌∙◌, append_assoc, append-nil, arith, length-drop, length-append, get_or, inl, inr}
 use Rattle.std.specs.List.{list_any, list_all, All, AllByRecursion, Any}
 use Rattle.std.proofs.lemmas.List.{get_or_default}
 use Rattle.std.proofs.lemmas.List.Elements.{All-nil, All-push, All-drop, recursion_from_All}
 use Rattle.std.proofs.lemmas.Bool.{and_parts}
 use Rattle.exec_script.specs.LawWords.{goes_on_at, ended_by, IsEnding, MayGive, with_variables, give_all, given_later}
 use Rattle.exec_script.specs.Legality.{skips_end_within, is_variable, goes_to_variable, names_variable, replies, decides, works, is_allowed, legality_of}
-use Rattle.exec_script.specs.Script.{ScriptState, CallInput, value_of, step_of, passed_by, after_step, follow, resumed, listed}
+use Rattle.exec_script.specs.Script.{ScriptState, CallInput, value_of, step_of, passed_by, after_step, follow, resumed, called, call_of, listed}
+use Rattle.exec_script.specs.Zeros.{zeros}
+use Rattle.exec_script.specs.inner.Frame.{FrameState}
 use Rattle.exec_script.specs.declared.effects.Effect.{Effect}
 use Rattle.exec_script.specs.declared.fault.ScriptFault.{ScriptFault}
 use Rattle.exec_script.specs.declared.fault.ScriptFault.TheVariants as fault
 use Rattle.exec_script.specs.declared.instr.Destination.TheVariants as destination
 use Rattle.exec_script.specs.declared.instr.Instr.{Instr}
-use Rattle.exec_script.specs.declared.instr.Instr.TheVariants as instr
+use Rattle.exec_script.specs.Instruction as instr
 use Rattle.exec_script.specs.declared.instr.Operand.{Operand}
 use Rattle.exec_script.specs.declared.instr.Operand.TheVariants as operand
 use Rattle.exec_script.specs.declared.place.Place.{Place}
@@ -357,3 +359,25 @@ pub resumed_later : {S : Type 0} (give : Effect → S → S) (script : List Inst
 resumed_later give script place registers variables answer input effects given =
     follow_later give given input (drop place script) place 0
     (record { registers = registers; variables = variables; answer = answer; given = effects; stop = stop.End })
+
+-- ---- effects behind others
+
+listed_after : (first effects : List Effect) → give_all listed effects first ≡ first ++ effects
+listed_after first [] = sym (append-nil first)
+listed_after first (effect ∷ effects) = listed_after (first ++ effect ∷ []) effects ∙ append_assoc first (effect ∷ []) effects
+
+-- a call whose effects go behind others
+pub called_after : (script : List Instr) (variables : List ℤ) (input : CallInput) (effects : List Effect) → called listed script variables input effects ≡ record (call_of script variables input) { given = effects ++ (call_of script variables input).given }
+called_after script variables input effects =
+    resumed_later listed script 0 zeros variables None input [] effects
+    ∙ ap (λ (given : List Effect). record (call_of script variables input) { given = given }) (listed_after effects (call_of script variables input).given)
+
+-- it is a run from the top on a new frame
+pub call_ends : (script : List Instr) (registers variables : List ℤ) (input : CallInput) (frame : FrameState) (effects items : List Effect) (ends : ScriptState (List Effect)) → registers ≡ zeros → frame ≡ record { registers = registers; variables = variables; input = input } → items ≡ effects →
+    ends ≡ resumed listed script 0 frame.registers frame.variables None frame.input items → ends ≡ record (call_of script variables input) { given = effects ++ (call_of script variables input).given }
+call_ends script registers variables input frame effects items ends r f e h =
+    h
+    ∙ ap (λ (it : FrameState). resumed listed script 0 it.registers it.variables None it.input items) f
+    ∙ ap (λ (it : List ℤ). resumed listed script 0 it variables None input items) r
+    ∙ ap (λ (it : List Effect). resumed listed script 0 zeros variables None input it) e
+    ∙ called_after script variables input effects

@@ -1,3 +1,5 @@
 pub mod Decoding
+pub mod Flats
 pub mod Following
+pub mod Frames
 pub mod Lasting

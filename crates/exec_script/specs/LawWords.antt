@@ -5,7 +5,7 @@ use Rattle.exec_msg.specs.declared.goal.Event.{Event}
 use Rattle.exec_msg.specs.declared.goal.Event.TheVariants as event
 use Rattle.exec_script.specs.Script.{ScriptState, CallInput, step_of}
 use Rattle.exec_script.specs.declared.effects.Effect.{Effect}
-use Rattle.exec_script.specs.declared.instr.Instr.{Instr}
+use Rattle.exec_script.specs.Instruction.{Instruction}
 use Rattle.exec_script.specs.declared.step.Step.{Step}
 use Rattle.exec_script.specs.declared.step.Step.TheVariants as step
 use Rattle.exec_script.specs.declared.step.Stop.{Stop}
@@ -30,7 +30,7 @@ abbrev pub IsEnding : Event → Type 0
 IsEnding by = (by ≡ event.Succeed) ⊎ ((by ≡ event.Abort) ⊎ (by ≡ event.Canceled))
 
 -- an instruction gives this effect from some registers and variables
-abbrev pub MayGive : CallInput → Effect → Instr → Type 0
+abbrev pub MayGive : CallInput → Effect → Instruction → Type 0
 MayGive input effect instruction = (registers : List ℤ) × (variables : List ℤ) × (step_of instruction registers variables input ≡ step.Give effect)
 
 -- the same but for the group's variables

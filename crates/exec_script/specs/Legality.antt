@@ -5,8 +5,8 @@ use Rattle.exec_script.specs.declared.fault.ScriptFault.{ScriptFault}
 use Rattle.exec_script.specs.declared.fault.ScriptFault.TheVariants as fault
 use Rattle.exec_script.specs.declared.instr.Destination.{Destination}
 use Rattle.exec_script.specs.declared.instr.Destination.TheVariants as destination
-use Rattle.exec_script.specs.declared.instr.Instr.{Instr}
-use Rattle.exec_script.specs.declared.instr.Instr.TheVariants as instr
+use Rattle.exec_script.specs.Instruction.{Instruction}
+use Rattle.exec_script.specs.Instruction as instr
 use Rattle.exec_script.specs.declared.instr.Operand.{Operand}
 use Rattle.exec_script.specs.declared.instr.Operand.TheVariants as operand
 use Rattle.exec_script.specs.declared.place.Place.{Place}
@@ -14,7 +14,7 @@ use Rattle.exec_script.specs.declared.place.Role.{Role}
 use Rattle.exec_script.specs.declared.place.Role.TheVariants as role
 
 -- how many of the instructions behind it an instruction may pass over
-abbrev pub reach_of : Instr → ℕ
+abbrev pub reach_of : Instruction → ℕ
 reach_of (instr.Set destination operation left right) = 0
 reach_of (instr.Skip condition count) = count
 reach_of (instr.Pub topic value) = 0
@@ -34,7 +34,7 @@ reach_of (instr.Abort value) = 0
 reach_of (instr.Canceled value) = 0
 
 -- no skip leads beyond the script's end
-abbrev pub skips_end_within : List Instr → Bool
+abbrev pub skips_end_within : List Instruction → Bool
 skips_end_within [] = true
 skips_end_within (instruction ∷ rest) = nat_le (reach_of instruction) (length rest) && skips_end_within rest
 
@@ -53,7 +53,7 @@ goes_to_variable (destination.Register slot) = false
 goes_to_variable (destination.Variable slot) = true
 
 -- an operand or the destination is one of g0 to g7
-abbrev pub names_variable : Instr → Bool
+abbrev pub names_variable : Instruction → Bool
 names_variable (instr.Set destination operation left right) = goes_to_variable destination || is_variable left || is_variable right
 names_variable (instr.Skip condition count) = is_variable condition
 names_variable (instr.Pub topic value) = is_variable value
@@ -97,7 +97,7 @@ works role.CancelHandler = false
 works role.Goal = true
 
 -- whether an instruction is allowed in a script of this role
-abbrev pub is_allowed : Role → Instr → Bool
+abbrev pub is_allowed : Role → Instruction → Bool
 is_allowed role (instr.Set destination operation left right) = true
 is_allowed role (instr.Skip condition count) = true
 is_allowed role (instr.Pub topic value) = true
@@ -118,7 +118,7 @@ is_allowed role (instr.Canceled value) = works role
 
 -- a script in its place, or the first of its faults: a skip, then an instruction that isn't allowed there, then a group
 -- variable where the group is reentrant
-abbrev pub legality_of : List Instr → Place → Result (Unit {0}) ScriptFault
+abbrev pub legality_of : List Instruction → Place → Result (Unit {0}) ScriptFault
 legality_of script place =
     if not (skips_end_within script) then Err fault.Skip else
     (if not (list_all (is_allowed place.role) script) then Err fault.Place else

@@ -11,8 +11,8 @@ use Rattle.exec_script.specs.declared.effects.Effect.{Effect}
 use Rattle.exec_script.specs.declared.effects.Effect.TheVariants as effect
 use Rattle.exec_script.specs.declared.instr.Destination.{Destination}
 use Rattle.exec_script.specs.declared.instr.Destination.TheVariants as destination
-use Rattle.exec_script.specs.declared.instr.Instr.{Instr}
-use Rattle.exec_script.specs.declared.instr.Instr.TheVariants as instr
+use Rattle.exec_script.specs.Instruction.{Instruction}
+use Rattle.exec_script.specs.Instruction as instr
 use Rattle.exec_script.specs.declared.instr.Operand.{Operand}
 use Rattle.exec_script.specs.declared.instr.Operand.TheVariants as operand
 use Rattle.exec_script.specs.declared.instr.Operation.{Operation}
@@ -64,7 +64,7 @@ at_least_0 (pos n) = n
 at_least_0 (negsuc n) = 0
 
 -- what one instruction does
-abbrev pub step_of : Instr → List ℤ → List ℤ → CallInput → Step
+abbrev pub step_of : Instruction → List ℤ → List ℤ → CallInput → Step
 step_of (instr.Set destination operation left right) registers variables input = step.Store destination (result_of operation (value_of left registers variables input) (value_of right registers variables input))
 step_of (instr.Skip condition count) registers variables input = step.Pass (if int_eq (value_of condition registers variables input) (pos 0) then 0 else count)
 step_of (instr.Pub topic value) registers variables input = step.Give (effect.Publish topic (value_of value registers variables input))
@@ -115,7 +115,7 @@ after_step give place (step.End event value) state = record state { stop = stop.
 
 -- where a script stands after the instructions that are left, the first of which has this place, and of which the first
 -- `over` are passed over
-abbrev pub follow : {S : Type 0} → (Effect → S → S) → CallInput → List Instr → ℕ → ℕ → ScriptState S → ScriptState S
+abbrev pub follow : {S : Type 0} → (Effect → S → S) → CallInput → List Instruction → ℕ → ℕ → ScriptState S → ScriptState S
 follow give input [] place over state = state
 follow give input (instruction ∷ rest) place (suc over) state = follow give input rest (suc place) over state
 follow give input (instruction ∷ rest) place zero state =
@@ -124,12 +124,12 @@ follow give input (instruction ∷ rest) place zero state =
 
 -- a script goes on at a place, from registers, its group's variables, a reply or decision, and what its effects made of
 -- where they went; where nothing stops it, it falls off its end
-abbrev pub resumed : {S : Type 0} → (Effect → S → S) → List Instr → ℕ → List ℤ → List ℤ → Option ℤ → CallInput → S → ScriptState S
+abbrev pub resumed : {S : Type 0} → (Effect → S → S) → List Instruction → ℕ → List ℤ → List ℤ → Option ℤ → CallInput → S → ScriptState S
 resumed give script place registers variables answer input given =
     follow give input (drop place script) place 0 (record { registers = registers; variables = variables; answer = answer; given = given; stop = stop.End })
 
 -- a call of a script: from its top, with registers of 0, and no reply or decision
-abbrev pub called : {S : Type 0} → (Effect → S → S) → List Instr → List ℤ → CallInput → S → ScriptState S
+abbrev pub called : {S : Type 0} → (Effect → S → S) → List Instruction → List ℤ → CallInput → S → ScriptState S
 called give script variables input given = resumed give script 0 zeros variables None input given
 
 -- effects in the order in which they come
@@ -137,7 +137,7 @@ abbrev pub listed : Effect → List Effect → List Effect
 listed effect effects = effects ++ effect ∷ []
 
 -- a call of a script whose effects are listed
-abbrev pub call_of : List Instr → List ℤ → CallInput → ScriptState (List Effect)
+abbrev pub call_of : List Instruction → List ℤ → CallInput → ScriptState (List Effect)
 call_of script variables input = called listed script variables input []
 
 -- a number from 1 up to a greatest one, or else 1

@@ -6,8 +6,8 @@ use Rattle.exec_script.specs.declared.fault.ScriptFault.{ScriptFault}
 use Rattle.exec_script.specs.declared.fault.ScriptFault.TheVariants as fault
 use Rattle.exec_script.specs.declared.instr.Destination.{Destination}
 use Rattle.exec_script.specs.declared.instr.Destination.TheVariants as destination
-use Rattle.exec_script.specs.declared.instr.Instr.{Instr}
-use Rattle.exec_script.specs.declared.instr.Instr.TheVariants as instr
+use Rattle.exec_script.specs.Instruction.{Instruction}
+use Rattle.exec_script.specs.Instruction as instr
 use Rattle.exec_script.specs.declared.instr.Operand.{Operand}
 use Rattle.exec_script.specs.declared.instr.Operand.TheVariants as operand
 use Rattle.exec_script.specs.declared.instr.Operation.{Operation}
@@ -101,7 +101,7 @@ abbrev pub known : {A : Type 0} → Option A → Result A ScriptFault
 known found = ok_or found fault.UnknownName
 
 -- set: a destination, an operation and two operands
-abbrev pub set_of : List Word → Result Instr ScriptFault
+abbrev pub set_of : List Word → Result Instruction ScriptFault
 set_of (d ∷ o ∷ a ∷ b ∷ []) = do
   destination ← taken (destination_of d)
   operation ← taken (operation_of o)
@@ -111,7 +111,7 @@ set_of (d ∷ o ∷ a ∷ b ∷ []) = do
 set_of _ = Err fault.Count
 
 -- skip: an operand and a count
-abbrev pub skip_of : List Word → Result Instr ScriptFault
+abbrev pub skip_of : List Word → Result Instruction ScriptFault
 skip_of (a ∷ n ∷ []) = do
   condition ← taken (operand_of a)
   count ← taken (count_of n)
@@ -124,13 +124,13 @@ operand_alone (a ∷ []) = taken (operand_of a)
 operand_alone _ = Err fault.Count
 
 -- the instruction that is made of one operand
-abbrev pub of_operand : (Operand → Instr) → List Word → Result Instr ScriptFault
+abbrev pub of_operand : (Operand → Instruction) → List Word → Result Instruction ScriptFault
 of_operand make items = do
   value ← operand_alone items
   Ok (make value)
 
 -- the instruction that is made of what a name finds and of an operand
-abbrev pub of_name_and_operand : (List ℕ → Option ℕ) → (ℕ → Operand → Instr) → List Word → Result Instr ScriptFault
+abbrev pub of_name_and_operand : (List ℕ → Option ℕ) → (ℕ → Operand → Instruction) → List Word → Result Instruction ScriptFault
 of_name_and_operand find make (n ∷ a ∷ []) = do
   name ← taken (text_of n)
   value ← taken (operand_of a)
@@ -139,7 +139,7 @@ of_name_and_operand find make (n ∷ a ∷ []) = do
 of_name_and_operand find make _ = Err fault.Count
 
 -- execute: a server's name
-abbrev pub execute_of : ScopeNames → List Word → Result Instr ScriptFault
+abbrev pub execute_of : ScopeNames → List Word → Result Instruction ScriptFault
 execute_of scope (n ∷ []) = do
   name ← taken (text_of n)
   server ← known (scope.server name)
@@ -147,12 +147,12 @@ execute_of scope (n ∷ []) = do
 execute_of scope _ = Err fault.Count
 
 -- yield: nothing more
-abbrev pub yield_of : List Word → Result Instr ScriptFault
+abbrev pub yield_of : List Word → Result Instruction ScriptFault
 yield_of [] = Ok instr.Yield
 yield_of _ = Err fault.Count
 
 -- cancel all: a client's name, and no stamp
-abbrev pub cancel_all_of : ScopeNames → Word → List Word → Result Instr ScriptFault
+abbrev pub cancel_all_of : ScopeNames → Word → List Word → Result Instruction ScriptFault
 cancel_all_of scope n [] = do
   name ← taken (text_of n)
   client ← known (scope.action_client name)
@@ -160,7 +160,7 @@ cancel_all_of scope n [] = do
 cancel_all_of scope n _ = Err fault.Count
 
 -- cancel before: a client's name and a stamp
-abbrev pub cancel_before_of : ScopeNames → Word → List Word → Result Instr ScriptFault
+abbrev pub cancel_before_of : ScopeNames → Word → List Word → Result Instruction ScriptFault
 cancel_before_of scope n (s ∷ []) = do
   name ← taken (text_of n)
   stamp ← taken (operand_of s)
@@ -169,7 +169,7 @@ cancel_before_of scope n (s ∷ []) = do
 cancel_before_of scope n _ = Err fault.Count
 
 -- cancel goal: a client's name and the number of one of its goals, and no stamp
-abbrev pub cancel_goal_of : ScopeNames → Word → List Word → Result Instr ScriptFault
+abbrev pub cancel_goal_of : ScopeNames → Word → List Word → Result Instruction ScriptFault
 cancel_goal_of scope n (k ∷ []) = do
   name ← taken (text_of n)
   goal ← taken (operand_of k)
@@ -178,7 +178,7 @@ cancel_goal_of scope n (k ∷ []) = do
 cancel_goal_of scope n _ = Err fault.Count
 
 -- cancel goal-before: a client's name, the number of one of its goals, and a stamp
-abbrev pub cancel_goal_before_of : ScopeNames → Word → List Word → Result Instr ScriptFault
+abbrev pub cancel_goal_before_of : ScopeNames → Word → List Word → Result Instruction ScriptFault
 cancel_goal_before_of scope n (k ∷ s ∷ []) = do
   name ← taken (text_of n)
   goal ← taken (operand_of k)
@@ -188,7 +188,7 @@ cancel_goal_before_of scope n (k ∷ s ∷ []) = do
 cancel_goal_before_of scope n _ = Err fault.Count
 
 -- cancel in its form of this name
-abbrev pub cancel_named : ScopeNames → Word → List ℕ → List Word → Result Instr ScriptFault
+abbrev pub cancel_named : ScopeNames → Word → List ℕ → List Word → Result Instruction ScriptFault
 cancel_named scope n form items =
     if bytes_eq form (codes "all") then cancel_all_of scope n items else
     (if bytes_eq form (codes "before") then cancel_before_of scope n items else
@@ -196,13 +196,13 @@ cancel_named scope n form items =
     (if bytes_eq form (codes "goal-before") then cancel_goal_before_of scope n items else Err fault.Operand)))
 
 -- cancel: a client's name, a form, and what the form takes
-abbrev pub cancel_of : ScopeNames → List Word → Result Instr ScriptFault
+abbrev pub cancel_of : ScopeNames → List Word → Result Instruction ScriptFault
 cancel_of scope (n ∷ Text form ∷ items) = cancel_named scope n form items
 cancel_of scope (n ∷ Number value ∷ items) = Err fault.Operand
 cancel_of scope _ = Err fault.Count
 
 -- the instruction of this name, with these items behind the name
-abbrev pub instruction_named : ScopeNames → List ℕ → List Word → Result Instr ScriptFault
+abbrev pub instruction_named : ScopeNames → List ℕ → List Word → Result Instruction ScriptFault
 instruction_named scope name items =
     if bytes_eq name (codes "set") then set_of items else
     (if bytes_eq name (codes "skip") then skip_of items else
@@ -222,13 +222,13 @@ instruction_named scope name items =
     (if bytes_eq name (codes "canceled") then of_operand instr.Canceled items else Err fault.Instruction)))))))))))))))
 
 -- the instruction that words spell
-abbrev pub instruction_of : ScopeNames → List Word → Result Instr ScriptFault
+abbrev pub instruction_of : ScopeNames → List Word → Result Instruction ScriptFault
 instruction_of scope [] = Err fault.Instruction
 instruction_of scope (Number value ∷ items) = Err fault.Instruction
 instruction_of scope (Text name ∷ items) = instruction_named scope name items
 
 -- the script that lists of words spell, or the fault of the first that is misspelt
-abbrev pub script_of : ScopeNames → List (List Word) → Result (List Instr) ScriptFault
+abbrev pub script_of : ScopeNames → List (List Word) → Result (List Instruction) ScriptFault
 script_of scope [] = Ok []
 script_of scope (words ∷ others) = do
   instruction ← instruction_of scope words

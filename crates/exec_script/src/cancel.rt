@@ -42,10 +42,8 @@ fn cancel_all<S: Scope>(client: &Word, items: &[Word], scope: &S) -> Result<Inst
         return Err(ScriptFault::Count);
     };
     let name = text_of(client).ok_or(ScriptFault::Operand)?;
-    Ok(Instr::CancelAll {
-        client: scope.action_client(name).ok_or(ScriptFault::UnknownName)?,
-        stamp: Operand::Value(0),
-    })
+    let client = scope.action_client(name).ok_or(ScriptFault::UnknownName)?;
+    Ok(Instr::cancel_all(client, Operand::Value(0)))
 }
 
 fn cancel_before<S: Scope>(client: &Word, items: &[Word], scope: &S) -> Result<Instr, ScriptFault>
@@ -56,10 +54,8 @@ fn cancel_before<S: Scope>(client: &Word, items: &[Word], scope: &S) -> Result<I
     };
     let name = text_of(client).ok_or(ScriptFault::Operand)?;
     let stamp = operand_of(stamp).ok_or(ScriptFault::Operand)?;
-    Ok(Instr::CancelAll {
-        client: scope.action_client(name).ok_or(ScriptFault::UnknownName)?,
-        stamp,
-    })
+    let client = scope.action_client(name).ok_or(ScriptFault::UnknownName)?;
+    Ok(Instr::cancel_all(client, stamp))
 }
 
 fn cancel_goal<S: Scope>(client: &Word, items: &[Word], scope: &S) -> Result<Instr, ScriptFault>
@@ -70,11 +66,8 @@ fn cancel_goal<S: Scope>(client: &Word, items: &[Word], scope: &S) -> Result<Ins
     };
     let name = text_of(client).ok_or(ScriptFault::Operand)?;
     let goal = operand_of(goal).ok_or(ScriptFault::Operand)?;
-    Ok(Instr::CancelGoal {
-        client: scope.action_client(name).ok_or(ScriptFault::UnknownName)?,
-        goal,
-        stamp: Operand::Value(0),
-    })
+    let client = scope.action_client(name).ok_or(ScriptFault::UnknownName)?;
+    Ok(Instr::cancel_goal(client, goal, Operand::Value(0)))
 }
 
 fn cancel_goal_before<S: Scope>(
@@ -90,9 +83,6 @@ fn cancel_goal_before<S: Scope>(
     let name = text_of(client).ok_or(ScriptFault::Operand)?;
     let goal = operand_of(goal).ok_or(ScriptFault::Operand)?;
     let stamp = operand_of(stamp).ok_or(ScriptFault::Operand)?;
-    Ok(Instr::CancelGoal {
-        client: scope.action_client(name).ok_or(ScriptFault::UnknownName)?,
-        goal,
-        stamp,
-    })
+    let client = scope.action_client(name).ok_or(ScriptFault::UnknownName)?;
+    Ok(Instr::cancel_goal(client, goal, stamp))
 }

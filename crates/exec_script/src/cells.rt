@@ -101,6 +101,20 @@ impl Regs {
         Regs(Cells::new())
     }
 
+    // The registers of an array.
+    pub(crate) fn of(values: [i64; 8]) -> Regs
+        ensures { result ≡ values }
+    {
+        Regs(Cells { values })
+    }
+
+    // The array of the registers.
+    pub(crate) fn as_array(&self) -> &[i64; 8]
+        ensures { result.now ≡ self.now }
+    {
+        &self.0.values
+    }
+
     /// The integer at a slot.
     pub fn get(&self, slot: Slot) -> i64
         ensures { result ≡ slice_index_or self.now slot (pos 0) }
@@ -139,6 +153,20 @@ impl Bank {
         ensures { result ≡ zeros }
     {
         Bank(Cells::new())
+    }
+
+    // The variables of an array.
+    pub(crate) fn of(values: [i64; 8]) -> Bank
+        ensures { result ≡ values }
+    {
+        Bank(Cells { values })
+    }
+
+    // The array of the variables.
+    pub(crate) fn as_array(&self) -> &[i64; 8]
+        ensures { result.now ≡ self.now }
+    {
+        &self.0.values
     }
 
     /// The integer at a slot.

@@ -1,7 +1,5 @@
 use exec_msg::{EntityNo, Event, GoalId, Memory};
-use smallvec::SmallVec;
 use std::alloc::Global;
-use std::default::MadeWith;
 use std::marker::Model;
 
 /// What a callback does outside itself.
@@ -42,13 +40,6 @@ pub enum Effect {
     Log(i64),
     /// The goal gives feedback.
     Feedback(i64),
-}
-
-// What stands in the places of an `EffectList` that no effect has taken yet.
-impl MadeWith<Global> for Effect {
-    fn made_with(_alloc: Global) -> Effect {
-        Effect::Log(0)
-    }
 }
 
 /// What closes a callback after its effects.
@@ -112,8 +103,7 @@ impl DecisionList {
 /// Effects in the order in which they were given.
 #[derive(Debug, Drop)]
 pub struct EffectList {
-    // Most callbacks give few effects, and those need no allocation.
-    items: SmallVec<Effect, 2>,
+    pub(crate) items: Vec<Effect>,
 }
 
 impl Model for EffectList {
@@ -126,14 +116,14 @@ impl Model for EffectList {
 }
 
 impl EffectList {
-    ghost use Rattle.std.specs.Prelude.{◌≡◌, [], ◌∷◌, ◌++◌, length, take, OnOk, OnErr};
+    ghost use Rattle.std.specs.Prelude.{◌≡◌, [], ◌∷◌, ◌++◌, length, OnOk, OnErr};
 
     /// No effects. It takes no memory.
     pub fn new(alloc: Global) -> EffectList
         ensures { result ≡ [] }
     {
         EffectList {
-            items: SmallVec::new(alloc),
+            items: Vec::new(alloc),
         }
     }
 
@@ -141,9 +131,7 @@ impl EffectList {
     pub fn of(items: Vec<Effect>) -> EffectList
         ensures { result ≡ items.items }
     {
-        EffectList {
-            items: SmallVec::from_vec(items),
-        }
+        EffectList { items }
     }
 
     /// Adds an effect at the end. Where memory is refused, the list stays as it was.
@@ -162,11 +150,11 @@ impl EffectList {
         self.items.len()
     }
 
-    /// Keeps the first effects, so many, and lets the others go.
-    pub fn truncate(&mut self, count: usize)
-        ensures { self.new ≡ take count self.old }
+    /// Lets all effects go, and keeps their room.
+    pub fn clear(&mut self)
+        ensures { self.new ≡ [] }
     {
-        self.items.truncate(count);
+        self.items.clear();
     }
 
     /// The effects in their order.

@@ -1,4 +1,4 @@
-ghost use Rattle.std.specs.Prelude.{◌≡◌};
+ghost use Rattle.std.specs.Prelude.{◌≡◌, ◌<◌, ◌^◌, IfSome};
 ghost use Rattle.std.specs.Option.{option_copied};
 ghost use Rattle.exec_script.specs.Spelling.{cell_named, operand_of, destination_of, operation_of, count_of, text_of};
 
@@ -69,7 +69,8 @@ pub fn operation_of(word: &Word) -> Option<Operation>
 
 /// The number of instructions to pass over that a word spells.
 pub fn count_of(word: &Word) -> Option<u64>
-    ensures { result ≡ count_of word.now }
+    ensures value { result ≡ count_of word.now }
+    ensures bound { IfSome result (λ count. count < 2 ^ 63) }
 {
     match word {
         Word::Number(count) if *count >= 1 => Some(*count as u64),

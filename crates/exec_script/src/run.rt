@@ -1,10 +1,13 @@
-ghost use Rattle.std.specs.Prelude.{◌≡◌, ◌<◌, ◌^◌, None, length, take, OnOk, OnErr, IfOk};
+ghost use Rattle.std.specs.Prelude.{◌≡◌, ◌+◌, ◌-◌, ◌<◌, ◌≤◌, ◌^◌, ◌++◌, None, length, vec_len, vec_capacity, OnOk, OnErr, IfOk};
 ghost use Rattle.exec_script.specs.LawWords.{PausesWithin, WaitsWithin};
-ghost use Rattle.exec_script.specs.Script.{result_of, value_of, at_least_0, step_of, listed, resumed, registers_after, variables_after, call_of, decision_within, close_of};
+ghost use Rattle.exec_script.specs.Script.{result_of, at_least_0, step_of, listed, resumed, call_of, decision_within, close_of};
+ghost use Rattle.exec_script.specs.declared.instr.Operation.TheVariants as operation;
+ghost use Rattle.exec_script.specs.inner.Flat.{number_of};
 
 use crate::cells::{Bank, Regs};
 use crate::effects::{Close, Effect, EffectList, Effects};
-use crate::instr::{Destination, Instr, Operand, Operation};
+use crate::frame::Frame;
+use crate::instr::{Instr, Operation, What};
 use crate::place::Role;
 use crate::step::{Step, Stop};
 use exec_msg::{Event, Memory, Moment};
@@ -46,24 +49,32 @@ pub fn run_call(
     ensures close { IfOk result (λ effects. effects.close ≡ close_of role (call_of script.now bank.old input.now).answer) }
     ensures err { OnErr result (bank.new ≡ bank.old) }
 {
-    let mut regs = Regs::new();
-    let mut variables = *bank;
-    let mut answer = None;
     let mut list = EffectList::new(alloc);
-    follow(
-        script,
-        0,
-        input,
-        &mut regs,
-        &mut variables,
-        &mut answer,
-        &mut list,
-    )?;
-    *bank = variables;
-    Ok(Effects {
-        list,
-        close: close_of(role, answer),
-    })
+    let close = run_call_into(script, role, bank, input, &mut list)?;
+    Ok(Effects { list, close })
+}
+
+/// Runs a script as [`run_call`] does, and puts its effects behind those that are listed: a list that is used again and
+/// again has room already. Where memory is refused, the bank and the effects stay as they were.
+pub fn run_call_into(
+    script: &[Instr],
+    role: Role,
+    bank: &mut Bank,
+    input: &Input,
+    effects: &mut EffectList,
+) -> Result<Close, Memory>
+    ensures variables { OnOk result (bank.new ≡ (call_of script.now bank.old input.now).variables) }
+    ensures effects { OnOk result (effects.new ≡ effects.old ++ (call_of script.now bank.old input.now).given) }
+    ensures close { IfOk result (λ close. close ≡ close_of role (call_of script.now bank.old input.now).answer) }
+    ensures err_variables { OnErr result (bank.new ≡ bank.old) }
+    ensures err_effects { OnErr result (effects.new ≡ effects.old) }
+{
+    effects.items.reserve(script.len())?;
+    let mut frame = Frame::of(&Regs::new(), bank, input);
+    let mut answer = None;
+    follow(script, 0, &mut frame, &mut answer, &mut effects.items);
+    *bank = frame.bank();
+    Ok(close_of(role, answer))
 }
 
 /// Goes on with a script at a place, from these registers, until it stops, and says where. Its effects go behind
@@ -86,61 +97,49 @@ pub fn run_from(
     ensures err_variables { OnErr result (bank.new ≡ bank.old) }
     ensures err_effects { OnErr result (effects.new ≡ effects.old) }
 {
-    let before = effects.len();
-    let mut registers_after = *regs;
-    let mut variables_after = *bank;
+    effects.items.reserve(script.len().saturating_sub(place))?;
+    let mut frame = Frame::of(regs, bank, input);
     let mut answer = None;
-    let stopped = follow(
-        script,
-        place,
-        input,
-        &mut registers_after,
-        &mut variables_after,
-        &mut answer,
-        effects,
-    );
-    match stopped {
-        Ok(_) => {
-            *regs = registers_after;
-            *bank = variables_after;
-        }
-        Err(_) => effects.truncate(before),
-    }
-    stopped
+    let stop = follow(script, place, &mut frame, &mut answer, &mut effects.items);
+    *regs = frame.regs();
+    *bank = frame.bank();
+    Ok(stop)
 }
 
-// Runs a script from a place until it stops, and says where. Where memory is refused, what was listed before is
-// still the front of the list.
+// Runs a script from a place until it stops, and says where. An instruction gives at most one effect, so there is room for
+// all of them.
 fn follow(
     script: &[Instr],
     place: usize,
-    input: &Input,
-    regs: &mut Regs,
-    variables: &mut Bank,
+    frame: &mut Frame,
     answer: &mut Option<i64>,
-    list: &mut EffectList,
-) -> Result<Stop, Memory>
-    ensures ok { IfOk result (λ stop.
-        record { registers = regs.new; variables = variables.new; answer = answer.new; given = list.new; stop = stop }
-        ≡ resumed listed script.now place regs.old variables.old answer.old input.now list.old) }
-    ensures ticks { IfOk result (WaitsWithin (2 ^ 63)) }
-    ensures err { OnErr result (take (length list.old) list.new ≡ list.old) }
+    effects: &mut Vec<Effect>,
+) -> Stop
+    requires { vec_len effects.old + (length script.now - place) ≤ vec_capacity effects.old }
+    ensures ends { record {
+      registers = frame.new.registers;
+      variables = frame.new.variables;
+      answer = answer.new;
+      given = effects.new.items;
+      stop = result;
+    } ≡ resumed listed script.now place frame.old.registers frame.old.variables answer.old frame.old.input effects.old.items }
+    ensures ticks { WaitsWithin (2 ^ 63) result }
 {
     let mut pc = place;
     while pc < script.len() {
-        let step = step_of(&script[pc], regs, variables, input);
+        let step = step_of(&script[pc], frame);
         pc += 1;
         match step {
-            Step::Store(destination, value) => store(destination, value, regs, variables),
+            Step::Store(target, value) => frame.write(target, value),
             Step::Pass(count) => pc = pc.saturating_add(count as usize),
-            Step::Give(effect) => list.push(effect)?,
+            Step::Give(effect) => effects.push_reserved(effect),
             Step::Answer(value) => *answer = Some(value),
-            Step::Wait(ticks) => return Ok(Stop::Wait(ticks, pc)),
-            Step::Yield => return Ok(Stop::Yield(pc)),
-            Step::End(event, value) => return Ok(Stop::Ended(event, value)),
+            Step::Wait(ticks) => return Stop::Wait(ticks, pc),
+            Step::Yield => return Stop::Yield(pc),
+            Step::End(event, value) => return Stop::Ended(event, value),
         }
     }
-    Ok(Stop::End)
+    Stop::End
 }
 
 fn close_of(role: Role, answer: Option<i64>) -> Close
@@ -164,78 +163,48 @@ fn decision_within(most: u8, answer: i64) -> u8
     }
 }
 
-fn store(destination: Destination, value: i64, regs: &mut Regs, bank: &mut Bank)
-    ensures registers { regs.new ≡ registers_after destination value regs.old }
-    ensures variables { bank.new ≡ variables_after destination value bank.old }
-{
-    match destination {
-        Destination::Register(slot) => regs.set(slot, value),
-        Destination::Variable(slot) => bank.set(slot, value),
-    }
-}
-
-fn step_of(instr: &Instr, regs: &Regs, bank: &Bank, input: &Input) -> Step
-    ensures does { result ≡ step_of instr.now regs.now bank.now input.now }
+#[inline(always)]
+fn step_of(instr: &Instr, frame: &Frame) -> Step
+    ensures does { result ≡ step_of instr.now frame.now.registers frame.now.variables frame.now.input }
     ensures ticks { PausesWithin (2 ^ 63) result }
 {
-    match *instr {
-        Instr::Set {
-            destination,
-            operation,
-            left,
-            right,
-        } => {
-            let left = value_of(left, regs, bank, input);
-            let right = value_of(right, regs, bank, input);
-            Step::Store(destination, result_of(operation, left, right))
-        }
-        Instr::Skip { condition, count } => {
-            if value_of(condition, regs, bank, input) == 0 {
-                Step::Pass(0)
-            } else {
-                Step::Pass(count)
-            }
-        }
-        Instr::Pub { topic, value } => Step::Give(Effect::Publish {
-            topic,
-            value: value_of(value, regs, bank, input),
+    let flat = &instr.flat;
+    let left = frame.read(flat.left_source, flat.left);
+    let right = frame.read(flat.right_source, flat.right);
+    let entity = flat.entity;
+    match flat.what {
+        What::Set => Step::Store(flat.target, result_of(flat.operation, left, right)),
+        What::Skip => Step::Pass(if left == 0 { 0 } else { at_least_0(right) }),
+        What::Pub => Step::Give(Effect::Publish {
+            topic: entity,
+            value: left,
         }),
-        Instr::Call { client, value } => Step::Give(Effect::Call {
-            client,
-            value: value_of(value, regs, bank, input),
+        What::Call => Step::Give(Effect::Call {
+            client: entity,
+            value: left,
         }),
-        Instr::Goal { client, value } => Step::Give(Effect::SendGoal {
-            client,
-            value: value_of(value, regs, bank, input),
+        What::Goal => Step::Give(Effect::SendGoal {
+            client: entity,
+            value: left,
         }),
-        Instr::CancelAll { client, stamp } => Step::Give(Effect::CancelAll {
-            client,
-            stamp: at_least_0(value_of(stamp, regs, bank, input)),
+        What::CancelAll => Step::Give(Effect::CancelAll {
+            client: entity,
+            stamp: at_least_0(left),
         }),
-        Instr::CancelGoal {
-            client,
-            goal,
-            stamp,
-        } => Step::Give(Effect::CancelGoal {
-            client,
-            goal: at_least_0(value_of(goal, regs, bank, input)),
-            stamp: at_least_0(value_of(stamp, regs, bank, input)),
+        What::CancelGoal => Step::Give(Effect::CancelGoal {
+            client: entity,
+            goal: at_least_0(left),
+            stamp: at_least_0(right),
         }),
-        Instr::Execute { server } => Step::Give(Effect::Execute { server }),
-        Instr::Log { value } => Step::Give(Effect::Log(value_of(value, regs, bank, input))),
-        Instr::Reply { value } | Instr::Decide { value } => {
-            Step::Answer(value_of(value, regs, bank, input))
-        }
-        Instr::Feedback { value } => {
-            Step::Give(Effect::Feedback(value_of(value, regs, bank, input)))
-        }
-        Instr::Wait { ticks } => Step::Wait(at_least_0(value_of(ticks, regs, bank, input))),
-        Instr::Yield => Step::Yield,
-        Instr::Succeed { value } => Step::End(Event::Succeed, value_of(value, regs, bank, input)),
-        Instr::Abort { value } => Step::End(Event::Abort, value_of(value, regs, bank, input)),
-        Instr::Canceled { value } => {
-            Step::End(Event::Canceled, value_of(value, regs, bank, input))
-        }
+        What::Execute => Step::Give(Effect::Execute { server: entity }),
+        What::Log => Step::Give(Effect::Log(left)),
+        What::Reply | What::Decide => Step::Answer(left),
+        What::Feedback => Step::Give(Effect::Feedback(left)),
+        What::Wait => Step::Wait(at_least_0(left)),
+        What::Yield => Step::Yield,
+        What::Succeed => Step::End(Event::Succeed, left),
+        What::Abort => Step::End(Event::Abort, left),
+        What::Canceled => Step::End(Event::Canceled, left),
     }
 }
 
@@ -246,29 +215,42 @@ fn at_least_0(value: i64) -> u64
     if value < 0 { 0 } else { value as u64 }
 }
 
-fn value_of(operand: Operand, regs: &Regs, bank: &Bank, input: &Input) -> i64
-    ensures { result ≡ value_of operand regs.now bank.now input.now }
-{
-    match operand {
-        Operand::Value(value) => value,
-        Operand::Register(slot) => regs.get(slot),
-        Operand::Variable(slot) => bank.get(slot),
-        Operand::In => input.first,
-        Operand::Aux => input.aux,
-        Operand::Now => input.moment.ticks() as i64,
-    }
-}
-
+// All results are made, and one is picked: scripts mix operations, and a jump for each is one that a processor can't
+// foresee.
+#[inline(always)]
 fn result_of(operation: Operation, left: i64, right: i64) -> i64
     ensures { result ≡ result_of operation left right }
 {
-    match operation {
-        Operation::Add => left.wrapping_add(right),
-        Operation::Sub => left.wrapping_sub(right),
-        Operation::Mul => left.wrapping_mul(right),
-        Operation::Min => left.min(right),
-        Operation::Max => left.max(right),
-        Operation::Lt => (left < right) as i64,
-        Operation::Eq => (left == right) as i64,
-    }
+    let results = [
+        left.wrapping_add(right),
+        left.wrapping_sub(right),
+        left.wrapping_mul(right),
+        left.min(right),
+        left.max(right),
+        less(left, right),
+        equal(left, right),
+    ];
+    results[number_of(operation)]
+}
+
+#[inline(always)]
+fn number_of(operation: Operation) -> usize
+    ensures value { result ≡ number_of operation }
+    ensures bound { result < 7 }
+{
+    operation as usize
+}
+
+#[inline(always)]
+fn less(left: i64, right: i64) -> i64
+    ensures { result ≡ result_of operation.Lt left right }
+{
+    (left < right) as i64
+}
+
+#[inline(always)]
+fn equal(left: i64, right: i64) -> i64
+    ensures { result ≡ result_of operation.Eq left right }
+{
+    (left == right) as i64
 }

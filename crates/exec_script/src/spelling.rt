@@ -1,6 +1,6 @@
 ghost use Rattle.std.specs.Prelude.{◌≡◌, ◌⊎◌, map, IfOk, IfErr};
 ghost use Rattle.exec_script.specs.Spelling.{set_of, skip_of, of_operand, of_name_and_operand, operand_alone, execute_of, yield_of, instruction_named, instruction_of, script_of};
-ghost use Rattle.exec_script.specs.declared.instr.Instr.TheVariants as instr;
+ghost use Rattle.exec_script.specs.Instruction as instr;
 
 use crate::cancel::cancel;
 use crate::fault::ScriptFault;
@@ -68,12 +68,11 @@ fn set(items: &[Word]) -> Result<Instr, ScriptFault>
     let [destination, operation, left, right] = items else {
         return Err(ScriptFault::Count);
     };
-    Ok(Instr::Set {
-        destination: destination_of(destination).ok_or(ScriptFault::Operand)?,
-        operation: operation_of(operation).ok_or(ScriptFault::Operand)?,
-        left: operand_of(left).ok_or(ScriptFault::Operand)?,
-        right: operand_of(right).ok_or(ScriptFault::Operand)?,
-    })
+    let destination = destination_of(destination).ok_or(ScriptFault::Operand)?;
+    let operation = operation_of(operation).ok_or(ScriptFault::Operand)?;
+    let left = operand_of(left).ok_or(ScriptFault::Operand)?;
+    let right = operand_of(right).ok_or(ScriptFault::Operand)?;
+    Ok(Instr::set(destination, operation, left, right))
 }
 
 fn skip(items: &[Word]) -> Result<Instr, ScriptFault>
@@ -82,10 +81,9 @@ fn skip(items: &[Word]) -> Result<Instr, ScriptFault>
     let [condition, count] = items else {
         return Err(ScriptFault::Count);
     };
-    Ok(Instr::Skip {
-        condition: operand_of(condition).ok_or(ScriptFault::Operand)?,
-        count: count_of(count).ok_or(ScriptFault::Operand)?,
-    })
+    let condition = operand_of(condition).ok_or(ScriptFault::Operand)?;
+    let count = count_of(count).ok_or(ScriptFault::Operand)?;
+    Ok(Instr::skip(condition, count))
 }
 
 fn publish<S: Scope>(items: &[Word], scope: &S) -> Result<Instr, ScriptFault>
@@ -96,10 +94,8 @@ fn publish<S: Scope>(items: &[Word], scope: &S) -> Result<Instr, ScriptFault>
     };
     let name = text_of(name).ok_or(ScriptFault::Operand)?;
     let value = operand_of(value).ok_or(ScriptFault::Operand)?;
-    Ok(Instr::Pub {
-        topic: scope.topic(name).ok_or(ScriptFault::UnknownName)?,
-        value,
-    })
+    let topic = scope.topic(name).ok_or(ScriptFault::UnknownName)?;
+    Ok(Instr::publish(topic, value))
 }
 
 fn call<S: Scope>(items: &[Word], scope: &S) -> Result<Instr, ScriptFault>
@@ -110,10 +106,8 @@ fn call<S: Scope>(items: &[Word], scope: &S) -> Result<Instr, ScriptFault>
     };
     let name = text_of(name).ok_or(ScriptFault::Operand)?;
     let value = operand_of(value).ok_or(ScriptFault::Operand)?;
-    Ok(Instr::Call {
-        client: scope.client(name).ok_or(ScriptFault::UnknownName)?,
-        value,
-    })
+    let client = scope.client(name).ok_or(ScriptFault::UnknownName)?;
+    Ok(Instr::call(client, value))
 }
 
 fn goal<S: Scope>(items: &[Word], scope: &S) -> Result<Instr, ScriptFault>
@@ -124,10 +118,8 @@ fn goal<S: Scope>(items: &[Word], scope: &S) -> Result<Instr, ScriptFault>
     };
     let name = text_of(name).ok_or(ScriptFault::Operand)?;
     let value = operand_of(value).ok_or(ScriptFault::Operand)?;
-    Ok(Instr::Goal {
-        client: scope.action_client(name).ok_or(ScriptFault::UnknownName)?,
-        value,
-    })
+    let client = scope.action_client(name).ok_or(ScriptFault::UnknownName)?;
+    Ok(Instr::goal(client, value))
 }
 
 fn execute<S: Scope>(items: &[Word], scope: &S) -> Result<Instr, ScriptFault>
@@ -137,49 +129,38 @@ fn execute<S: Scope>(items: &[Word], scope: &S) -> Result<Instr, ScriptFault>
         return Err(ScriptFault::Count);
     };
     let name = text_of(name).ok_or(ScriptFault::Operand)?;
-    Ok(Instr::Execute {
-        server: scope.server(name).ok_or(ScriptFault::UnknownName)?,
-    })
+    let server = scope.server(name).ok_or(ScriptFault::UnknownName)?;
+    Ok(Instr::execute(server))
 }
 
 fn log(items: &[Word]) -> Result<Instr, ScriptFault>
     ensures { result ≡ of_operand instr.Log items.now }
 {
-    Ok(Instr::Log {
-        value: operand_alone(items)?,
-    })
+    Ok(Instr::log(operand_alone(items)?))
 }
 
 fn reply(items: &[Word]) -> Result<Instr, ScriptFault>
     ensures { result ≡ of_operand instr.Reply items.now }
 {
-    Ok(Instr::Reply {
-        value: operand_alone(items)?,
-    })
+    Ok(Instr::reply(operand_alone(items)?))
 }
 
 fn decide(items: &[Word]) -> Result<Instr, ScriptFault>
     ensures { result ≡ of_operand instr.Decide items.now }
 {
-    Ok(Instr::Decide {
-        value: operand_alone(items)?,
-    })
+    Ok(Instr::decide(operand_alone(items)?))
 }
 
 fn feedback(items: &[Word]) -> Result<Instr, ScriptFault>
     ensures { result ≡ of_operand instr.Feedback items.now }
 {
-    Ok(Instr::Feedback {
-        value: operand_alone(items)?,
-    })
+    Ok(Instr::feedback(operand_alone(items)?))
 }
 
 fn wait(items: &[Word]) -> Result<Instr, ScriptFault>
     ensures { result ≡ of_operand instr.Wait items.now }
 {
-    Ok(Instr::Wait {
-        ticks: operand_alone(items)?,
-    })
+    Ok(Instr::wait(operand_alone(items)?))
 }
 
 fn pend(items: &[Word]) -> Result<Instr, ScriptFault>
@@ -188,31 +169,25 @@ fn pend(items: &[Word]) -> Result<Instr, ScriptFault>
     let [] = items else {
         return Err(ScriptFault::Count);
     };
-    Ok(Instr::Yield)
+    Ok(Instr::pend())
 }
 
 fn succeed(items: &[Word]) -> Result<Instr, ScriptFault>
     ensures { result ≡ of_operand instr.Succeed items.now }
 {
-    Ok(Instr::Succeed {
-        value: operand_alone(items)?,
-    })
+    Ok(Instr::succeed(operand_alone(items)?))
 }
 
 fn abort(items: &[Word]) -> Result<Instr, ScriptFault>
     ensures { result ≡ of_operand instr.Abort items.now }
 {
-    Ok(Instr::Abort {
-        value: operand_alone(items)?,
-    })
+    Ok(Instr::abort(operand_alone(items)?))
 }
 
 fn canceled(items: &[Word]) -> Result<Instr, ScriptFault>
     ensures { result ≡ of_operand instr.Canceled items.now }
 {
-    Ok(Instr::Canceled {
-        value: operand_alone(items)?,
-    })
+    Ok(Instr::canceled(operand_alone(items)?))
 }
 
 fn operand_alone(items: &[Word]) -> Result<Operand, ScriptFault>

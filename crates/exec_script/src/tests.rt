@@ -3,7 +3,7 @@ mod spellings;
 
 use crate::{
     Bank, Close, DecisionList, Effect, EffectList, Effects, Input, Instr, Place, Regs, Role, Scope,
-    ScriptFault, Slot, Stop, Word, WordText, check, decode, run_call, run_from,
+    ScriptFault, Slot, Stop, Word, WordText, check, decode, run_call, run_call_into, run_from,
 };
 use arithmetic::RESULTS;
 use exec_msg::{EntityNo, Event, GoalId, Memory, Moment};
@@ -197,6 +197,31 @@ fn gives_each_effect(rt: HostRuntime) -> Result<(), Fail> {
         "{:?}",
         effects.close
     );
+    Ok(())
+}
+
+// Calls into one list put their effects behind one another, until it is cleared.
+#[test]
+fn calls_into_one_list(rt: HostRuntime) -> Result<(), Fail> {
+    let script = decoded(rt.alloc(), "set g0 add g0 1\nlog g0\ndecide in")??;
+    let mut bank = Bank::new();
+    let mut effects = EffectList::new(rt.alloc());
+    for (candidate, wanted) in [(1, "Decide(1)"), (2, "Decide(2)"), (3, "Decide(1)")] {
+        let input = input(candidate, 0, 0)?;
+        let close = run_call_into(
+            script.as_slice(),
+            Role::CancelHandler,
+            &mut bank,
+            &input,
+            &mut effects,
+        )?;
+        let found = format!(in rt.alloc(); "{close:?}")?;
+        assert_eq!(rt; found.as_str(), wanted);
+    }
+    let found = format!(in rt.alloc(); "{:?}", effects.as_slice())?;
+    assert_eq!(rt; found.as_str(), "[Log(1), Log(2), Log(3)]");
+    effects.clear();
+    assert_eq!(rt; effects.len(), 0);
     Ok(())
 }
 

@@ -4,7 +4,7 @@ use Rattle.exec_script.specs.Script.{listed}
 use Rattle.exec_script.specs.Zeros.{zeros}
 use Rattle.exec_script.specs.declared.effects.Effect.{Effect}
 use Rattle.exec_script.specs.declared.instr.Instr.{Instr}
-use Rattle.exec_script.specs.declared.instr.Instr.TheVariants as instr
+use Rattle.exec_script.specs.Instruction as instr
 use Rattle.exec_script.specs.declared.instr.Operand.TheVariants as operand
 use Rattle.exec_task.specs.Task.{TaskState, Polled, polled}
 use Rattle.exec_task.specs.declared.wait.Turn.{Turn}

@@ -12,13 +12,13 @@ use std::thread;
 
 const NEXT_ROUND: Answer = Answer::Pending(Wait::NextRound);
 
-const SUCCEED_9: Instr = Instr::Succeed {
-    value: Operand::Value(9),
-};
+fn succeed_9() -> Instr {
+    Instr::succeed(Operand::Value(9))
+}
 
-const LOG_AUX: Instr = Instr::Log {
-    value: Operand::Aux,
-};
+fn log_aux() -> Instr {
+    Instr::log(Operand::Aux)
+}
 
 fn until(time: u64) -> Answer {
     Answer::Pending(Wait::Until(time))
@@ -29,13 +29,7 @@ fn ended(event: Event, value: i64) -> Answer {
 }
 
 fn wait(ticks: i64) -> Instr {
-    Instr::Wait {
-        ticks: Operand::Value(ticks),
-    }
-}
-
-fn log(value: Operand) -> Instr {
-    Instr::Log { value }
+    Instr::wait(Operand::Value(ticks))
 }
 
 fn slot_0() -> Slot {
@@ -47,12 +41,7 @@ fn slot_0() -> Slot {
 
 // `destination` becomes `operand` and 1.
 fn one_more(destination: Destination, operand: Operand) -> Instr {
-    Instr::Set {
-        destination,
-        operation: Operation::Add,
-        left: operand,
-        right: Operand::Value(1),
-    }
+    Instr::set(destination, Operation::Add, operand, Operand::Value(1))
 }
 
 // A goal of value 5, with the variables of its group.
@@ -111,7 +100,7 @@ impl Trial {
 
 #[test]
 fn a_goal_that_yields_goes_on_behind_it(rt: HostRuntime) -> Result<(), Fail> {
-    let mut goal = Trial::of(rt.alloc(), &[Instr::Yield, SUCCEED_9])?;
+    let mut goal = Trial::of(rt.alloc(), &[Instr::pend(), succeed_9()])?;
     assert!(rt; goal.gives(10, false, NEXT_ROUND, &[])?);
     assert!(rt; goal.gives(10, false, ended(Event::Succeed, 9), &[])?);
     assert!(rt; goal.gives(11, true, ended(Event::Succeed, 9), &[])?);
@@ -120,7 +109,7 @@ fn a_goal_that_yields_goes_on_behind_it(rt: HostRuntime) -> Result<(), Fail> {
 
 #[test]
 fn a_goal_that_waits_goes_on_at_its_time(rt: HostRuntime) -> Result<(), Fail> {
-    let mut goal = Trial::of(rt.alloc(), &[wait(5), SUCCEED_9])?;
+    let mut goal = Trial::of(rt.alloc(), &[wait(5), succeed_9()])?;
     assert!(rt; goal.gives(10, false, until(15), &[])?);
     assert!(rt; goal.gives(12, false, until(15), &[])?);
     assert!(rt; goal.gives(15, false, ended(Event::Succeed, 9), &[])?);
@@ -131,7 +120,7 @@ fn a_goal_that_waits_goes_on_at_its_time(rt: HostRuntime) -> Result<(), Fail> {
 fn a_goal_that_falls_off_its_end_starts_again(rt: HostRuntime) -> Result<(), Fail> {
     let register = Operand::Register(slot_0());
     let count = one_more(Destination::Register(slot_0()), register);
-    let mut goal = Trial::of(rt.alloc(), &[count, log(register)])?;
+    let mut goal = Trial::of(rt.alloc(), &[count, Instr::log(register)])?;
     assert!(rt; goal.gives(10, false, NEXT_ROUND, &[Effect::Log(1)])?);
     assert!(rt; goal.gives(10, false, NEXT_ROUND, &[Effect::Log(2)])?);
     let mut idle = Trial::of(rt.alloc(), &[])?;
@@ -143,12 +132,12 @@ fn a_goal_that_falls_off_its_end_starts_again(rt: HostRuntime) -> Result<(), Fai
 // One poll that does nothing comes between the stop and the top.
 #[test]
 fn a_stop_that_stands_last_ends_the_script(rt: HostRuntime) -> Result<(), Fail> {
-    let input = log(Operand::In);
+    let input = Instr::log(Operand::In);
     let mut waits = Trial::of(rt.alloc(), &[input, wait(5)])?;
     assert!(rt; waits.gives(10, false, until(15), &[Effect::Log(5)])?);
     assert!(rt; waits.gives(15, false, NEXT_ROUND, &[])?);
     assert!(rt; waits.gives(15, false, until(20), &[Effect::Log(5)])?);
-    let mut yields = Trial::of(rt.alloc(), &[input, Instr::Yield])?;
+    let mut yields = Trial::of(rt.alloc(), &[input, Instr::pend()])?;
     assert!(rt; yields.gives(10, false, NEXT_ROUND, &[Effect::Log(5)])?);
     assert!(rt; yields.gives(11, false, NEXT_ROUND, &[])?);
     assert!(rt; yields.gives(12, false, NEXT_ROUND, &[Effect::Log(5)])?);
@@ -158,7 +147,7 @@ fn a_stop_that_stands_last_ends_the_script(rt: HostRuntime) -> Result<(), Fail> 
 #[test]
 fn waits_end_at_their_time(rt: HostRuntime) -> Result<(), Fail> {
     for ticks in [0, -1, i64::MIN] {
-        let mut goal = Trial::of(rt.alloc(), &[wait(ticks), SUCCEED_9])?;
+        let mut goal = Trial::of(rt.alloc(), &[wait(ticks), succeed_9()])?;
         assert!(rt; goal.gives(10, false, until(10), &[])?, "{ticks}");
         assert!(rt; goal.is_awake(10, false), "{ticks}");
         assert!(rt;
@@ -167,7 +156,7 @@ fn waits_end_at_their_time(rt: HostRuntime) -> Result<(), Fail> {
         );
     }
     let last = 1 << 62;
-    let mut goal = Trial::of(rt.alloc(), &[wait(i64::MAX), SUCCEED_9])?;
+    let mut goal = Trial::of(rt.alloc(), &[wait(i64::MAX), succeed_9()])?;
     assert!(rt; goal.gives(last, false, until((1 << 62) + (1 << 63) - 1), &[])?);
     assert!(rt; !goal.is_awake(last, false));
     Ok(())
@@ -177,13 +166,13 @@ fn waits_end_at_their_time(rt: HostRuntime) -> Result<(), Fail> {
 fn an_ending_is_as_the_script_says(rt: HostRuntime) -> Result<(), Fail> {
     let value = Operand::Value(7);
     let endings = [
-        (Instr::Succeed { value }, Event::Succeed, Event::Succeed),
-        (Instr::Abort { value }, Event::Abort, Event::Abort),
-        (Instr::Canceled { value }, Event::Abort, Event::Canceled),
+        (Instr::succeed(value), Event::Succeed, Event::Succeed),
+        (Instr::abort(value), Event::Abort, Event::Abort),
+        (Instr::canceled(value), Event::Abort, Event::Canceled),
     ];
     for (ending, unasked, asked) in endings {
         for (canceling, event) in [(false, unasked), (true, asked)] {
-            let mut goal = Trial::of(rt.alloc(), &[LOG_AUX, ending, log(value)])?;
+            let mut goal = Trial::of(rt.alloc(), &[log_aux(), ending, Instr::log(value)])?;
             let effects = [Effect::Log(canceling as i64)];
             assert!(rt;
                 goal.gives(10, canceling, ended(event, 7), &effects)?,
@@ -201,7 +190,7 @@ fn an_ending_is_as_the_script_says(rt: HostRuntime) -> Result<(), Fail> {
 
 #[test]
 fn a_canceling_goal_is_told_once(rt: HostRuntime) -> Result<(), Fail> {
-    let script = [wait(100), LOG_AUX, wait(100), LOG_AUX, SUCCEED_9];
+    let script = [wait(100), log_aux(), wait(100), log_aux(), succeed_9()];
     let mut goal = Trial::of(rt.alloc(), &script)?;
     assert!(rt; goal.is_awake(10, false));
     assert!(rt; goal.gives(10, false, until(110), &[])?);
@@ -222,11 +211,11 @@ fn a_goal_keeps_its_registers_while_it_pends(rt: HostRuntime) -> Result<(), Fail
         one_more(Destination::Register(slot_0()), Operand::In),
         one_more(Destination::Variable(slot_0()), variable),
         wait(5),
-        log(register),
-        log(variable),
-        log(Operand::Now),
-        Instr::Feedback { value: register },
-        SUCCEED_9,
+        Instr::log(register),
+        Instr::log(variable),
+        Instr::log(Operand::Now),
+        Instr::feedback(register),
+        succeed_9(),
     ];
     let mut goal = Trial::of(rt.alloc(), &script)?;
     assert!(rt; goal.gives(10, false, until(15), &[])?);
@@ -250,11 +239,11 @@ fn a_refused_poll_leaves_all_as_it_was(rt: HostRuntime) -> Result<(), Fail> {
     let add = one_more(Destination::Variable(slot_0()), variable);
     let script = [
         add,
-        log(variable),
-        log(variable),
-        log(variable),
+        Instr::log(variable),
+        Instr::log(variable),
+        Instr::log(variable),
         wait(5),
-        SUCCEED_9,
+        succeed_9(),
     ];
     let Ok(mut goal) = Trial::of(rt.alloc(), &script) else {
         return Ok(());
@@ -275,7 +264,7 @@ fn a_refused_poll_leaves_all_as_it_was(rt: HostRuntime) -> Result<(), Fail> {
 
 #[test]
 fn a_pending_goal_goes_on_in_another_thread(rt: HostRuntime) -> Result<(), Fail> {
-    let mut goal = Trial::of(rt.alloc(), &[wait(5), SUCCEED_9])?;
+    let mut goal = Trial::of(rt.alloc(), &[wait(5), succeed_9()])?;
     assert!(rt; goal.gives(10, false, until(15), &[])?);
     let poll = move || goal.gives(15, false, ended(Event::Succeed, 9), &[]);
     let (polled, ()) = thread::join(&rt, poll, || ());

@@ -5,7 +5,7 @@ use Rattle.exec_msg.specs.declared.goal.Event.TheVariants as event
 use Rattle.exec_script.specs.Script.{ScriptState, CallInput, step_of, passed_by, after_step, follow}
 use Rattle.exec_script.specs.declared.effects.Effect.{Effect}
 use Rattle.exec_script.specs.declared.instr.Instr.{Instr}
-use Rattle.exec_script.specs.declared.instr.Instr.TheVariants as instr
+use Rattle.exec_script.specs.Instruction as instr
 use Rattle.exec_script.specs.declared.step.Step.{Step}
 use Rattle.exec_script.specs.declared.step.Step.TheVariants as step
 use Rattle.exec_script.specs.declared.step.Stop.{Stop}

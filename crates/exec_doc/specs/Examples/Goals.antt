@@ -3,7 +3,7 @@ use Rattle.std.specs.Prelude.{ℕ, List, [], ◌∷◌, codes, ◌++◌, negsuc,
 use Rattle.exec_doc.specs.Words.{one_node, value}
 use Rattle.exec_graph.specs.declared.entity.Declared.TheVariants.{Timer, Server, ActionClient}
 use Rattle.exec_graph.specs.Plan.{PlanData}
-use Rattle.exec_script.specs.declared.instr.Instr.TheVariants as instr
+use Rattle.exec_script.specs.Instruction as instr
 use Rattle.exec_script.specs.declared.instr.Operand.TheVariants as operand
 
 -- a goal that gives feedback; an empty list for results asks for them all the same, and results are kept for no ticks

@@ -10,32 +10,33 @@ use Rattle.exec_script.proofs.run.follow.Goals as goal
 pub loop-pc-preserved-in-Pass : goal.loop-pc-preserved-in-Pass
 loop-pc-preserved-in-Pass c = record {
   same_end =
-      sym (follow_pass listed c.args.input.now c.args.script.now c.loop-pc.pc c.in-Pass.count c.saturating_add-pc.result c.index-script-pc.result
-      (record { registers = c.loop-pc.regs; variables = c.loop-pc.variables; answer = c.loop-pc.answer; given = c.loop-pc.list; stop = stop.End })
+      sym (follow_pass listed c.loop-pc.frame.input c.args.script.now c.loop-pc.pc c.in-Pass.count c.saturating_add-pc.result c.index-script-pc.result
+      (record { registers = c.loop-pc.frame.registers; variables = c.loop-pc.frame.variables; answer = c.loop-pc.answer; given = c.loop-pc.effects.items; stop = stop.End })
       c.loop-pc-test.true (omega arith) c.index-script-pc.is (c.in-Pass.ensures.does) c.saturating_add-pc.ensures)
       ∙ c.loop-pc.invariant.same_end;
-  front = c.loop-pc.invariant.front;
+  input = c.loop-pc.invariant.input;
+  room = omega (arith, c.loop-pc.invariant.room, c.saturating_add-pc.ensures);
 }
 
-pub returns-in-Wait-clause-ok : goal.returns-in-Wait-clause-ok
-returns-in-Wait-clause-ok c =
-    sym (follow_stop listed c.args.input.now c.args.script.now c.loop-pc.pc c.index-script-pc.result (step.Wait c.in-Wait.ticks)
-    (record { registers = c.loop-pc.regs; variables = c.loop-pc.variables; answer = c.loop-pc.answer; given = c.loop-pc.list; stop = stop.End })
+pub returns-in-Wait-clause-ends : goal.returns-in-Wait-clause-ends
+returns-in-Wait-clause-ends c =
+    sym (follow_stop listed c.loop-pc.frame.input c.args.script.now c.loop-pc.pc c.index-script-pc.result (step.Wait c.in-Wait.ticks)
+    (record { registers = c.loop-pc.frame.registers; variables = c.loop-pc.frame.variables; answer = c.loop-pc.answer; given = c.loop-pc.effects.items; stop = stop.End })
     c.loop-pc-test.true c.index-script-pc.is (c.in-Wait.ensures.does) (λ left. refl))
     ∙ c.loop-pc.invariant.same_end
 
-pub returns-in-Yield-clause-ok : goal.returns-in-Yield-clause-ok
-returns-in-Yield-clause-ok c =
-    sym (follow_stop listed c.args.input.now c.args.script.now c.loop-pc.pc c.index-script-pc.result step.Yield
-    (record { registers = c.loop-pc.regs; variables = c.loop-pc.variables; answer = c.loop-pc.answer; given = c.loop-pc.list; stop = stop.End })
+pub returns-in-Yield-clause-ends : goal.returns-in-Yield-clause-ends
+returns-in-Yield-clause-ends c =
+    sym (follow_stop listed c.loop-pc.frame.input c.args.script.now c.loop-pc.pc c.index-script-pc.result step.Yield
+    (record { registers = c.loop-pc.frame.registers; variables = c.loop-pc.frame.variables; answer = c.loop-pc.answer; given = c.loop-pc.effects.items; stop = stop.End })
     c.loop-pc-test.true c.index-script-pc.is (c.in-Yield.ensures.does) (λ left. refl))
     ∙ c.loop-pc.invariant.same_end
 
-pub returns-in-End-clause-ok : goal.returns-in-End-clause-ok
-returns-in-End-clause-ok c =
+pub returns-in-End-clause-ends : goal.returns-in-End-clause-ends
+returns-in-End-clause-ends c =
     let fits : SFits w64 c.in-End.value = search rules in
     rw (to_z-of_z w64 c.in-End.value fits)
-    (sym (follow_stop listed c.args.input.now c.args.script.now c.loop-pc.pc c.index-script-pc.result (step.End c.in-End.event c.in-End.value)
-    (record { registers = c.loop-pc.regs; variables = c.loop-pc.variables; answer = c.loop-pc.answer; given = c.loop-pc.list; stop = stop.End })
+    (sym (follow_stop listed c.loop-pc.frame.input c.args.script.now c.loop-pc.pc c.index-script-pc.result (step.End c.in-End.event c.in-End.value)
+    (record { registers = c.loop-pc.frame.registers; variables = c.loop-pc.frame.variables; answer = c.loop-pc.answer; given = c.loop-pc.effects.items; stop = stop.End })
     c.loop-pc-test.true c.index-script-pc.is (c.in-End.ensures.does) (λ left. refl))
     ∙ c.loop-pc.invariant.same_end)

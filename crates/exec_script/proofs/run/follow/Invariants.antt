@@ -1,15 +1,17 @@
-use Rattle.std.proofs.Common.{◌≡◌, length, drop, take, ◌-◌}
+use Rattle.std.proofs.Common.{◌≡◌, length, drop, ◌+◌, ◌-◌, ◌≤◌, vec_len, vec_capacity}
 use Rattle.exec_script.specs.Script.{follow, listed, resumed}
 use Rattle.exec_script.specs.declared.step.Stop.TheVariants as stop
 use Rattle.exec_script.proofs.run.follow.Given as goal
 
--- what is left of the script leads from here to where it leads from the start, and what was listed before still is
+-- what is left of the script leads from here to where it leads from the start, on the same input, and there is room for
+-- an effect of each instruction that is left
 abbrev pub invariant-loop-pc : goal.invariant-loop-pc
 invariant-loop-pc l = record {
   same_end :
-      follow listed l.input (drop l.pc l.script) l.pc 0 (record { registers = l.regs; variables = l.variables; answer = l.answer; given = l.list; stop = stop.End })
-      ≡ resumed listed l.script l.place l.initial.regs l.initial.variables l.initial.answer l.input l.initial.list;
-  front : take (length l.initial.list) l.list ≡ l.initial.list;
+      follow listed l.frame.input (drop l.pc l.script) l.pc 0 (record { registers = l.frame.registers; variables = l.frame.variables; answer = l.answer; given = l.effects.items; stop = stop.End })
+      ≡ resumed listed l.script l.place l.initial.frame.registers l.initial.frame.variables l.initial.answer l.initial.frame.input l.initial.effects.items;
+  input : l.frame.input ≡ l.initial.frame.input;
+  room : vec_len l.effects + (length l.script - l.pc) ≤ vec_capacity l.effects;
 }
 
 abbrev pub decreases-loop-pc : goal.decreases-loop-pc

@@ -1,0 +1,9 @@
+use Rattle.std.proofs.Common.{get_or, pos, w64, refl, rules}
+use mir.Val.{SFits}
+use Rattle.exec_script.proofs.Frames.{read_is}
+use Rattle.exec_script.proofs.frame.Frame.read.Goals as goal
+
+pub returns : goal.returns
+returns c =
+    let held : SFits w64 (get_or c.self.inside.values c.source.inside.0 (pos 0)) = search rules in
+    read_is c.self.inside.values c.source.inside.0 c.args.source c.args.constant (get_or c.self.inside.values c.source.inside.0 (pos 0)) c.args.self.now c.source.invariant c.self.invariant c.self.view_is c.source.view_is refl held c.ranges.constant c.requires

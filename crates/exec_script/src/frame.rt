@@ -1,0 +1,196 @@
+use crate::cells::{Bank, Regs};
+use crate::instr::{Destination, Operand};
+use crate::run::Input;
+use std::fmt;
+use std::marker::Model;
+
+// What an operand reads of a frame.
+#[derive(Clone, Copy, PartialEq, Eq)]
+pub struct Source(u8);
+
+impl Model for Source {
+    ghost use Rattle.std.specs.Prelude.{◌<◌};
+    ghost use Rattle.std.proofs.Common.{ap};
+    ghost use Rattle.exec_script.specs.inner.Cells.{Cell, cell_at, place_of};
+    ghost use Rattle.exec_script.specs.inner.Places.{place_is};
+
+    ghost Value = { Cell };
+
+    ghost view = { λ source. cell_at source.0 };
+
+    ghost invariant = { λ source. source.0 < 20 };
+
+    ghost inverse = { λ cell. record { 0 = place_of cell } };
+
+    ghost inverse_ok = { λ source h. ap (λ place. record { 0 = place }) (place_is source.0 h) };
+}
+
+impl Source {
+    ghost use Rattle.std.specs.Prelude.{◌≡◌};
+    ghost use Rattle.exec_script.specs.inner.Cells.{cell_of, reads_variable};
+
+    pub fn of(operand: &Operand) -> Source
+        ensures { result ≡ cell_of operand.now }
+    {
+        match *operand {
+            Operand::Register(slot) => Source(slot.index() as u8),
+            Operand::Variable(slot) => Source(slot.index() as u8 + 8),
+            Operand::In => Source(16),
+            Operand::Aux => Source(17),
+            Operand::Now => Source(18),
+            Operand::Value(_) => Source(19),
+        }
+    }
+
+    pub fn is_variable(self) -> bool
+        ensures { result ≡ reads_variable self }
+    {
+        8 <= self.0 && self.0 < 16
+    }
+
+    // Shows the operand that it and a constant are, with a space before it.
+    pub fn show<W: fmt::Write>(self, constant: i64, f: &mut fmt::Formatter<W>) -> fmt::Result {
+        match self.0 {
+            0..8 => write!(f, " r{}", self.0),
+            8..16 => write!(f, " g{}", self.0 - 8),
+            16 => f.write_str(" in"),
+            17 => f.write_str(" aux"),
+            18 => f.write_str(" now"),
+            _ => write!(f, " {constant}"),
+        }
+    }
+}
+
+// Where a destination stands in a frame.
+#[derive(Clone, Copy, PartialEq, Eq)]
+pub struct Target(u8);
+
+impl Model for Target {
+    ghost use Rattle.std.specs.Prelude.{◌<◌};
+    ghost use Rattle.std.proofs.Common.{ap};
+    ghost use Rattle.exec_script.specs.declared.instr.Destination.{Destination};
+    ghost use Rattle.exec_script.specs.inner.Cells.{target_at, place_of_target};
+    ghost use Rattle.exec_script.specs.inner.Places.{target_is};
+
+    ghost Value = { Destination };
+
+    ghost view = { λ target. target_at target.0 };
+
+    ghost invariant = { λ target. target.0 < 16 };
+
+    ghost inverse = { λ destination. record { 0 = place_of_target destination } };
+
+    ghost inverse_ok = { λ target h. ap (λ place. record { 0 = place }) (target_is target.0) };
+}
+
+impl Target {
+    ghost use Rattle.std.specs.Prelude.{◌≡◌};
+    ghost use Rattle.exec_script.specs.declared.instr.Destination.TheVariants as destination;
+    ghost use Rattle.exec_script.specs.Legality.{goes_to_variable};
+
+    // `r0`.
+    pub fn first() -> Target
+        ensures { result ≡ destination.Register 0 }
+    {
+        Target(0)
+    }
+
+    pub fn of(destination: Destination) -> Target
+        ensures { result ≡ destination }
+    {
+        match destination {
+            Destination::Register(slot) => Target(slot.index() as u8),
+            Destination::Variable(slot) => Target(slot.index() as u8 + 8),
+        }
+    }
+
+    pub fn is_variable(self) -> bool
+        ensures { result ≡ goes_to_variable self }
+    {
+        8 <= self.0
+    }
+}
+
+impl fmt::Debug for Target {
+    fn fmt<W: fmt::Write>(&self, f: &mut fmt::Formatter<W>) -> fmt::Result {
+        if self.0 < 8 {
+            write!(f, "r{}", self.0)
+        } else {
+            write!(f, "g{}", self.0 - 8)
+        }
+    }
+}
+
+// All that a script reads and writes while it runs, in one array: registers, group variables, `in`, `aux`, `now`, and
+// one integer that is always 0.
+#[derive(Drop)]
+pub struct Frame {
+    values: [i64; 20],
+}
+
+impl Model for Frame {
+    ghost use Rattle.exec_script.specs.inner.Frame.{FrameState, frame_of, IsFrame};
+
+    ghost Value = { FrameState };
+
+    ghost view = { λ frame. frame_of frame.values };
+
+    ghost invariant = { λ frame. IsFrame frame.values };
+}
+
+impl Frame {
+    ghost use Rattle.std.specs.Prelude.{◌≡◌};
+    ghost use Rattle.exec_script.specs.Script.{value_of, registers_after, variables_after};
+    ghost use Rattle.exec_script.specs.inner.Cells.{operand_at, constant_of};
+
+    pub fn of(regs: &Regs, bank: &Bank, input: &Input) -> Frame
+        ensures { result ≡ record { registers = regs.now; variables = bank.now; input = input.now } }
+    {
+        let mut values = [0; 20];
+        values[..8].copy_from_slice(regs.as_array());
+        values[8..16].copy_from_slice(bank.as_array());
+        values[16] = input.first;
+        values[17] = input.aux;
+        values[18] = input.moment.ticks() as i64;
+        Frame { values }
+    }
+
+    // The registers, at the end of a run.
+    pub fn regs(&self) -> Regs
+        ensures { result ≡ self.now.registers }
+    {
+        let mut values = [0; 8];
+        values.copy_from_slice(&self.values[..8]);
+        Regs::of(values)
+    }
+
+    // The variables, at the end of a run.
+    pub fn bank(&self) -> Bank
+        ensures { result ≡ self.now.variables }
+    {
+        let mut values = [0; 8];
+        values.copy_from_slice(&self.values[8..16]);
+        Bank::of(values)
+    }
+
+    // The value of the operand that a source and a constant are.
+    #[inline(always)]
+    pub fn read(&self, source: Source, constant: i64) -> i64
+        requires { constant_of (operand_at source constant) ≡ constant }
+        ensures { result ≡ value_of (operand_at source constant) self.now.registers self.now.variables self.now.input }
+    {
+        let held = self.values[source.0 as usize];
+        held.wrapping_add(constant)
+    }
+
+    #[inline(always)]
+    pub fn write(&mut self, target: Target, value: i64)
+        ensures { self.new ≡ record {
+          registers = registers_after target value self.old.registers;
+          variables = variables_after target value self.old.variables;
+          input = self.old.input;
+        } }
+    {
+        self.values[target.0 as usize] = value;
+    }
+}
