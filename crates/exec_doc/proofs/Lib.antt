@@ -12,5 +12,3 @@ pub mod Planned
 pub mod Ready
 pub mod Refusing
 pub mod Scheduled
-pub mod Signs
-pub mod Trees

@@ -1,11 +1,9 @@
-ghost use Rattle.std.specs.Prelude.{[], ◌≡◌, ◌≢◌, ◌⊎◌, Option, None, Some, OnErr, IfOk, IfErr, map};
-ghost use Rattle.std.specs.Bool.{MatchBool};
-ghost use Rattle.serde_json.specs.Read.{read};
+ghost use Rattle.std.specs.Prelude.{◌≡◌, ◌⊎◌, Option, None, Some, OnErr, IfOk, IfErr, map};
+ghost use Rattle.serde_json.specs.View.{view};
 ghost use Rattle.exec_doc.specs.Answering.{Answers, IsReady, draft_refusal, graph_refusal};
 ghost use Rattle.exec_doc.specs.Draft.{DocumentDraft};
 ghost use Rattle.exec_doc.specs.Document.{plan_of, document_of};
 ghost use Rattle.exec_doc.specs.Refusals.{value_of, refusal_of};
-ghost use Rattle.exec_doc.specs.Tree.{view};
 ghost use Rattle.exec_graph.specs.Refusals.{fault_in};
 ghost use Rattle.exec_graph.specs.Resolved.{graph_in};
 
@@ -14,15 +12,11 @@ use crate::fed::{are_declared, are_identified, feed_of};
 use crate::forms::draft_of;
 use crate::refused::Refused;
 use crate::schedule::moments_within;
-use crate::tree::is_kept;
 use exec_graph::{Graph, GraphBuilder, GraphFault, NodeDraft, Plan};
 use exec_msg::Moment;
 use exec_script::WordText;
-use json::{Error, Reader, Scratch, Value};
+use serde_json::Value;
 use std::alloc::Global;
-
-// How deep arrays and objects may nest, as in `serde_json`.
-const MAX_DEPTH: usize = 127;
 
 /// The plan that a document says.
 ///
@@ -32,50 +26,20 @@ pub fn read_document(alloc: Global, bytes: &[u8]) -> Result<Plan, Refused>
     ensures plan { IfOk result (λ plan. document_of bytes.now ≡ Some plan) }
     ensures refused { IfErr result (λ code. (code ≡ Refused.Memory) ⊎ (refusal_of bytes.now ≡ Some code)) }
 {
-    let mut scratch = Scratch::new(alloc);
-    let value = value_of(alloc, bytes, &mut scratch)?;
+    let value = value_of(alloc, bytes)?;
     let draft = draft_of(alloc, &value)?;
-    // The tree is the largest part by now, and the draft borrows from the document and the scratch alone.
-    drop(value);
     plan_of(alloc, draft)
 }
 
-fn value_of<'a>(
-    alloc: Global,
-    bytes: &'a [u8],
-    scratch: &'a mut Scratch,
-) -> Result<Value<'a>, Refused>
+fn value_of(alloc: Global, bytes: &[u8]) -> Result<Value, Refused>
     ensures value { IfOk result (λ value. value_of bytes.now ≡ Some (view value)) }
     ensures refused { IfErr result (λ code. (code ≡ Refused.Memory) ⊎ ((code ≡ Refused.NotJson) × (value_of bytes.now ≡ None))) }
 {
-    match std::str::from_utf8(bytes) {
-        Ok(text) => read(alloc, text, scratch),
+    match Value::from_slice(alloc, bytes) {
+        Ok(value) => Ok(value),
+        Err(fault) if fault.is_memory() => Err(Refused::Memory),
         Err(_) => Err(Refused::NotJson),
     }
-}
-
-fn read<'a>(alloc: Global, text: &'a str, scratch: &'a mut Scratch) -> Result<Value<'a>, Refused>
-    ensures value { IfOk result (λ value. read text.now ≡ Some (view value)) }
-    ensures refused { IfErr result (λ code. (code ≡ Refused.Memory) ⊎ ((code ≡ Refused.NotJson) × (read text.now ≡ None))) }
-{
-    let mut reader = Reader::new(text, scratch)?;
-    let value = match Value::read(alloc, &mut reader, MAX_DEPTH) {
-        Ok(value) => value,
-        Err(Error::OutOfMemory) => return Err(Refused::Memory),
-        Err(_) => return Err(Refused::NotJson),
-    };
-    if is_at_end(&mut reader) && is_kept(&value) {
-        Ok(value)
-    } else {
-        Err(Refused::NotJson)
-    }
-}
-
-// Whether nothing is left to read.
-fn is_at_end(reader: &mut Reader<'_>) -> bool
-    ensures { MatchBool result (reader.old ≡ []) (reader.old ≢ []) }
-{
-    reader.next().is_none()
 }
 
 fn plan_of(alloc: Global, draft: DocumentDraft<'_>) -> Result<Plan, Refused>

@@ -5,7 +5,7 @@ mod fields;
 mod nodes;
 mod scripts;
 
-ghost use Rattle.exec_doc.specs.Tree.{view};
+ghost use Rattle.serde_json.specs.View.{view};
 ghost use Rattle.exec_doc.specs.Forms.{draft_of};
 ghost use Rattle.exec_doc.specs.Reading.{Gives};
 
@@ -13,14 +13,14 @@ use crate::draft::DocumentDraft;
 use crate::refused::Refused;
 use feed::feed;
 use fields::{list, required};
-use json::Value;
+use serde_json::Value;
 use std::alloc::Global;
 
 /// The draft of a document.
 ///
 /// # Errors
 /// [`Refused::Shape`] where the value hasn't the forms of a document, [`Refused::Memory`] where a growth was refused.
-pub fn draft_of<'a>(alloc: Global, document: &Value<'a>) -> Result<DocumentDraft<'a>, Refused>
+pub fn draft_of<'a>(alloc: Global, document: &'a Value) -> Result<DocumentDraft<'a>, Refused>
     ensures { Gives (λ draft. draft) result (draft_of (view document.now)) }
 {
     Ok(DocumentDraft {

@@ -1,5 +1,5 @@
 ghost use Rattle.std.specs.Prelude.{◌≡◌, ◌++◌, OnOk, IfErr, map};
-ghost use Rattle.exec_doc.specs.Tree.{view};
+ghost use Rattle.serde_json.specs.View.{view};
 ghost use Rattle.exec_doc.specs.Forms.{depth_field, timer_form, subscription_form, service_form, client_form, server_form, action_client_form, entity, list};
 ghost use Rattle.exec_graph.specs.Options.{each};
 ghost use Rattle.exec_doc.specs.Kinds.{form_of};
@@ -8,13 +8,12 @@ ghost use Rattle.exec_doc.specs.Reading.{Gives, Fails, IsAppended};
 use crate::forms::fields::{optional, required};
 use crate::forms::scripts::script_field;
 use crate::refused::Refused;
-use crate::tree::{as_array, field};
 use exec_graph::{
     ActionClientDraft, ClientDraft, Drafted, EntityDraft, ServerDraft, ServiceDraft,
     SubscriptionDraft, TimerDraft,
 };
 use exec_msg::limits::DEFAULT_DEPTH;
-use json::Value;
+use serde_json::Value;
 use std::alloc::Global;
 
 /// A kind of entity.
@@ -38,7 +37,7 @@ pub enum EntityKind {
 #[tactic(auto, using(crate::proofs::Lists::any_list))]
 pub fn append_entities(
     alloc: Global,
-    node: &Value<'_>,
+    node: &Value,
     name: &str,
     kind: EntityKind,
     entities: &mut Vec<EntityDraft>,
@@ -46,10 +45,10 @@ pub fn append_entities(
     ensures ok { OnOk result (IsAppended (list (entity (form_of kind)) name.now (view node.now)) entities.old.items entities.new.items) }
     ensures err { IfErr result (λ code. Fails code (list (entity (form_of kind)) name.now (view node.now))) }
 {
-    match field(node, name) {
+    match node.get(name) {
         Some(value) => append_each(
             alloc,
-            as_array(value).ok_or(Refused::Shape)?,
+            value.as_array().ok_or(Refused::Shape)?,
             kind,
             entities,
         ),
@@ -59,7 +58,7 @@ pub fn append_entities(
 
 fn append_each(
     alloc: Global,
-    values: &[Value<'_>],
+    values: &[Value],
     kind: EntityKind,
     entities: &mut Vec<EntityDraft>,
 ) -> Result<(), Refused>
@@ -72,7 +71,7 @@ fn append_each(
     Ok(())
 }
 
-fn entity(alloc: Global, value: &Value<'_>, kind: EntityKind) -> Result<EntityDraft, Refused>
+fn entity(alloc: Global, value: &Value, kind: EntityKind) -> Result<EntityDraft, Refused>
     ensures { Gives (λ found. found) result (entity (form_of kind) (view value.now)) }
 {
     Ok(EntityDraft {
@@ -82,7 +81,7 @@ fn entity(alloc: Global, value: &Value<'_>, kind: EntityKind) -> Result<EntityDr
     })
 }
 
-fn drafted(alloc: Global, value: &Value<'_>, kind: EntityKind) -> Result<Drafted, Refused>
+fn drafted(alloc: Global, value: &Value, kind: EntityKind) -> Result<Drafted, Refused>
     ensures { Gives (λ found. found) result (form_of kind (view value.now)) }
 {
     match kind {
@@ -95,7 +94,7 @@ fn drafted(alloc: Global, value: &Value<'_>, kind: EntityKind) -> Result<Drafted
     }
 }
 
-fn timer(alloc: Global, value: &Value<'_>) -> Result<Drafted, Refused>
+fn timer(alloc: Global, value: &Value) -> Result<Drafted, Refused>
     ensures { Gives (λ found. found) result (timer_form (view value.now)) }
 {
     Ok(Drafted::Timer(TimerDraft {
@@ -104,7 +103,7 @@ fn timer(alloc: Global, value: &Value<'_>) -> Result<Drafted, Refused>
     }))
 }
 
-fn subscription(alloc: Global, value: &Value<'_>) -> Result<Drafted, Refused>
+fn subscription(alloc: Global, value: &Value) -> Result<Drafted, Refused>
     ensures { Gives (λ found. found) result (subscription_form (view value.now)) }
 {
     Ok(Drafted::Subscription(SubscriptionDraft {
@@ -114,7 +113,7 @@ fn subscription(alloc: Global, value: &Value<'_>) -> Result<Drafted, Refused>
     }))
 }
 
-fn service(alloc: Global, value: &Value<'_>) -> Result<Drafted, Refused>
+fn service(alloc: Global, value: &Value) -> Result<Drafted, Refused>
     ensures { Gives (λ found. found) result (service_form (view value.now)) }
 {
     Ok(Drafted::Service(ServiceDraft {
@@ -123,7 +122,7 @@ fn service(alloc: Global, value: &Value<'_>) -> Result<Drafted, Refused>
     }))
 }
 
-fn client(alloc: Global, value: &Value<'_>) -> Result<Drafted, Refused>
+fn client(alloc: Global, value: &Value) -> Result<Drafted, Refused>
     ensures { Gives (λ found. found) result (client_form (view value.now)) }
 {
     Ok(Drafted::Client(ClientDraft {
@@ -133,7 +132,7 @@ fn client(alloc: Global, value: &Value<'_>) -> Result<Drafted, Refused>
     }))
 }
 
-fn server(alloc: Global, value: &Value<'_>) -> Result<Drafted, Refused>
+fn server(alloc: Global, value: &Value) -> Result<Drafted, Refused>
     ensures { Gives (λ found. found) result (server_form (view value.now)) }
 {
     Ok(Drafted::Server(ServerDraft {
@@ -145,7 +144,7 @@ fn server(alloc: Global, value: &Value<'_>) -> Result<Drafted, Refused>
     }))
 }
 
-fn action_client(alloc: Global, value: &Value<'_>) -> Result<Drafted, Refused>
+fn action_client(alloc: Global, value: &Value) -> Result<Drafted, Refused>
     ensures { Gives (λ found. found) result (action_client_form (view value.now)) }
 {
     Ok(Drafted::ActionClient(ActionClientDraft {
@@ -158,7 +157,7 @@ fn action_client(alloc: Global, value: &Value<'_>) -> Result<Drafted, Refused>
     }))
 }
 
-fn depth_field(alloc: Global, value: &Value<'_>) -> Result<u64, Refused>
+fn depth_field(alloc: Global, value: &Value) -> Result<u64, Refused>
     ensures { Gives (λ found. found) result (depth_field (view value.now)) }
 {
     Ok(optional(alloc, value, "depth")?.unwrap_or(DEFAULT_DEPTH))

@@ -1,27 +1,26 @@
 ghost use Rattle.std.specs.Prelude.{◌≡◌, codes, map};
-ghost use Rattle.exec_doc.specs.Tree.{view};
+ghost use Rattle.serde_json.specs.View.{view};
 ghost use Rattle.exec_graph.specs.Options.{each};
 ghost use Rattle.exec_doc.specs.Forms.{text, count, integer, has, required, defaulted, list, message_form, goal_form, cancel_form, fed, entry};
 ghost use Rattle.exec_doc.specs.Reading.{Gives};
 
 use crate::draft::{EntryDraft, FedDraft, FedText};
 use crate::refused::Refused;
-use crate::tree::{as_array, as_i64, as_str, as_u64, field};
-use json::Value;
+use serde_json::Value;
 use std::alloc::Global;
 
 /// The entries of a document's feed.
 #[tactic(auto, using(crate::proofs::Lists::any_list))]
-pub fn feed<'a>(alloc: Global, document: &Value<'a>) -> Result<Vec<EntryDraft<'a>>, Refused>
+pub fn feed<'a>(alloc: Global, document: &'a Value) -> Result<Vec<EntryDraft<'a>>, Refused>
     ensures { Gives (λ found. found.items) result (list entry (codes "feed") (view document.now)) }
 {
-    match field(document, "feed") {
-        Some(value) => entries(alloc, as_array(value).ok_or(Refused::Shape)?),
+    match document.get("feed") {
+        Some(value) => entries(alloc, value.as_array().ok_or(Refused::Shape)?),
         None => Ok(Vec::new(alloc)),
     }
 }
 
-fn entries<'a>(alloc: Global, values: &[Value<'a>]) -> Result<Vec<EntryDraft<'a>>, Refused>
+fn entries<'a>(alloc: Global, values: &'a [Value]) -> Result<Vec<EntryDraft<'a>>, Refused>
     ensures { Gives (λ found. found.items) result (each entry (map view values.now)) }
 {
     let mut entries = Vec::new(alloc);
@@ -31,16 +30,16 @@ fn entries<'a>(alloc: Global, values: &[Value<'a>]) -> Result<Vec<EntryDraft<'a>
     Ok(entries)
 }
 
-fn entry<'a>(value: &Value<'a>) -> Option<EntryDraft<'a>>
+fn entry<'a>(value: &'a Value) -> Option<EntryDraft<'a>>
     ensures { result ≡ entry (view value.now) }
 {
     Some(EntryDraft {
-        round: as_u64(field(value, "round")?)?,
+        round: value.get("round")?.as_u64()?,
         fed: fed(value)?,
     })
 }
 
-fn fed<'a>(value: &Value<'a>) -> Option<FedDraft<'a>>
+fn fed<'a>(value: &'a Value) -> Option<FedDraft<'a>>
     ensures { result ≡ fed (view value.now) }
 {
     match (
@@ -55,13 +54,13 @@ fn fed<'a>(value: &Value<'a>) -> Option<FedDraft<'a>>
     }
 }
 
-fn has(value: &Value<'_>, name: &str) -> bool
+fn has(value: &Value, name: &str) -> bool
     ensures { result ≡ has name.now (view value.now) }
 {
-    field(value, name).is_some()
+    value.get(name).is_some()
 }
 
-fn message<'a>(value: &Value<'a>) -> Option<FedDraft<'a>>
+fn message<'a>(value: &'a Value) -> Option<FedDraft<'a>>
     ensures { result ≡ message_form (view value.now) }
 {
     Some(FedDraft::Message {
@@ -70,7 +69,7 @@ fn message<'a>(value: &Value<'a>) -> Option<FedDraft<'a>>
     })
 }
 
-fn goal<'a>(value: &Value<'a>) -> Option<FedDraft<'a>>
+fn goal<'a>(value: &'a Value) -> Option<FedDraft<'a>>
     ensures { result ≡ goal_form (view value.now) }
 {
     Some(FedDraft::Goal {
@@ -80,7 +79,7 @@ fn goal<'a>(value: &Value<'a>) -> Option<FedDraft<'a>>
     })
 }
 
-fn cancel<'a>(value: &Value<'a>) -> Option<FedDraft<'a>>
+fn cancel<'a>(value: &'a Value) -> Option<FedDraft<'a>>
     ensures { result ≡ cancel_form (view value.now) }
 {
     Some(FedDraft::Cancel {
@@ -90,23 +89,23 @@ fn cancel<'a>(value: &Value<'a>) -> Option<FedDraft<'a>>
     })
 }
 
-fn text_field<'a>(value: &Value<'a>, name: &str) -> Option<FedText<'a>>
+fn text_field<'a>(value: &'a Value, name: &str) -> Option<FedText<'a>>
     ensures { result ≡ required text name.now (view value.now) }
 {
-    Some(FedText::of(as_str(field(value, name)?)?))
+    Some(FedText::of(value.get(name)?.as_str()?))
 }
 
-fn value_field(value: &Value<'_>) -> Option<i64>
+fn value_field(value: &Value) -> Option<i64>
     ensures { result ≡ required integer (codes "value") (view value.now) }
 {
-    as_i64(field(value, "value")?)
+    value.get("value")?.as_i64()
 }
 
-fn stamp_field(value: &Value<'_>) -> Option<u64>
+fn stamp_field(value: &Value) -> Option<u64>
     ensures { result ≡ defaulted count 0 (codes "stamp") (view value.now) }
 {
-    match field(value, "stamp") {
-        Some(stamp) => as_u64(stamp),
+    match value.get("stamp") {
+        Some(stamp) => stamp.as_u64(),
         None => Some(0),
     }
 }
