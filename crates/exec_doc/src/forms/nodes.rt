@@ -2,11 +2,11 @@ ghost use Rattle.std.specs.Prelude.{◌≡◌};
 ghost use Rattle.exec_doc.specs.Tree.{view};
 ghost use Rattle.exec_doc.specs.Forms.{exclusive_named, group_kind, group, node};
 
-use crate::forms::entities::{EntityKind, append_entities};
+use crate::forms::entities::append_entities;
 use crate::forms::fields::{Form, list, required};
 use crate::refused::Refused;
 use crate::tree::{as_str, field};
-use exec_graph::{GroupDraft, Items, NodeDraft};
+use exec_graph::{EntityKind, GroupDraft, Items, NodeDraft};
 use json::Value;
 use std::alloc::Global;
 
