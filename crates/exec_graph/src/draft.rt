@@ -1,6 +1,6 @@
 use crate::entity::EntityOf;
-use crate::items::Items;
 use crate::script::Spelled;
+use exec_msg::Items;
 use exec_script::WordText;
 
 /// A named callback group, as its node declares it.

@@ -10,7 +10,6 @@ mod entity;
 mod fault;
 mod graph;
 mod grouping;
-mod items;
 pub mod laws;
 mod limits;
 mod naming;
@@ -33,7 +32,6 @@ pub use entity::{
 };
 pub use fault::{GraphFault, PlanFault};
 pub use graph::Graph;
-pub use items::Items;
 pub use plan::{Fed, Feed, Plan};
 pub use schedule::schedule_fits;
 pub use script::{Script, Spelled};

@@ -6,7 +6,8 @@ use crate::forms::entities::append_entities;
 use crate::forms::fields::{Form, list, required};
 use crate::refused::Refused;
 use crate::tree::{as_str, field};
-use exec_graph::{EntityKind, GroupDraft, Items, NodeDraft};
+use exec_graph::{EntityKind, GroupDraft, NodeDraft};
+use exec_msg::Items;
 use json::Value;
 use std::alloc::Global;
 

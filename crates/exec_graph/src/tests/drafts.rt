@@ -1,9 +1,9 @@
 //! Drafts of graphs, written as texts.
 use crate::{
     ActionClientEntity, ClientEntity, Drafted, EntityDraft, EntityOf, GraphBuilder, GroupDraft,
-    Items, NodeDraft, ServerEntity, ServiceEntity, Spelled, SubscriptionEntity, TimerEntity,
+    NodeDraft, ServerEntity, ServiceEntity, Spelled, SubscriptionEntity, TimerEntity,
 };
-use exec_msg::Memory;
+use exec_msg::{Items, Memory};
 use exec_script::{Word, WordText};
 use std::alloc::{AllocError, AllocFailed, Global};
 use std::num::ParseIntError;
