@@ -11,9 +11,9 @@ use Rattle.exec_doc.specs.Draft.{DocumentDraft}
 use Rattle.exec_graph.specs.declared.draft.GroupDraft.{GroupDraft}
 use Rattle.exec_graph.specs.declared.draft.NodeDraft.{NodeDraft}
 use Rattle.exec_graph.specs.declared.draft.EntityDraft.{EntityDraft}
-use Rattle.exec_graph.specs.declared.draft.Drafted.{Drafted}
-use Rattle.exec_graph.specs.declared.draft.Drafted.TheVariants.{Timer, Subscription, Service, Client, Server, ActionClient}
+use Rattle.exec_graph.specs.Entity.{Drafted, Spelled, if_there}
 use Rattle.exec_graph.specs.Options.{◌>>=◌, each}
+use Rattle.exec_graph.specs.declared.entity.EntityOf.TheVariants.{Timer, Subscription, Service, Client, Server, ActionClient}
 use Rattle.exec_msg.specs.declared.limits.TheConstants.{DEFAULT_DEPTH}
 use Rattle.exec_script.specs.declared.word.Word.{Word}
 use Rattle.exec_script.specs.declared.word.Word.TheVariants.{Text, Number}
@@ -47,11 +47,6 @@ list_of form value = as_array value >>= (λ items. each form (values_of items))
 abbrev pub required : {A : Type 0} → (Data → Option A) → List ℕ → Data → Option A
 required form name holder = get name holder >>= form
 
--- what is there has its form
-abbrev pub if_there : {A : Type 0} → (Data → Option A) → Option Data → Option (Option A)
-if_there form None = Some None
-if_there form (Some value) = option_map Some (form value)
-
 -- an optional field
 abbrev pub optional : {A : Type 0} → (Data → Option A) → List ℕ → Data → Option (Option A)
 optional form name holder = if_there form (get name holder)
@@ -80,11 +75,11 @@ word (array items) = None
 word (object fields) = None
 
 -- a script is a list of instructions, each of which is a list of words
-abbrev pub script : Data → Option (List (List Word))
+abbrev pub script : Data → Option Spelled
 script value = list_of (list_of word) value
 
 -- a script, which is empty where it is missing
-abbrev pub script_field : List ℕ → Data → Option (List (List Word))
+abbrev pub script_field : List ℕ → Data → Option Spelled
 script_field name holder = defaulted script [] name holder
 
 -- ---- callback groups

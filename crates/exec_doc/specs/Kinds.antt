@@ -1,10 +1,10 @@
 -- The forms of entities by their kinds.
 use Rattle.std.specs.Prelude.{Option}
 use Rattle.serde_json.specs.Data.{Data}
-use Rattle.exec_graph.specs.declared.draft.Drafted.{Drafted}
+use Rattle.exec_graph.specs.Entity.{Drafted}
+use Rattle.exec_graph.specs.declared.entity.EntityKind.{EntityKind}
+use Rattle.exec_graph.specs.declared.entity.EntityKind.TheVariants as kind
 use Rattle.exec_doc.specs.Forms.{timer_form, subscription_form, service_form, client_form, server_form, action_client_form}
-use Rattle.exec_doc.specs.declared.forms.entities.EntityKind.{EntityKind}
-use Rattle.exec_doc.specs.declared.forms.entities.EntityKind.TheVariants as kind
 
 -- the form of an entity of a kind
 abbrev pub form_of : EntityKind → Data → Option Drafted

@@ -1,10 +1,10 @@
 -- What is known of a draft when its graph is made: its names, its limits, its scripts, and then the graph.
-use Rattle.std.proofs.Common.{◌≡◌, ◌⊎◌, inl, inr, ℕ, suc, ◌+◌, ◌≤◌, Bool, true, false, not, ◌&&◌, ◌||◌, ◌==◌, length, map, flat_map, filter_map, sum_by, List, [], ◌∷◌, ◌++◌, Option, None, Some, is_some, option_map, refl, sym, ap, subst, ◌∙◌, arith, length-append}
+use Rattle.std.proofs.Common.{◌≡◌, ◌⊎◌, inl, inr, ℕ, suc, ◌+◌, ◌≤◌, Bool, true, false, not, ◌||◌, ◌==◌, length, map, flat_map, filter_map, sum_by, List, [], ◌∷◌, ◌++◌, Option, None, Some, is_some, option_map, refl, sym, ap, subst, ◌∙◌, arith, length-append}
 use Rattle.std.specs.List.{list_all, list_any}
 use Rattle.std.proofs.lemmas.Bool.{leb-true, eqb-true}
 use Rattle.std.proofs.lemmas.List.Sums.{sum_by-cons}
 use Rattle.std.proofs.lemmas.List.{length-map}
-use Rattle.exec_graph.specs.Directory.{DirectoryData, directory_of, where_so, scope_in, faults_in}
+use Rattle.exec_graph.specs.Directory.{DirectoryData, directory_of, where_so, faults_in}
 use Rattle.exec_graph.specs.Draft.{GraphDraft}
 use Rattle.exec_graph.specs.declared.draft.NodeDraft.{NodeDraft}
 use Rattle.exec_graph.specs.declared.entity.CallbackGroup.{CallbackGroup}
@@ -15,31 +15,23 @@ use Rattle.exec_graph.specs.Graph as graph
 use Rattle.exec_graph.specs.Graph.{EntityData, GraphData}
 use Rattle.exec_graph.specs.Lawful.{IsLawful}
 use Rattle.exec_graph.specs.Names.{is_name, are_distinct}
-use Rattle.exec_graph.specs.Numbers.{Placed, entities_of, groups_of, groups_from, named_group, scope_of, is_client, is_server, is_action_client}
+use Rattle.exec_graph.specs.Numbers.{Placed, entities_of, groups_of, groups_from, named_group}
 use Rattle.exec_graph.specs.Options.{◌>>=◌, each}
 use Rattle.exec_graph.specs.Refusals.{fault_in}
 use Rattle.exec_graph.specs.Resolved.{entity_in, graph_in, topic_in}
-use Rattle.exec_graph.specs.Scripts.{scripts_of, fault_of, is_reentrant, script_faults}
+use Rattle.exec_graph.specs.Entity.{scripts_of}
+use Rattle.exec_graph.specs.Scripts.{fault_of, is_reentrant, script_faults}
 use Rattle.exec_msg.specs.declared.limits.TheConstants.{NODES, NAMED_GROUPS, TOPICS, ENTITIES}
 use Rattle.exec_script.specs.declared.fault.ScriptFault.{ScriptFault}
 use Rattle.exec_graph.proofs.Bools.{and_right}
 use Rattle.exec_graph.proofs.Complete.{has_graph}
 use Rattle.exec_graph.proofs.Kept.{names_kept, small_kept}
 use Rattle.exec_graph.proofs.Lawful as lawful
-use Rattle.exec_graph.proofs.Lookups.{topic_found, entity_found}
+use Rattle.exec_graph.proofs.Lookups.{scope_same}
 use Rattle.exec_graph.proofs.Reading.{then_read, are_read, some_is}
 use Rattle.exec_graph.proofs.Resolving.{graph_of}
 
 -- ---- the scripts
-
--- the names of a node are those of its directory
-scope_same : (draft : GraphDraft) → are_distinct (names_of draft) ≡ true → (node : ℕ) → scope_in (directory_of draft) node ≡ scope_of draft node
-scope_same draft distinct node = λ i. record {
-  topic = λ name. topic_found draft name i;
-  client = λ name. entity_found draft (λ placed. is_client placed.entity.is && (placed.node == node)) name distinct i;
-  action_client = λ name. entity_found draft (λ placed. is_action_client placed.entity.is && (placed.node == node)) name distinct i;
-  server = λ name. entity_found draft (λ placed. is_server placed.entity.is && (placed.node == node)) name distinct i;
-}
 
 faults_same : (draft : GraphDraft) → are_distinct (names_of draft) ≡ true → flat_map (faults_in (directory_of draft) (groups_of draft)) (entities_of draft) ≡ script_faults draft
 faults_same draft distinct = λ i. flat_map (λ placed. filter_map (fault_of (scope_same draft distinct placed.node i) (is_reentrant draft placed)) (scripts_of placed.entity.is)) (entities_of draft)
@@ -112,7 +104,15 @@ module _ (draft : GraphDraft) (found : DirectoryData) (there : Some found ≡ wh
   pub few_names : length found.names ≤ 65536
   few_names = subst (λ (directory : DirectoryData). length directory.names ≤ 65536) (sym directory_is) names_few
 
-  -- so have groups
+  -- so have nodes
+  pub few_nodes : {A : Type 0} (texts : List A) (text_of : A → List ℕ) → map text_of texts ≡ map (λ node. node.name) draft.nodes → length texts ≤ 65536
+  few_nodes texts text_of same =
+      let keeps = small_kept draft small in
+      let nodes = leb-true (length draft.nodes) NODES keeps.few_nodes in
+      let long = ap (λ (xs : List (List ℕ)). length xs) same in
+      omega (arith, nodes, length-map texts text_of, length-map draft.nodes (λ (node : NodeDraft). node.name), long)
+
+  -- and groups
   pub few_groups : length (groups_of draft) ≤ 65536
   few_groups =
       let keeps = small_kept draft small in

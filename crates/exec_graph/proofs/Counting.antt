@@ -4,10 +4,9 @@ use Rattle.std.specs.Option.{option_map_or}
 use Rattle.std.proofs.lemmas.List.Filters.{length-filter_both}
 use Rattle.std.proofs.lemmas.Option.{slice_get_within, slice_get_cases, slice_get-get_or}
 use Rattle.exec_graph.specs.Graph.{EntityData, GraphData, is_topic, group_of, declared_at}
-use Rattle.exec_graph.specs.Lawful.{IsLawful, IsLawfulAt, is_at}
+use Rattle.exec_graph.specs.Lawful.{IsLawful, IsLawfulDeclared, is_at}
 use Rattle.exec_graph.specs.declared.entity.Declared.{Declared}
-use Rattle.exec_graph.specs.declared.entity.Declared.TheVariants.{Topic}
-use Rattle.exec_graph.proofs.Bools.{not_true}
+use Rattle.exec_graph.specs.declared.entity.Declared.TheVariants.{Topic, Entity}
 
 -- a lawful graph has at most 768 topics and entities
 pub few : (graph : GraphData) → IsLawful graph → length graph.entities ≤ 768
@@ -45,8 +44,8 @@ passes_at graph number test there =
 -- what isn't a topic has a callback group that is there
 pub group_below : (graph : GraphData) (number : ℕ) → IsLawful graph → is_at (λ declared. not (is_topic declared)) graph number ≡ true → group_of (declared_at graph number) < length graph.groups
 group_below graph number lawful there =
-    by (lawful.entities number (record { name = []; is = Topic }) (at_within graph number (λ declared. not (is_topic declared)) there)) (passes_at graph number (λ declared. not (is_topic declared)) there)
+    by (declared_at graph number) (lawful.entities number (record { name = []; is = Topic }) (at_within graph number (λ declared. not (is_topic declared)) there)) (passes_at graph number (λ declared. not (is_topic declared)) there)
   where
-    by : IsLawfulAt graph (get_or graph.entities number (record { name = []; is = Topic })) → not (is_topic (declared_at graph number)) ≡ true → group_of (declared_at graph number) < length graph.groups
-    by (inl topic) other = absurd (true_and_false (is_topic (declared_at graph number)) topic (not_true (is_topic (declared_at graph number)) other))
-    by (inr lawful) other = slice_get_within graph.groups (group_of (declared_at graph number)) lawful.group lawful.grouped
+    by : (declared : Declared) → IsLawfulDeclared graph declared → not (is_topic declared) ≡ true → group_of declared < length graph.groups
+    by Topic lawful other = absurd cc
+    by (Entity entity) lawful other = slice_get_within graph.groups entity.group lawful.group lawful.grouped

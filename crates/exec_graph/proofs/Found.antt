@@ -4,14 +4,15 @@ use Rattle.std.specs.List.{position_from}
 use Rattle.std.specs.Option.{option_map_or}
 use Rattle.exec_graph.specs.Draft.{GraphDraft}
 use Rattle.exec_graph.specs.Graph.{EntityData, GraphData, is_topic, is_server}
-use Rattle.exec_graph.specs.Numbers as numbers
+use Rattle.exec_graph.specs.Entity.{is_of}
 use Rattle.exec_graph.specs.Numbers.{Placed, entities_of, topic_named, server_named}
 use Rattle.exec_graph.specs.Options.{each}
 use Rattle.exec_graph.specs.Resolved.{entity_in, topic_in, graph_in}
+use Rattle.exec_graph.specs.declared.entity.EntityKind.TheVariants as kind
 use Rattle.exec_graph.proofs.Bools.{and_left}
 use Rattle.exec_graph.proofs.Positions.{at_position}
 use Rattle.exec_graph.proofs.Reading.{then_read, AreRead, are_read, some_is}
-use Rattle.exec_graph.proofs.Resolving.{graph_of, AreEntities, built}
+use Rattle.exec_graph.proofs.Resolving.{graph_of, AreEntities, built, no_topic, same_kind}
 
 -- the first that passes two tests passes the first of them, and stands there
 pub found_there : (test : EntityData → Bool) (also : EntityData → Bool) (entities : List EntityData) (number : ℕ) → position_from (λ entity. test entity && also entity) 0 entities ≡ Some number → option_map_or test (slice_get entities number) false ≡ true
@@ -38,7 +39,7 @@ no_topics source name [] [] first reads = refl
 no_topics source name [] (entity ∷ entities) first reads = absurd reads
 no_topics source name (p ∷ placed) [] first reads = absurd reads
 no_topics source name (p ∷ placed) (entity ∷ entities) first reads =
-    rw ((built source p entity reads.0).made.topic) (no_topics source name placed entities (first + 1) reads.1)
+    rw (no_topic source p entity (built source p entity reads.0)) (no_topics source name placed entities (first + 1) reads.1)
 
 topics_first : (source : GraphDraft) (name : List ℕ) (topics : List (List ℕ)) (entities : List EntityData) (first : ℕ) → AreEntities source entities
     → position_from (λ entity. is_topic entity.is && bytes_eq entity.name name) first (map topic_in topics ++ entities) ≡ position_from (λ topic. bytes_eq topic name) first topics
@@ -48,14 +49,14 @@ topics_first source name (topic ∷ topics) entities first reads =
 
 servers_alike : (source : GraphDraft) (name : List ℕ) (placed : List Placed) (entities : List EntityData) (first : ℕ) → AreRead (entity_in source) placed entities
     → position_from (λ entity. is_server entity.is && bytes_eq entity.name name) first entities
-    ≡ position_from (λ p. numbers.is_server p.entity.is && bytes_eq p.entity.name name) first placed
+    ≡ position_from (λ p. is_of kind.Server p.entity.is && bytes_eq p.entity.name name) first placed
 servers_alike source name [] [] first reads = refl
 servers_alike source name [] (entity ∷ entities) first reads = absurd reads
 servers_alike source name (p ∷ placed) [] first reads = absurd reads
 servers_alike source name (p ∷ placed) (entity ∷ entities) first reads =
     let build = built source p entity reads.0 in
     ap₂ (λ (b : Bool) (o : Option ℕ). cond b (Some first) o)
-    (ap₂ (λ (b : Bool) (n : List ℕ). b && bytes_eq n name) build.made.server build.named)
+    (ap₂ (λ (b : Bool) (n : List ℕ). b && bytes_eq n name) (same_kind source p entity build kind.Server) build.named_as)
     (servers_alike source name placed entities (first + 1) reads.1)
 
 -- a graph finds the names of its draft at their numbers

@@ -2,8 +2,9 @@
 use Rattle.std.proofs.Common.{◌≡◌, Bool, true, false, cond, not, ◌&&◌, ◌||◌, length, map, nat_le, sum_by, List, [], ◌∷◌, Option, None, Some, find, refl}
 use Rattle.std.specs.List.{list_all, list_any}
 use Rattle.exec_graph.specs.Draft.{GraphDraft}
+use Rattle.exec_graph.specs.Entity.{is_within}
 use Rattle.exec_graph.specs.Numbers.{entities_of}
-use Rattle.exec_graph.specs.Faults.{are_names, has_named_groups, names_of, is_resolved, is_within, has_short_scripts, is_of_variable, has_faulty_script, shares_variables, is_well_named, is_small}
+use Rattle.exec_graph.specs.Faults.{are_names, has_named_groups, names_of, is_resolved, has_short_scripts, is_of_variable, has_faulty_script, shares_variables, is_well_named, is_small}
 use Rattle.exec_graph.specs.Refusals.{has_fault, faults_in_order, fault_in}
 use Rattle.exec_graph.specs.Scripts.{script_faults}
 use Rattle.exec_msg.specs.declared.limits.TheConstants.{NODES, NAMED_GROUPS, TOPICS, ENTITIES}

@@ -6,7 +6,7 @@ use Rattle.std.proofs.lemmas.List.{length-map, map-append}
 use Rattle.std.proofs.lemmas.List.Elements.{filter-append}
 use Rattle.exec_graph.specs.Resolved.{entity_in, topic_in, graph_in}
 use Rattle.exec_graph.specs.Draft.{GraphDraft}
-use Rattle.exec_graph.specs.Numbers.{Placed, entities_of, entities_from, groups_of}
+use Rattle.exec_graph.specs.Numbers.{Placed, entities_of, groups_of}
 use Rattle.exec_graph.specs.Options.{each}
 use Rattle.exec_graph.specs.Faults.{has_named_groups, names_of}
 use Rattle.exec_graph.specs.Graph as graph
@@ -16,13 +16,12 @@ use Rattle.exec_graph.specs.declared.entity.CallbackGroup.{CallbackGroup}
 use Rattle.exec_graph.specs.Lawful.{IsLawful, IsLawfulNode, block_of, is_ascending_from}
 use Rattle.exec_graph.specs.Names.{is_name, are_distinct}
 use Rattle.exec_msg.specs.declared.limits.TheConstants.{NODES, NAMED_GROUPS, TOPICS, ENTITIES}
-use Rattle.exec_graph.proofs.Blocks.{block_before, all_mapped, entities_ascend, lower_start}
+use Rattle.exec_graph.proofs.Blocks.{block_before, all_mapped, rank_at, entities_ascend, lower_start}
 use Rattle.exec_graph.proofs.Bools.{and_left, and_right}
 use Rattle.exec_graph.proofs.Entities.{entities_lawful}
 use Rattle.exec_graph.proofs.Groups.{filter_same, filter_none, named_groups, groups_within, has_groups, one_default, names_are}
 use Rattle.exec_graph.proofs.Kept.{IsKept, kept}
-use Rattle.exec_graph.proofs.Made.{draft_block}
-use Rattle.exec_graph.proofs.Resolving.{graph_of, AreEntities, built}
+use Rattle.exec_graph.proofs.Resolving.{graph_of, AreEntities, built, no_topic, same_block}
 use Rattle.exec_graph.proofs.Reading.{then_read, AreRead, are_read, as_many, seen_alike, some_is}
 
 -- ---- names
@@ -35,7 +34,7 @@ pub names_kept : (source : GraphDraft) (entities : List EntityData) → AreEntit
 names_kept source entities reads =
     map-append (λ (entity : EntityData). entity.name) (map topic_in source.topics) entities
     ∙ ap (λ (names : List (List ℕ)). names ++ map (λ entity. entity.name) entities) (topic_names source.topics)
-    ∙ ap (λ (names : List (List ℕ)). source.topics ++ names) (seen_alike (entity_in source) (λ placed. placed.entity.name) (λ entity. entity.name) (entities_of source) entities (λ placed entity read. (built source placed entity read).named) reads)
+    ∙ ap (λ (names : List (List ℕ)). source.topics ++ names) (seen_alike (entity_in source) (λ placed. placed.entity.name) (λ entity. entity.name) (entities_of source) entities (λ placed entity read. (built source placed entity read).named_as) reads)
 
 -- ---- how many
 
@@ -44,7 +43,7 @@ no_topics source [] [] reads = refl
 no_topics source [] (e ∷ entities) reads = absurd reads
 no_topics source (p ∷ placed) [] reads = absurd reads
 no_topics source (p ∷ placed) (e ∷ entities) reads =
-    let fails = (built source p e reads.0).made.topic in
+    let fails = no_topic source p e (built source p e reads.0) in
     rw fails (no_topics source placed entities reads.1)
 
 all_entities : (source : GraphDraft) (placed : List Placed) (entities : List EntityData) → AreRead (entity_in source) placed entities → filter (λ entity. not (is_topic entity.is)) entities ≡ entities
@@ -52,7 +51,7 @@ all_entities source [] [] reads = refl
 all_entities source [] (e ∷ entities) reads = absurd reads
 all_entities source (p ∷ placed) [] reads = absurd reads
 all_entities source (p ∷ placed) (e ∷ entities) reads =
-    let fails = (built source p e reads.0).made.topic in
+    let fails = no_topic source p e (built source p e reads.0) in
     rw fails (ap (λ (es : List EntityData). e ∷ es) (all_entities source placed entities reads.1))
 
 topics_counted : (source : GraphDraft) (entities : List EntityData) → AreEntities source entities → length (filter (λ entity. is_topic entity.is) (map topic_in source.topics ++ entities)) ≡ length source.topics
@@ -92,13 +91,13 @@ topic_blocks (name ∷ topics) = ap (λ (ns : List ℕ). 0 ∷ ns) (topic_blocks
 
 blocks_kept : (source : GraphDraft) (entities : List EntityData) → AreEntities source entities → is_ascending_from 0 (map (λ entity. block_of entity.is) (map topic_in source.topics ++ entities)) ≡ true
 blocks_kept source entities reads =
-    let blocks = map (λ placed. draft_block placed.entity.is) (entities_of source) in
+    let blocks = map rank_at (entities_of source) in
     ap (is_ascending_from 0)
     (map-append (λ (entity : EntityData). block_of entity.is) (map topic_in source.topics) entities
     ∙ ap (λ (ns : List ℕ). ns ++ map (λ entity. block_of entity.is) entities) (topic_blocks source.topics)
-    ∙ ap (λ (ns : List ℕ). map (λ name. 0) source.topics ++ ns) (seen_alike (entity_in source) (λ placed. draft_block placed.entity.is) (λ entity. block_of entity.is) (entities_of source) entities (λ placed entity read. (built source placed entity read).made.block) reads))
+    ∙ ap (λ (ns : List ℕ). map (λ name. 0) source.topics ++ ns) (seen_alike (entity_in source) rank_at (λ entity. block_of entity.is) (entities_of source) entities (λ placed entity read. same_block source placed entity (built source placed entity read)) reads))
     ∙ block_before 0 0 (map (λ name. 0) source.topics) blocks (omega arith) (all_mapped (λ name. 0) 0 source.topics (λ name. refl))
-    (lower_start 0 1 blocks (omega arith) (entities_ascend (entities_from 0 source.nodes)))
+    (lower_start 0 1 blocks (omega arith) (entities_ascend source.nodes))
 
 -- ---- the graph
 

@@ -9,6 +9,7 @@ pub mod Declarations
 pub mod Directories
 pub mod Entities
 pub mod EntityOrder
+pub mod EntityReading
 pub mod EntityResolving
 pub mod Faultless
 pub mod Found
@@ -19,7 +20,6 @@ pub mod Lawful
 pub mod Listed
 pub mod Looking
 pub mod Lookups
-pub mod Made
 pub mod NameLists
 pub mod Positions
 pub mod Reading

@@ -1,5 +1,5 @@
 -- What a directory finds is what the draft of a graph declares.
-use Rattle.std.proofs.Common.{◌≡◌, ℕ, ◌+◌, ◌-◌, ◌<◌, ◌≤◌, Bool, true, false, not, ◌&&◌, cond, if◌then◌else◌, nat_lt, length, map, List, [], ◌∷◌, ◌++◌, Option, None, Some, option_and_then, slice_get, refl, sym, ap, subst, ◌∙◌, append_assoc, arith}
+use Rattle.std.proofs.Common.{◌≡◌, ℕ, ◌+◌, ◌-◌, ◌<◌, ◌≤◌, Bool, true, false, not, ◌&&◌, ◌==◌, cond, if◌then◌else◌, nat_lt, length, map, List, [], ◌∷◌, ◌++◌, Option, None, Some, option_and_then, slice_get, refl, sym, ap, subst, ◌∙◌, append_assoc, arith}
 use Rattle.std.specs.List.{list_any, position_from}
 use Rattle.std.specs.Option.{option_map}
 use Rattle.std.specs.Str.{bytes_eq}
@@ -7,11 +7,16 @@ use Rattle.std.proofs.lemmas.Bool.{lt-ltb, le-ltb}
 use Rattle.std.proofs.lemmas.List.{length-append}
 use Rattle.std.proofs.lemmas.List.Folds.{list_any-append}
 use Rattle.std.proofs.lemmas.Slice.Eq.{bytes_eq-Decides}
-use Rattle.exec_graph.specs.Directory.{DirectoryData, where_so, passing, topic_in, entity_in, directory_of}
+use Rattle.exec_graph.specs.Directory.{where_so, passing, topic_in, entity_in, number_in, scope_in, resolved_by, directory_of}
 use Rattle.exec_graph.specs.Draft.{GraphDraft}
+use Rattle.exec_graph.specs.Entity.{Drafted, is_of, read_by}
 use Rattle.exec_graph.specs.Faults.{names_of}
 use Rattle.exec_graph.specs.Names.{are_distinct}
-use Rattle.exec_graph.specs.Numbers.{Placed, entities_of, topic_named, entity_named}
+use Rattle.exec_graph.specs.Numbers.{Placed, entities_of, topic_named, entity_named, named, scope_of}
+use Rattle.exec_graph.specs.Resolved.{script_in}
+use Rattle.exec_graph.specs.declared.entity.EntityKind.TheVariants as entity_kind
+use Rattle.exec_graph.specs.declared.entity.Referent.{Referent}
+use Rattle.exec_graph.specs.declared.entity.Referent.TheVariants as referent
 use Rattle.exec_graph.proofs.Bools.{and_left, and_right, or_left, or_right}
 
 -- the name of an entity
@@ -153,15 +158,22 @@ topic_among name topics first (text ∷ texts) others is =
 pub topic_found : (draft : GraphDraft) (name : List ℕ) → topic_in (directory_of draft) name ≡ topic_named draft name
 topic_found draft name = topic_among name (length draft.topics) 0 draft.topics (map name_of (entities_of draft)) (omega arith)
 
--- ---- the same where a directory is that of a draft
+-- ---- what names and scripts find
 
-module _ (draft : GraphDraft) (directory : DirectoryData) (is : directory ≡ directory_of draft) where
-  -- what a topic's name finds
-  pub topic_is : (name text : List ℕ) (found : Option ℕ) → text ≡ name → found ≡ topic_in directory text → topic_named draft name ≡ found
-  topic_is name text found same finds =
-      sym (topic_found draft name) ∙ (λ i. topic_in (sym is i) (sym same i)) ∙ sym finds
+-- the number of what a name must be declared as
+pub number_same : (draft : GraphDraft) → are_distinct (names_of draft) ≡ true → (to : Referent) (name : List ℕ) → number_in (directory_of draft) to name ≡ named draft to name
+number_same draft distinct referent.Topic name = topic_found draft name
+number_same draft distinct (referent.Entity kind) name = entity_found draft (λ placed. is_of kind placed.entity.is) name distinct
 
-  -- what an entity's name finds
-  pub entity_is : (test : Placed → Bool) (name text : List ℕ) (found : Option ℕ) → are_distinct (names_of draft) ≡ true → text ≡ name → found ≡ entity_in directory test text → entity_named draft test name ≡ found
-  entity_is test name text found distinct same finds =
-      sym (entity_found draft test name distinct) ∙ (λ i. entity_in (sym is i) test (sym same i)) ∙ sym finds
+-- the names that a node's scripts may use
+pub scope_same : (draft : GraphDraft) → are_distinct (names_of draft) ≡ true → (node : ℕ) → scope_in (directory_of draft) node ≡ scope_of draft node
+scope_same draft distinct node = λ i. record {
+  topic = λ name. topic_found draft name i;
+  client = λ name. entity_found draft (λ placed. is_of entity_kind.Client placed.entity.is && (placed.node == node)) name distinct i;
+  action_client = λ name. entity_found draft (λ placed. is_of entity_kind.ActionClient placed.entity.is && (placed.node == node)) name distinct i;
+  server = λ name. entity_found draft (λ placed. is_of entity_kind.Server placed.entity.is && (placed.node == node)) name distinct i;
+}
+
+-- what an entity of a node is
+pub resolved_same : (draft : GraphDraft) → are_distinct (names_of draft) ≡ true → (node : ℕ) (entity : Drafted) → resolved_by (record { directory = directory_of draft; node = node }) entity ≡ read_by (named draft) (script_in (scope_of draft node)) entity
+resolved_same draft distinct node entity = λ i. read_by (λ to name. number_same draft distinct to name i) (script_in (scope_same draft distinct node i)) entity

@@ -1,6 +1,6 @@
 -- What stands at the position of the first element that passes a test.
-use Rattle.std.proofs.Common.{◌≡◌, ℕ, zero, suc, ◌+◌, Bool, true, false, cond, length, map, List, [], ◌∷◌, ◌++◌, Some, find, slice_get, refl, zero-add, arith}
-use Rattle.std.specs.List.{position_from}
+use Rattle.std.proofs.Common.{◌≡◌, ℕ, zero, suc, ◌+◌, Bool, true, false, cond, ◌||◌, length, map, List, [], ◌∷◌, ◌++◌, Option, Some, is_some, find, slice_get, refl, zero-add, arith}
+use Rattle.std.specs.List.{list_any, position_from}
 
 -- an element that passes a test, at a place behind an offset
 pub record IsAt {A : Type 0} (test : A → Bool) (first : ℕ) (xs : List A) (number : ℕ) : Type 0 where
@@ -26,6 +26,15 @@ at_either test first x xs number false fails found later = at_later test first x
 pub at_position : {A : Type 0} (test : A → Bool) (first : ℕ) (xs : List A) (number : ℕ) → position_from test first xs ≡ Some number → IsAt test first xs number
 at_position test first [] number found = absurd cc
 at_position test first (x ∷ xs) number found = at_either test first x xs number (test x) refl found (at_position test (first + 1) xs number)
+
+found_by : (b : Bool) (here : ℕ) (later : Option ℕ) (any : Bool) → is_some later ≡ any → is_some (cond b (Some here) later) ≡ (b || any)
+found_by true here later any same = refl
+found_by false here later any same = same
+
+-- one is found where one passes
+pub found_any : {A : Type 0} (test : A → Bool) (first : ℕ) (xs : List A) → is_some (position_from test first xs) ≡ list_any test xs
+found_any test first [] = refl
+found_any test first (x ∷ xs) = found_by (test x) first (position_from test (first + 1) xs) (list_any test xs) (found_any test (first + 1) xs)
 
 -- ---- places in lists that are joined and mapped
 

@@ -3,20 +3,22 @@ use Rattle.std.proofs.Common.{◌≡◌, ℕ, ◌+◌, Bool, true, false, not, �
 use Rattle.std.specs.Option.{option_map_or}
 use Rattle.std.proofs.lemmas.Bool.{eqb-true}
 use Rattle.std.proofs.lemmas.List.{length-map}
-use Rattle.exec_graph.specs.Resolved.{declared, entity_in, topic_in, graph_in}
 use Rattle.exec_graph.specs.Draft.{GraphDraft}
-use Rattle.exec_graph.specs.declared.draft.Drafted.{Drafted}
-use Rattle.exec_graph.specs.Numbers as numbers
-use Rattle.exec_graph.specs.Numbers.{Placed, entities_of, topic_named, entity_named, service_named, server_named, named_in_node, scope_of, is_group, same_name, groups_of, group_named}
-use Rattle.exec_graph.specs.Scripts.{is_reentrant}
+use Rattle.exec_graph.specs.Entity.{Resolved, kind_of, rank_of, is_of, read_by}
+use Rattle.exec_graph.specs.Graph.{EntityData, GraphData, in_group, is_topic, is_a, is_server, group_of}
+use Rattle.exec_graph.specs.Lawful.{is_at, is_of_node, is_at_node, is_declared, block_of}
+use Rattle.exec_graph.specs.Numbers.{Placed, entities_of, topic_named, entity_named, kind_named, server_named, named, named_in_node, scope_of, is_group, same_name, groups_of, group_named}
 use Rattle.exec_graph.specs.Options.{each}
-use Rattle.exec_graph.specs.Graph.{EntityData, GraphData, is_topic, is_service, is_client, is_server, is_action_client, group_of}
+use Rattle.exec_graph.specs.Resolved.{script_in, entity_in, topic_in, graph_in}
+use Rattle.exec_graph.specs.Scripts.{is_reentrant}
 use Rattle.exec_graph.specs.declared.entity.CallbackGroup.{CallbackGroup}
-use Rattle.exec_graph.specs.declared.entity.Declared.{Declared}
-use Rattle.exec_graph.specs.Lawful.{is_at, is_of_node, is_at_node}
+use Rattle.exec_graph.specs.declared.entity.EntityKind.{EntityKind}
+use Rattle.exec_graph.specs.declared.entity.EntityKind.TheVariants as entity_kind
+use Rattle.exec_graph.specs.declared.entity.Referent.{Referent}
+use Rattle.exec_graph.specs.declared.entity.Referent.TheVariants as referent
 use Rattle.exec_graph.proofs.Bools.{and_left, and_right, both_true}
+use Rattle.exec_graph.proofs.EntityReading.{IsReadBy, read_has}
 use Rattle.exec_graph.proofs.Known.{Knows}
-use Rattle.exec_graph.proofs.Made.{IsMade, made}
 use Rattle.exec_graph.proofs.Positions.{at_position, slice_get-map, slice_get-front, slice_get-behind}
 use Rattle.exec_graph.proofs.Reading.{then_read, AreRead, are_read, read_at, some_is}
 
@@ -34,20 +36,38 @@ AreEntities source entities = AreRead (entity_in source) (entities_of source) en
 
 -- ---- entities
 
--- an entity: the number of its group, its name, and what it has of its draft
+-- an entity: its name, the number of its group, what it is, and what that has of its draft
 pub record IsBuilt (source : GraphDraft) (placed : Placed) (entity : EntityData) : Type 0 where
   pub number : ℕ
+  pub is : Resolved
   pub found : group_named source placed.node placed.entity.group ≡ Some number
-  pub named : entity.name ≡ placed.entity.name
-  pub read : declared source (scope_of source placed.node) number placed.entity.is ≡ Some entity.is
-  pub made : IsMade (scope_of source placed.node) number placed.entity.is entity.is
+  pub named_as : entity.name ≡ placed.entity.name
+  pub declared : entity.is ≡ in_group number is
+  pub read : IsReadBy (named source) (script_in (scope_of source placed.node)) placed.entity.is is
 
 pub built : (source : GraphDraft) (placed : Placed) (entity : EntityData) → entity_in source placed ≡ Some entity → IsBuilt source placed entity
 built source placed entity e =
     then_read _ (group_named source placed.node placed.entity.group) _ entity e (λ number found e1.
-    then_read _ (declared source (scope_of source placed.node) number placed.entity.is) _ entity e1 (λ is read e2.
-    subst (IsBuilt source placed) (some_is (record { name = placed.entity.name; is = is }) entity e2)
-    (record { number = number; found = found; named = refl; read = read; made = made source (scope_of source placed.node) number placed.entity.is is read })))
+    then_read _ (read_by (named source) (script_in (scope_of source placed.node)) placed.entity.is) _ entity e1 (λ is read e2.
+    subst (IsBuilt source placed) (some_is (record { name = placed.entity.name; is = in_group number is }) entity e2)
+    (record { number = number; is = is; found = found; named_as = refl; declared = refl; read = read_has (named source) (script_in (scope_of source placed.node)) placed.entity.is is read })))
+
+module _ (source : GraphDraft) (placed : Placed) (entity : EntityData) (build : IsBuilt source placed entity) where
+  -- it is no topic
+  pub no_topic : is_topic entity.is ≡ false
+  no_topic = ap is_topic build.declared
+
+  -- it is of the kind of its draft
+  pub same_kind : (kind : EntityKind) → is_a kind entity.is ≡ is_of kind placed.entity.is
+  same_kind kind = ap (is_a kind) build.declared ∙ ap (λ (of : EntityKind). rank_of kind == rank_of of) build.read.kind
+
+  -- and stands in the block of that kind
+  pub same_block : block_of entity.is ≡ rank_of (kind_of placed.entity.is)
+  same_block = ap block_of build.declared ∙ ap rank_of build.read.kind
+
+  -- its group is the one that its draft names
+  pub same_group : group_of entity.is ≡ build.number
+  same_group = ap group_of build.declared
 
 -- ---- groups
 
@@ -102,15 +122,16 @@ entity_there source entities test name number reads found =
       there = ap (slice_get (map topic_in source.topics ++ entities)) same ∙ slice_get-behind (map topic_in source.topics) entities at.place ∙ read.there;
     }
 
-pub service_there : (source : GraphDraft) (entities : List EntityData) (name : List ℕ) (number : ℕ) → AreEntities source entities → service_named source name ≡ Some number → is_at is_service (graph_of source entities) number ≡ true
-service_there source entities name number reads found =
-    let at = entity_there source entities (λ placed. numbers.is_service placed.entity.is) name number reads found in
-    found_at (λ entity. is_service entity.is) (map topic_in source.topics ++ entities) number at.entity at.there ((built source at.placed at.entity at.read).made.service ∙ at.passes)
+-- an entity of a kind and a name is there
+kind_there : (source : GraphDraft) (entities : List EntityData) (kind : EntityKind) (name : List ℕ) (number : ℕ) → AreEntities source entities → kind_named source kind name ≡ Some number → is_at (is_a kind) (graph_of source entities) number ≡ true
+kind_there source entities kind name number reads found =
+    let at = entity_there source entities (λ placed. is_of kind placed.entity.is) name number reads found in
+    found_at (λ entity. is_a kind entity.is) (map topic_in source.topics ++ entities) number at.entity at.there (same_kind source at.placed at.entity (built source at.placed at.entity at.read) kind ∙ at.passes)
 
-pub server_there : (source : GraphDraft) (entities : List EntityData) (name : List ℕ) (number : ℕ) → AreEntities source entities → server_named source name ≡ Some number → is_at is_server (graph_of source entities) number ≡ true
-server_there source entities name number reads found =
-    let at = entity_there source entities (λ placed. numbers.is_server placed.entity.is) name number reads found in
-    found_at (λ entity. is_server entity.is) (map topic_in source.topics ++ entities) number at.entity at.there ((built source at.placed at.entity at.read).made.server ∙ at.passes)
+-- so is what a name must be declared as
+pub named_there : (source : GraphDraft) (entities : List EntityData) → AreEntities source entities → (to : Referent) (name : List ℕ) (number : ℕ) → named source to name ≡ Some number → is_declared (graph_of source entities) to number ≡ true
+named_there source entities reads referent.Topic name number found = topic_there source entities name number found
+named_there source entities reads (referent.Entity kind) name number found = kind_there source entities kind name number reads found
 
 -- ---- what scripts may use
 
@@ -118,24 +139,24 @@ of_node : (source : GraphDraft) (entities : List EntityData) (node : ℕ) (place
 of_node source entities node placed entity build here =
     let has = has_group source placed build.number build.found in
     let is : has.group.node == node ≡ true = ap (λ (n : ℕ). n == node) has.node ∙ here in
-    let there : slice_get (groups_of source) (group_of entity.is) ≡ Some has.group = ap (slice_get (groups_of source)) build.made.grouped ∙ has.there in
+    let there : slice_get (groups_of source) (group_of entity.is) ≡ Some has.group = ap (slice_get (groups_of source)) (same_group source placed entity build) ∙ has.there in
     rw there is
 
-in_node : (source : GraphDraft) (entities : List EntityData) (node : ℕ) (kind : Drafted → Bool) (test : Declared → Bool) → ((placed : Placed) (entity : EntityData) → IsBuilt source placed entity → test entity.is ≡ kind placed.entity.is) → (name : List ℕ) (number : ℕ) → AreEntities source entities → named_in_node source node kind name ≡ Some number → is_at_node test (graph_of source entities) node number ≡ true
-in_node source entities node kind test agrees name number reads found =
-    let at = entity_there source entities (λ placed. kind placed.entity.is && (placed.node == node)) name number reads found in
+in_node : (source : GraphDraft) (entities : List EntityData) (node : ℕ) (kind : EntityKind) (name : List ℕ) (number : ℕ) → AreEntities source entities → named_in_node source node kind name ≡ Some number → is_at_node (is_a kind) (graph_of source entities) node number ≡ true
+in_node source entities node kind name number reads found =
+    let at = entity_there source entities (λ placed. is_of kind placed.entity.is && (placed.node == node)) name number reads found in
     let build = built source at.placed at.entity at.read in
-    let is = agrees at.placed at.entity build ∙ and_left (kind at.placed.entity.is) (at.placed.node == node) at.passes in
-    let here = of_node source entities node at.placed at.entity build (and_right (kind at.placed.entity.is) (at.placed.node == node) at.passes) in
-    found_at (λ entity. test entity.is && is_of_node (graph_of source entities) node (group_of entity.is)) (map topic_in source.topics ++ entities) number at.entity at.there
-    (both_true (test at.entity.is) (is_of_node (graph_of source entities) node (group_of at.entity.is)) is here)
+    let is = same_kind source at.placed at.entity build kind ∙ and_left (is_of kind at.placed.entity.is) (at.placed.node == node) at.passes in
+    let here = of_node source entities node at.placed at.entity build (and_right (is_of kind at.placed.entity.is) (at.placed.node == node) at.passes) in
+    found_at (λ entity. is_a kind entity.is && is_of_node (graph_of source entities) node (group_of entity.is)) (map topic_in source.topics ++ entities) number at.entity at.there
+    (both_true (is_a kind at.entity.is) (is_of_node (graph_of source entities) node (group_of at.entity.is)) is here)
 
 pub knows : (source : GraphDraft) (entities : List EntityData) (node : ℕ) → AreEntities source entities → Knows (scope_of source node) (graph_of source entities) node
 knows source entities node reads = record {
   topics = topic_there source entities;
-  clients = λ name number found. in_node source entities node numbers.is_client is_client (λ placed entity build. build.made.client) name number reads found;
-  action_clients = λ name number found. in_node source entities node numbers.is_action_client is_action_client (λ placed entity build. build.made.action_client) name number reads found;
-  servers = λ name number found. in_node source entities node numbers.is_server is_server (λ placed entity build. build.made.server) name number reads found;
+  clients = λ name number found. in_node source entities node entity_kind.Client name number reads found;
+  action_clients = λ name number found. in_node source entities node entity_kind.ActionClient name number reads found;
+  servers = λ name number found. in_node source entities node entity_kind.Server name number reads found;
 }
 
 -- ---- the graph of a draft
@@ -149,4 +170,4 @@ pub server_found : (source : GraphDraft) (made : GraphData) (name : List ℕ) (n
 server_found source made name number is found =
     then_read _ (each (entity_in source) (entities_of source)) _ made is (λ entities read e.
     subst (λ (shape : GraphData). is_at is_server shape number ≡ true) (some_is (graph_of source entities) made e)
-    (server_there source entities name number (are_read (entity_in source) (entities_of source) entities read) found))
+    (kind_there source entities entity_kind.Server name number (are_read (entity_in source) (entities_of source) entities read) found))

@@ -1,29 +1,20 @@
 -- A draft is well named where its directory resolves all its entities.
-use Rattle.std.proofs.Common.{◌≡◌, ℕ, zero, suc, ◌+◌, ◌<◌, Bool, true, false, ◌&&◌, ◌||◌, cond, ◌==◌, map, List, [], ◌∷◌, Option, None, Some, is_some, slice_get, refl, sym, ap, ◌∙◌, zero-add, arith}
-use Rattle.std.specs.List.{list_any, list_all, position_from}
+use Rattle.std.proofs.Common.{◌≡◌, ℕ, zero, suc, ◌+◌, ◌<◌, Bool, true, false, ◌&&◌, ◌||◌, ◌==◌, map, List, [], ◌∷◌, Option, None, Some, is_some, slice_get, refl, sym, ap, ◌∙◌, zero-add, arith}
+use Rattle.std.specs.List.{list_any, list_all}
 use Rattle.std.specs.Str.{bytes_eq}
 use Rattle.std.proofs.lemmas.Bool.{eqb-true, eq-eqb}
 use Rattle.std.proofs.lemmas.List.Folds.{list_any-append}
-use Rattle.exec_graph.specs.Directory.{DirectoryData, where_so, group_names, has_in, has_group, refers, resolves, directory_of}
+use Rattle.exec_graph.specs.Directory.{DirectoryData, where_so, group_names, has_in, has_group, resolves, directory_of}
 use Rattle.exec_graph.specs.Draft.{GraphDraft}
-use Rattle.exec_graph.specs.Faults as faults
+use Rattle.exec_graph.specs.Entity.{refers}
 use Rattle.exec_graph.specs.Faults.{are_names, has_named_groups, names_of, is_resolved, is_well_named}
 use Rattle.exec_graph.specs.Names.{is_name, are_distinct}
-use Rattle.exec_graph.specs.Numbers.{Placed, entities_of, groups_from, named_group, is_group, same_name, group_named, is_service, is_server}
-use Rattle.exec_graph.specs.declared.draft.Drafted.{Drafted}
-use Rattle.exec_graph.specs.declared.draft.Drafted.TheVariants.{Timer, Subscription, Service, Client, Server, ActionClient}
+use Rattle.exec_graph.specs.Numbers.{Placed, entities_of, groups_from, named_group, is_group, same_name, group_named}
 use Rattle.exec_graph.specs.declared.draft.GroupDraft.{GroupDraft}
 use Rattle.exec_graph.specs.declared.draft.NodeDraft.{NodeDraft}
 use Rattle.exec_graph.proofs.Bools.{and_right}
-use Rattle.exec_graph.proofs.Lookups.{topic_found, entity_found}
-
-any_by : (b any : Bool) (first : ℕ) (rest : Option ℕ) → is_some rest ≡ any → is_some (cond b (Some first) rest) ≡ (b || any)
-any_by true any first rest is = refl
-any_by false any first rest is = is
-
-found_any : {A : Type 0} (test : A → Bool) (first : ℕ) (xs : List A) → is_some (position_from test first xs) ≡ list_any test xs
-found_any test first [] = refl
-found_any test first (x ∷ xs) = any_by (test x) (list_any test xs) first (position_from test (first + 1) xs) (found_any test (first + 1) xs)
+use Rattle.exec_graph.proofs.Lookups.{number_same}
+use Rattle.exec_graph.proofs.Positions.{found_any}
 
 any_mapped : {X A : Type 0} (test : A → Bool) (see : X → A) (xs : List X) → list_any test (map see xs) ≡ list_any (λ x. test (see x)) xs
 any_mapped test see [] = refl
@@ -98,16 +89,8 @@ has draft node name =
 
 -- ---- entities
 
-refers_same : (draft : GraphDraft) (entity : Drafted) → are_distinct (names_of draft) ≡ true → refers (directory_of draft) entity ≡ faults.refers draft entity
-refers_same draft (Timer entity) distinct = refl
-refers_same draft (Subscription entity) distinct = ap is_some (topic_found draft entity.topic)
-refers_same draft (Service entity) distinct = refl
-refers_same draft (Client entity) distinct = ap is_some (entity_found draft (λ placed. is_service placed.entity.is) entity.service distinct)
-refers_same draft (Server entity) distinct = refl
-refers_same draft (ActionClient entity) distinct = ap is_some (entity_found draft (λ placed. is_server placed.entity.is) entity.server distinct)
-
 resolves_same : (draft : GraphDraft) → are_distinct (names_of draft) ≡ true → (placed : Placed) → resolves (directory_of draft) placed ≡ is_resolved draft placed
-resolves_same draft distinct placed = λ i. sym (has draft placed.node placed.entity.group) i && refers_same draft placed.entity.is distinct i
+resolves_same draft distinct placed = λ i. sym (has draft placed.node placed.entity.group) i && refers (λ to name. is_some (number_same draft distinct to name i)) placed.entity.is
 
 named_by : (a h n r : Bool) → true ≡ a → (h && n) ≡ true → r ≡ (((a && h) && n) && r)
 named_by true true true r is both = refl

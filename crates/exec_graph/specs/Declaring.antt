@@ -2,13 +2,14 @@
 use Rattle.std.specs.Prelude.{◌≡◌, ℕ, List, ◌++◌, map, Bool}
 use Rattle.std.specs.List.{filter, flat_map, list_any}
 use Rattle.std.specs.Str.{bytes_eq}
-use Rattle.exec_graph.specs.Numbers.{is_server}
+use Rattle.exec_graph.specs.Entity.{is_of}
 use Rattle.exec_graph.specs.declared.draft.EntityDraft.{EntityDraft}
 use Rattle.exec_graph.specs.declared.draft.NodeDraft.{NodeDraft}
+use Rattle.exec_graph.specs.declared.entity.EntityKind.TheVariants as kind
 
 -- the names of the action servers among entities
 abbrev pub server_names : List EntityDraft → List (List ℕ)
-server_names entities = map (λ entity. entity.name) (filter (λ entity. is_server entity.is) entities)
+server_names entities = map (λ entity. entity.name) (filter (λ entity. is_of kind.Server entity.is) entities)
 
 -- the names of the actions of nodes, which are those of their servers
 abbrev pub actions_of : List NodeDraft → List (List ℕ)

@@ -3,17 +3,20 @@ use Rattle.std.specs.Prelude.{ℕ, ◌-◌, List, [], ◌∷◌, ◌++◌, lengt
 use Rattle.std.specs.List.{filter_map, list_any, position_from}
 use Rattle.std.specs.List.{find as first}
 use Rattle.std.specs.Option.{option_map, option_map_or}
-use Rattle.exec_graph.specs.Scripts.{scripts_of, fault_of}
+use Rattle.exec_graph.specs.Scripts.{fault_of}
 use Rattle.exec_graph.specs.declared.entity.CallbackGroup.{CallbackGroup}
+use Rattle.exec_graph.specs.declared.entity.EntityKind.TheVariants as kind
+use Rattle.exec_graph.specs.declared.entity.Referent.{Referent}
+use Rattle.exec_graph.specs.declared.entity.Referent.TheVariants as referent
 use Rattle.exec_script.specs.declared.fault.ScriptFault.{ScriptFault}
 use Rattle.std.specs.Str.{bytes_eq}
 use Rattle.exec_graph.specs.Draft.{GraphDraft}
+use Rattle.exec_graph.specs.Entity.{Drafted, Resolved, is_of, refers, scripts_of, read_by}
 use Rattle.exec_graph.specs.declared.draft.NodeDraft.{NodeDraft}
-use Rattle.exec_graph.specs.declared.draft.Drafted.{Drafted}
-use Rattle.exec_graph.specs.declared.draft.Drafted.TheVariants.{Subscription, Client, ActionClient}
 use Rattle.exec_graph.specs.Faults.{names_of}
 use Rattle.exec_graph.specs.Names.{is_name}
-use Rattle.exec_graph.specs.Numbers.{Placed, entities_of, is_service, is_client, is_action_client, is_server, is_group}
+use Rattle.exec_graph.specs.Numbers.{Placed, entities_of, is_group}
+use Rattle.exec_graph.specs.Resolved.{script_in}
 use Rattle.exec_script.specs.Spelling.{ScopeNames}
 
 -- ---- names
@@ -91,16 +94,14 @@ has_in (Some names) (Some name) = is_some (position_from (λ other. bytes_eq oth
 abbrev pub has_group : DirectoryData → ℕ → Option (List ℕ) → Bool
 has_group directory node name = has_in (slice_get directory.groups node) name
 
--- whether what an entity refers to is declared
-abbrev pub refers : DirectoryData → Drafted → Bool
-refers directory (Subscription entity) = is_some (topic_in directory entity.topic)
-refers directory (Client entity) = is_some (entity_in directory (λ placed. is_service placed.entity.is) entity.service)
-refers directory (ActionClient entity) = is_some (entity_in directory (λ placed. is_server placed.entity.is) entity.server)
-refers directory _ = true
+-- the number of what a name must be declared as
+abbrev pub number_in : DirectoryData → Referent → List ℕ → Option ℕ
+number_in directory referent.Topic = topic_in directory
+number_in directory (referent.Entity kind) = entity_in directory (λ placed. is_of kind placed.entity.is)
 
 -- whether the group of an entity and what it refers to are declared
 abbrev pub resolves : DirectoryData → Placed → Bool
-resolves directory placed = has_group directory placed.node placed.entity.group && refers directory placed.entity.is
+resolves directory placed = has_group directory placed.node placed.entity.group && refers (λ to name. is_some (number_in directory to name)) placed.entity.is
 
 -- the draft of these topics and nodes
 abbrev pub draft_of : List (List ℕ) → List NodeDraft → GraphDraft
@@ -110,15 +111,19 @@ draft_of topics nodes = record { topics = topics; nodes = nodes }
 abbrev pub scope_in : DirectoryData → ℕ → ScopeNames
 scope_in directory node = record {
   topic = topic_in directory;
-  client = entity_in directory (λ placed. is_client placed.entity.is && (placed.node == node));
-  action_client = entity_in directory (λ placed. is_action_client placed.entity.is && (placed.node == node));
-  server = entity_in directory (λ placed. is_server placed.entity.is && (placed.node == node));
+  client = entity_in directory (λ placed. is_of kind.Client placed.entity.is && (placed.node == node));
+  action_client = entity_in directory (λ placed. is_of kind.ActionClient placed.entity.is && (placed.node == node));
+  server = entity_in directory (λ placed. is_of kind.Server placed.entity.is && (placed.node == node));
 }
 
 -- a node of a directory
 pub record NodeData : Type 0 where
   pub directory : DirectoryData
   pub node : ℕ
+
+-- what an entity of a node is, its names and its scripts read by the directory
+abbrev pub resolved_by : NodeData → Drafted → Option Resolved
+resolved_by scope = read_by (number_in scope.directory) (script_in (scope_in scope.directory scope.node))
 
 -- whether the group of an entity is reentrant, where these are the groups
 abbrev pub is_reentrant_in : List CallbackGroup → Placed → Bool

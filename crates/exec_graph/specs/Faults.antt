@@ -2,14 +2,12 @@
 use Rattle.std.specs.List.{list_all, list_any, sum_by}
 use Rattle.std.specs.Prelude.{ℕ, List, ◌++◌, length, map, Bool, true, false, not, ◌&&◌, nat_le, is_some}
 use Rattle.exec_graph.specs.Draft.{GraphDraft}
+use Rattle.exec_graph.specs.Entity.{Drafted, refers, is_within, scripts_of}
 use Rattle.exec_graph.specs.declared.draft.NodeDraft.{NodeDraft}
-use Rattle.exec_graph.specs.declared.draft.Drafted.{Drafted}
-use Rattle.exec_graph.specs.declared.draft.Drafted.TheVariants.{Timer, Subscription, Service, Client, Server, ActionClient}
-use Rattle.exec_graph.specs.Numbers.{Placed, entities_of, topic_named, service_named, server_named, group_named}
-use Rattle.exec_graph.specs.Scripts.{scripts_of, script_faults}
-use Rattle.exec_graph.specs.Lawful.{is_from_1, is_timeout}
+use Rattle.exec_graph.specs.Numbers.{Placed, entities_of, named, group_named}
+use Rattle.exec_graph.specs.Scripts.{script_faults}
 use Rattle.exec_graph.specs.Names.{is_name, are_distinct}
-use Rattle.exec_msg.specs.declared.limits.TheConstants.{NODES, NAMED_GROUPS, TOPICS, ENTITIES, INSTRUCTIONS, DEPTH, TICKS}
+use Rattle.exec_msg.specs.declared.limits.TheConstants.{NODES, NAMED_GROUPS, TOPICS, ENTITIES, INSTRUCTIONS}
 use Rattle.exec_script.specs.declared.fault.ScriptFault.TheVariants as fault
 use Rattle.exec_script.specs.declared.fault.ScriptFault.{ScriptFault}
 
@@ -23,16 +21,9 @@ are_names texts = list_all is_name texts && are_distinct texts
 abbrev pub has_named_groups : NodeDraft → Bool
 has_named_groups node = are_names (map (λ group. group.name) node.groups)
 
--- what an entity refers to is declared: a subscription's topic, a client's service, an action client's server
-abbrev pub refers : GraphDraft → Drafted → Bool
-refers draft (Subscription entity) = is_some (topic_named draft entity.topic)
-refers draft (Client entity) = is_some (service_named draft entity.service)
-refers draft (ActionClient entity) = is_some (server_named draft entity.server)
-refers draft _ = true
-
 -- the group that an entity names is of its node, and what it refers to is declared
 abbrev pub is_resolved : GraphDraft → Placed → Bool
-is_resolved draft placed = is_some (group_named draft placed.node placed.entity.group) && refers draft placed.entity.is
+is_resolved draft placed = is_some (group_named draft placed.node placed.entity.group) && refers (λ to name. is_some (named draft to name)) placed.entity.is
 
 -- the names of topics and entities
 abbrev pub names_of : GraphDraft → List (List ℕ)
@@ -49,18 +40,9 @@ is_well_named draft =
 
 -- ---- limits
 
--- an entity's period, depth and timeout are within their limits
-abbrev pub is_within : Drafted → Bool
-is_within (Timer entity) = is_from_1 TICKS entity.period
-is_within (Subscription entity) = is_from_1 DEPTH entity.depth
-is_within (Service entity) = is_from_1 DEPTH entity.depth
-is_within (Client entity) = is_from_1 DEPTH entity.depth
-is_within (Server entity) = is_from_1 DEPTH entity.depth && is_timeout entity.result_timeout
-is_within (ActionClient entity) = is_from_1 DEPTH entity.depth
-
--- so are its scripts
+-- an entity's scripts are within their limit
 abbrev pub has_short_scripts : Drafted → Bool
-has_short_scripts entity = list_all (λ script. nat_le (length script.words) INSTRUCTIONS) (scripts_of entity)
+has_short_scripts entity = list_all (λ roled. nat_le (length roled.script) INSTRUCTIONS) (scripts_of entity)
 
 -- no number and no length of a graph is beyond its limit
 abbrev pub is_small : GraphDraft → Bool

@@ -4,10 +4,22 @@ use Rattle.std.specs.List.{flat_map}
 use Rattle.std.specs.Option.{unwrap_or}
 use Rattle.exec_msg.specs.declared.kind.Kind.{Kind}
 use Rattle.exec_msg.specs.declared.kind.Kind.TheVariants as kind
-use Rattle.exec_script.specs.declared.instr.Instr.{Instr}
+use Rattle.exec_graph.specs.Entity.{EntityNo, Script, Resolved, is_of}
 use Rattle.exec_graph.specs.declared.entity.CallbackGroup.{CallbackGroup}
 use Rattle.exec_graph.specs.declared.entity.Declared.{Declared}
-use Rattle.exec_graph.specs.declared.entity.Declared.TheVariants.{Topic, Timer, Subscription, Service, Client, Server, ActionClient}
+use Rattle.exec_graph.specs.declared.entity.Declared.TheVariants.{Topic, Entity}
+use Rattle.exec_graph.specs.declared.entity.EntityKind.{EntityKind}
+use Rattle.exec_graph.specs.declared.entity.EntityKind.TheVariants as entity_kind
+use Rattle.exec_graph.specs.declared.entity.EntityOf.TheVariants.{Timer, Subscription, Service, Client, Server, ActionClient}
+use Rattle.exec_graph.specs.declared.entity.GraphEntity.{GraphEntity}
+
+-- the number of a callback group
+abbrev pub GroupNo : Type 0
+GroupNo = ℕ
+
+-- an entity of a callback group
+abbrev pub in_group : GroupNo → Resolved → Declared
+in_group group is = Entity (record { group = group; is = is })
 
 -- a topic or an entity: its name, and what it is
 pub record EntityData : Type 0 where
@@ -26,69 +38,76 @@ abbrev pub names_of : GraphData → List (List ℕ)
 names_of graph = map (λ entity. entity.name) graph.entities
 
 -- what stands at a number
-abbrev pub declared_at : GraphData → ℕ → Declared
-declared_at graph entity = (slice_index_or graph.entities entity (record { name = []; is = Topic })).is
+abbrev pub declared_at : GraphData → EntityNo → Declared
+declared_at graph number = (slice_index_or graph.entities number (record { name = []; is = Topic })).is
 
--- what an entity is
+-- ---- what stands at a number
+
+-- what is said of an entity; of a topic it is this
+abbrev pub of_entity : {A : Type 0} → A → (Resolved → A) → Declared → A
+of_entity otherwise say Topic = otherwise
+of_entity otherwise say (Entity entity) = say entity.is
+
+-- whether a name is declared as a topic
 abbrev pub is_topic : Declared → Bool
 is_topic Topic = true
-is_topic _ = false
+is_topic (Entity entity) = false
+
+-- whether it is declared as an entity of a kind
+abbrev pub is_a : EntityKind → Declared → Bool
+is_a kind = of_entity false (is_of kind)
 
 abbrev pub is_timer : Declared → Bool
-is_timer (Timer entity) = true
-is_timer _ = false
-
-abbrev pub is_service : Declared → Bool
-is_service (Service entity) = true
-is_service _ = false
+is_timer = is_a entity_kind.Timer
 
 abbrev pub is_client : Declared → Bool
-is_client (Client entity) = true
-is_client _ = false
+is_client = is_a entity_kind.Client
 
 abbrev pub is_server : Declared → Bool
-is_server (Server entity) = true
-is_server _ = false
+is_server = is_a entity_kind.Server
 
 abbrev pub is_action_client : Declared → Bool
-is_action_client (ActionClient entity) = true
-is_action_client _ = false
+is_action_client = is_a entity_kind.ActionClient
 
 -- the callback group of an entity
-abbrev pub group_of : Declared → ℕ
+abbrev pub group_of : Declared → GroupNo
 group_of Topic = 0
-group_of (Timer entity) = entity.group
-group_of (Subscription entity) = entity.group
-group_of (Service entity) = entity.group
-group_of (Client entity) = entity.group
-group_of (Server entity) = entity.group
-group_of (ActionClient entity) = entity.group
+group_of (Entity entity) = entity.group
 
--- the depth of its queues
+-- how many items each of an entity's queues holds; a timer has none
+abbrev pub queue_depth : Resolved → ℕ
+queue_depth (Timer entity) = 0
+queue_depth (Subscription entity) = entity.depth
+queue_depth (Service entity) = entity.depth
+queue_depth (Client entity) = entity.depth
+queue_depth (Server entity) = entity.depth
+queue_depth (ActionClient entity) = entity.depth
+
+-- how many items the queues of what stands at a number hold
 abbrev pub depth_of : Declared → ℕ
-depth_of Topic = 0
-depth_of (Timer entity) = 0
-depth_of (Subscription entity) = entity.depth
-depth_of (Service entity) = entity.depth
-depth_of (Client entity) = entity.depth
-depth_of (Server entity) = entity.depth
-depth_of (ActionClient entity) = entity.depth
+depth_of = of_entity 0 queue_depth
 
--- the script of its callbacks of a kind, where it has such callbacks; an ask runs none, and has the empty one here
-abbrev pub script_for : Kind → Declared → Option (List Instr)
-script_for kind.Timer (Timer entity) = Some entity.script
-script_for kind.Message (Subscription entity) = Some entity.script
-script_for kind.Request (Service entity) = Some entity.script
-script_for kind.Reply (Client entity) = Some entity.script
-script_for kind.Goal (Server entity) = Some entity.on_goal
-script_for kind.Cancel (Server entity) = Some entity.on_cancel
-script_for kind.Ask (Server entity) = Some []
-script_for kind.Poll (Server entity) = Some entity.script
-script_for kind.Response (ActionClient entity) = Some entity.on_response
-script_for kind.Code (ActionClient entity) = Some entity.on_code
-script_for kind.Feedback (ActionClient entity) = Some entity.on_feedback
-script_for kind.Result (ActionClient entity) = Some (unwrap_or entity.on_result [])
-script_for _ _ = None
+-- ---- callbacks
+
+-- the script of an entity's callbacks of a kind, where it has such callbacks; an ask runs none, and has the empty one here
+abbrev pub callback_script : Kind → Resolved → Option Script
+callback_script kind.Timer (Timer entity) = Some entity.script
+callback_script kind.Message (Subscription entity) = Some entity.script
+callback_script kind.Request (Service entity) = Some entity.script
+callback_script kind.Reply (Client entity) = Some entity.script
+callback_script kind.Goal (Server entity) = Some entity.on_goal
+callback_script kind.Cancel (Server entity) = Some entity.on_cancel
+callback_script kind.Ask (Server entity) = Some []
+callback_script kind.Poll (Server entity) = Some entity.script
+callback_script kind.Response (ActionClient entity) = Some entity.on_response
+callback_script kind.Code (ActionClient entity) = Some entity.on_code
+callback_script kind.Feedback (ActionClient entity) = Some entity.on_feedback
+callback_script kind.Result (ActionClient entity) = Some (unwrap_or entity.on_result [])
+callback_script _ _ = None
+
+-- the script of the callbacks of a kind of what stands at a number
+abbrev pub script_for : Kind → Declared → Option Script
+script_for kind = of_entity None (callback_script kind)
 
 -- the kinds of callbacks in the order in which ready callbacks run
 abbrev pub kinds : List Kind
@@ -102,12 +121,12 @@ cons_if true first rest = first ∷ rest
 cons_if false first rest = rest
 
 -- the numbers of the entities that pass a test, where the first has this number
-abbrev pub numbers_where : (Declared → Bool) → ℕ → List EntityData → List ℕ
+abbrev pub numbers_where : (Declared → Bool) → EntityNo → List EntityData → List EntityNo
 numbers_where test number [] = []
 numbers_where test number (entity ∷ entities) = cons_if (test entity.is) number (numbers_where test (suc number) entities)
 
 -- the numbers of a graph's entities that pass a test, in the order of declaration
-abbrev pub entities_where : (Declared → Bool) → GraphData → List ℕ
+abbrev pub entities_where : (Declared → Bool) → GraphData → List EntityNo
 entities_where test graph = numbers_where test 0 graph.entities
 
 -- whether an entity has callbacks of a kind
@@ -117,7 +136,7 @@ has_kind kind declared = is_some (script_for kind declared)
 -- what may become ready: an entity's callbacks of a kind
 pub record Waitable : Type 0 where
   pub kind : Kind
-  pub entity : ℕ
+  pub entity : EntityNo
 
 -- the wait set in ready order: by kind, and within a kind in the order of declaration
 abbrev pub wait_set : GraphData → List Waitable

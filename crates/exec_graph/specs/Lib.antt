@@ -1,12 +1,12 @@
 pub mod Declaring
 pub mod Directory
 pub mod Draft
+pub mod Entity
 pub mod Entries
 pub mod Faults
 pub mod Feeding
 pub mod Gives
 pub mod Graph
-pub mod Kinds
 pub mod Lawful
 pub mod Names
 pub mod Numbers

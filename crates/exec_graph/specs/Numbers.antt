@@ -3,86 +3,73 @@ use Rattle.std.specs.Prelude.{ℕ, suc, List, [], ◌∷◌, ◌++◌, length, m
 use Rattle.std.specs.List.{filter, flat_map, position_from}
 use Rattle.std.specs.Str.{bytes_eq}
 use Rattle.exec_graph.specs.Draft.{GraphDraft}
+use Rattle.exec_graph.specs.Entity.{EntityNo, kinds, is_of}
 use Rattle.exec_graph.specs.declared.draft.GroupDraft.{GroupDraft}
 use Rattle.exec_graph.specs.declared.draft.NodeDraft.{NodeDraft}
 use Rattle.exec_graph.specs.declared.draft.EntityDraft.{EntityDraft}
-use Rattle.exec_graph.specs.declared.draft.Drafted.{Drafted}
-use Rattle.exec_graph.specs.declared.draft.Drafted.TheVariants.{Timer, Subscription, Service, Client, Server, ActionClient}
 use Rattle.exec_graph.specs.declared.entity.CallbackGroup.{CallbackGroup}
+use Rattle.exec_graph.specs.declared.entity.EntityKind.{EntityKind}
+use Rattle.exec_graph.specs.declared.entity.EntityKind.TheVariants as kind
+use Rattle.exec_graph.specs.declared.entity.Referent.{Referent}
+use Rattle.exec_graph.specs.declared.entity.Referent.TheVariants as referent
 use Rattle.exec_script.specs.Spelling.{ScopeNames}
 
 -- ---- entities
-
--- what an entity is said to be
-abbrev pub is_timer : Drafted → Bool
-is_timer (Timer entity) = true
-is_timer _ = false
-
-abbrev pub is_subscription : Drafted → Bool
-is_subscription (Subscription entity) = true
-is_subscription _ = false
-
-abbrev pub is_service : Drafted → Bool
-is_service (Service entity) = true
-is_service _ = false
-
-abbrev pub is_client : Drafted → Bool
-is_client (Client entity) = true
-is_client _ = false
-
-abbrev pub is_server : Drafted → Bool
-is_server (Server entity) = true
-is_server _ = false
-
-abbrev pub is_action_client : Drafted → Bool
-is_action_client (ActionClient entity) = true
-is_action_client _ = false
 
 -- an entity with the number of its node
 pub record Placed : Type 0 where
   pub node : ℕ
   pub entity : EntityDraft
 
+-- an entity of a node
+abbrev pub placed_in : ℕ → EntityDraft → Placed
+placed_in node entity = record { node = node; entity = entity }
+
 -- the entities of nodes in order, of which the first has this number
 abbrev pub entities_from : ℕ → List NodeDraft → List Placed
 entities_from number [] = []
-entities_from number (node ∷ nodes) = map (λ entity. record { node = number; entity = entity }) node.entities ++ entities_from (suc number) nodes
+entities_from number (node ∷ nodes) = map (placed_in number) node.entities ++ entities_from (suc number) nodes
 
--- the kinds in the order of numbers
-abbrev pub kinds : List (Drafted → Bool)
-kinds = is_timer ∷ is_subscription ∷ is_service ∷ is_client ∷ is_server ∷ is_action_client ∷ []
+-- the entities of nodes in the order of their numbers: by kind, and within a kind in the order of declaration
+abbrev pub numbered : List NodeDraft → List Placed
+numbered nodes = flat_map (λ kind. filter (λ placed. is_of kind placed.entity.is) (entities_from 0 nodes)) kinds
 
--- the entities of a graph in the order of their numbers: by kind, and within a kind in the order of declaration
+-- the entities of a graph in the order of their numbers
 abbrev pub entities_of : GraphDraft → List Placed
-entities_of draft = flat_map (λ kind. filter (λ placed. kind placed.entity.is) (entities_from 0 draft.nodes)) kinds
+entities_of draft = numbered draft.nodes
 
 -- the number of the topic of a name; topics have the first numbers
-abbrev pub topic_named : GraphDraft → List ℕ → Option ℕ
+abbrev pub topic_named : GraphDraft → List ℕ → Option EntityNo
 topic_named draft name = position_from (λ topic. bytes_eq topic name) 0 draft.topics
 
 -- the number of the entity of a name that passes a test; entities have the numbers behind those of the topics
-abbrev pub entity_named : GraphDraft → (Placed → Bool) → List ℕ → Option ℕ
+abbrev pub entity_named : GraphDraft → (Placed → Bool) → List ℕ → Option EntityNo
 entity_named draft test name = position_from (λ placed. test placed && bytes_eq placed.entity.name name) (length draft.topics) (entities_of draft)
 
--- the number of the service of a name, in whatever node
-abbrev pub service_named : GraphDraft → List ℕ → Option ℕ
-service_named draft name = entity_named draft (λ placed. is_service placed.entity.is) name
+-- the number of the entity of a kind and a name, in whatever node
+abbrev pub kind_named : GraphDraft → EntityKind → List ℕ → Option EntityNo
+kind_named draft kind name = entity_named draft (λ placed. is_of kind placed.entity.is) name
 
 -- the number of the action server of a name, in whatever node
-abbrev pub server_named : GraphDraft → List ℕ → Option ℕ
-server_named draft name = entity_named draft (λ placed. is_server placed.entity.is) name
+abbrev pub server_named : GraphDraft → List ℕ → Option EntityNo
+server_named draft = kind_named draft kind.Server
+
+-- the number of what a name must be declared as
+abbrev pub named : GraphDraft → Referent → List ℕ → Option EntityNo
+named draft referent.Topic = topic_named draft
+named draft (referent.Entity kind) = kind_named draft kind
 
 -- the number of the entity of a kind and a name in a node
-abbrev pub named_in_node : GraphDraft → ℕ → (Drafted → Bool) → List ℕ → Option ℕ
-named_in_node draft node kind name = entity_named draft (λ placed. kind placed.entity.is && (placed.node == node)) name
+abbrev pub named_in_node : GraphDraft → ℕ → EntityKind → List ℕ → Option EntityNo
+named_in_node draft node kind name = entity_named draft (λ placed. is_of kind placed.entity.is && (placed.node == node)) name
 
 -- the names that the scripts of a node may use: every topic, and the node's own clients and servers
 abbrev pub scope_of : GraphDraft → ℕ → ScopeNames
 scope_of draft node = record {
   topic = topic_named draft;
-  client = named_in_node draft node is_client;
-  action_client = named_in_node draft node is_action_client;
-  server = named_in_node draft node is_server;
+  client = named_in_node draft node kind.Client;
+  action_client = named_in_node draft node kind.ActionClient;
+  server = named_in_node draft node kind.Server;
 }
 
 -- ---- callback groups

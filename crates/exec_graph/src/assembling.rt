@@ -16,10 +16,10 @@ ghost use Rattle.exec_graph.specs.Refusals.{fault_in};
 ghost use Rattle.exec_graph.specs.Resolved.{entity_in, graph_in, topic_in};
 ghost use Rattle.exec_graph.specs.declared.fault.GraphFault.TheVariants as graph_fault;
 
-use crate::declaring::declared;
+use crate::declaring::resolved;
 use crate::directory::{Directory, has_node_names};
 use crate::draft::NodeDraft;
-use crate::entity::{CallbackGroup, Declared};
+use crate::entity::{CallbackGroup, Declared, GraphEntity};
 use crate::fault::GraphFault;
 use crate::graph::Graph;
 use crate::grouping::{callback_groups, group_named};
@@ -45,7 +45,8 @@ pub(crate) fn graph_of(
     let Some(directory) = well_named(alloc, topics, nodes)? else {
         return Err(GraphFault::Name);
     };
-    if !is_small(topics, nodes, directory.entities()) {
+    let small = is_small(alloc, topics, nodes, directory.entities())?;
+    if !small {
         return Err(GraphFault::Limit);
     }
     let groups = callback_groups(alloc, nodes)?;
@@ -115,7 +116,7 @@ fn entities_of(
 {
     let mut entities = topics_of(alloc, topics)?;
     for placed in directory.entities() {
-        let is = resolved(alloc, directory, groups, placed)?;
+        let is = declared(alloc, directory, groups, placed)?;
         append(alloc, placed.entity.name.as_str(), is, &mut entities)?;
     }
     Ok(entities)
@@ -147,7 +148,7 @@ fn append(
 }
 
 // What an entity is.
-fn resolved(
+fn declared(
     alloc: Global,
     directory: &Directory<'_>,
     groups: &[CallbackGroup],
@@ -164,7 +165,8 @@ fn resolved(
         return Err(GraphFault::Name);
     };
     let scope = NodeScope::of(directory, placed.node);
-    declared(alloc, &scope, group, &placed.entity.is)
+    let entity = resolved(alloc, &scope, &placed.entity.is)?;
+    Ok(Declared::Entity(GraphEntity { group, is: entity }))
 }
 
 // The names of topics and entities at their numbers.

@@ -6,9 +6,9 @@ ghost use Rattle.exec_graph.specs.Resolved.{graph_in};
 
 use crate::assembling::graph_of;
 use crate::draft::{EntityDraft, NodeDraft};
+use crate::entity::EntityKind;
 use crate::fault::GraphFault;
 use crate::graph::Graph;
-use crate::numbering::EntityKind;
 use crate::texts::TextSet;
 use exec_msg::Memory;
 use std::alloc::Global;
@@ -151,7 +151,7 @@ fn note_server(names: &mut TextSet, entity: &EntityDraft) -> Result<(), Memory>
     ensures names { OnOk result ((known : _) → HasNamesOf known names.old → HasNamesOf (known ++ server_names (entity.now ∷ [])) names.new) }
     ensures kept { Extends names.old names.new }
 {
-    if EntityKind::Server.has(&entity.is) {
+    if entity.is.is_of(EntityKind::Server) {
         names.insert(entity.name.as_str())?;
     }
     Ok(())

@@ -1,169 +1,143 @@
 //! Entities of a graph, their references resolved and their scripts decoded.
-ghost use Rattle.std.specs.Prelude.{◌≡◌, true};
-ghost use Rattle.exec_graph.specs.Directory.{directory_of, scope_in};
-ghost use Rattle.exec_graph.specs.Draft.{GraphDraft};
-ghost use Rattle.exec_graph.specs.Faults.{names_of};
+ghost use Rattle.std.specs.Prelude.{◌≡◌};
+ghost use Rattle.exec_graph.specs.Directory.{number_in, scope_in, resolved_by};
+ghost use Rattle.exec_graph.specs.Entity.{if_there};
 ghost use Rattle.exec_graph.specs.Gives.{Gives};
-ghost use Rattle.exec_graph.specs.Names.{are_distinct};
-ghost use Rattle.exec_graph.specs.Resolved.{script_in, result_script_in, declared};
-ghost use Rattle.exec_graph.specs.declared.draft.Drafted.TheVariants as draft;
+ghost use Rattle.exec_graph.specs.Resolved.{script_in};
+ghost use Rattle.exec_graph.specs.declared.entity.EntityOf.TheVariants as variant;
 
-use crate::draft::{
-    ActionClientDraft, ClientDraft, Drafted, ServerDraft, ServiceDraft, SubscriptionDraft,
-    TimerDraft,
-};
+use crate::draft::Drafted;
 use crate::entity::{
-    ActionClientEntity, ClientEntity, Declared, GroupNo, ServerEntity, ServiceEntity,
+    ActionClientEntity, ClientEntity, EntityKind, EntityOf, Referent, ServerEntity, ServiceEntity,
     SubscriptionEntity, TimerEntity,
 };
 use crate::fault::GraphFault;
-use crate::numbering::EntityKind;
 use crate::scope::NodeScope;
 use crate::script::{Script, Spelled};
-use exec_script::{Scope, ScriptFault, decode};
+use exec_msg::EntityNo;
+use exec_script::{ScriptFault, WordText, decode};
 use std::alloc::Global;
 use std::sync::Arc;
 
-// What an entity of the scope's node is, in the callback group of a number.
-pub(crate) fn declared(
+type Resolved = EntityOf<EntityNo, Script>;
+
+// What an entity of the scope's node is.
+pub(crate) fn resolved(
     alloc: Global,
     scope: &NodeScope<'_, '_>,
-    group: GroupNo,
     entity: &Drafted,
-) -> Result<Declared, GraphFault>
-    ensures { (source : GraphDraft) → are_distinct (names_of source) ≡ true → scope.now.directory ≡ directory_of source →
-        Gives result (declared source (scope_in scope.now.directory scope.now.node) group entity.now) }
+) -> Result<Resolved, GraphFault>
+    ensures { Gives result (resolved_by scope.now entity.now) }
 {
     match entity {
-        Drafted::Timer(entity) => timer(alloc, scope, group, entity),
-        Drafted::Subscription(entity) => subscription(alloc, scope, group, entity),
-        Drafted::Service(entity) => service(alloc, scope, group, entity),
-        Drafted::Client(entity) => client(alloc, scope, group, entity),
-        Drafted::Server(entity) => server(alloc, scope, group, entity),
-        Drafted::ActionClient(entity) => action_client(alloc, scope, group, entity),
+        EntityOf::Timer(entity) => timer(alloc, scope, entity),
+        EntityOf::Subscription(entity) => subscription(alloc, scope, entity),
+        EntityOf::Service(entity) => service(alloc, scope, entity),
+        EntityOf::Client(entity) => client(alloc, scope, entity),
+        EntityOf::Server(entity) => server(alloc, scope, entity),
+        EntityOf::ActionClient(entity) => action_client(alloc, scope, entity),
     }
 }
 
 fn timer(
     alloc: Global,
     scope: &NodeScope<'_, '_>,
-    group: GroupNo,
-    entity: &TimerDraft,
-) -> Result<Declared, GraphFault>
-    ensures { (source : GraphDraft) → Gives result (declared source (scope_in scope.now.directory scope.now.node) group (draft.Timer entity.now)) }
+    entity: &TimerEntity<Spelled>,
+) -> Result<Resolved, GraphFault>
+    ensures { Gives result (resolved_by scope.now (variant.Timer entity.now)) }
 {
-    let script = script_in(alloc, scope, &entity.script)?;
-    Ok(Declared::Timer(TimerEntity {
-        group,
+    Ok(EntityOf::Timer(TimerEntity {
         period: entity.period,
-        script,
+        script: script_in(alloc, scope, &entity.script)?,
     }))
 }
 
 fn subscription(
     alloc: Global,
     scope: &NodeScope<'_, '_>,
-    group: GroupNo,
-    entity: &SubscriptionDraft,
-) -> Result<Declared, GraphFault>
-    ensures { (source : GraphDraft) → scope.now.directory ≡ directory_of source →
-        Gives result (declared source (scope_in scope.now.directory scope.now.node) group (draft.Subscription entity.now)) }
+    entity: &SubscriptionEntity<WordText, Spelled>,
+) -> Result<Resolved, GraphFault>
+    ensures { Gives result (resolved_by scope.now (variant.Subscription entity.now)) }
 {
-    let Some(topic) = scope.topic(entity.topic.as_str()) else {
-        return Err(GraphFault::Name);
-    };
-    let script = script_in(alloc, scope, &entity.script)?;
-    Ok(Declared::Subscription(SubscriptionEntity {
-        group,
-        topic,
+    Ok(EntityOf::Subscription(SubscriptionEntity {
+        topic: number(scope, Referent::Topic, &entity.topic)?,
         depth: entity.depth,
-        script,
+        script: script_in(alloc, scope, &entity.script)?,
     }))
 }
 
 fn service(
     alloc: Global,
     scope: &NodeScope<'_, '_>,
-    group: GroupNo,
-    entity: &ServiceDraft,
-) -> Result<Declared, GraphFault>
-    ensures { (source : GraphDraft) → Gives result (declared source (scope_in scope.now.directory scope.now.node) group (draft.Service entity.now)) }
+    entity: &ServiceEntity<Spelled>,
+) -> Result<Resolved, GraphFault>
+    ensures { Gives result (resolved_by scope.now (variant.Service entity.now)) }
 {
-    let script = script_in(alloc, scope, &entity.script)?;
-    Ok(Declared::Service(ServiceEntity {
-        group,
+    Ok(EntityOf::Service(ServiceEntity {
         depth: entity.depth,
-        script,
+        script: script_in(alloc, scope, &entity.script)?,
     }))
 }
 
 fn client(
     alloc: Global,
     scope: &NodeScope<'_, '_>,
-    group: GroupNo,
-    entity: &ClientDraft,
-) -> Result<Declared, GraphFault>
-    ensures { (source : GraphDraft) → are_distinct (names_of source) ≡ true → scope.now.directory ≡ directory_of source →
-        Gives result (declared source (scope_in scope.now.directory scope.now.node) group (draft.Client entity.now)) }
+    entity: &ClientEntity<WordText, Spelled>,
+) -> Result<Resolved, GraphFault>
+    ensures { Gives result (resolved_by scope.now (variant.Client entity.now)) }
 {
-    let Some(service) = scope.entity_of_graph(EntityKind::Service, entity.service.as_str()) else {
-        return Err(GraphFault::Name);
-    };
-    let script = script_in(alloc, scope, &entity.script)?;
-    Ok(Declared::Client(ClientEntity {
-        group,
-        service,
+    Ok(EntityOf::Client(ClientEntity {
+        service: number(
+            scope,
+            Referent::Entity(EntityKind::Service),
+            &entity.service,
+        )?,
         depth: entity.depth,
-        script,
+        script: script_in(alloc, scope, &entity.script)?,
     }))
 }
 
 fn server(
     alloc: Global,
     scope: &NodeScope<'_, '_>,
-    group: GroupNo,
-    entity: &ServerDraft,
-) -> Result<Declared, GraphFault>
-    ensures { (source : GraphDraft) → Gives result (declared source (scope_in scope.now.directory scope.now.node) group (draft.Server entity.now)) }
+    entity: &ServerEntity<Spelled>,
+) -> Result<Resolved, GraphFault>
+    ensures { Gives result (resolved_by scope.now (variant.Server entity.now)) }
 {
-    let on_goal = script_in(alloc, scope, &entity.on_goal)?;
-    let on_cancel = script_in(alloc, scope, &entity.on_cancel)?;
-    let script = script_in(alloc, scope, &entity.script)?;
-    Ok(Declared::Server(ServerEntity {
-        group,
+    Ok(EntityOf::Server(ServerEntity {
         depth: entity.depth,
         result_timeout: entity.result_timeout,
-        on_goal,
-        on_cancel,
-        script,
+        on_goal: script_in(alloc, scope, &entity.on_goal)?,
+        on_cancel: script_in(alloc, scope, &entity.on_cancel)?,
+        script: script_in(alloc, scope, &entity.script)?,
     }))
 }
 
 fn action_client(
     alloc: Global,
     scope: &NodeScope<'_, '_>,
-    group: GroupNo,
-    entity: &ActionClientDraft,
-) -> Result<Declared, GraphFault>
-    ensures { (source : GraphDraft) → are_distinct (names_of source) ≡ true → scope.now.directory ≡ directory_of source →
-        Gives result (declared source (scope_in scope.now.directory scope.now.node) group (draft.ActionClient entity.now)) }
+    entity: &ActionClientEntity<WordText, Spelled>,
+) -> Result<Resolved, GraphFault>
+    ensures { Gives result (resolved_by scope.now (variant.ActionClient entity.now)) }
 {
-    let Some(server) = scope.entity_of_graph(EntityKind::Server, entity.server.as_str()) else {
-        return Err(GraphFault::Name);
-    };
-    let on_response = script_in(alloc, scope, &entity.on_response)?;
-    let on_code = script_in(alloc, scope, &entity.on_code)?;
-    let on_feedback = script_in(alloc, scope, &entity.on_feedback)?;
-    let on_result = result_script_in(alloc, scope, &entity.on_result)?;
-    Ok(Declared::ActionClient(ActionClientEntity {
-        group,
-        server,
+    Ok(EntityOf::ActionClient(ActionClientEntity {
+        server: number(scope, Referent::Entity(EntityKind::Server), &entity.server)?,
         depth: entity.depth,
-        on_response,
-        on_code,
-        on_feedback,
-        on_result,
+        on_response: script_in(alloc, scope, &entity.on_response)?,
+        on_code: script_in(alloc, scope, &entity.on_code)?,
+        on_feedback: script_in(alloc, scope, &entity.on_feedback)?,
+        on_result: result_script_in(alloc, scope, &entity.on_result)?,
     }))
+}
+
+// The number of what a name must be declared as.
+fn number(scope: &NodeScope<'_, '_>, to: Referent, name: &WordText) -> Result<EntityNo, GraphFault>
+    ensures { Gives result (number_in scope.now.directory to name.now) }
+{
+    match scope.number(to, name.as_str()) {
+        Some(number) => Ok(number),
+        None => Err(GraphFault::Name),
+    }
 }
 
 // The script for results, where an action client has one.
@@ -172,7 +146,7 @@ fn result_script_in(
     scope: &NodeScope<'_, '_>,
     words: &Option<Spelled>,
 ) -> Result<Option<Script>, GraphFault>
-    ensures { Gives result (result_script_in (scope_in scope.now.directory scope.now.node) words.now) }
+    ensures { Gives result (if_there (script_in (scope_in scope.now.directory scope.now.node)) words.now) }
 {
     let Some(words) = words else {
         return Ok(None);

@@ -1,14 +1,15 @@
 //! What a graph declares, by name.
-ghost use Rattle.std.specs.Prelude.{◌≡◌, ◌&&◌, ◌==◌, length, map, string_bytes, if◌then◌else◌, Some, None, ◌<◌, IfOk, IfSome};
+ghost use Rattle.std.specs.Prelude.{◌≡◌, ◌&&◌, ◌==◌, length, map, string_bytes, if◌then◌else◌, Some, None, is_some, ◌<◌, IfOk, IfSome};
 ghost use Rattle.std.specs.List.{list_all};
 ghost use Rattle.std.specs.Option.{option_map};
-ghost use Rattle.exec_graph.specs.Directory.{names_from, group_names, where_so, topic_in, find, entity_in, has_in, has_group, refers, resolves, draft_of, directory_of};
+ghost use Rattle.exec_graph.specs.Directory.{names_from, group_names, where_so, topic_in, find, entity_in, number_in, has_in, has_group, resolves, draft_of, directory_of};
+ghost use Rattle.exec_graph.specs.Entity.{is_of, refers};
 ghost use Rattle.exec_graph.specs.Faults.{are_names, has_named_groups, names_of};
-ghost use Rattle.exec_graph.specs.Kinds.{is_of};
 
 use crate::draft::{Drafted, EntityDraft, GroupDraft, NodeDraft};
+use crate::entity::{EntityKind, Referent};
 use crate::naming::add_name;
-use crate::numbering::{EntityKind, PlacedEntity, numbered};
+use crate::numbering::{PlacedEntity, numbered};
 use crate::texts::TextSet;
 use exec_msg::Memory;
 use exec_script::WordText;
@@ -99,17 +100,22 @@ impl<'a> Directory<'a> {
     }
 
     fn refers(&self, entity: &Drafted) -> bool
-        ensures { result ≡ refers self.now entity.now }
+        ensures { result ≡ refers (λ to name. is_some (number_in self.now to name)) entity.now }
     {
-        match entity {
-            Drafted::Subscription(entity) => self.topic(entity.topic.as_str()).is_some(),
-            Drafted::Client(entity) => self
-                .entity(EntityKind::Service, entity.service.as_str())
-                .is_some(),
-            Drafted::ActionClient(entity) => self
-                .entity(EntityKind::Server, entity.server.as_str())
-                .is_some(),
-            _ => true,
+        match entity.reference() {
+            Some(reference) => self.number(reference.to, reference.name.as_str()).is_some(),
+            None => true,
+        }
+    }
+
+    // The number of what a name must be declared as.
+    pub(crate) fn number(&self, to: Referent, name: &str) -> Option<usize>
+        ensures number { result ≡ number_in self.now to name.now }
+        ensures within { IfSome result (λ number. number < length self.now.names) }
+    {
+        match to {
+            Referent::Topic => self.topic(name),
+            Referent::Entity(kind) => self.entity(kind, name),
         }
     }
 
@@ -127,12 +133,12 @@ impl<'a> Directory<'a> {
     }
 
     // The number of the entity of a kind and a name, in whatever node.
-    pub(crate) fn entity(&self, kind: EntityKind, name: &str) -> Option<usize>
+    fn entity(&self, kind: EntityKind, name: &str) -> Option<usize>
         ensures number { result ≡ entity_in self.now (λ placed. is_of kind placed.entity.is) name.now }
         ensures within { IfSome result (λ number. number < length self.now.names) }
     {
         let (number, placed) = self.find(name)?;
-        if kind.has(&placed.entity.is) {
+        if placed.entity.is.is_of(kind) {
             Some(number)
         } else {
             None
@@ -145,7 +151,7 @@ impl<'a> Directory<'a> {
         ensures within { IfSome result (λ number. number < length self.now.names) }
     {
         let (number, placed) = self.find(name)?;
-        if kind.has(&placed.entity.is) && placed.node == node {
+        if placed.entity.is.is_of(kind) && placed.node == node {
             Some(number)
         } else {
             None

@@ -1,4 +1,4 @@
-use crate::entity::{CallbackGroup, Declared, GroupNo};
+use crate::entity::{CallbackGroup, Declared, EntityKind, GroupNo};
 use exec_msg::{EntityNo, Names};
 use indexmap::IndexMap;
 use std::marker::Model;
@@ -102,9 +102,10 @@ impl Graph {
         ensures { result ≡ position_from (λ entity. is_topic entity.is && bytes_eq entity.name name.now) 0 self.now.entities }
     {
         let (place, _, declared) = self.entities.get_full(name)?;
-        match declared {
-            Declared::Topic => Some(EntityNo(place as u16)),
-            _ => None,
+        if declared.is_topic() {
+            Some(EntityNo(place as u16))
+        } else {
+            None
         }
     }
 
@@ -113,9 +114,10 @@ impl Graph {
         ensures { result ≡ position_from (λ entity. is_server entity.is && bytes_eq entity.name name.now) 0 self.now.entities }
     {
         let (place, _, declared) = self.entities.get_full(name)?;
-        match declared {
-            Declared::Server(_) => Some(EntityNo(place as u16)),
-            _ => None,
+        if declared.is_a(EntityKind::Server) {
+            Some(EntityNo(place as u16))
+        } else {
+            None
         }
     }
 }

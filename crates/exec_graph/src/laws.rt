@@ -1,13 +1,16 @@
 //! Laws of graphs: each function's contract says one, and its body is empty or calls the law that it rests on.
 ghost use Rattle.std.specs.Prelude.{◌≡◌, ℕ, ◌<◌, ◌≤◌, ◌==◌, ℤ, List, length, Bool, true, false, cond, Option, None, Some, is_some, IsTrue, ◌&&◌};
 ghost use Rattle.std.specs.List.{filter, list_all, position_from};
+ghost use Rattle.std.specs.Ordering.{nat_cmp};
 ghost use Rattle.std.specs.Str.{bytes_eq};
 ghost use Rattle.exec_graph.specs.Draft.{GraphDraft};
+ghost use Rattle.exec_graph.specs.declared.entity.EntityKind.{EntityKind};
 ghost use Rattle.exec_graph.specs.Feeding.{goes_somewhere, has_128_bits};
 ghost use Rattle.exec_graph.specs.Graph.{GraphData, declared_at, entities_where, is_topic, is_server};
 ghost use Rattle.exec_graph.specs.declared.entity.CallbackGroup.{CallbackGroup};
 ghost use Rattle.exec_graph.specs.declared.entity.Declared.{Declared};
-ghost use Rattle.exec_graph.specs.Lawful.{RoleScript, IsLawful, IsLawfulPlan, IsLawfulScript, is_at};
+ghost use Rattle.exec_graph.specs.Entity.{RoleScriptData, rank_of};
+ghost use Rattle.exec_graph.specs.Lawful.{IsLawful, IsLawfulPlan, IsLawfulScript, is_at};
 ghost use Rattle.exec_graph.specs.Numbers.{topic_named, server_named};
 ghost use Rattle.exec_graph.specs.Refusals.{fault_in};
 ghost use Rattle.exec_graph.specs.Resolved.{graph_in};
@@ -15,8 +18,14 @@ ghost use Rattle.exec_graph.specs.Schedule.{plan_fault_in};
 ghost use Rattle.exec_graph.specs.declared.plan.Feed.{Feed};
 ghost use Rattle.exec_script.specs.Script.{CallInput, resumed};
 ghost use Rattle.exec_script.specs.declared.effects.Effect.{Effect};
+ghost use Rattle.exec_script.specs.declared.instr.Instr.{Instr};
 
-use crate::{Graph, Plan, Script};
+use crate::{EntityKind, Graph, Plan, Script};
+
+/// The order of kinds is that in which their entities are numbered.
+pub fn kinds_are_in_the_order_of_numbers()
+    ensures { (one other : EntityKind) → ⟦<EntityKind as Ord>⟧.cmp one other ≡ nat_cmp (rank_of one) (rank_of other) }
+{}
 
 /// A graph's entities that pass a test are listed once each, and nothing else is.
 pub fn entities_are_listed_once()
@@ -28,7 +37,7 @@ pub fn entities_are_listed_once()
 
 /// A lawful script of a reentrant callback group leaves the variables that it was given, wherever its effects go.
 pub fn reentrant_groups_share_nothing<S>()
-    ensures { (graph : GraphData) (group : CallbackGroup) (roled : RoleScript) → IsLawfulScript graph group roled → group.exclusive ≡ false →
+    ensures { (graph : GraphData) (group : CallbackGroup) (roled : RoleScriptData (List Instr)) → IsLawfulScript graph group roled → group.exclusive ≡ false →
         (give : Effect → S → S) (place : ℕ) (registers variables : List ℤ) (answer : Option ℤ) (input : CallInput) (given : S) →
         (resumed give roled.script place registers variables answer input given).variables ≡ variables }
 {

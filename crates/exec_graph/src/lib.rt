@@ -25,13 +25,10 @@ mod tests;
 mod texts;
 
 pub use builder::GraphBuilder;
-pub use draft::{
-    ActionClientDraft, ClientDraft, Drafted, EntityDraft, GroupDraft, NodeDraft, ServerDraft,
-    ServiceDraft, SubscriptionDraft, TimerDraft,
-};
+pub use draft::{Drafted, EntityDraft, GroupDraft, NodeDraft};
 pub use entity::{
-    ActionClientEntity, CallbackGroup, ClientEntity, Declared, GroupNo, ServerEntity,
-    ServiceEntity, SubscriptionEntity, TimerEntity,
+    ActionClientEntity, CallbackGroup, ClientEntity, Declared, EntityKind, EntityOf, GraphEntity,
+    GroupNo, ServerEntity, ServiceEntity, SubscriptionEntity, TimerEntity,
 };
 pub use fault::{GraphFault, PlanFault};
 pub use graph::Graph;

@@ -1,10 +1,11 @@
 //! The entities of a graph in the order of their numbers.
 ghost use Rattle.std.specs.Prelude.{◌≡◌, ◌++◌, map, IfOk, OnOk};
 ghost use Rattle.std.specs.List.{filter};
-ghost use Rattle.exec_graph.specs.Kinds.{is_of, placed_in, numbered};
-ghost use Rattle.exec_graph.specs.Numbers.{entities_from};
+ghost use Rattle.exec_graph.specs.Entity.{is_of};
+ghost use Rattle.exec_graph.specs.Numbers.{placed_in, entities_from, numbered};
 
-use crate::draft::{Drafted, EntityDraft, NodeDraft};
+use crate::draft::{EntityDraft, NodeDraft};
+use crate::entity::EntityKind;
 use exec_msg::Memory;
 use std::alloc::Global;
 use std::marker::Model;
@@ -22,44 +23,6 @@ impl<'a> Model for PlacedEntity<'a> {
     ghost Value = { Placed };
 
     ghost view = { λ placed. record { node = placed.node; entity = placed.entity.now } };
-}
-
-// The kinds of entities.
-#[derive(Clone, Copy)]
-pub(crate) enum EntityKind {
-    Timer,
-    Subscription,
-    Service,
-    Client,
-    Server,
-    ActionClient,
-}
-
-impl EntityKind {
-    // All of them in the order of numbers.
-    const IN_ORDER: [EntityKind; 6] = [
-        EntityKind::Timer,
-        EntityKind::Subscription,
-        EntityKind::Service,
-        EntityKind::Client,
-        EntityKind::Server,
-        EntityKind::ActionClient,
-    ];
-
-    // Whether an entity is of this kind.
-    pub(crate) fn has(self, entity: &Drafted) -> bool
-        ensures { result ≡ is_of self entity.now }
-    {
-        match (self, entity) {
-            (EntityKind::Timer, Drafted::Timer(_))
-            | (EntityKind::Subscription, Drafted::Subscription(_))
-            | (EntityKind::Service, Drafted::Service(_))
-            | (EntityKind::Client, Drafted::Client(_))
-            | (EntityKind::Server, Drafted::Server(_))
-            | (EntityKind::ActionClient, Drafted::ActionClient(_)) => true,
-            _ => false,
-        }
-    }
 }
 
 // The entities of all nodes in the order of their numbers: by kind, then by node, then as the node lists them.
@@ -85,7 +48,7 @@ fn append_kind<'a>(
     ensures { OnOk result (entities.new.items ≡ entities.old.items ++ filter (λ placed. is_of kind placed.entity.is) declared.now) }
 {
     for placed in declared {
-        if kind.has(&placed.entity.is) {
+        if placed.entity.is.is_of(kind) {
             let PlacedEntity { node, entity } = *placed;
             entities.push(PlacedEntity { node, entity })?;
         }

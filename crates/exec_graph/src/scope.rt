@@ -1,10 +1,10 @@
 //! The names that the scripts of a node may use.
 ghost use Rattle.std.specs.Prelude.{◌≡◌, ◌&&◌, ◌==◌, ◌≤◌, length};
-ghost use Rattle.exec_graph.specs.Directory.{entity_in};
-ghost use Rattle.exec_graph.specs.Kinds.{is_of};
+ghost use Rattle.exec_graph.specs.Directory.{entity_in, number_in};
+ghost use Rattle.exec_graph.specs.Entity.{is_of};
 
 use crate::directory::Directory;
-use crate::numbering::EntityKind;
+use crate::entity::{EntityKind, Referent};
 use exec_msg::EntityNo;
 use exec_script::Scope;
 use std::marker::Model;
@@ -36,11 +36,11 @@ impl<'d, 'a> NodeScope<'d, 'a> {
         NodeScope { directory, node }
     }
 
-    // The number of an entity of a kind and a name, in whatever node.
-    pub(crate) fn entity_of_graph(&self, kind: EntityKind, name: &str) -> Option<EntityNo>
-        ensures { result ≡ entity_in self.now.directory (λ placed. is_of kind placed.entity.is) name.now }
+    // The number of what a name must be declared as, in whatever node.
+    pub(crate) fn number(&self, to: Referent, name: &str) -> Option<EntityNo>
+        ensures { result ≡ number_in self.now.directory to name.now }
     {
-        let number = self.directory.entity(kind, name)?;
+        let number = self.directory.number(to, name)?;
         Some(EntityNo(number as u16))
     }
 

@@ -2,33 +2,18 @@
 ghost use Rattle.std.specs.Prelude.{◌≡◌, [], ◌∷◌, ◌++◌, ◌≤◌, length, IfOk, OnOk};
 ghost use Rattle.std.specs.List.{filter_map, flat_map};
 ghost use Rattle.exec_graph.specs.Directory.{scope_in, faults_in, listed};
-ghost use Rattle.exec_graph.specs.Scripts.{scripts_of, fault_of};
+ghost use Rattle.exec_graph.specs.Entity.{scripts_of};
+ghost use Rattle.exec_graph.specs.Scripts.{fault_of};
 
 use crate::directory::Directory;
 use crate::draft::Drafted;
-use crate::entity::CallbackGroup;
+use crate::entity::{CallbackGroup, RoleScript};
 use crate::grouping::is_reentrant;
 use crate::scope::NodeScope;
 use crate::script::Spelled;
 use exec_msg::Memory;
-use exec_script::{Place, Role, ScriptFault, check, decode};
+use exec_script::{Place, ScriptFault, check, decode};
 use std::alloc::Global;
-use std::marker::Model;
-
-// A script as it is spelt, with the role in which it runs.
-#[derive(Drop)]
-struct SpeltScript<'a> {
-    role: Role,
-    words: &'a Spelled,
-}
-
-impl<'a> Model for SpeltScript<'a> {
-    ghost use Rattle.exec_graph.specs.Scripts.{Spelt};
-
-    ghost Value = { Spelt };
-
-    ghost view = { λ script. record { role = script.role; words = script.words.now } };
-}
 
 // The faults of all scripts in the order of the entities, one at most of each.
 pub(crate) fn script_faults(
@@ -58,12 +43,8 @@ fn append_faults(
     ensures { OnOk result (faults.new.items
         ≡ faults.old.items ++ filter_map (fault_of (scope_in scope.now.directory scope.now.node) reentrant) (scripts_of entity.now)) }
 {
-    for script in scripts_of(alloc, entity)?.iter() {
-        let place = Place {
-            reentrant,
-            role: script.role,
-        };
-        append_fault(faults, fault_of(alloc, scope, script.words, place)?)?;
+    for roled in entity.scripts(alloc)?.iter() {
+        append_fault(faults, fault_of(alloc, scope, reentrant, roled)?)?;
     }
     Ok(())
 }
@@ -81,51 +62,18 @@ fn append_fault(faults: &mut Vec<ScriptFault>, fault: Option<ScriptFault>) -> Re
 fn fault_of(
     alloc: Global,
     scope: &NodeScope<'_, '_>,
-    words: &Spelled,
-    place: Place,
+    reentrant: bool,
+    roled: &RoleScript<'_, Spelled>,
 ) -> Result<Option<ScriptFault>, Memory>
-    ensures { IfOk result (λ fault. fault ≡ fault_of (scope_in scope.now.directory scope.now.node) place.reentrant (record { role = place.role; words = words.now })) }
+    ensures { IfOk result (λ fault. fault ≡ fault_of (scope_in scope.now.directory scope.now.node) reentrant roled.now) }
 {
-    match decode(alloc, words.as_slice(), scope) {
+    let place = Place {
+        reentrant,
+        role: roled.role,
+    };
+    match decode(alloc, roled.script.as_slice(), scope) {
         Ok(script) => Ok(check(&script, place).err()),
         Err(ScriptFault::Memory) => Err(Memory),
         Err(fault) => Ok(Some(fault)),
     }
-}
-
-fn scripts_of<'a>(alloc: Global, entity: &'a Drafted) -> Result<Vec<SpeltScript<'a>>, Memory>
-    ensures { IfOk result (λ scripts. scripts.items ≡ scripts_of entity.now) }
-{
-    let mut scripts = Vec::new(alloc);
-    match entity {
-        Drafted::Timer(entity) => append(&mut scripts, Role::Callback, &entity.script)?,
-        Drafted::Subscription(entity) => append(&mut scripts, Role::Callback, &entity.script)?,
-        Drafted::Service(entity) => append(&mut scripts, Role::Service, &entity.script)?,
-        Drafted::Client(entity) => append(&mut scripts, Role::Callback, &entity.script)?,
-        Drafted::Server(entity) => {
-            append(&mut scripts, Role::GoalHandler, &entity.on_goal)?;
-            append(&mut scripts, Role::CancelHandler, &entity.on_cancel)?;
-            append(&mut scripts, Role::Goal, &entity.script)?;
-        }
-        Drafted::ActionClient(entity) => {
-            append(&mut scripts, Role::Callback, &entity.on_response)?;
-            append(&mut scripts, Role::Callback, &entity.on_code)?;
-            append(&mut scripts, Role::Callback, &entity.on_feedback)?;
-            if let Some(on_result) = &entity.on_result {
-                append(&mut scripts, Role::Callback, on_result)?;
-            }
-        }
-    }
-    Ok(scripts)
-}
-
-fn append<'a>(
-    scripts: &mut Vec<SpeltScript<'a>>,
-    role: Role,
-    words: &'a Spelled,
-) -> Result<(), Memory>
-    ensures { OnOk result (scripts.new.items ≡ scripts.old.items ++ record { role = role; words = words.now } ∷ []) }
-{
-    scripts.push(SpeltScript { role, words })?;
-    Ok(())
 }

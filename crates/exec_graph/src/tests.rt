@@ -5,8 +5,8 @@ mod plans;
 mod refused;
 
 use crate::{
-    Drafted, EntityDraft, GraphBuilder, GraphFault, GroupDraft, NodeDraft, PlanFault, Script,
-    ServerDraft, Spelled, schedule_fits,
+    EntityDraft, EntityOf, GraphBuilder, GraphFault, GroupDraft, NodeDraft, PlanFault, Script,
+    ServerEntity, Spelled, schedule_fits,
 };
 use exec_msg::limits::{FEED, TICKS};
 use exec_msg::{Items, Moment};
@@ -31,7 +31,7 @@ fn nothing(alloc: Global) -> Spelled {
 }
 
 fn server(alloc: Global, name: &str) -> Result<EntityDraft, AllocError> {
-    let server = ServerDraft {
+    let server = ServerEntity {
         depth: 10,
         result_timeout: None,
         on_goal: nothing(alloc),
@@ -41,7 +41,7 @@ fn server(alloc: Global, name: &str) -> Result<EntityDraft, AllocError> {
     Ok(EntityDraft {
         name: text(alloc, name)?,
         group: None,
-        is: Drafted::Server(server),
+        is: EntityOf::Server(server),
     })
 }
 

@@ -5,9 +5,11 @@ use Rattle.std.proofs.lemmas.Bool.{eqb-true, eq-eqb}
 use Rattle.std.proofs.lemmas.List.{append-nil}
 use Rattle.std.proofs.lemmas.List.Elements.{All-nil, All-cons}
 use Rattle.std.proofs.lemmas.List.Folds.{flat_map-map}
-use Rattle.exec_graph.specs.Graph.{EntityData, GraphData, Waitable, cons_if, entities_where, has_kind, is_action_client, is_client, is_server, is_timer, numbers_where, wait_set}
+use Rattle.exec_graph.specs.Entity.{Resolved, Script}
+use Rattle.exec_graph.specs.Graph.{EntityData, GraphData, Waitable, in_group, cons_if, entities_where, has_kind, is_action_client, is_client, is_server, is_timer, numbers_where, wait_set}
 use Rattle.exec_graph.specs.declared.entity.Declared.{Declared}
-use Rattle.exec_graph.specs.declared.entity.Declared.TheVariants.{Topic, Timer, Subscription, Service, Client, Server, ActionClient}
+use Rattle.exec_graph.specs.declared.entity.Declared.TheVariants.{Topic, Entity}
+use Rattle.exec_graph.specs.declared.entity.EntityOf.TheVariants.{Timer, Subscription, Service, Client, Server, ActionClient}
 use Rattle.exec_graph.specs.declared.entity.TimerEntity.{TimerEntity}
 use Rattle.exec_msg.specs.Timer.{is_due}
 use Rattle.exec_msg.specs.declared.kind.Kind.{Kind}
@@ -23,21 +25,23 @@ abbrev pub up : ℕ → ℕ → List ℕ
 up k zero = []
 up k (suc n) = k ∷ up (suc k) n
 
-of_timer : (test : Declared → Bool) (b : Bool) → ((entity : TimerEntity) → test (Timer entity) ≡ b) → (declared : Declared) → is_timer declared ≡ true → test declared ≡ b
-of_timer test b is (Timer entity) h = is entity
+of_timer : (test : Declared → Bool) (b : Bool) → ((group : ℕ) (timer : TimerEntity Script) → test (in_group group (Timer timer)) ≡ b) → (declared : Declared) → is_timer declared ≡ true → test declared ≡ b
 of_timer test b is Topic h = absurd cc
-of_timer test b is (Subscription entity) h = absurd cc
-of_timer test b is (Service entity) h = absurd cc
-of_timer test b is (Client entity) h = absurd cc
-of_timer test b is (Server entity) h = absurd cc
-of_timer test b is (ActionClient entity) h = absurd cc
+of_timer test b is (Entity entity) h = by entity.group entity.is h where
+  by : (group : ℕ) (of : Resolved) → is_timer (in_group group of) ≡ true → test (in_group group of) ≡ b
+  by group (Timer timer) h = is group timer
+  by group (Subscription subscription) h = absurd cc
+  by group (Service service) h = absurd cc
+  by group (Client client) h = absurd cc
+  by group (Server server) h = absurd cc
+  by group (ActionClient client) h = absurd cc
 
 and_parts : (a b : Bool) → (a && b) ≡ true → (a ≡ true) × (b ≡ true)
 and_parts true b h = (refl, h)
 and_parts false b h = absurd (true≢false (sym h))
 
 -- a test that timers pass lists all of them
-all_listed : (test : Declared → Bool) → ((entity : TimerEntity) → test (Timer entity) ≡ true) → (number : ℕ) (entities : List EntityData) → AreTimers entities → numbers_where test number entities ≡ up number (length entities)
+all_listed : (test : Declared → Bool) → ((group : ℕ) (timer : TimerEntity Script) → test (in_group group (Timer timer)) ≡ true) → (number : ℕ) (entities : List EntityData) → AreTimers entities → numbers_where test number entities ≡ up number (length entities)
 all_listed test is number [] timers = refl
 all_listed test is number (entity ∷ entities) timers =
     let parts = and_parts (is_timer entity.is) _ timers in
@@ -45,7 +49,7 @@ all_listed test is number (entity ∷ entities) timers =
     ∙ ap (λ (rest : List ℕ). number ∷ rest) (all_listed test is (suc number) entities parts.1)
 
 -- and one that they don't pass lists nothing
-none_listed : (test : Declared → Bool) → ((entity : TimerEntity) → test (Timer entity) ≡ false) → (number : ℕ) (entities : List EntityData) → AreTimers entities → numbers_where test number entities ≡ []
+none_listed : (test : Declared → Bool) → ((group : ℕ) (timer : TimerEntity Script) → test (in_group group (Timer timer)) ≡ false) → (number : ℕ) (entities : List EntityData) → AreTimers entities → numbers_where test number entities ≡ []
 none_listed test is number [] timers = refl
 none_listed test is number (entity ∷ entities) timers =
     let parts = and_parts (is_timer entity.is) _ timers in
@@ -53,16 +57,16 @@ none_listed test is number (entity ∷ entities) timers =
     ∙ none_listed test is (suc number) entities parts.1
 
 pub timers_listed : (graph : GraphData) → AreTimers graph.entities → entities_where is_timer graph ≡ up 0 (length graph.entities)
-timers_listed graph timers = all_listed is_timer (λ entity. refl) 0 graph.entities timers
+timers_listed graph timers = all_listed is_timer (λ group timer. refl) 0 graph.entities timers
 
 pub no_servers : (graph : GraphData) → AreTimers graph.entities → entities_where is_server graph ≡ []
-no_servers graph timers = none_listed is_server (λ entity. refl) 0 graph.entities timers
+no_servers graph timers = none_listed is_server (λ group timer. refl) 0 graph.entities timers
 
 pub no_clients : (graph : GraphData) → AreTimers graph.entities → entities_where is_client graph ≡ []
-no_clients graph timers = none_listed is_client (λ entity. refl) 0 graph.entities timers
+no_clients graph timers = none_listed is_client (λ group timer. refl) 0 graph.entities timers
 
 pub no_action_clients : (graph : GraphData) → AreTimers graph.entities → entities_where is_action_client graph ≡ []
-no_action_clients graph timers = none_listed is_action_client (λ entity. refl) 0 graph.entities timers
+no_action_clients graph timers = none_listed is_action_client (λ group timer. refl) 0 graph.entities timers
 
 -- ---- the wait set
 
@@ -78,7 +82,7 @@ none_waitable : (graph : GraphData) (some : List Kind) → AllByRecursion (λ ki
 none_waitable graph [] h = refl
 none_waitable graph (one ∷ some) h = ap (λ (entities : List ℕ). map (waitable one) entities ++ waitables graph some) h.0 ∙ none_waitable graph some h.1
 
-no_kind : (graph : GraphData) → AreTimers graph.entities → (kind : Kind) → ((entity : TimerEntity) → has_kind kind (Timer entity) ≡ false) → entities_where (has_kind kind) graph ≡ []
+no_kind : (graph : GraphData) → AreTimers graph.entities → (kind : Kind) → ((group : ℕ) (timer : TimerEntity Script) → has_kind kind (in_group group (Timer timer)) ≡ false) → entities_where (has_kind kind) graph ≡ []
 no_kind graph timers kind is = none_listed (has_kind kind) is 0 graph.entities timers
 
 abbrev other_kinds : List Kind
@@ -88,27 +92,27 @@ other_kinds =
 
 no_others : (graph : GraphData) → AreTimers graph.entities → AllByRecursion (λ kind. entities_where (has_kind kind) graph ≡ []) other_kinds
 no_others graph timers = (
-  no_kind graph timers kind.Message (λ entity. refl),
+  no_kind graph timers kind.Message (λ group timer. refl),
   (
-    no_kind graph timers kind.Request (λ entity. refl),
+    no_kind graph timers kind.Request (λ group timer. refl),
     (
-      no_kind graph timers kind.Reply (λ entity. refl),
+      no_kind graph timers kind.Reply (λ group timer. refl),
       (
-        no_kind graph timers kind.Goal (λ entity. refl),
+        no_kind graph timers kind.Goal (λ group timer. refl),
         (
-          no_kind graph timers kind.Cancel (λ entity. refl),
+          no_kind graph timers kind.Cancel (λ group timer. refl),
           (
-            no_kind graph timers kind.Ask (λ entity. refl),
+            no_kind graph timers kind.Ask (λ group timer. refl),
             (
-              no_kind graph timers kind.Poll (λ entity. refl),
+              no_kind graph timers kind.Poll (λ group timer. refl),
               (
-                no_kind graph timers kind.Response (λ entity. refl),
+                no_kind graph timers kind.Response (λ group timer. refl),
                 (
-                  no_kind graph timers kind.Code (λ entity. refl),
+                  no_kind graph timers kind.Code (λ group timer. refl),
                   (
-                    no_kind graph timers kind.Feedback (λ entity. refl),
+                    no_kind graph timers kind.Feedback (λ group timer. refl),
                     (
-                      no_kind graph timers kind.Result (λ entity. refl),
+                      no_kind graph timers kind.Result (λ group timer. refl),
                       tt,
                     ),
                   ),
@@ -127,7 +131,7 @@ wait_timers : (graph : GraphData) → AreTimers graph.entities → wait_set grap
 wait_timers graph timers =
     ap (λ (rest : List Waitable). map (waitable kind.Timer) (entities_where (has_kind kind.Timer) graph) ++ rest) (none_waitable graph other_kinds (no_others graph timers))
     ∙ append-nil (map (waitable kind.Timer) (entities_where (has_kind kind.Timer) graph))
-    ∙ ap (map (waitable kind.Timer)) (all_listed (has_kind kind.Timer) (λ entity. refl) 0 graph.entities timers)
+    ∙ ap (map (waitable kind.Timer)) (all_listed (has_kind kind.Timer) (λ group timer. refl) 0 graph.entities timers)
 
 timers_have_no_queue : (numbers : List ℕ) → filter has_queue (map (waitable kind.Timer) numbers) ≡ []
 timers_have_no_queue [] = refl

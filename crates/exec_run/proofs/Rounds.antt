@@ -4,17 +4,19 @@ use Rattle.std.specs.List.{All, filter, filter_map, flat_map, fold}
 use Rattle.std.proofs.lemmas.List.{append-nil, drop_more, length-map, length-replicate}
 use Rattle.std.proofs.lemmas.List.Elements.{All-nil, All-push, All-head, All-tail}
 use Rattle.std.proofs.lemmas.List.Folds.{fold-map}
-use Rattle.exec_graph.specs.Graph.{GraphData, declared_at, is_timer, names_of}
+use Rattle.exec_graph.specs.Entity.{Resolved}
+use Rattle.exec_graph.specs.Graph.{in_group, GraphData, declared_at, is_timer, names_of}
 use Rattle.exec_graph.specs.Plan.{PlanData}
 use Rattle.exec_graph.specs.declared.entity.Declared.{Declared}
-use Rattle.exec_graph.specs.declared.entity.Declared.TheVariants.{Topic, Timer, Subscription, Service, Client, Server, ActionClient}
+use Rattle.exec_graph.specs.declared.entity.Declared.TheVariants.{Topic, Entity}
+use Rattle.exec_graph.specs.declared.entity.EntityOf.TheVariants.{Timer, Subscription, Service, Client, Server, ActionClient}
 use Rattle.exec_graph.specs.declared.plan.Feed.{Feed}
 use Rattle.exec_msg.specs.Line.{IsNamed}
 use Rattle.exec_msg.specs.Timer.{is_due}
 use Rattle.exec_msg.specs.declared.line.Line.{Line}
 use Rattle.exec_msg.specs.declared.line.Line.TheVariants as line
 use Rattle.exec_run.proofs.Listing.{up, timers_listed, no_servers, no_clients, no_action_clients, no_queues, ready_timers, due_within}
-use Rattle.exec_run.proofs.OnTimers.{AreTimers, are_timers, declared_timer, lawful_entity, none_later, nothing_fed}
+use Rattle.exec_run.proofs.OnTimers.{AreTimers, are_timers, declared_timer, lawful_at, none_later, nothing_fed}
 use Rattle.exec_run.proofs.Running.{AreOfTimers, call_at, run_keeps_alone, timer_names_nothing}
 use Rattle.exec_run.specs.Timers.{IsOfTimers, HasTimersAlone, due_entity, timer_ready}
 use Rattle.exec_script.specs.Zeros.{zeros}
@@ -37,7 +39,7 @@ pub of_timers_at : (plan : PlanData) → IsOfTimers plan → (moment entity : �
 of_timers_at plan of moment entity world within =
     timer_names_nothing plan.graph (none_later plan.graph of.timers) (declared_at plan.graph entity)
     (declared_timer plan.graph entity (timers_of plan of) within)
-    (lawful_entity plan.graph entity of.lawful.graph (timers_of plan of) within) _ (call_input moment due)
+    (lawful_at plan.graph entity of.lawful.graph within) _ (call_input moment due)
 
 pub alone_run : (plan : PlanData) → IsOfTimers plan → (moment entity : ℕ) (world : WorldState) → entity < length plan.graph.entities → HasTimersAlone plan.graph world → HasTimersAlone plan.graph (run plan.graph moment (timer_ready plan.graph entity) world)
 alone_run plan of moment entity world within alone =
@@ -127,13 +129,15 @@ alone_rounds plan of number (moment ∷ moments) world alone = alone_rounds plan
 -- ---- the first world
 
 one_entity : (number : ℕ) (declared : Declared) (rest : List TimerEntry) → is_timer declared ≡ true → map (λ entry. entry.entity) (new_timer number declared ++ rest) ≡ number ∷ map (λ entry. entry.entity) rest
-one_entity number (Timer entity) rest h = refl
 one_entity number Topic rest h = absurd cc
-one_entity number (Subscription entity) rest h = absurd cc
-one_entity number (Service entity) rest h = absurd cc
-one_entity number (Client entity) rest h = absurd cc
-one_entity number (Server entity) rest h = absurd cc
-one_entity number (ActionClient entity) rest h = absurd cc
+one_entity number (Entity entity) rest h = by entity.group entity.is h where
+  by : (group : ℕ) (is : Resolved) → is_timer (in_group group is) ≡ true → map (λ entry. entry.entity) (new_timer number (in_group group is) ++ rest) ≡ number ∷ map (λ entry. entry.entity) rest
+  by group (Timer timer) h = refl
+  by group (Subscription subscription) h = absurd cc
+  by group (Service service) h = absurd cc
+  by group (Client client) h = absurd cc
+  by group (Server server) h = absurd cc
+  by group (ActionClient client) h = absurd cc
 
 new_entities : (graph : GraphData) → AreTimers graph.entities → (k n : ℕ) → k + n ≤ length graph.entities → map (λ entry. entry.entity) (flat_map (λ number. new_timer number (declared_at graph number)) (up k n)) ≡ up k n
 new_entities graph timers k zero within = refl

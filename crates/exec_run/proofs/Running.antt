@@ -4,10 +4,13 @@ use Rattle.std.specs.List.{All, fold, list_all}
 use Rattle.std.specs.Option.{unwrap_or}
 use Rattle.std.proofs.lemmas.List.{length-set}
 use Rattle.std.proofs.lemmas.List.Elements.{All-nil, All-push, All-head, All-tail}
-use Rattle.exec_graph.specs.Graph.{GraphData, declared_at, group_of, is_timer, names_of, script_for}
-use Rattle.exec_graph.specs.Lawful.{IsLawfulEntity, IsLawfulScript, is_known}
+use Rattle.exec_graph.specs.Entity.{Resolved, scripts_of}
+use Rattle.exec_graph.specs.Graph.{in_group, callback_script, GraphData, declared_at, group_of, is_timer, names_of, script_for}
+use Rattle.exec_graph.specs.Lawful.{IsLawfulDeclared, IsLawfulScript, is_known}
 use Rattle.exec_graph.specs.declared.entity.Declared.{Declared}
-use Rattle.exec_graph.specs.declared.entity.Declared.TheVariants.{Topic, Timer, Subscription, Service, Client, Server, ActionClient}
+use Rattle.exec_graph.specs.declared.entity.CallbackGroup.{CallbackGroup}
+use Rattle.exec_graph.specs.declared.entity.Declared.TheVariants.{Topic, Entity}
+use Rattle.exec_graph.specs.declared.entity.EntityOf.TheVariants.{Timer, Subscription, Service, Client, Server, ActionClient}
 use Rattle.exec_msg.specs.Line.{IsNamed}
 use Rattle.exec_msg.specs.declared.kind.Kind.TheVariants as kind
 use Rattle.exec_msg.specs.declared.line.Line.TheVariants as line
@@ -119,19 +122,19 @@ call_names_nothing : (graph : GraphData) → HaveNone graph.entities → (node :
 call_names_nothing graph none node script variables input known =
     follow_names_nothing graph none node input script 0 0 (record { registers = zeros; variables = variables; answer = None; given = []; stop = stop.End }) known (All-nil (λ effect. names_nothing effect ≡ true))
 
-script_known : (graph : GraphData) (declared : Declared) → is_timer declared ≡ true → (lawful : IsLawfulEntity graph declared) → list_all (is_known graph lawful.group.node) (unwrap_or (script_for kind.Timer declared) []) ≡ true
-script_known graph (Timer entity) h lawful = (All-head (IsLawfulScript graph lawful.group) _ [] lawful.scripts).known
-script_known graph Topic h lawful = absurd cc
-script_known graph (Subscription entity) h lawful = absurd cc
-script_known graph (Service entity) h lawful = absurd cc
-script_known graph (Client entity) h lawful = absurd cc
-script_known graph (Server entity) h lawful = absurd cc
-script_known graph (ActionClient entity) h lawful = absurd cc
+script_known : (graph : GraphData) (group : CallbackGroup) (in_it : ℕ) (is : Resolved) → is_timer (in_group in_it is) ≡ true → All (IsLawfulScript graph group) (scripts_of is) → list_all (is_known graph group.node) (unwrap_or (callback_script kind.Timer is) []) ≡ true
+script_known graph group in_it (Timer timer) h lawful = (All-head (IsLawfulScript graph group) _ [] lawful).known
+script_known graph group in_it (Subscription subscription) h lawful = absurd cc
+script_known graph group in_it (Service service) h lawful = absurd cc
+script_known graph group in_it (Client client) h lawful = absurd cc
+script_known graph group in_it (Server server) h lawful = absurd cc
+script_known graph group in_it (ActionClient client) h lawful = absurd cc
 
 -- the effects of a lawful timer's callback name nothing, where nothing is that they could name
-pub timer_names_nothing : (graph : GraphData) → HaveNone graph.entities → (declared : Declared) → is_timer declared ≡ true → IsLawfulEntity graph declared → (variables : List ℤ) (input : CallInput) → AreOfTimers (call_of (unwrap_or (script_for kind.Timer declared) []) variables input).given
-timer_names_nothing graph none declared h lawful variables input =
-    call_names_nothing graph none lawful.group.node (unwrap_or (script_for kind.Timer declared) []) variables input (script_known graph declared h lawful)
+pub timer_names_nothing : (graph : GraphData) → HaveNone graph.entities → (declared : Declared) → is_timer declared ≡ true → IsLawfulDeclared graph declared → (variables : List ℤ) (input : CallInput) → AreOfTimers (call_of (unwrap_or (script_for kind.Timer declared) []) variables input).given
+timer_names_nothing graph none Topic h lawful variables input = absurd cc
+timer_names_nothing graph none (Entity entity) h lawful variables input =
+    call_names_nothing graph none lawful.group.node (unwrap_or (callback_script kind.Timer entity.is) []) variables input (script_known graph lawful.group entity.group entity.is h lawful.scripts)
 
 -- ---- what effects do
 

@@ -4,15 +4,16 @@ use Rattle.std.specs.List.{list_any}
 use Rattle.exec_doc.specs.Document.{document_of}
 use Rattle.exec_doc.specs.Refusals.{refusal_of}
 use Rattle.exec_doc.specs.declared.refused.Refused.TheVariants.{Memory}
-use Rattle.exec_graph.specs.Graph.{GraphData, is_topic, is_service, is_client, is_server, is_action_client}
+use Rattle.exec_graph.specs.Graph.{GraphData, is_topic, is_a}
 use Rattle.exec_graph.specs.Plan.{PlanData}
 use Rattle.exec_graph.specs.declared.entity.Declared.{Declared}
+use Rattle.exec_graph.specs.declared.entity.EntityKind.TheVariants as kind
 use Rattle.exec_run.specs.declared.fault.AloneFault.{AloneFault}
 use Rattle.exec_run.specs.declared.fault.AloneFault.TheVariants.{Refused, Later}
 
 -- what isn't run yet: a topic, a service, a service client, an action server or an action client
 abbrev pub is_later : Declared → Bool
-is_later declared = is_topic declared || is_service declared || is_client declared || is_server declared || is_action_client declared
+is_later declared = is_topic declared || is_a kind.Service declared || is_a kind.Client declared || is_a kind.Server declared || is_a kind.ActionClient declared
 
 -- whether a graph has nothing of these; then a lawful one has no subscription either, which needs a topic, and is of timers
 -- alone

@@ -8,7 +8,7 @@ ghost use Rattle.exec_world.specs.Transcript.{text_of};
 use crate::fault::AloneFault;
 use crate::world::World;
 use exec_doc::read_document;
-use exec_graph::{Declared, Graph};
+use exec_graph::{Declared, EntityKind, Graph};
 use exec_msg::{EntityNo, Line, Memory, Names, write_line};
 use std::alloc::Global;
 
@@ -45,14 +45,11 @@ fn is_of_timers(graph: &Graph) -> bool
 fn is_later(declared: &Declared) -> bool
     ensures { result ≡ is_later declared.now }
 {
-    match declared {
-        Declared::Timer(_) | Declared::Subscription(_) => false,
-        Declared::Topic
-        | Declared::Service(_)
-        | Declared::Client(_)
-        | Declared::Server(_)
-        | Declared::ActionClient(_) => true,
-    }
+    declared.is_topic()
+        || declared.is_a(EntityKind::Service)
+        || declared.is_a(EntityKind::Client)
+        || declared.is_a(EntityKind::Server)
+        || declared.is_a(EntityKind::ActionClient)
 }
 
 fn text_of(alloc: Global, lines: &[Line], names: &Names) -> Result<Vec<u8>, Memory>

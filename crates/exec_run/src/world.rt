@@ -1,19 +1,21 @@
-ghost use Rattle.std.specs.Prelude.{◌≡◌, ◌++◌, [], map, replicate, IsTrue, OnOk, IfOk};
+ghost use Rattle.std.specs.Prelude.{◌≡◌, ◌++◌, [], true, map, replicate, IsTrue, OnOk, IfOk};
 ghost use Rattle.std.specs.Option.{unwrap_or};
 ghost use Rattle.std.specs.List.{filter_map};
-ghost use Rattle.exec_graph.specs.Graph.{script_for};
-ghost use Rattle.exec_graph.specs.Lawful.{is_within};
+ghost use Rattle.exec_graph.specs.Entity.{is_within};
+ghost use Rattle.exec_graph.specs.Graph.{of_entity, callback_script, script_for};
 ghost use Rattle.exec_msg.specs.declared.kind.Kind.TheVariants as kind;
 ghost use Rattle.exec_run.specs.Timers.{due_entity};
 ghost use Rattle.exec_script.specs.Zeros.{zeros};
 ghost use Rattle.exec_world.specs.Ready.{timer_taken};
-ghost use Rattle.exec_world.specs.Transcript.{new_timer, first_world};
+ghost use Rattle.exec_world.specs.Transcript.{new_timer, timer_in, first_world};
 
-use exec_graph::{Declared, Graph, GroupNo, Plan};
+use exec_graph::{Declared, EntityOf, Graph, GroupNo, Plan, Script};
 use exec_msg::{EntityNo, Kind, Line, LineList, Memory, Moment, Timer};
 use exec_script::{Bank, Effect, Effects, Input, Instr, Role, run_call};
 use std::alloc::Global;
 use std::marker::Model;
+
+type Resolved = EntityOf<EntityNo, Script>;
 
 /// A timer of a graph.
 #[derive(Clone, Copy, Debug, PartialEq, Eq)]
@@ -224,7 +226,16 @@ fn timer_script(declared: &Declared) -> &[Instr]
     ensures { result.now ≡ unwrap_or (script_for kind.Timer declared.now) [] }
 {
     match declared {
-        Declared::Timer(timer) => timer.script.as_slice(),
+        Declared::Topic => &[],
+        Declared::Entity(entity) => script_of(&entity.is),
+    }
+}
+
+fn script_of(entity: &Resolved) -> &[Instr]
+    ensures { result.now ≡ unwrap_or (callback_script kind.Timer entity.now) [] }
+{
+    match entity {
+        EntityOf::Timer(timer) => timer.script.as_slice(),
         _ => &[],
     }
 }
@@ -245,13 +256,27 @@ fn push_timer(
     entity: EntityNo,
     declared: &Declared,
 ) -> Result<(), Memory>
-    requires { IsTrue (is_within declared.now) }
+    requires { IsTrue (of_entity true is_within declared.now) }
     ensures { OnOk result (timers.new.items ≡ timers.old.items ++ new_timer entity declared.now) }
 {
-    if let Declared::Timer(declared) = declared {
+    match declared {
+        Declared::Topic => Ok(()),
+        Declared::Entity(declared) => push_timer_of(timers, entity, &declared.is),
+    }
+}
+
+fn push_timer_of(
+    timers: &mut Vec<EntityTimer>,
+    entity: EntityNo,
+    is: &Resolved,
+) -> Result<(), Memory>
+    requires { IsTrue (is_within is.now) }
+    ensures { OnOk result (timers.new.items ≡ timers.old.items ++ timer_in entity is.now) }
+{
+    if let EntityOf::Timer(found) = is {
         timers.push(EntityTimer {
             entity,
-            timer: Timer::new(declared.period),
+            timer: Timer::new(found.period),
         })?;
     }
     Ok(())

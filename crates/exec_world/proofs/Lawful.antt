@@ -1,12 +1,17 @@
 -- A worked example is lawful.
-use Rattle.std.proofs.Common.{ℕ, zero, suc, ◌<◌, ◌≤◌, [], get_or, drop, None, true, refl, inr, IsTrue, arith}
+use Rattle.std.proofs.Common.{ℕ, zero, suc, ◌<◌, ◌≤◌, [], get_or, drop, None, true, refl, IsTrue, ◌∷◌, arith}
 use Rattle.std.specs.List.{All}
 use Rattle.std.proofs.lemmas.Bool.{leb-true}
 use Rattle.std.proofs.lemmas.List.Elements.{All-nil, All-cons}
 use Rattle.exec_graph.specs.Graph.{EntityData}
 use Rattle.exec_graph.specs.declared.entity.CallbackGroup.{CallbackGroup}
 use Rattle.exec_graph.specs.declared.entity.Declared.TheVariants.{Topic}
-use Rattle.exec_graph.specs.Lawful.{IsLawfulPlan, IsLawfulNode, IsLawfulAt, IsLawfulEntity, IsLawfulScript, RoleScript, scripts_of, is_from_1, is_fed_well}
+use Rattle.exec_graph.specs.declared.entity.EntityOf.TheVariants.{Timer}
+use Rattle.exec_graph.specs.declared.entity.GraphEntity.{GraphEntity}
+use Rattle.exec_graph.specs.Entity.{Script, RoleScriptData, is_from_1, scripts_of}
+use Rattle.exec_graph.specs.Lawful.{IsLawfulPlan, IsLawfulNode, IsLawfulDeclared, IsLawfulEntity, IsLawfulScript, is_fed_well}
+use Rattle.exec_script.specs.declared.instr.Instr.TheVariants as instr
+use Rattle.exec_script.specs.declared.instr.Operand.TheVariants as operand
 use Rattle.exec_script.specs.declared.place.Role.TheVariants as role
 use Rattle.exec_world.specs.Examples.Timers.{late}
 
@@ -18,9 +23,13 @@ group = record { node = 0; name = None; exclusive = true }
 abbrev entity : EntityData
 entity = get_or late.graph.entities 0 (record { name = []; is = Topic })
 
+-- which is a timer
+abbrev timer : GraphEntity
+timer = record { group = 0; is = Timer (record { period = 10; script = instr.Log operand.Now ∷ [] }) }
+
 -- the entity's one script
-abbrev script : RoleScript
-script = get_or (scripts_of entity.is) 0 (record { role = role.Goal; script = [] })
+abbrev script : RoleScriptData Script
+script = get_or (scripts_of timer.is) 0 (record { role = role.Goal; script = [] })
 
 one_node : (node : ℕ) → node < 1 → IsLawfulNode late.graph node
 one_node zero within = record { one_default = refl; default_exclusive = refl; well_named = refl; distinct = refl }
@@ -29,7 +38,7 @@ one_node (suc node) within = absurd (omega arith)
 lawful_script : IsLawfulScript late.graph group script
 lawful_script = record { short = leb-true 1 64 refl; legal = refl; known = refl }
 
-lawful_entity : IsLawfulEntity late.graph entity.is
+lawful_entity : IsLawfulEntity late.graph timer
 lawful_entity = record {
   group = group;
   grouped = refl;
@@ -61,7 +70,7 @@ lawful_plan = record {
     groups = All-cons (λ one. one.node < 1) group [] (omega arith) (All-nil (λ one. one.node < 1));
     nodes = one_node;
     blocks = refl;
-    entities = All-cons (IsLawfulAt late.graph) entity [] (inr lawful_entity) (All-nil (IsLawfulAt late.graph));
+    entities = All-cons (λ entity. IsLawfulDeclared late.graph entity.is) entity [] lawful_entity (All-nil (λ entity. IsLawfulDeclared late.graph entity.is));
   };
   few_moments = leb-true 4 65536 refl;
   moments = moments;

@@ -9,9 +9,11 @@ use Rattle.exec_goal.specs.State.{status_of, is_terminal, is_worked_on}
 use Rattle.exec_goal.specs.Table.{is_expired}
 use Rattle.exec_goal.specs.declared.state.State.{State}
 use Rattle.exec_goal.specs.declared.state.State.TheVariants as state
-use Rattle.exec_graph.specs.Graph.{GraphData, EntityData, Waitable, wait_set, kinds, cons_if, numbers_where, entities_where, has_kind, is_server, declared_at, script_for}
+use Rattle.exec_graph.specs.Entity.{Resolved}
+use Rattle.exec_graph.specs.Graph.{GraphData, EntityData, in_group, Waitable, wait_set, kinds, cons_if, numbers_where, entities_where, has_kind, is_server, declared_at, script_for}
 use Rattle.exec_graph.specs.declared.entity.Declared.{Declared}
 use Rattle.exec_graph.specs.declared.entity.Declared.TheVariants as declared
+use Rattle.exec_graph.specs.declared.entity.EntityOf.TheVariants.{Timer, Subscription, Service, Client, Server, ActionClient}
 use Rattle.exec_graph.specs.Plan.{PlanData}
 use Rattle.exec_msg.specs.declared.goal.GoalStatus.{GoalStatus}
 use Rattle.exec_msg.specs.declared.kind.Kind.{Kind}
@@ -159,12 +161,14 @@ IsListed listed one = kind_of_cause one.cause ≡ kind.Goal → list_any (λ oth
 
 goals_are_servers : (is : Declared) → has_kind kind.Goal is ≡ is_server is
 goals_are_servers declared.Topic = refl
-goals_are_servers (declared.Timer entity) = refl
-goals_are_servers (declared.Subscription entity) = refl
-goals_are_servers (declared.Service entity) = refl
-goals_are_servers (declared.Client entity) = refl
-goals_are_servers (declared.Server entity) = refl
-goals_are_servers (declared.ActionClient entity) = refl
+goals_are_servers (declared.Entity entity) = by entity.group entity.is where
+  by : (group : ℕ) (is : Resolved) → has_kind kind.Goal (in_group group is) ≡ is_server (in_group group is)
+  by group (Timer entity) = refl
+  by group (Subscription entity) = refl
+  by group (Service entity) = refl
+  by group (Client entity) = refl
+  by group (Server entity) = refl
+  by group (ActionClient entity) = refl
 
 same_servers : (number : ℕ) (entities : List EntityData) → numbers_where (has_kind kind.Goal) number entities ≡ numbers_where is_server number entities
 same_servers number [] = refl

@@ -4,9 +4,10 @@ use Rattle.std.specs.List.{find, fold}
 use Rattle.exec_goal.specs.Cancel.{CancelRequest}
 use Rattle.exec_goal.specs.State.{is_accepted, status_of}
 use Rattle.exec_goal.specs.Table.{after_event}
-use Rattle.exec_graph.specs.Graph.{GraphData, entities_where, declared_at}
+use Rattle.exec_graph.specs.Entity.{EntityNo, Resolved}
+use Rattle.exec_graph.specs.Graph.{GraphData, of_entity, entities_where, declared_at}
 use Rattle.exec_graph.specs.declared.entity.Declared.{Declared}
-use Rattle.exec_graph.specs.declared.entity.Declared.TheVariants.{Subscription, Client, ActionClient}
+use Rattle.exec_graph.specs.declared.entity.EntityOf.TheVariants.{Subscription, Client, ActionClient}
 use Rattle.exec_msg.specs.declared.goal.Event.TheVariants as event
 use Rattle.exec_msg.specs.declared.line.Line.TheVariants as line
 use Rattle.exec_script.specs.declared.effects.Effect.{Effect}
@@ -19,23 +20,32 @@ pub record Caller : Type 0 where
   pub polled : Option HeldGoal
 
 -- whether an entity is a subscription of a topic
-abbrev pub is_subscription_of : ℕ → Declared → Bool
-is_subscription_of number (Subscription entity) = entity.topic == number
-is_subscription_of number _ = false
+abbrev pub subscribes_to : EntityNo → Resolved → Bool
+subscribes_to number (Subscription entity) = entity.topic == number
+subscribes_to number _ = false
+
+abbrev pub is_subscription_of : EntityNo → Declared → Bool
+is_subscription_of number = of_entity false (subscribes_to number)
 
 -- a message is sent to each subscription of its topic, in the order of declaration
 abbrev pub publish : GraphData → ℕ → ℤ → WorldState → WorldState
 publish graph number value world = fold (λ before subscriber. push graph subscriber (message value) before) world (entities_where (is_subscription_of number) graph)
 
 -- the service of a client
-abbrev pub service_of : Declared → ℕ
-service_of (Client entity) = entity.service
-service_of _ = 0
+abbrev pub service_in : Resolved → EntityNo
+service_in (Client entity) = entity.service
+service_in _ = 0
+
+abbrev pub service_of : Declared → EntityNo
+service_of = of_entity 0 service_in
 
 -- the server of an action client
-abbrev pub server_of : Declared → ℕ
-server_of (ActionClient entity) = entity.server
-server_of _ = 0
+abbrev pub server_in : Resolved → EntityNo
+server_in (ActionClient entity) = entity.server
+server_in _ = 0
+
+abbrev pub server_of : Declared → EntityNo
+server_of = of_entity 0 server_in
 
 -- a service client makes its call of a number, which is pending from now on
 abbrev pub call : GraphData → ℕ → ℕ → ℤ → WorldState → WorldState

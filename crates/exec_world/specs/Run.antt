@@ -5,9 +5,10 @@ use Rattle.std.specs.Option.{unwrap_or}
 use Rattle.exec_goal.specs.Cancel.{CancelRequest, Decided, moved, after_answer, code_of}
 use Rattle.exec_goal.specs.State.{status_of}
 use Rattle.exec_goal.specs.Table.{GoalRecord, Asked, told, later, unknown, is_accepting, new_goal, after_end, asked_for, asked_by}
-use Rattle.exec_graph.specs.Graph.{GraphData, declared_at}
+use Rattle.exec_graph.specs.Entity.{Resolved}
+use Rattle.exec_graph.specs.Graph.{GraphData, of_entity, declared_at}
 use Rattle.exec_graph.specs.declared.entity.Declared.{Declared}
-use Rattle.exec_graph.specs.declared.entity.Declared.TheVariants.{ActionClient}
+use Rattle.exec_graph.specs.declared.entity.EntityOf.TheVariants.{ActionClient}
 use Rattle.exec_msg.specs.Goal.{status_number}
 use Rattle.exec_msg.specs.declared.goal.GoalStatus.{GoalStatus}
 use Rattle.exec_msg.specs.declared.goal.GoalStatus.TheVariants as status
@@ -125,9 +126,12 @@ close_ask graph server id client unknown world = tell graph server id status.Unk
 close_ask graph server id client later world = change_goal server id (λ held. record held { goal = asked_by client held.goal }) world
 
 -- whether an entity asks for the results of its goals
+abbrev pub asks_for_results : Resolved → Bool
+asks_for_results (ActionClient entity) = is_some entity.on_result
+asks_for_results _ = false
+
 abbrev pub asks : Declared → Bool
-asks (ActionClient entity) = is_some entity.on_result
-asks _ = false
+asks = of_entity false asks_for_results
 
 -- an action client asks for the result of a goal
 abbrev pub ask_where : Bool → GraphData → ℕ → ℕ → WorldState → WorldState

@@ -2,9 +2,10 @@
 use Rattle.std.specs.Prelude.{ℕ, zero, suc, List, [], ◌∷◌, ◌++◌, length, map, replicate, Bool, not, ◌==◌, Option, None, true, false}
 use Rattle.std.specs.List.{filter, flat_map, fold}
 use Rattle.exec_goal.specs.Table.{is_expired}
-use Rattle.exec_graph.specs.Graph.{GraphData, is_timer, is_client, is_server, is_action_client, wait_set, declared_at, entities_where, names_of, Waitable}
+use Rattle.exec_graph.specs.Entity.{Resolved}
+use Rattle.exec_graph.specs.Graph.{GraphData, of_entity, is_timer, is_client, is_server, is_action_client, wait_set, declared_at, entities_where, names_of, Waitable}
 use Rattle.exec_graph.specs.declared.entity.Declared.{Declared}
-use Rattle.exec_graph.specs.declared.entity.Declared.TheVariants.{Timer, Server}
+use Rattle.exec_graph.specs.declared.entity.EntityOf.TheVariants.{Timer, Server}
 use Rattle.exec_graph.specs.Plan.{PlanData}
 use Rattle.exec_graph.specs.declared.plan.Fed.{Fed}
 use Rattle.exec_graph.specs.declared.plan.Fed.TheVariants.{Message, Goal, Cancel}
@@ -21,10 +22,14 @@ use Rattle.exec_world.specs.World.{WorldState, goal_request, cancel_request, Tim
 
 -- ---- the world before the first round
 
--- the timer of an entity, made at moment 0
+-- the timer of a number, made at moment 0, where the entity is one
+abbrev pub timer_in : ℕ → Resolved → List TimerEntry
+timer_in number (Timer entity) = record { entity = number; timer = record { next = entity.period; period = entity.period } } ∷ []
+timer_in number _ = []
+
+-- the timer of what stands at a number
 abbrev pub new_timer : ℕ → Declared → List TimerEntry
-new_timer number (Timer entity) = record { entity = number; timer = record { next = entity.period; period = entity.period } } ∷ []
-new_timer number _ = []
+new_timer number = of_entity [] (timer_in number)
 
 -- action clients at these numbers, the first of which has this place
 abbrev pub new_action_clients : ℕ → List ℕ → List ActionClientEntry
@@ -56,9 +61,12 @@ first_world graph = record {
 -- ---- expiry
 
 -- for how many ticks a server keeps a result, where it doesn't keep it without end
+abbrev pub timeout_in : Resolved → Option ℕ
+timeout_in (Server entity) = entity.result_timeout
+timeout_in _ = None
+
 abbrev pub timeout_of : Declared → Option ℕ
-timeout_of (Server entity) = entity.result_timeout
-timeout_of _ = None
+timeout_of = of_entity None timeout_in
 
 -- whether a server forgets a goal at a moment
 abbrev pub is_forgotten : GraphData → ℕ → ℕ → HeldGoal → Bool

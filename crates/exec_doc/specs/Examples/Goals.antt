@@ -1,7 +1,8 @@
 -- Worked examples: documents of action servers and their clients, each with the plan that it says.
 use Rattle.std.specs.Prelude.{ℕ, List, [], ◌∷◌, codes, ◌++◌, negsuc, None, Some}
 use Rattle.exec_doc.specs.Words.{one_node, value}
-use Rattle.exec_graph.specs.declared.entity.Declared.TheVariants.{Timer, Server, ActionClient}
+use Rattle.exec_graph.specs.Graph.{in_group}
+use Rattle.exec_graph.specs.declared.entity.EntityOf.TheVariants.{Timer, Server, ActionClient}
 use Rattle.exec_graph.specs.Plan.{PlanData}
 use Rattle.exec_script.specs.Instruction as instr
 use Rattle.exec_script.specs.declared.instr.Operand.TheVariants as operand
@@ -16,9 +17,9 @@ feedback_text =
 
 abbrev pub feedback : PlanData
 feedback = one_node
-    (record { name = codes "t"; is = Timer (record { group = 0; period = 10; script = instr.Goal 2 (value 5) ∷ [] }) }
-    ∷ record { name = codes "a"; is = Server (record { group = 0; depth = 10; result_timeout = Some 0; on_goal = instr.Decide (value 2) ∷ []; on_cancel = []; script = instr.Feedback (value 3) ∷ instr.Succeed (value 9) ∷ [] }) }
-    ∷ record { name = codes "ac"; is = ActionClient (record { group = 0; server = 1; depth = 10; on_response = []; on_code = []; on_feedback = instr.Log operand.In ∷ []; on_result = Some [] }) }
+    (record { name = codes "t"; is = in_group 0 (Timer (record { period = 10; script = instr.Goal 2 (value 5) ∷ [] })) }
+    ∷ record { name = codes "a"; is = in_group 0 (Server (record { depth = 10; result_timeout = Some 0; on_goal = instr.Decide (value 2) ∷ []; on_cancel = []; script = instr.Feedback (value 3) ∷ instr.Succeed (value 9) ∷ [] })) }
+    ∷ record { name = codes "ac"; is = in_group 0 (ActionClient (record { server = 1; depth = 10; on_response = []; on_code = []; on_feedback = instr.Log operand.In ∷ []; on_result = Some [] })) }
     ∷ [])
     (10 ∷ 11 ∷ 12 ∷ 13 ∷ 14 ∷ []) []
 
@@ -31,7 +32,7 @@ cancel_forms_text =
 
 abbrev pub cancel_forms : PlanData
 cancel_forms = one_node
-    (record { name = codes "a"; is = Server (record { group = 0; depth = 10; result_timeout = None; on_goal = []; on_cancel = []; script = [] }) }
-    ∷ record { name = codes "ac"; is = ActionClient (record { group = 0; server = 0; depth = 3; on_response = []; on_code = instr.CancelAll 1 (value 0) ∷ instr.CancelAll 1 operand.Aux ∷ instr.CancelGoal 1 (operand.Value (negsuc 0)) (value 0) ∷ instr.CancelGoal 1 operand.In operand.Now ∷ []; on_feedback = []; on_result = None }) }
+    (record { name = codes "a"; is = in_group 0 (Server (record { depth = 10; result_timeout = None; on_goal = []; on_cancel = []; script = [] })) }
+    ∷ record { name = codes "ac"; is = in_group 0 (ActionClient (record { server = 0; depth = 3; on_response = []; on_code = instr.CancelAll 1 (value 0) ∷ instr.CancelAll 1 operand.Aux ∷ instr.CancelGoal 1 (operand.Value (negsuc 0)) (value 0) ∷ instr.CancelGoal 1 operand.In operand.Now ∷ []; on_feedback = []; on_result = None })) }
     ∷ [])
     [] []

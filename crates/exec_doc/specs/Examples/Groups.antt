@@ -1,7 +1,9 @@
 -- Worked examples: documents of callback groups, and fields that are ignored, each with the plan that it says.
 use Rattle.std.specs.Prelude.{ℕ, List, [], ◌∷◌, codes, ◌++◌, pos, negsuc, true, false, None, Some}
 use Rattle.exec_doc.specs.Words.{one_node, value}
-use Rattle.exec_graph.specs.declared.entity.Declared.TheVariants.{Topic, Timer, Server}
+use Rattle.exec_graph.specs.Graph.{in_group}
+use Rattle.exec_graph.specs.declared.entity.Declared.TheVariants.{Topic}
+use Rattle.exec_graph.specs.declared.entity.EntityOf.TheVariants.{Timer, Server}
 use Rattle.exec_graph.specs.Plan.{PlanData}
 use Rattle.exec_graph.specs.declared.plan.Fed.TheVariants.{Message, Goal}
 use Rattle.exec_script.specs.declared.instr.Destination.TheVariants as destination
@@ -32,10 +34,10 @@ many_goals = record {
         ∷ record { node = 0; name = Some (codes "R"); exclusive = false }
         ∷ [];
     entities =
-        record { name = codes "ta"; is = Timer (record { group = 1; period = 20; script = instr.Log operand.Now ∷ [] }) }
-        ∷ record { name = codes "tb1"; is = Timer (record { group = 2; period = 20; script = instr.Set (destination.Variable 0) operation.Add (operand.Variable 0) (value 3) ∷ instr.Log (operand.Variable 0) ∷ [] }) }
-        ∷ record { name = codes "tb2"; is = Timer (record { group = 2; period = 20; script = instr.Set (destination.Variable 0) operation.Mul (operand.Variable 0) (value 2) ∷ instr.Log (operand.Variable 0) ∷ [] }) }
-        ∷ record { name = codes "a"; is = Server (record { group = 3; depth = 10; result_timeout = None; on_goal = instr.Decide (value 2) ∷ []; on_cancel = []; script = instr.Set (destination.Register 0) operation.Sub (value 20) operand.Now ∷ instr.Wait (operand.Register 0) ∷ instr.Succeed operand.In ∷ [] }) }
+        record { name = codes "ta"; is = in_group 1 (Timer (record { period = 20; script = instr.Log operand.Now ∷ [] })) }
+        ∷ record { name = codes "tb1"; is = in_group 2 (Timer (record { period = 20; script = instr.Set (destination.Variable 0) operation.Add (operand.Variable 0) (value 3) ∷ instr.Log (operand.Variable 0) ∷ [] })) }
+        ∷ record { name = codes "tb2"; is = in_group 2 (Timer (record { period = 20; script = instr.Set (destination.Variable 0) operation.Mul (operand.Variable 0) (value 2) ∷ instr.Log (operand.Variable 0) ∷ [] })) }
+        ∷ record { name = codes "a"; is = in_group 3 (Server (record { depth = 10; result_timeout = None; on_goal = instr.Decide (value 2) ∷ []; on_cancel = []; script = instr.Set (destination.Register 0) operation.Sub (value 20) operand.Now ∷ instr.Wait (operand.Register 0) ∷ instr.Succeed operand.In ∷ [] })) }
         ∷ [];
   };
   moments = 1 ∷ 2 ∷ 20 ∷ [];
@@ -51,6 +53,6 @@ unknown_fields_text =
 
 abbrev pub unknown_fields : PlanData
 unknown_fields = one_node
-    (record { name = codes "x"; is = Topic } ∷ record { name = codes "t"; is = Timer (record { group = 0; period = 1; script = [] }) } ∷ [])
+    (record { name = codes "x"; is = Topic } ∷ record { name = codes "t"; is = in_group 0 (Timer (record { period = 1; script = [] })) } ∷ [])
     (1 ∷ [])
     (record { round = 1; fed = Message 0 (negsuc 9223372036854775807) } ∷ [])

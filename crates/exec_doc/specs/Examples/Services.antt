@@ -1,6 +1,7 @@
 -- Worked examples: documents of services and their clients, each with the plan that it says.
 use Rattle.std.specs.Prelude.{ℕ, List, [], ◌∷◌, codes, ◌++◌, true, None}
-use Rattle.exec_graph.specs.declared.entity.Declared.TheVariants.{Service, Client}
+use Rattle.exec_graph.specs.Graph.{in_group}
+use Rattle.exec_graph.specs.declared.entity.EntityOf.TheVariants.{Service, Client}
 use Rattle.exec_graph.specs.Plan.{PlanData}
 
 -- a client of a service of a later node: services come before clients, and each node has a default group of its own
@@ -15,8 +16,8 @@ across_nodes = record {
     nodes = codes "n" ∷ codes "m" ∷ [];
     groups = record { node = 0; name = None; exclusive = true } ∷ record { node = 1; name = None; exclusive = true } ∷ [];
     entities =
-        record { name = codes "s"; is = Service (record { group = 1; depth = 10; script = [] }) }
-        ∷ record { name = codes "c"; is = Client (record { group = 0; service = 0; depth = 10; script = [] }) }
+        record { name = codes "s"; is = in_group 1 (Service (record { depth = 10; script = [] })) }
+        ∷ record { name = codes "c"; is = in_group 0 (Client (record { service = 0; depth = 10; script = [] })) }
         ∷ [];
   };
   moments = [];

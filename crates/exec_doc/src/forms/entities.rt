@@ -9,29 +9,12 @@ use crate::forms::fields::{optional, required};
 use crate::forms::scripts::script_field;
 use crate::refused::Refused;
 use exec_graph::{
-    ActionClientDraft, ClientDraft, Drafted, EntityDraft, ServerDraft, ServiceDraft,
-    SubscriptionDraft, TimerDraft,
+    ActionClientEntity, ClientEntity, Drafted, EntityDraft, EntityKind, EntityOf, ServerEntity,
+    ServiceEntity, SubscriptionEntity, TimerEntity,
 };
 use exec_msg::limits::DEFAULT_DEPTH;
 use serde_json::Value;
 use std::alloc::Global;
-
-/// A kind of entity.
-#[derive(Clone, Copy, Debug)]
-pub enum EntityKind {
-    /// Timers.
-    Timer,
-    /// Subscriptions.
-    Subscription,
-    /// Services.
-    Service,
-    /// Service clients.
-    Client,
-    /// Action servers.
-    Server,
-    /// Action clients.
-    ActionClient,
-}
 
 /// Appends the entities of a kind that a node lists in a field.
 #[tactic(auto, using(crate::proofs::Lists::any_list))]
@@ -97,7 +80,7 @@ fn drafted(alloc: Global, value: &Value, kind: EntityKind) -> Result<Drafted, Re
 fn timer(alloc: Global, value: &Value) -> Result<Drafted, Refused>
     ensures { Gives (λ found. found) result (timer_form (view value.now)) }
 {
-    Ok(Drafted::Timer(TimerDraft {
+    Ok(EntityOf::Timer(TimerEntity {
         period: required(alloc, value, "period")?,
         script: script_field(alloc, value, "script")?,
     }))
@@ -106,7 +89,7 @@ fn timer(alloc: Global, value: &Value) -> Result<Drafted, Refused>
 fn subscription(alloc: Global, value: &Value) -> Result<Drafted, Refused>
     ensures { Gives (λ found. found) result (subscription_form (view value.now)) }
 {
-    Ok(Drafted::Subscription(SubscriptionDraft {
+    Ok(EntityOf::Subscription(SubscriptionEntity {
         topic: required(alloc, value, "topic")?,
         depth: depth_field(alloc, value)?,
         script: script_field(alloc, value, "script")?,
@@ -116,7 +99,7 @@ fn subscription(alloc: Global, value: &Value) -> Result<Drafted, Refused>
 fn service(alloc: Global, value: &Value) -> Result<Drafted, Refused>
     ensures { Gives (λ found. found) result (service_form (view value.now)) }
 {
-    Ok(Drafted::Service(ServiceDraft {
+    Ok(EntityOf::Service(ServiceEntity {
         depth: depth_field(alloc, value)?,
         script: script_field(alloc, value, "script")?,
     }))
@@ -125,7 +108,7 @@ fn service(alloc: Global, value: &Value) -> Result<Drafted, Refused>
 fn client(alloc: Global, value: &Value) -> Result<Drafted, Refused>
     ensures { Gives (λ found. found) result (client_form (view value.now)) }
 {
-    Ok(Drafted::Client(ClientDraft {
+    Ok(EntityOf::Client(ClientEntity {
         service: required(alloc, value, "service")?,
         depth: depth_field(alloc, value)?,
         script: script_field(alloc, value, "script")?,
@@ -135,7 +118,7 @@ fn client(alloc: Global, value: &Value) -> Result<Drafted, Refused>
 fn server(alloc: Global, value: &Value) -> Result<Drafted, Refused>
     ensures { Gives (λ found. found) result (server_form (view value.now)) }
 {
-    Ok(Drafted::Server(ServerDraft {
+    Ok(EntityOf::Server(ServerEntity {
         depth: depth_field(alloc, value)?,
         result_timeout: optional(alloc, value, "result_timeout")?,
         on_goal: script_field(alloc, value, "on_goal")?,
@@ -147,7 +130,7 @@ fn server(alloc: Global, value: &Value) -> Result<Drafted, Refused>
 fn action_client(alloc: Global, value: &Value) -> Result<Drafted, Refused>
     ensures { Gives (λ found. found) result (action_client_form (view value.now)) }
 {
-    Ok(Drafted::ActionClient(ActionClientDraft {
+    Ok(EntityOf::ActionClient(ActionClientEntity {
         server: required(alloc, value, "action")?,
         depth: depth_field(alloc, value)?,
         on_response: script_field(alloc, value, "on_response")?,

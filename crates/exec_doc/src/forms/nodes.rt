@@ -2,10 +2,10 @@ ghost use Rattle.std.specs.Prelude.{◌≡◌};
 ghost use Rattle.serde_json.specs.View.{view};
 ghost use Rattle.exec_doc.specs.Forms.{exclusive_named, group_kind, group, node};
 
-use crate::forms::entities::{EntityKind, append_entities};
+use crate::forms::entities::append_entities;
 use crate::forms::fields::{Form, list, required};
 use crate::refused::Refused;
-use exec_graph::{GroupDraft, NodeDraft};
+use exec_graph::{EntityKind, GroupDraft, NodeDraft};
 use exec_msg::Items;
 use serde_json::Value;
 use std::alloc::Global;

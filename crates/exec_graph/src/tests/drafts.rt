@@ -1,7 +1,7 @@
 //! Drafts of graphs, written as texts.
 use crate::{
-    ActionClientDraft, ClientDraft, Drafted, EntityDraft, GraphBuilder, GroupDraft, NodeDraft,
-    ServerDraft, ServiceDraft, Spelled, SubscriptionDraft, TimerDraft,
+    ActionClientEntity, ClientEntity, Drafted, EntityDraft, EntityOf, GraphBuilder, GroupDraft,
+    NodeDraft, ServerEntity, ServiceEntity, Spelled, SubscriptionEntity, TimerEntity,
 };
 use exec_msg::{Items, Memory};
 use exec_script::{Word, WordText};
@@ -144,48 +144,48 @@ impl<'a> Line<'a> {
 
     fn drafted(&self) -> Result<Drafted, Unread> {
         match self.word(0) {
-            "timer" => Ok(Drafted::Timer(self.timer()?)),
-            "subscription" => Ok(Drafted::Subscription(self.subscription()?)),
-            "service" => Ok(Drafted::Service(self.service()?)),
-            "client" => Ok(Drafted::Client(self.client()?)),
-            "server" => Ok(Drafted::Server(self.server()?)),
-            "action_client" => Ok(Drafted::ActionClient(self.action_client()?)),
+            "timer" => Ok(EntityOf::Timer(self.timer()?)),
+            "subscription" => Ok(EntityOf::Subscription(self.subscription()?)),
+            "service" => Ok(EntityOf::Service(self.service()?)),
+            "client" => Ok(EntityOf::Client(self.client()?)),
+            "server" => Ok(EntityOf::Server(self.server()?)),
+            "action_client" => Ok(EntityOf::ActionClient(self.action_client()?)),
             _ => Err(Unread::Text),
         }
     }
 
-    fn timer(&self) -> Result<TimerDraft, Unread> {
-        Ok(TimerDraft {
+    fn timer(&self) -> Result<TimerEntity<Spelled>, Unread> {
+        Ok(TimerEntity {
             period: self.number(3)?,
             script: self.script(0)?,
         })
     }
 
-    fn subscription(&self) -> Result<SubscriptionDraft, Unread> {
-        Ok(SubscriptionDraft {
+    fn subscription(&self) -> Result<SubscriptionEntity<WordText, Spelled>, Unread> {
+        Ok(SubscriptionEntity {
             topic: self.text(4)?,
             depth: self.number(3)?,
             script: self.script(0)?,
         })
     }
 
-    fn service(&self) -> Result<ServiceDraft, Unread> {
-        Ok(ServiceDraft {
+    fn service(&self) -> Result<ServiceEntity<Spelled>, Unread> {
+        Ok(ServiceEntity {
             depth: self.number(3)?,
             script: self.script(0)?,
         })
     }
 
-    fn client(&self) -> Result<ClientDraft, Unread> {
-        Ok(ClientDraft {
+    fn client(&self) -> Result<ClientEntity<WordText, Spelled>, Unread> {
+        Ok(ClientEntity {
             service: self.text(4)?,
             depth: self.number(3)?,
             script: self.script(0)?,
         })
     }
 
-    fn server(&self) -> Result<ServerDraft, Unread> {
-        Ok(ServerDraft {
+    fn server(&self) -> Result<ServerEntity<Spelled>, Unread> {
+        Ok(ServerEntity {
             depth: self.number(3)?,
             result_timeout: self.timeout()?,
             on_goal: self.script(0)?,
@@ -201,8 +201,8 @@ impl<'a> Line<'a> {
         }
     }
 
-    fn action_client(&self) -> Result<ActionClientDraft, Unread> {
-        Ok(ActionClientDraft {
+    fn action_client(&self) -> Result<ActionClientEntity<WordText, Spelled>, Unread> {
+        Ok(ActionClientEntity {
             server: self.text(4)?,
             depth: self.number(3)?,
             on_response: self.script(0)?,

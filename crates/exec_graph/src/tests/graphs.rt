@@ -5,7 +5,7 @@ ghost use Rattle.exec_graph.specs.Lawful.{is_at};
 
 use super::drafts::builder_of;
 use super::same;
-use crate::{CallbackGroup, Declared, Graph, GroupNo, Script};
+use crate::{CallbackGroup, Declared, EntityOf, Graph, GroupNo, Script};
 use exec_msg::EntityNo;
 use exec_script::Instr;
 use std::alloc::{AllocError, Global};
@@ -92,10 +92,16 @@ fn declared(alloc: Global, graph: &Graph, no: EntityNo) -> Result<String, AllocE
 {
     match graph.declared(no) {
         Declared::Topic => String::from_str(alloc, "topic"),
-        Declared::Timer(entity) => {
+        Declared::Entity(entity) => said(alloc, &entity.is),
+    }
+}
+
+fn said(alloc: Global, entity: &EntityOf<EntityNo, Script>) -> Result<String, AllocError> {
+    match entity {
+        EntityOf::Timer(entity) => {
             format!(in alloc; "timer {} {:?}", entity.period, entity.script.as_slice())
         }
-        Declared::Subscription(entity) => {
+        EntityOf::Subscription(entity) => {
             format!(in alloc;
                 "subscription {} of {} {:?}",
                 entity.depth,
@@ -103,10 +109,10 @@ fn declared(alloc: Global, graph: &Graph, no: EntityNo) -> Result<String, AllocE
                 entity.script.as_slice()
             )
         }
-        Declared::Service(entity) => {
+        EntityOf::Service(entity) => {
             format!(in alloc; "service {} {:?}", entity.depth, entity.script.as_slice())
         }
-        Declared::Client(entity) => {
+        EntityOf::Client(entity) => {
             format!(in alloc;
                 "client {} of {} {:?}",
                 entity.depth,
@@ -114,7 +120,7 @@ fn declared(alloc: Global, graph: &Graph, no: EntityNo) -> Result<String, AllocE
                 entity.script.as_slice()
             )
         }
-        Declared::Server(entity) => {
+        EntityOf::Server(entity) => {
             format!(in alloc;
                 "server {} {:?} {:?} {:?} {:?}",
                 entity.depth,
@@ -124,7 +130,7 @@ fn declared(alloc: Global, graph: &Graph, no: EntityNo) -> Result<String, AllocE
                 entity.script.as_slice()
             )
         }
-        Declared::ActionClient(entity) => {
+        EntityOf::ActionClient(entity) => {
             format!(in alloc;
                 "action client {} of {} {:?} {:?} {:?} {:?}",
                 entity.depth,
@@ -150,7 +156,7 @@ fn is_entity(graph: &Graph, no: EntityNo) -> bool
     requires { no < length graph.now.entities }
     ensures { result ≡ is_at (λ declared. not (is_topic declared)) graph.now no }
 {
-    !matches!(graph.declared(no), Declared::Topic)
+    !graph.declared(no).is_topic()
 }
 
 // The callback group of an entity, and whether it is exclusive.

@@ -7,7 +7,7 @@ ghost use Rattle.exec_graph.specs.Lawful.{is_at};
 
 use super::drafts::{Unread, builder_of};
 use super::same;
-use crate::{Declared, Fed, Feed, Graph, GraphFault, Plan, PlanFault};
+use crate::{EntityKind, Fed, Feed, Graph, GraphFault, Plan, PlanFault};
 use exec_msg::{EntityNo, GoalId, Moment};
 use std::alloc::Global;
 use std::process::Abort;
@@ -49,13 +49,13 @@ fn cancel(round: u64, id: u128, stamp: u64) -> Feed {
 fn is_topic(graph: &Graph, no: EntityNo) -> bool
     ensures { result ≡ is_at is_topic graph.now no }
 {
-    (no.0 as usize) < graph.len() && matches!(graph.declared(no), Declared::Topic)
+    (no.0 as usize) < graph.len() && graph.declared(no).is_topic()
 }
 
 fn is_server(graph: &Graph, no: EntityNo) -> bool
     ensures { result ≡ is_at is_server graph.now no }
 {
-    (no.0 as usize) < graph.len() && matches!(graph.declared(no), Declared::Server(_))
+    (no.0 as usize) < graph.len() && graph.declared(no).is_a(EntityKind::Server)
 }
 
 fn goes_somewhere(graph: &Graph, entry: &Feed) -> bool

@@ -1,6 +1,7 @@
 -- Worked examples: action clients. Entity 0 is a timer that sends a goal, 1 the server, and 2 the client.
 use Rattle.std.specs.Prelude.{pos, List, [], ◌∷◌, codes, true, None, Some}
-use Rattle.exec_graph.specs.declared.entity.Declared.TheVariants.{Timer, Server, ActionClient}
+use Rattle.exec_graph.specs.Graph.{in_group}
+use Rattle.exec_graph.specs.declared.entity.EntityOf.TheVariants.{Timer, Server, ActionClient}
 use Rattle.exec_graph.specs.Plan.{PlanData}
 use Rattle.exec_graph.specs.declared.plan.Fed.TheVariants.{Goal, Cancel}
 use Rattle.exec_msg.specs.declared.goal.GoalStatus.TheVariants as status
@@ -19,9 +20,9 @@ succeeded_while_canceling = record {
     nodes = codes "n" ∷ [];
     groups = record { node = 0; name = None; exclusive = true } ∷ [];
     entities =
-        record { name = codes "t"; is = Timer (record { group = 0; period = 10; script = instr.Goal 2 (operand.Value (pos 5)) ∷ [] }) }
-        ∷ record { name = codes "a"; is = Server (record { group = 0; depth = 10; result_timeout = None; on_goal = instr.Decide (operand.Value (pos 2)) ∷ []; on_cancel = instr.Decide (operand.Value (pos 2)) ∷ []; script = instr.Succeed (operand.Value (pos 9)) ∷ [] }) }
-        ∷ record { name = codes "ac"; is = ActionClient (record { group = 0; server = 1; depth = 10; on_response = []; on_code = []; on_feedback = []; on_result = Some (instr.Log operand.In ∷ []) }) }
+        record { name = codes "t"; is = in_group 0 (Timer (record { period = 10; script = instr.Goal 2 (operand.Value (pos 5)) ∷ [] })) }
+        ∷ record { name = codes "a"; is = in_group 0 (Server (record { depth = 10; result_timeout = None; on_goal = instr.Decide (operand.Value (pos 2)) ∷ []; on_cancel = instr.Decide (operand.Value (pos 2)) ∷ []; script = instr.Succeed (operand.Value (pos 9)) ∷ [] })) }
+        ∷ record { name = codes "ac"; is = in_group 0 (ActionClient (record { server = 1; depth = 10; on_response = []; on_code = []; on_feedback = []; on_result = Some (instr.Log operand.In ∷ []) })) }
         ∷ [];
   };
   moments = 10 ∷ 11 ∷ 12 ∷ 13 ∷ 14 ∷ [];
@@ -50,9 +51,9 @@ awaited_result = record {
     nodes = codes "n" ∷ [];
     groups = record { node = 0; name = None; exclusive = true } ∷ [];
     entities =
-        record { name = codes "t"; is = Timer (record { group = 0; period = 10; script = instr.Goal 2 (operand.Value (pos 5)) ∷ [] }) }
-        ∷ record { name = codes "a"; is = Server (record { group = 0; depth = 10; result_timeout = Some 0; on_goal = instr.Decide (operand.Value (pos 2)) ∷ []; on_cancel = instr.Decide (operand.Value (pos 2)) ∷ []; script = instr.Wait (operand.Value (pos 2)) ∷ instr.Succeed (operand.Value (pos 9)) ∷ [] }) }
-        ∷ record { name = codes "ac"; is = ActionClient (record { group = 0; server = 1; depth = 10; on_response = []; on_code = []; on_feedback = []; on_result = Some (instr.Log operand.In ∷ []) }) }
+        record { name = codes "t"; is = in_group 0 (Timer (record { period = 10; script = instr.Goal 2 (operand.Value (pos 5)) ∷ [] })) }
+        ∷ record { name = codes "a"; is = in_group 0 (Server (record { depth = 10; result_timeout = Some 0; on_goal = instr.Decide (operand.Value (pos 2)) ∷ []; on_cancel = instr.Decide (operand.Value (pos 2)) ∷ []; script = instr.Wait (operand.Value (pos 2)) ∷ instr.Succeed (operand.Value (pos 9)) ∷ [] })) }
+        ∷ record { name = codes "ac"; is = in_group 0 (ActionClient (record { server = 1; depth = 10; on_response = []; on_code = []; on_feedback = []; on_result = Some (instr.Log operand.In ∷ []) })) }
         ∷ [];
   };
   moments = 10 ∷ 11 ∷ 12 ∷ 13 ∷ 14 ∷ 15 ∷ [];
@@ -80,9 +81,9 @@ expired_result = record {
     nodes = codes "n" ∷ [];
     groups = record { node = 0; name = None; exclusive = true } ∷ [];
     entities =
-        record { name = codes "t"; is = Timer (record { group = 0; period = 10; script = instr.Goal 2 (operand.Value (pos 5)) ∷ [] }) }
-        ∷ record { name = codes "a"; is = Server (record { group = 0; depth = 10; result_timeout = Some 0; on_goal = instr.Decide (operand.Value (pos 2)) ∷ []; on_cancel = instr.Decide (operand.Value (pos 2)) ∷ []; script = instr.Succeed (operand.Value (pos 9)) ∷ [] }) }
-        ∷ record { name = codes "ac"; is = ActionClient (record { group = 0; server = 1; depth = 10; on_response = []; on_code = []; on_feedback = []; on_result = Some (instr.Log operand.In ∷ []) }) }
+        record { name = codes "t"; is = in_group 0 (Timer (record { period = 10; script = instr.Goal 2 (operand.Value (pos 5)) ∷ [] })) }
+        ∷ record { name = codes "a"; is = in_group 0 (Server (record { depth = 10; result_timeout = Some 0; on_goal = instr.Decide (operand.Value (pos 2)) ∷ []; on_cancel = instr.Decide (operand.Value (pos 2)) ∷ []; script = instr.Succeed (operand.Value (pos 9)) ∷ [] })) }
+        ∷ record { name = codes "ac"; is = in_group 0 (ActionClient (record { server = 1; depth = 10; on_response = []; on_code = []; on_feedback = []; on_result = Some (instr.Log operand.In ∷ []) })) }
         ∷ [];
   };
   moments = 10 ∷ 11 ∷ 12 ∷ 13 ∷ 14 ∷ 15 ∷ [];
@@ -110,9 +111,9 @@ feedback = record {
     nodes = codes "n" ∷ [];
     groups = record { node = 0; name = None; exclusive = true } ∷ [];
     entities =
-        record { name = codes "t"; is = Timer (record { group = 0; period = 10; script = instr.Goal 2 (operand.Value (pos 5)) ∷ [] }) }
-        ∷ record { name = codes "a"; is = Server (record { group = 0; depth = 10; result_timeout = None; on_goal = instr.Decide (operand.Value (pos 2)) ∷ []; on_cancel = instr.Decide (operand.Value (pos 2)) ∷ []; script = instr.Feedback (operand.Value (pos 3)) ∷ instr.Succeed (operand.Value (pos 9)) ∷ [] }) }
-        ∷ record { name = codes "ac"; is = ActionClient (record { group = 0; server = 1; depth = 10; on_response = []; on_code = []; on_feedback = instr.Log operand.In ∷ []; on_result = Some [] }) }
+        record { name = codes "t"; is = in_group 0 (Timer (record { period = 10; script = instr.Goal 2 (operand.Value (pos 5)) ∷ [] })) }
+        ∷ record { name = codes "a"; is = in_group 0 (Server (record { depth = 10; result_timeout = None; on_goal = instr.Decide (operand.Value (pos 2)) ∷ []; on_cancel = instr.Decide (operand.Value (pos 2)) ∷ []; script = instr.Feedback (operand.Value (pos 3)) ∷ instr.Succeed (operand.Value (pos 9)) ∷ [] })) }
+        ∷ record { name = codes "ac"; is = in_group 0 (ActionClient (record { server = 1; depth = 10; on_response = []; on_code = []; on_feedback = instr.Log operand.In ∷ []; on_result = Some [] })) }
         ∷ [];
   };
   moments = 10 ∷ 11 ∷ 12 ∷ 13 ∷ 14 ∷ [];
@@ -139,9 +140,9 @@ canceled_by_client = record {
     nodes = codes "n" ∷ [];
     groups = record { node = 0; name = None; exclusive = true } ∷ [];
     entities =
-        record { name = codes "t"; is = Timer (record { group = 0; period = 10; script = instr.Goal 2 (operand.Value (pos 5)) ∷ [] }) }
-        ∷ record { name = codes "a"; is = Server (record { group = 0; depth = 10; result_timeout = None; on_goal = instr.Decide (operand.Value (pos 3)) ∷ []; on_cancel = instr.Decide (operand.Value (pos 2)) ∷ []; script = instr.Yield ∷ [] }) }
-        ∷ record { name = codes "ac"; is = ActionClient (record { group = 0; server = 1; depth = 10; on_response = instr.CancelAll 2 (operand.Value (pos 0)) ∷ []; on_code = instr.Log operand.Aux ∷ []; on_feedback = []; on_result = None }) }
+        record { name = codes "t"; is = in_group 0 (Timer (record { period = 10; script = instr.Goal 2 (operand.Value (pos 5)) ∷ [] })) }
+        ∷ record { name = codes "a"; is = in_group 0 (Server (record { depth = 10; result_timeout = None; on_goal = instr.Decide (operand.Value (pos 3)) ∷ []; on_cancel = instr.Decide (operand.Value (pos 2)) ∷ []; script = instr.Yield ∷ [] })) }
+        ∷ record { name = codes "ac"; is = in_group 0 (ActionClient (record { server = 1; depth = 10; on_response = instr.CancelAll 2 (operand.Value (pos 0)) ∷ []; on_code = instr.Log operand.Aux ∷ []; on_feedback = []; on_result = None })) }
         ∷ [];
   };
   moments = 10 ∷ 11 ∷ 12 ∷ 13 ∷ 14 ∷ [];
@@ -166,8 +167,8 @@ deferred = record {
     nodes = codes "n" ∷ [];
     groups = record { node = 0; name = None; exclusive = true } ∷ [];
     entities =
-        record { name = codes "e"; is = Timer (record { group = 0; period = 20; script = instr.Execute 1 ∷ [] }) }
-        ∷ record { name = codes "a"; is = Server (record { group = 0; depth = 10; result_timeout = None; on_goal = instr.Decide (operand.Value (pos 3)) ∷ []; on_cancel = instr.Decide (operand.Value (pos 2)) ∷ []; script = instr.Succeed (operand.Value (pos 1)) ∷ [] }) }
+        record { name = codes "e"; is = in_group 0 (Timer (record { period = 20; script = instr.Execute 1 ∷ [] })) }
+        ∷ record { name = codes "a"; is = in_group 0 (Server (record { depth = 10; result_timeout = None; on_goal = instr.Decide (operand.Value (pos 3)) ∷ []; on_cancel = instr.Decide (operand.Value (pos 2)) ∷ []; script = instr.Succeed (operand.Value (pos 1)) ∷ [] })) }
         ∷ [];
   };
   moments = 10 ∷ 20 ∷ 30 ∷ [];

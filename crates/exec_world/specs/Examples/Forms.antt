@@ -1,6 +1,7 @@
 -- Worked examples: the four forms of a cancel request, two clients of one server, an identifier that is accepted anew, and arithmetic.
 use Rattle.std.specs.Prelude.{pos, negsuc, List, [], ◌∷◌, codes, true, None, Some}
-use Rattle.exec_graph.specs.declared.entity.Declared.TheVariants.{Timer, Server, ActionClient}
+use Rattle.exec_graph.specs.Graph.{in_group}
+use Rattle.exec_graph.specs.declared.entity.EntityOf.TheVariants.{Timer, Server, ActionClient}
 use Rattle.exec_graph.specs.Plan.{PlanData}
 use Rattle.exec_graph.specs.declared.plan.Fed.TheVariants.{Goal, Cancel}
 use Rattle.exec_msg.specs.declared.goal.GoalStatus.TheVariants as status
@@ -21,10 +22,10 @@ cancel_forms = record {
     nodes = codes "n" ∷ [];
     groups = record { node = 0; name = None; exclusive = true } ∷ [];
     entities =
-        record { name = codes "t"; is = Timer (record { group = 0; period = 1; script = instr.Goal 3 (operand.Value (pos 1)) ∷ [] }) }
-        ∷ record { name = codes "u"; is = Timer (record { group = 0; period = 3; script = instr.CancelGoal 3 (operand.Value (pos 3)) (operand.Value (pos 2)) ∷ instr.CancelGoal 3 (operand.Value (pos 2)) (operand.Value (pos 0)) ∷ instr.CancelAll 3 (operand.Value (pos 3)) ∷ instr.CancelAll 3 (operand.Value (pos 0)) ∷ [] }) }
-        ∷ record { name = codes "a"; is = Server (record { group = 0; depth = 10; result_timeout = None; on_goal = instr.Set (destination.Variable 1) operation.Add (operand.Variable 1) (operand.Value (pos 1)) ∷ instr.Set (destination.Variable 2) operation.Lt (operand.Variable 1) (operand.Value (pos 3)) ∷ instr.Decide (operand.Value (pos 3)) ∷ instr.Skip (operand.Variable 2) 1 ∷ instr.Decide (operand.Value (pos 2)) ∷ []; on_cancel = instr.Set (destination.Register 0) operation.Eq operand.Aux (operand.Value (pos 1)) ∷ instr.Skip (operand.Register 0) 1 ∷ instr.Decide (operand.Value (pos 2)) ∷ []; script = [] }) }
-        ∷ record { name = codes "k"; is = ActionClient (record { group = 0; server = 2; depth = 10; on_response = []; on_code = instr.Log operand.Aux ∷ instr.Log operand.In ∷ []; on_feedback = []; on_result = None }) }
+        record { name = codes "t"; is = in_group 0 (Timer (record { period = 1; script = instr.Goal 3 (operand.Value (pos 1)) ∷ [] })) }
+        ∷ record { name = codes "u"; is = in_group 0 (Timer (record { period = 3; script = instr.CancelGoal 3 (operand.Value (pos 3)) (operand.Value (pos 2)) ∷ instr.CancelGoal 3 (operand.Value (pos 2)) (operand.Value (pos 0)) ∷ instr.CancelAll 3 (operand.Value (pos 3)) ∷ instr.CancelAll 3 (operand.Value (pos 0)) ∷ [] })) }
+        ∷ record { name = codes "a"; is = in_group 0 (Server (record { depth = 10; result_timeout = None; on_goal = instr.Set (destination.Variable 1) operation.Add (operand.Variable 1) (operand.Value (pos 1)) ∷ instr.Set (destination.Variable 2) operation.Lt (operand.Variable 1) (operand.Value (pos 3)) ∷ instr.Decide (operand.Value (pos 3)) ∷ instr.Skip (operand.Variable 2) 1 ∷ instr.Decide (operand.Value (pos 2)) ∷ []; on_cancel = instr.Set (destination.Register 0) operation.Eq operand.Aux (operand.Value (pos 1)) ∷ instr.Skip (operand.Register 0) 1 ∷ instr.Decide (operand.Value (pos 2)) ∷ []; script = [] })) }
+        ∷ record { name = codes "k"; is = in_group 0 (ActionClient (record { server = 2; depth = 10; on_response = []; on_code = instr.Log operand.Aux ∷ instr.Log operand.In ∷ []; on_feedback = []; on_result = None })) }
         ∷ [];
   };
   moments = 1 ∷ 2 ∷ 3 ∷ 4 ∷ 5 ∷ 6 ∷ 6 ∷ 7 ∷ [];
@@ -79,12 +80,12 @@ two_clients = record {
         ∷ record { node = 1; name = None; exclusive = true }
         ∷ [];
     entities =
-        record { name = codes "t1"; is = Timer (record { group = 0; period = 2; script = instr.Goal 3 (operand.Value (pos 1)) ∷ instr.Goal 4 (operand.Value (pos 2)) ∷ [] }) }
-        ∷ record { name = codes "t2"; is = Timer (record { group = 1; period = 2; script = instr.Goal 5 (operand.Value (pos 3)) ∷ instr.CancelGoal 5 (operand.Value (pos 1)) (operand.Value (pos 0)) ∷ [] }) }
-        ∷ record { name = codes "a"; is = Server (record { group = 1; depth = 10; result_timeout = None; on_goal = instr.Decide (operand.Value (pos 2)) ∷ []; on_cancel = instr.Decide (operand.Value (pos 2)) ∷ []; script = instr.Feedback operand.In ∷ instr.Wait (operand.Value (pos 3)) ∷ instr.Skip operand.Aux 1 ∷ instr.Succeed (operand.Value (pos 4)) ∷ instr.Canceled (operand.Value (pos 5)) ∷ [] }) }
-        ∷ record { name = codes "j"; is = ActionClient (record { group = 0; server = 2; depth = 10; on_response = instr.Log operand.Aux ∷ []; on_code = instr.Log operand.Aux ∷ []; on_feedback = instr.CancelGoal 3 operand.Aux (operand.Value (pos 0)) ∷ []; on_result = Some (instr.Log operand.Aux ∷ []) }) }
-        ∷ record { name = codes "i"; is = ActionClient (record { group = 0; server = 2; depth = 10; on_response = []; on_code = []; on_feedback = []; on_result = Some [] }) }
-        ∷ record { name = codes "k"; is = ActionClient (record { group = 1; server = 2; depth = 10; on_response = []; on_code = instr.Log operand.In ∷ []; on_feedback = []; on_result = Some (instr.Log operand.In ∷ []) }) }
+        record { name = codes "t1"; is = in_group 0 (Timer (record { period = 2; script = instr.Goal 3 (operand.Value (pos 1)) ∷ instr.Goal 4 (operand.Value (pos 2)) ∷ [] })) }
+        ∷ record { name = codes "t2"; is = in_group 1 (Timer (record { period = 2; script = instr.Goal 5 (operand.Value (pos 3)) ∷ instr.CancelGoal 5 (operand.Value (pos 1)) (operand.Value (pos 0)) ∷ [] })) }
+        ∷ record { name = codes "a"; is = in_group 1 (Server (record { depth = 10; result_timeout = None; on_goal = instr.Decide (operand.Value (pos 2)) ∷ []; on_cancel = instr.Decide (operand.Value (pos 2)) ∷ []; script = instr.Feedback operand.In ∷ instr.Wait (operand.Value (pos 3)) ∷ instr.Skip operand.Aux 1 ∷ instr.Succeed (operand.Value (pos 4)) ∷ instr.Canceled (operand.Value (pos 5)) ∷ [] })) }
+        ∷ record { name = codes "j"; is = in_group 0 (ActionClient (record { server = 2; depth = 10; on_response = instr.Log operand.Aux ∷ []; on_code = instr.Log operand.Aux ∷ []; on_feedback = instr.CancelGoal 3 operand.Aux (operand.Value (pos 0)) ∷ []; on_result = Some (instr.Log operand.Aux ∷ []) })) }
+        ∷ record { name = codes "i"; is = in_group 0 (ActionClient (record { server = 2; depth = 10; on_response = []; on_code = []; on_feedback = []; on_result = Some [] })) }
+        ∷ record { name = codes "k"; is = in_group 1 (ActionClient (record { server = 2; depth = 10; on_response = []; on_code = instr.Log operand.In ∷ []; on_feedback = []; on_result = Some (instr.Log operand.In ∷ []) })) }
         ∷ [];
   };
   moments = 2 ∷ 3 ∷ 4 ∷ 5 ∷ 6 ∷ 6 ∷ 7 ∷ 8 ∷ [];
@@ -152,7 +153,7 @@ accepted_anew = record {
     nodes = codes "n" ∷ [];
     groups = record { node = 0; name = None; exclusive = true } ∷ [];
     entities =
-        record { name = codes "a"; is = Server (record { group = 0; depth = 10; result_timeout = Some 1; on_goal = instr.Decide (operand.Value (pos 2)) ∷ []; on_cancel = instr.Decide (operand.Value (pos 2)) ∷ []; script = instr.Succeed operand.In ∷ [] }) }
+        record { name = codes "a"; is = in_group 0 (Server (record { depth = 10; result_timeout = Some 1; on_goal = instr.Decide (operand.Value (pos 2)) ∷ []; on_cancel = instr.Decide (operand.Value (pos 2)) ∷ []; script = instr.Succeed operand.In ∷ [] })) }
         ∷ [];
   };
   moments = 1 ∷ 2 ∷ 3 ∷ 3 ∷ 4 ∷ 5 ∷ [];
@@ -187,7 +188,7 @@ arithmetic = record {
     nodes = codes "n" ∷ [];
     groups = record { node = 0; name = None; exclusive = true } ∷ [];
     entities =
-        record { name = codes "t"; is = Timer (record { group = 0; period = 1; script = instr.Set (destination.Register 0) operation.Add (operand.Value (pos 9223372036854775807)) (operand.Value (pos 9223372036854775807)) ∷ instr.Log (operand.Register 0) ∷ instr.Set (destination.Register 0) operation.Add (operand.Value (negsuc 9223372036854775807)) (operand.Value (negsuc 0)) ∷ instr.Log (operand.Register 0) ∷ instr.Set (destination.Register 0) operation.Add (operand.Value (negsuc 9223372036854775807)) (operand.Value (pos 1)) ∷ instr.Log (operand.Register 0) ∷ instr.Set (destination.Register 0) operation.Add (operand.Value (pos 0)) (operand.Value (pos 0)) ∷ instr.Log (operand.Register 0) ∷ instr.Set (destination.Register 0) operation.Sub (operand.Value (pos 9223372036854775807)) (operand.Value (pos 9223372036854775807)) ∷ instr.Log (operand.Register 0) ∷ instr.Set (destination.Register 0) operation.Sub (operand.Value (negsuc 9223372036854775807)) (operand.Value (negsuc 0)) ∷ instr.Log (operand.Register 0) ∷ instr.Set (destination.Register 0) operation.Sub (operand.Value (negsuc 9223372036854775807)) (operand.Value (pos 1)) ∷ instr.Log (operand.Register 0) ∷ instr.Set (destination.Register 0) operation.Sub (operand.Value (pos 0)) (operand.Value (pos 0)) ∷ instr.Log (operand.Register 0) ∷ instr.Set (destination.Register 0) operation.Mul (operand.Value (pos 9223372036854775807)) (operand.Value (pos 9223372036854775807)) ∷ instr.Log (operand.Register 0) ∷ instr.Set (destination.Register 0) operation.Mul (operand.Value (negsuc 9223372036854775807)) (operand.Value (negsuc 0)) ∷ instr.Log (operand.Register 0) ∷ instr.Set (destination.Register 0) operation.Mul (operand.Value (negsuc 9223372036854775807)) (operand.Value (pos 1)) ∷ instr.Log (operand.Register 0) ∷ instr.Set (destination.Register 0) operation.Mul (operand.Value (pos 0)) (operand.Value (pos 0)) ∷ instr.Log (operand.Register 0) ∷ instr.Set (destination.Register 0) operation.Min (operand.Value (pos 9223372036854775807)) (operand.Value (pos 9223372036854775807)) ∷ instr.Log (operand.Register 0) ∷ instr.Set (destination.Register 0) operation.Min (operand.Value (negsuc 9223372036854775807)) (operand.Value (negsuc 0)) ∷ instr.Log (operand.Register 0) ∷ instr.Set (destination.Register 0) operation.Min (operand.Value (negsuc 9223372036854775807)) (operand.Value (pos 1)) ∷ instr.Log (operand.Register 0) ∷ instr.Set (destination.Register 0) operation.Min (operand.Value (pos 0)) (operand.Value (pos 0)) ∷ instr.Log (operand.Register 0) ∷ instr.Set (destination.Register 0) operation.Max (operand.Value (pos 9223372036854775807)) (operand.Value (pos 9223372036854775807)) ∷ instr.Log (operand.Register 0) ∷ instr.Set (destination.Register 0) operation.Max (operand.Value (negsuc 9223372036854775807)) (operand.Value (negsuc 0)) ∷ instr.Log (operand.Register 0) ∷ instr.Set (destination.Register 0) operation.Max (operand.Value (negsuc 9223372036854775807)) (operand.Value (pos 1)) ∷ instr.Log (operand.Register 0) ∷ instr.Set (destination.Register 0) operation.Max (operand.Value (pos 0)) (operand.Value (pos 0)) ∷ instr.Log (operand.Register 0) ∷ instr.Set (destination.Register 0) operation.Lt (operand.Value (pos 9223372036854775807)) (operand.Value (pos 9223372036854775807)) ∷ instr.Log (operand.Register 0) ∷ instr.Set (destination.Register 0) operation.Lt (operand.Value (negsuc 9223372036854775807)) (operand.Value (negsuc 0)) ∷ instr.Log (operand.Register 0) ∷ instr.Set (destination.Register 0) operation.Lt (operand.Value (negsuc 9223372036854775807)) (operand.Value (pos 1)) ∷ instr.Log (operand.Register 0) ∷ instr.Set (destination.Register 0) operation.Lt (operand.Value (pos 0)) (operand.Value (pos 0)) ∷ instr.Log (operand.Register 0) ∷ instr.Set (destination.Register 0) operation.Eq (operand.Value (pos 9223372036854775807)) (operand.Value (pos 9223372036854775807)) ∷ instr.Log (operand.Register 0) ∷ instr.Set (destination.Register 0) operation.Eq (operand.Value (negsuc 9223372036854775807)) (operand.Value (negsuc 0)) ∷ instr.Log (operand.Register 0) ∷ instr.Set (destination.Register 0) operation.Eq (operand.Value (negsuc 9223372036854775807)) (operand.Value (pos 1)) ∷ instr.Log (operand.Register 0) ∷ instr.Set (destination.Register 0) operation.Eq (operand.Value (pos 0)) (operand.Value (pos 0)) ∷ instr.Log (operand.Register 0) ∷ [] }) }
+        record { name = codes "t"; is = in_group 0 (Timer (record { period = 1; script = instr.Set (destination.Register 0) operation.Add (operand.Value (pos 9223372036854775807)) (operand.Value (pos 9223372036854775807)) ∷ instr.Log (operand.Register 0) ∷ instr.Set (destination.Register 0) operation.Add (operand.Value (negsuc 9223372036854775807)) (operand.Value (negsuc 0)) ∷ instr.Log (operand.Register 0) ∷ instr.Set (destination.Register 0) operation.Add (operand.Value (negsuc 9223372036854775807)) (operand.Value (pos 1)) ∷ instr.Log (operand.Register 0) ∷ instr.Set (destination.Register 0) operation.Add (operand.Value (pos 0)) (operand.Value (pos 0)) ∷ instr.Log (operand.Register 0) ∷ instr.Set (destination.Register 0) operation.Sub (operand.Value (pos 9223372036854775807)) (operand.Value (pos 9223372036854775807)) ∷ instr.Log (operand.Register 0) ∷ instr.Set (destination.Register 0) operation.Sub (operand.Value (negsuc 9223372036854775807)) (operand.Value (negsuc 0)) ∷ instr.Log (operand.Register 0) ∷ instr.Set (destination.Register 0) operation.Sub (operand.Value (negsuc 9223372036854775807)) (operand.Value (pos 1)) ∷ instr.Log (operand.Register 0) ∷ instr.Set (destination.Register 0) operation.Sub (operand.Value (pos 0)) (operand.Value (pos 0)) ∷ instr.Log (operand.Register 0) ∷ instr.Set (destination.Register 0) operation.Mul (operand.Value (pos 9223372036854775807)) (operand.Value (pos 9223372036854775807)) ∷ instr.Log (operand.Register 0) ∷ instr.Set (destination.Register 0) operation.Mul (operand.Value (negsuc 9223372036854775807)) (operand.Value (negsuc 0)) ∷ instr.Log (operand.Register 0) ∷ instr.Set (destination.Register 0) operation.Mul (operand.Value (negsuc 9223372036854775807)) (operand.Value (pos 1)) ∷ instr.Log (operand.Register 0) ∷ instr.Set (destination.Register 0) operation.Mul (operand.Value (pos 0)) (operand.Value (pos 0)) ∷ instr.Log (operand.Register 0) ∷ instr.Set (destination.Register 0) operation.Min (operand.Value (pos 9223372036854775807)) (operand.Value (pos 9223372036854775807)) ∷ instr.Log (operand.Register 0) ∷ instr.Set (destination.Register 0) operation.Min (operand.Value (negsuc 9223372036854775807)) (operand.Value (negsuc 0)) ∷ instr.Log (operand.Register 0) ∷ instr.Set (destination.Register 0) operation.Min (operand.Value (negsuc 9223372036854775807)) (operand.Value (pos 1)) ∷ instr.Log (operand.Register 0) ∷ instr.Set (destination.Register 0) operation.Min (operand.Value (pos 0)) (operand.Value (pos 0)) ∷ instr.Log (operand.Register 0) ∷ instr.Set (destination.Register 0) operation.Max (operand.Value (pos 9223372036854775807)) (operand.Value (pos 9223372036854775807)) ∷ instr.Log (operand.Register 0) ∷ instr.Set (destination.Register 0) operation.Max (operand.Value (negsuc 9223372036854775807)) (operand.Value (negsuc 0)) ∷ instr.Log (operand.Register 0) ∷ instr.Set (destination.Register 0) operation.Max (operand.Value (negsuc 9223372036854775807)) (operand.Value (pos 1)) ∷ instr.Log (operand.Register 0) ∷ instr.Set (destination.Register 0) operation.Max (operand.Value (pos 0)) (operand.Value (pos 0)) ∷ instr.Log (operand.Register 0) ∷ instr.Set (destination.Register 0) operation.Lt (operand.Value (pos 9223372036854775807)) (operand.Value (pos 9223372036854775807)) ∷ instr.Log (operand.Register 0) ∷ instr.Set (destination.Register 0) operation.Lt (operand.Value (negsuc 9223372036854775807)) (operand.Value (negsuc 0)) ∷ instr.Log (operand.Register 0) ∷ instr.Set (destination.Register 0) operation.Lt (operand.Value (negsuc 9223372036854775807)) (operand.Value (pos 1)) ∷ instr.Log (operand.Register 0) ∷ instr.Set (destination.Register 0) operation.Lt (operand.Value (pos 0)) (operand.Value (pos 0)) ∷ instr.Log (operand.Register 0) ∷ instr.Set (destination.Register 0) operation.Eq (operand.Value (pos 9223372036854775807)) (operand.Value (pos 9223372036854775807)) ∷ instr.Log (operand.Register 0) ∷ instr.Set (destination.Register 0) operation.Eq (operand.Value (negsuc 9223372036854775807)) (operand.Value (negsuc 0)) ∷ instr.Log (operand.Register 0) ∷ instr.Set (destination.Register 0) operation.Eq (operand.Value (negsuc 9223372036854775807)) (operand.Value (pos 1)) ∷ instr.Log (operand.Register 0) ∷ instr.Set (destination.Register 0) operation.Eq (operand.Value (pos 0)) (operand.Value (pos 0)) ∷ instr.Log (operand.Register 0) ∷ [] })) }
         ∷ [];
   };
   moments = 1 ∷ [];

@@ -1,6 +1,7 @@
 -- A worked example: sixteen goals of one server, entity 3, that all end in one round, beside three timers.
 use Rattle.std.specs.Prelude.{pos, List, [], ◌∷◌, codes, true, false, None, Some}
-use Rattle.exec_graph.specs.declared.entity.Declared.TheVariants.{Timer, Server}
+use Rattle.exec_graph.specs.Graph.{in_group}
+use Rattle.exec_graph.specs.declared.entity.EntityOf.TheVariants.{Timer, Server}
 use Rattle.exec_graph.specs.Plan.{PlanData}
 use Rattle.exec_graph.specs.declared.plan.Fed.TheVariants.{Goal}
 use Rattle.exec_msg.specs.declared.goal.GoalStatus.TheVariants as status
@@ -24,10 +25,10 @@ many_goals = record {
         ∷ record { node = 0; name = Some (codes "R"); exclusive = false }
         ∷ [];
     entities =
-        record { name = codes "ta"; is = Timer (record { group = 1; period = 20; script = instr.Log operand.Now ∷ [] }) }
-        ∷ record { name = codes "tb1"; is = Timer (record { group = 2; period = 20; script = instr.Set (destination.Variable 0) operation.Add (operand.Variable 0) (operand.Value (pos 3)) ∷ instr.Log (operand.Variable 0) ∷ [] }) }
-        ∷ record { name = codes "tb2"; is = Timer (record { group = 2; period = 20; script = instr.Set (destination.Variable 0) operation.Mul (operand.Variable 0) (operand.Value (pos 2)) ∷ instr.Log (operand.Variable 0) ∷ [] }) }
-        ∷ record { name = codes "a"; is = Server (record { group = 3; depth = 10; result_timeout = None; on_goal = instr.Decide (operand.Value (pos 2)) ∷ []; on_cancel = []; script = instr.Set (destination.Register 0) operation.Sub (operand.Value (pos 20)) operand.Now ∷ instr.Wait (operand.Register 0) ∷ instr.Succeed operand.In ∷ [] }) }
+        record { name = codes "ta"; is = in_group 1 (Timer (record { period = 20; script = instr.Log operand.Now ∷ [] })) }
+        ∷ record { name = codes "tb1"; is = in_group 2 (Timer (record { period = 20; script = instr.Set (destination.Variable 0) operation.Add (operand.Variable 0) (operand.Value (pos 3)) ∷ instr.Log (operand.Variable 0) ∷ [] })) }
+        ∷ record { name = codes "tb2"; is = in_group 2 (Timer (record { period = 20; script = instr.Set (destination.Variable 0) operation.Mul (operand.Variable 0) (operand.Value (pos 2)) ∷ instr.Log (operand.Variable 0) ∷ [] })) }
+        ∷ record { name = codes "a"; is = in_group 3 (Server (record { depth = 10; result_timeout = None; on_goal = instr.Decide (operand.Value (pos 2)) ∷ []; on_cancel = []; script = instr.Set (destination.Register 0) operation.Sub (operand.Value (pos 20)) operand.Now ∷ instr.Wait (operand.Register 0) ∷ instr.Succeed operand.In ∷ [] })) }
         ∷ [];
   };
   moments = 1 ∷ 2 ∷ 3 ∷ 4 ∷ 5 ∷ 6 ∷ 7 ∷ 8 ∷ 9 ∷ 10 ∷ 11 ∷ 12 ∷ 13 ∷ 14 ∷ 15 ∷ 16 ∷ 17 ∷ 18 ∷ 19 ∷ 20 ∷ [];

@@ -1,6 +1,7 @@
 -- Worked examples: full queues of actions.
 use Rattle.std.specs.Prelude.{pos, List, [], ◌∷◌, codes, true, None, Some}
-use Rattle.exec_graph.specs.declared.entity.Declared.TheVariants.{Timer, Server, ActionClient}
+use Rattle.exec_graph.specs.Graph.{in_group}
+use Rattle.exec_graph.specs.declared.entity.EntityOf.TheVariants.{Timer, Server, ActionClient}
 use Rattle.exec_graph.specs.Plan.{PlanData}
 use Rattle.exec_graph.specs.declared.plan.Fed.TheVariants.{Goal}
 use Rattle.exec_msg.specs.declared.goal.GoalStatus.TheVariants as status
@@ -21,10 +22,10 @@ full_goal_queue = record {
     nodes = codes "n" ∷ [];
     groups = record { node = 0; name = None; exclusive = true } ∷ [];
     entities =
-        record { name = codes "t"; is = Timer (record { group = 0; period = 1; script = instr.Goal 2 (operand.Value (pos 1)) ∷ instr.Goal 3 (operand.Value (pos 2)) ∷ instr.Goal 2 (operand.Value (pos 3)) ∷ [] }) }
-        ∷ record { name = codes "a"; is = Server (record { group = 0; depth = 1; result_timeout = None; on_goal = instr.Decide (operand.Value (pos 2)) ∷ []; on_cancel = instr.Decide (operand.Value (pos 2)) ∷ []; script = instr.Yield ∷ [] }) }
-        ∷ record { name = codes "k1"; is = ActionClient (record { group = 0; server = 1; depth = 1; on_response = instr.Log operand.Aux ∷ []; on_code = []; on_feedback = []; on_result = None }) }
-        ∷ record { name = codes "k2"; is = ActionClient (record { group = 0; server = 1; depth = 1; on_response = instr.Log operand.In ∷ []; on_code = []; on_feedback = []; on_result = None }) }
+        record { name = codes "t"; is = in_group 0 (Timer (record { period = 1; script = instr.Goal 2 (operand.Value (pos 1)) ∷ instr.Goal 3 (operand.Value (pos 2)) ∷ instr.Goal 2 (operand.Value (pos 3)) ∷ [] })) }
+        ∷ record { name = codes "a"; is = in_group 0 (Server (record { depth = 1; result_timeout = None; on_goal = instr.Decide (operand.Value (pos 2)) ∷ []; on_cancel = instr.Decide (operand.Value (pos 2)) ∷ []; script = instr.Yield ∷ [] })) }
+        ∷ record { name = codes "k1"; is = in_group 0 (ActionClient (record { server = 1; depth = 1; on_response = instr.Log operand.Aux ∷ []; on_code = []; on_feedback = []; on_result = None })) }
+        ∷ record { name = codes "k2"; is = in_group 0 (ActionClient (record { server = 1; depth = 1; on_response = instr.Log operand.In ∷ []; on_code = []; on_feedback = []; on_result = None })) }
         ∷ [];
   };
   moments = 0 ∷ 1 ∷ 1 ∷ 2 ∷ 2 ∷ 3 ∷ [];
@@ -57,10 +58,10 @@ full_cancel_queue = record {
     nodes = codes "n" ∷ [];
     groups = record { node = 0; name = None; exclusive = true } ∷ [];
     entities =
-        record { name = codes "t"; is = Timer (record { group = 0; period = 2; script = instr.CancelAll 2 (operand.Value (pos 0)) ∷ instr.CancelAll 3 operand.Now ∷ instr.CancelGoal 2 (operand.Value (pos 1)) (operand.Value (pos 3)) ∷ [] }) }
-        ∷ record { name = codes "a"; is = Server (record { group = 0; depth = 1; result_timeout = None; on_goal = instr.Decide (operand.Value (pos 2)) ∷ []; on_cancel = instr.Decide (operand.Value (pos 2)) ∷ []; script = instr.Yield ∷ [] }) }
-        ∷ record { name = codes "k1"; is = ActionClient (record { group = 0; server = 1; depth = 1; on_response = []; on_code = instr.Log operand.Aux ∷ []; on_feedback = []; on_result = None }) }
-        ∷ record { name = codes "k2"; is = ActionClient (record { group = 0; server = 1; depth = 1; on_response = []; on_code = instr.Log operand.In ∷ []; on_feedback = []; on_result = None }) }
+        record { name = codes "t"; is = in_group 0 (Timer (record { period = 2; script = instr.CancelAll 2 (operand.Value (pos 0)) ∷ instr.CancelAll 3 operand.Now ∷ instr.CancelGoal 2 (operand.Value (pos 1)) (operand.Value (pos 3)) ∷ [] })) }
+        ∷ record { name = codes "a"; is = in_group 0 (Server (record { depth = 1; result_timeout = None; on_goal = instr.Decide (operand.Value (pos 2)) ∷ []; on_cancel = instr.Decide (operand.Value (pos 2)) ∷ []; script = instr.Yield ∷ [] })) }
+        ∷ record { name = codes "k1"; is = in_group 0 (ActionClient (record { server = 1; depth = 1; on_response = []; on_code = instr.Log operand.Aux ∷ []; on_feedback = []; on_result = None })) }
+        ∷ record { name = codes "k2"; is = in_group 0 (ActionClient (record { server = 1; depth = 1; on_response = []; on_code = instr.Log operand.In ∷ []; on_feedback = []; on_result = None })) }
         ∷ [];
   };
   moments = 1 ∷ 2 ∷ 3 ∷ 4 ∷ 5 ∷ [];
@@ -99,10 +100,10 @@ full_feedback_queue = record {
     nodes = codes "n" ∷ [];
     groups = record { node = 0; name = None; exclusive = true } ∷ [];
     entities =
-        record { name = codes "t"; is = Timer (record { group = 0; period = 9; script = instr.Goal 2 (operand.Value (pos 1)) ∷ instr.Goal 2 (operand.Value (pos 2)) ∷ instr.Goal 3 (operand.Value (pos 3)) ∷ [] }) }
-        ∷ record { name = codes "a"; is = Server (record { group = 0; depth = 10; result_timeout = None; on_goal = instr.Decide (operand.Value (pos 2)) ∷ []; on_cancel = instr.Decide (operand.Value (pos 2)) ∷ []; script = instr.Feedback operand.In ∷ instr.Feedback operand.Now ∷ instr.Yield ∷ instr.Feedback (operand.Value (pos 3)) ∷ instr.Succeed operand.In ∷ [] }) }
-        ∷ record { name = codes "k1"; is = ActionClient (record { group = 0; server = 1; depth = 1; on_response = []; on_code = []; on_feedback = instr.Log operand.Aux ∷ []; on_result = None }) }
-        ∷ record { name = codes "k2"; is = ActionClient (record { group = 0; server = 1; depth = 1; on_response = []; on_code = []; on_feedback = instr.Log operand.In ∷ []; on_result = None }) }
+        record { name = codes "t"; is = in_group 0 (Timer (record { period = 9; script = instr.Goal 2 (operand.Value (pos 1)) ∷ instr.Goal 2 (operand.Value (pos 2)) ∷ instr.Goal 3 (operand.Value (pos 3)) ∷ [] })) }
+        ∷ record { name = codes "a"; is = in_group 0 (Server (record { depth = 10; result_timeout = None; on_goal = instr.Decide (operand.Value (pos 2)) ∷ []; on_cancel = instr.Decide (operand.Value (pos 2)) ∷ []; script = instr.Feedback operand.In ∷ instr.Feedback operand.Now ∷ instr.Yield ∷ instr.Feedback (operand.Value (pos 3)) ∷ instr.Succeed operand.In ∷ [] })) }
+        ∷ record { name = codes "k1"; is = in_group 0 (ActionClient (record { server = 1; depth = 1; on_response = []; on_code = []; on_feedback = instr.Log operand.Aux ∷ []; on_result = None })) }
+        ∷ record { name = codes "k2"; is = in_group 0 (ActionClient (record { server = 1; depth = 1; on_response = []; on_code = []; on_feedback = instr.Log operand.In ∷ []; on_result = None })) }
         ∷ [];
   };
   moments = 9 ∷ 10 ∷ 11 ∷ 12 ∷ 13 ∷ 14 ∷ [];
@@ -142,10 +143,10 @@ full_result_queue = record {
     nodes = codes "n" ∷ [];
     groups = record { node = 0; name = None; exclusive = true } ∷ [];
     entities =
-        record { name = codes "t"; is = Timer (record { group = 0; period = 9; script = instr.Goal 2 (operand.Value (pos 1)) ∷ instr.Goal 2 (operand.Value (pos 2)) ∷ instr.Goal 2 (operand.Value (pos 3)) ∷ instr.Goal 3 (operand.Value (pos 4)) ∷ [] }) }
-        ∷ record { name = codes "a"; is = Server (record { group = 0; depth = 4; result_timeout = None; on_goal = instr.Decide (operand.Value (pos 2)) ∷ []; on_cancel = instr.Decide (operand.Value (pos 2)) ∷ []; script = instr.Set (destination.Register 0) operation.Sub (operand.Value (pos 15)) operand.Now ∷ instr.Wait (operand.Register 0) ∷ instr.Succeed operand.In ∷ [] }) }
-        ∷ record { name = codes "k1"; is = ActionClient (record { group = 0; server = 1; depth = 1; on_response = []; on_code = []; on_feedback = []; on_result = Some (instr.Log operand.Aux ∷ []) }) }
-        ∷ record { name = codes "k2"; is = ActionClient (record { group = 0; server = 1; depth = 1; on_response = []; on_code = []; on_feedback = []; on_result = Some (instr.Log operand.In ∷ []) }) }
+        record { name = codes "t"; is = in_group 0 (Timer (record { period = 9; script = instr.Goal 2 (operand.Value (pos 1)) ∷ instr.Goal 2 (operand.Value (pos 2)) ∷ instr.Goal 2 (operand.Value (pos 3)) ∷ instr.Goal 3 (operand.Value (pos 4)) ∷ [] })) }
+        ∷ record { name = codes "a"; is = in_group 0 (Server (record { depth = 4; result_timeout = None; on_goal = instr.Decide (operand.Value (pos 2)) ∷ []; on_cancel = instr.Decide (operand.Value (pos 2)) ∷ []; script = instr.Set (destination.Register 0) operation.Sub (operand.Value (pos 15)) operand.Now ∷ instr.Wait (operand.Register 0) ∷ instr.Succeed operand.In ∷ [] })) }
+        ∷ record { name = codes "k1"; is = in_group 0 (ActionClient (record { server = 1; depth = 1; on_response = []; on_code = []; on_feedback = []; on_result = Some (instr.Log operand.Aux ∷ []) })) }
+        ∷ record { name = codes "k2"; is = in_group 0 (ActionClient (record { server = 1; depth = 1; on_response = []; on_code = []; on_feedback = []; on_result = Some (instr.Log operand.In ∷ []) })) }
         ∷ [];
   };
   moments = 9 ∷ 10 ∷ 11 ∷ 12 ∷ 13 ∷ 14 ∷ 15 ∷ 16 ∷ 17 ∷ [];

@@ -1,6 +1,7 @@
 -- Worked examples: services and their clients.
 use Rattle.std.specs.Prelude.{pos, List, [], ◌∷◌, codes, true, None}
-use Rattle.exec_graph.specs.declared.entity.Declared.TheVariants.{Timer, Service, Client}
+use Rattle.exec_graph.specs.Graph.{in_group}
+use Rattle.exec_graph.specs.declared.entity.EntityOf.TheVariants.{Timer, Service, Client}
 use Rattle.exec_graph.specs.Plan.{PlanData}
 use Rattle.exec_msg.specs.declared.kind.Kind.TheVariants as kind
 use Rattle.exec_msg.specs.declared.line.Line.{Line}
@@ -17,9 +18,9 @@ doubled = record {
     nodes = codes "n" ∷ [];
     groups = record { node = 0; name = None; exclusive = true } ∷ [];
     entities =
-        record { name = codes "t"; is = Timer (record { group = 0; period = 5; script = instr.Call 2 (operand.Value (pos 4)) ∷ [] }) }
-        ∷ record { name = codes "add"; is = Service (record { group = 0; depth = 10; script = instr.Set (destination.Register 0) operation.Mul operand.In (operand.Value (pos 2)) ∷ instr.Reply (operand.Register 0) ∷ [] }) }
-        ∷ record { name = codes "c"; is = Client (record { group = 0; service = 1; depth = 10; script = instr.Log operand.In ∷ [] }) }
+        record { name = codes "t"; is = in_group 0 (Timer (record { period = 5; script = instr.Call 2 (operand.Value (pos 4)) ∷ [] })) }
+        ∷ record { name = codes "add"; is = in_group 0 (Service (record { depth = 10; script = instr.Set (destination.Register 0) operation.Mul operand.In (operand.Value (pos 2)) ∷ instr.Reply (operand.Register 0) ∷ [] })) }
+        ∷ record { name = codes "c"; is = in_group 0 (Client (record { service = 1; depth = 10; script = instr.Log operand.In ∷ [] })) }
         ∷ [];
   };
   moments = 5 ∷ 6 ∷ 7 ∷ [];
@@ -41,9 +42,9 @@ unscripted = record {
     nodes = codes "n" ∷ [];
     groups = record { node = 0; name = None; exclusive = true } ∷ [];
     entities =
-        record { name = codes "t"; is = Timer (record { group = 0; period = 5; script = instr.Call 2 (operand.Value (pos 4)) ∷ [] }) }
-        ∷ record { name = codes "add"; is = Service (record { group = 0; depth = 10; script = [] }) }
-        ∷ record { name = codes "c"; is = Client (record { group = 0; service = 1; depth = 10; script = instr.Log operand.In ∷ [] }) }
+        record { name = codes "t"; is = in_group 0 (Timer (record { period = 5; script = instr.Call 2 (operand.Value (pos 4)) ∷ [] })) }
+        ∷ record { name = codes "add"; is = in_group 0 (Service (record { depth = 10; script = [] })) }
+        ∷ record { name = codes "c"; is = in_group 0 (Client (record { service = 1; depth = 10; script = instr.Log operand.In ∷ [] })) }
         ∷ [];
   };
   moments = 5 ∷ 6 ∷ 7 ∷ [];
@@ -65,10 +66,10 @@ displaced_request = record {
     nodes = codes "n" ∷ [];
     groups = record { node = 0; name = None; exclusive = true } ∷ [];
     entities =
-        record { name = codes "t"; is = Timer (record { group = 0; period = 5; script = instr.Call 2 (operand.Value (pos 1)) ∷ instr.Call 3 (operand.Value (pos 2)) ∷ [] }) }
-        ∷ record { name = codes "s"; is = Service (record { group = 0; depth = 1; script = instr.Reply operand.In ∷ [] }) }
-        ∷ record { name = codes "c1"; is = Client (record { group = 0; service = 1; depth = 10; script = [] }) }
-        ∷ record { name = codes "c2"; is = Client (record { group = 0; service = 1; depth = 10; script = [] }) }
+        record { name = codes "t"; is = in_group 0 (Timer (record { period = 5; script = instr.Call 2 (operand.Value (pos 1)) ∷ instr.Call 3 (operand.Value (pos 2)) ∷ [] })) }
+        ∷ record { name = codes "s"; is = in_group 0 (Service (record { depth = 1; script = instr.Reply operand.In ∷ [] })) }
+        ∷ record { name = codes "c1"; is = in_group 0 (Client (record { service = 1; depth = 10; script = [] })) }
+        ∷ record { name = codes "c2"; is = in_group 0 (Client (record { service = 1; depth = 10; script = [] })) }
         ∷ [];
   };
   moments = 5 ∷ 6 ∷ 7 ∷ [];

@@ -1,6 +1,8 @@
 -- Worked examples: timers, topics and services.
 use Rattle.std.specs.Prelude.{pos, negsuc, List, [], ◌∷◌, codes, true, None}
-use Rattle.exec_graph.specs.declared.entity.Declared.TheVariants.{Topic, Timer, Subscription}
+use Rattle.exec_graph.specs.Graph.{in_group}
+use Rattle.exec_graph.specs.declared.entity.Declared.TheVariants.{Topic}
+use Rattle.exec_graph.specs.declared.entity.EntityOf.TheVariants.{Timer, Subscription}
 use Rattle.exec_graph.specs.Plan.{PlanData}
 use Rattle.exec_graph.specs.declared.plan.Fed.TheVariants.{Message}
 use Rattle.exec_msg.specs.declared.kind.Kind.TheVariants as kind
@@ -35,7 +37,7 @@ late = record {
     nodes = codes "n" ∷ [];
     groups = record { node = 0; name = None; exclusive = true } ∷ [];
     entities =
-        record { name = codes "t"; is = Timer (record { group = 0; period = 10; script = instr.Log operand.Now ∷ [] }) }
+        record { name = codes "t"; is = in_group 0 (Timer (record { period = 10; script = instr.Log operand.Now ∷ [] })) }
         ∷ [];
   };
   moments = 0 ∷ 10 ∷ 35 ∷ 40 ∷ [];
@@ -58,7 +60,7 @@ repeated = record {
     nodes = codes "n" ∷ [];
     groups = record { node = 0; name = None; exclusive = true } ∷ [];
     entities =
-        record { name = codes "t"; is = Timer (record { group = 0; period = 10; script = instr.Log operand.Now ∷ [] }) }
+        record { name = codes "t"; is = in_group 0 (Timer (record { period = 10; script = instr.Log operand.Now ∷ [] })) }
         ∷ [];
   };
   moments = 30 ∷ 30 ∷ 30 ∷ [];
@@ -80,8 +82,8 @@ shared = record {
     nodes = codes "n" ∷ [];
     groups = record { node = 0; name = None; exclusive = true } ∷ [];
     entities =
-        record { name = codes "t1"; is = Timer (record { group = 0; period = 1; script = instr.Set (destination.Variable 0) operation.Mul (operand.Variable 0) (operand.Value (pos 2)) ∷ instr.Log (operand.Variable 0) ∷ [] }) }
-        ∷ record { name = codes "t2"; is = Timer (record { group = 0; period = 1; script = instr.Set (destination.Variable 0) operation.Add (operand.Variable 0) (operand.Value (pos 1)) ∷ instr.Log (operand.Variable 0) ∷ [] }) }
+        record { name = codes "t1"; is = in_group 0 (Timer (record { period = 1; script = instr.Set (destination.Variable 0) operation.Mul (operand.Variable 0) (operand.Value (pos 2)) ∷ instr.Log (operand.Variable 0) ∷ [] })) }
+        ∷ record { name = codes "t2"; is = in_group 0 (Timer (record { period = 1; script = instr.Set (destination.Variable 0) operation.Add (operand.Variable 0) (operand.Value (pos 1)) ∷ instr.Log (operand.Variable 0) ∷ [] })) }
         ∷ [];
   };
   moments = 1 ∷ 2 ∷ 3 ∷ [];
@@ -103,7 +105,7 @@ wrapped = record {
     nodes = codes "n" ∷ [];
     groups = record { node = 0; name = None; exclusive = true } ∷ [];
     entities =
-        record { name = codes "t"; is = Timer (record { group = 0; period = 1; script = instr.Set (destination.Register 0) operation.Add (operand.Value (pos 9223372036854775807)) (operand.Value (pos 1)) ∷ instr.Log (operand.Register 0) ∷ [] }) }
+        record { name = codes "t"; is = in_group 0 (Timer (record { period = 1; script = instr.Set (destination.Register 0) operation.Add (operand.Value (pos 9223372036854775807)) (operand.Value (pos 1)) ∷ instr.Log (operand.Register 0) ∷ [] })) }
         ∷ [];
   };
   moments = 1 ∷ [];
@@ -124,8 +126,8 @@ full_queue = record {
     groups = record { node = 0; name = None; exclusive = true } ∷ [];
     entities =
         record { name = codes "x"; is = Topic }
-        ∷ record { name = codes "t"; is = Timer (record { group = 0; period = 10; script = instr.Pub 0 (operand.Value (pos 1)) ∷ instr.Pub 0 (operand.Value (pos 2)) ∷ instr.Pub 0 (operand.Value (pos 3)) ∷ [] }) }
-        ∷ record { name = codes "s"; is = Subscription (record { group = 0; topic = 0; depth = 2; script = [] }) }
+        ∷ record { name = codes "t"; is = in_group 0 (Timer (record { period = 10; script = instr.Pub 0 (operand.Value (pos 1)) ∷ instr.Pub 0 (operand.Value (pos 2)) ∷ instr.Pub 0 (operand.Value (pos 3)) ∷ [] })) }
+        ∷ record { name = codes "s"; is = in_group 0 (Subscription (record { topic = 0; depth = 2; script = [] })) }
         ∷ [];
   };
   moments = 10 ∷ 11 ∷ 12 ∷ 13 ∷ [];
@@ -150,7 +152,7 @@ echo = record {
     groups = record { node = 0; name = None; exclusive = true } ∷ [];
     entities =
         record { name = codes "x"; is = Topic }
-        ∷ record { name = codes "s"; is = Subscription (record { group = 0; topic = 0; depth = 10; script = instr.Pub 0 operand.In ∷ [] }) }
+        ∷ record { name = codes "s"; is = in_group 0 (Subscription (record { topic = 0; depth = 10; script = instr.Pub 0 operand.In ∷ [] })) }
         ∷ [];
   };
   moments = 1 ∷ 2 ∷ 3 ∷ [];

@@ -1,6 +1,7 @@
 use Rattle.std.proofs.Common.{◌≡◌, ◌&&◌, drop}
 use Rattle.std.specs.List.{list_all}
-use Rattle.exec_graph.specs.Faults.{is_within, has_short_scripts}
+use Rattle.exec_graph.specs.Entity.{is_within}
+use Rattle.exec_graph.specs.Faults.{has_short_scripts}
 use Rattle.exec_graph.proofs.limits.are_small.Given as goal
 
 -- all are small where those that are left are

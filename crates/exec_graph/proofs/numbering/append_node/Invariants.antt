@@ -1,5 +1,5 @@
 use Rattle.std.proofs.Common.{◌≡◌, ◌++◌, map, take}
-use Rattle.exec_graph.specs.Kinds.{placed_in}
+use Rattle.exec_graph.specs.Numbers.{placed_in}
 use Rattle.exec_graph.proofs.numbering.append_node.Given as goal
 
 abbrev pub invariant-loop-entity : goal.invariant-loop-entity

@@ -1,7 +1,7 @@
 use Rattle.std.proofs.Common.{◌≡◌, ◌++◌, drop, flat_map}
 use Rattle.std.specs.List.{filter}
-use Rattle.exec_graph.specs.Kinds.{is_of, numbered}
-use Rattle.exec_graph.specs.Numbers.{entities_from}
+use Rattle.exec_graph.specs.Entity.{is_of}
+use Rattle.exec_graph.specs.Numbers.{entities_from, numbered}
 use Rattle.exec_graph.proofs.numbering.numbered.Given as goal
 
 -- the entities so far, and then those of the kinds that are left, are those of all kinds

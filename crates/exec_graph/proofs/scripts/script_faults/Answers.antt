@@ -1,7 +1,8 @@
 use Rattle.std.proofs.Common.{◌∙◌, ap, filter_map}
 use Rattle.exec_graph.specs.Directory.{NodeData, scope_in, faults_in}
+use Rattle.exec_graph.specs.Entity.{scripts_of}
 use Rattle.exec_graph.specs.Numbers.{Placed}
-use Rattle.exec_graph.specs.Scripts.{scripts_of, fault_of}
+use Rattle.exec_graph.specs.Scripts.{fault_of}
 use Rattle.exec_graph.proofs.EntityOrder.{next_given}
 use Rattle.exec_graph.proofs.scripts.script_faults.Goals as goal
 

@@ -1,7 +1,7 @@
 use Rattle.std.proofs.Common.{◌∙◌, ap, sym, is_some, map, string_bytes, bytes_eq}
 use Rattle.exec_graph.specs.Draft.{GraphDraft}
 use Rattle.exec_graph.specs.Numbers.{topic_named}
-use Rattle.exec_graph.proofs.Declarations.{found_any}
+use Rattle.exec_graph.proofs.Positions.{found_any}
 use Rattle.exec_graph.proofs.builder.GraphBuilder.topic_named.Goals as goal
 
 pub returns : goal.returns

@@ -2,8 +2,7 @@ use Rattle.std.proofs.Common.{◌∙◌, sym, ap, map, List, string_bytes}
 use Rattle.std.specs.List.{list_all}
 use Rattle.std.proofs.lemmas.List.{length-map}
 use Rattle.exec_graph.specs.Faults.{has_named_groups}
-use Rattle.exec_graph.specs.Kinds.{numbered}
-use Rattle.exec_graph.specs.Numbers.{Placed}
+use Rattle.exec_graph.specs.Numbers.{Placed, numbered}
 use Rattle.exec_graph.proofs.Directories.{topic_refused, entity_refused, names_added, made_of}
 use Rattle.exec_graph.proofs.directory.Directory.of.Goals as goal
 

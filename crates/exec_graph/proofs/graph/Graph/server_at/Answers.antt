@@ -1,24 +1,13 @@
-use Rattle.std.proofs.Common.{◌≡◌, ◌<◌, String, refl, ap, ◌∙◌, true, false, rules}
+use Rattle.std.proofs.Common.{◌<◌, String, ap, sym, ◌∙◌, true, false, rules}
 use Rattle.std.specs.Global.{Global}
 use Rattle.std.specs.List.{position_from}
 use Rattle.exec_graph.specs.Entries.{entity_of, entities_of}
 use Rattle.exec_graph.specs.Graph.{GraphData, is_server}
 use Rattle.exec_graph.specs.declared.entity.Declared.{Declared}
-use Rattle.exec_graph.specs.declared.entity.Declared.TheVariants.{Topic, Timer, Subscription, Service, Client, Server, ActionClient}
-use Rattle.exec_graph.specs.declared.entity.ServerEntity.{ServerEntity}
 use Rattle.exec_graph.proofs.Counting.{number_below}
 use Rattle.exec_graph.proofs.Looking.{is_named, found_none, found_as}
 use Rattle.exec_graph.proofs.Positions.{slice_get-map}
 use Rattle.exec_graph.proofs.graph.Graph.server_at.Goals as goal
-
-unlike : (declared : Declared) → ((entity : ServerEntity) → declared ≡ Server entity → ⊥) → is_server declared ≡ false
-unlike Topic other = refl
-unlike (Timer entity) other = refl
-unlike (Subscription entity) other = refl
-unlike (Service entity) other = refl
-unlike (Client entity) other = refl
-unlike (Server entity) other = absurd (other entity refl)
-unlike (ActionClient entity) other = refl
 
 pub returns-in_err-place : goal.returns-in_err-place
 returns-in_err-place c =
@@ -33,14 +22,14 @@ overflow_cast-result c =
     let below : c.in_ok-place.place < 65536 = number_below shape c.in_ok-place.place (entity_of entry) c.self.invariant.0 (slice_get-map entity_of c.self.inside.entities.entries c.in_ok-place.place entry c.in_ok-place.ensures.entry) in
     search rules
 
-pub returns-in-Server : goal.returns-in-Server
-returns-in-Server c =
+pub returns-then-is_a : goal.returns-then-is_a
+returns-then-is_a c =
     found_as is_server c.args.name.now c.self.inside.entities.entries c.in_ok-place.place (c.in_ok-place.field-0-1.now, c.in_ok-place.declared.now) true
-    c.self.invariant.0.distinct_names c.in_ok-place.ensures.index c.in_ok-place.ensures.entry (ap is_server c.in-Server.is)
+    c.self.invariant.0.distinct_names c.in_ok-place.ensures.index c.in_ok-place.ensures.entry (sym c.is_a.ensures ∙ c.if-is_a.true)
     ∙ ap (λ (shape : GraphData). position_from (is_named is_server c.args.name.now) 0 shape.entities) c.self.view_is
 
-pub returns-in_default : goal.returns-in_default
-returns-in_default c =
+pub returns-else-is_a : goal.returns-else-is_a
+returns-else-is_a c =
     found_as is_server c.args.name.now c.self.inside.entities.entries c.in_ok-place.place (c.in_ok-place.field-0-1.now, c.in_ok-place.declared.now) false
-    c.self.invariant.0.distinct_names c.in_ok-place.ensures.index c.in_ok-place.ensures.entry (unlike c.in_ok-place.declared.now c.in_default.not-Server)
+    c.self.invariant.0.distinct_names c.in_ok-place.ensures.index c.in_ok-place.ensures.entry (sym c.is_a.ensures ∙ c.if-is_a.false)
     ∙ ap (λ (shape : GraphData). position_from (is_named is_server c.args.name.now) 0 shape.entities) c.self.view_is
