@@ -10,7 +10,7 @@ use Rattle.exec_graph.specs.declared.entity.EntityOf.TheVariants.{Timer}
 use Rattle.exec_graph.specs.declared.entity.GraphEntity.{GraphEntity}
 use Rattle.exec_graph.specs.Entity.{Script, RoleScriptData, is_from_1, scripts_of}
 use Rattle.exec_graph.specs.Lawful.{IsLawfulPlan, IsLawfulNode, IsLawfulDeclared, IsLawfulEntity, IsLawfulScript, is_fed_well}
-use Rattle.exec_script.specs.declared.instr.Instr.TheVariants as instr
+use Rattle.exec_script.specs.Instruction as instr
 use Rattle.exec_script.specs.declared.instr.Operand.TheVariants as operand
 use Rattle.exec_script.specs.declared.place.Role.TheVariants as role
 use Rattle.exec_world.specs.Examples.Timers.{late}
