@@ -119,10 +119,5 @@ pub(crate) fn is_refused(decisions: &[(GoalId, u8)]) -> bool
 fn accepts_any(decisions: &[(GoalId, u8)]) -> bool
     ensures { result ≡ list_any is_acceptance decisions.now }
 {
-    for decided in decisions {
-        if decided.1 == ACCEPT {
-            return true;
-        }
-    }
-    false
+    decisions.iter().any(|decided| decided.1 == ACCEPT)
 }

@@ -1,9 +1,14 @@
--- What the program says where it writes no whole transcript, and which status it ends with.
-use Rattle.std.specs.Prelude.{ℕ, List, [], ◌∷◌, ◌++◌, codes, decimal, map, string_bytes, String, Result, IsOkAnd}
+-- What a run of the program comes to: what it does to its streams, what it says where it writes no whole transcript, and
+-- which status it ends with.
+use Rattle.std.specs.Prelude.{◌≡◌, ◌≢◌, ◌⊎◌, ◌↔◌, ℕ, ◌+◌, ◌<◌, ◌≤◌, List, [], ◌∷◌, ◌++◌, length, take, Bool, true, codes, decimal, map, string_bytes, String, Option, IfSome, Result, Ok, Err, IfErr, OnOk, OnErr, IsOkAnd}
+use Rattle.std.specs.Io.KnownBytes.{Keeps, Appends, Consumes, IsAtEnd}
 use Rattle.std.specs.declared.alloc.Global.{Global}
 use Rattle.std.specs.Global.{Vec}
 use Rattle.exec_doc.specs.Refusals.{number_of}
 use Rattle.exec_doc.specs.declared.refused.Refused.TheVariants as refused
+use Rattle.exec_graph.specs.Plan.{PlanData}
+use Rattle.exec_msg.specs.declared.limits.TheConstants.{DOCUMENT}
+use Rattle.exec_run.specs.Alone.{SaysTimers, IsFaultOf}
 use Rattle.exec_run.specs.Words.{AreSettings}
 use Rattle.exec_run.specs.declared.fault.AloneFault.{AloneFault}
 use Rattle.exec_run.specs.declared.fault.AloneFault.TheVariants as fault
@@ -12,9 +17,10 @@ use Rattle.exec_run.specs.declared.program.Failure.TheVariants as failure
 use Rattle.exec_run.specs.declared.program.Status.{Status}
 use Rattle.exec_run.specs.declared.program.Status.TheVariants as status
 use Rattle.exec_run.specs.declared.program.words.WordsFault.{WordsFault}
-use Rattle.exec_run.specs.declared.program.words.WordsFault.TheVariants as words
+use Rattle.exec_run.specs.declared.program.words.WordsFault.TheVariants as words_fault
 use Rattle.exec_run.specs.declared.program.streams.ReadFault.{ReadFault}
 use Rattle.exec_run.specs.declared.program.streams.ReadFault.TheVariants as reading
+use Rattle.exec_world.specs.Transcript.{text_of}
 
 -- words that are text, and two numbers in their ranges
 abbrev pub AreLawful : Result (Vec (String Global)) WordsFault → Type 0
@@ -36,6 +42,14 @@ failure_line failure.Usage = codes "usage: exec_run <workers 1-64> <quantum 1-10
 failure_line failure.WriteFailed = codes "write failed" ++ 10 ∷ []
 failure_line failure.ReadFailed = codes "read failed" ++ 10 ∷ []
 
+-- the exit status that a status is
+abbrev pub status_number : Status → ℕ
+status_number status.Written = 0
+status_number status.Refused = 1
+status_number status.Usage = 2
+status_number status.WriteFailed = 3
+status_number status.ReadFailed = 4
+
 -- the status of a failure
 abbrev pub status_of : Failure → Status
 status_of (failure.Refused _) = status.Refused
@@ -45,11 +59,65 @@ status_of failure.ReadFailed = status.ReadFailed
 
 -- a growth that was refused while the words were read refuses the document; words that aren't text are wrong
 abbrev pub failure_of_words : WordsFault → Failure
-failure_of_words words.Memory = failure.Refused (fault.Refused refused.Memory)
-failure_of_words words.NotText = failure.Usage
+failure_of_words words_fault.Memory = failure.Refused (fault.Refused refused.Memory)
+failure_of_words words_fault.NotText = failure.Usage
 
 -- so does one while the document was read; the reader's own failures are one
 abbrev pub failure_of_read : ReadFault → Failure
 failure_of_read reading.Memory = failure.Refused (fault.Refused refused.Memory)
 failure_of_read reading.Failed = failure.ReadFailed
 failure_of_read reading.TooLong = failure.ReadFailed
+
+-- the status of a run that gave nothing where the transcript is written, and else a failure
+abbrev pub outcome_status : {Value : Type 0} → Result Value Failure → Status
+outcome_status (Ok _) = status.Written
+outcome_status (Err told) = status_of told
+
+-- what a run did to a stream: its bytes before and after, where the stream tells them, and whether it has failed
+pub record StreamRun : Type 0 where
+  pub before : Option (List ℕ)
+  pub after : Option (List ℕ)
+  pub failed : Bool
+
+-- a run took bytes of its input
+abbrev pub Took : StreamRun → List ℕ → Type 0
+Took stream bytes = Consumes stream.before stream.after bytes
+
+-- a run gave bytes to its output
+abbrev pub Gave : StreamRun → List ℕ → Type 0
+Gave stream bytes = Appends stream.before stream.after bytes
+
+-- a run left a stream as it was
+abbrev pub Left : StreamRun → Type 0
+Left stream = Keeps stream.before stream.after
+
+-- the facts of a run of the program with these words: what it did to its input and to its output, whether that is flushed,
+-- and what it came to
+pub record HasRun {Value : Type 0} (words : Result (Vec (String Global)) WordsFault) (input output : StreamRun) (flushed : Bool) (outcome : Result Value Failure) : Type 0 where
+  -- wrong words and nothing else are told as such, and nothing is read then
+  pub usage : (outcome ≡ Err failure.Usage) ↔ (¬ AreLawful words × words ≢ Err words_fault.Memory)
+  pub no_memory_for_words : words ≡ Err words_fault.Memory → outcome ≡ Err (failure.Refused (fault.Refused refused.Memory))
+  pub words_first : ¬ AreLawful words → Left input
+  -- how much is read, and when that fails
+  pub taken : (bytes : List ℕ) × Took input bytes × (length bytes ≤ DOCUMENT + 1)
+  pub too_long : AreLawful words → IfSome input.before (λ bytes. DOCUMENT < length bytes
+      → (outcome ≡ Err failure.ReadFailed) ⊎ (outcome ≡ Err (failure.Refused (fault.Refused refused.Memory))))
+  pub read_failed : outcome ≡ Err failure.ReadFailed → (input.failed ≡ true) ⊎ ((bytes : List ℕ) × Took input bytes × (DOCUMENT < length bytes))
+  -- a refusal has the code of the document, or is one of memory
+  pub refused : (told : AloneFault) → outcome ≡ Err (failure.Refused told) → told ≢ fault.Refused refused.Memory
+      → AreLawful words × IfSome input.before (λ document. IsFaultOf document told)
+  -- what is written: the whole text of the whole document, flushed; a front of it where the output failed; else nothing
+  pub whole_document : OnOk outcome (IsAtEnd input.after)
+  pub written : OnOk outcome (IfSome input.before (λ document. (plan : PlanData) × SaysTimers document plan × Gave output (text_of plan)))
+  pub flushed_then : OnOk outcome (flushed ≡ true)
+  pub cut_off : outcome ≡ Err failure.WriteFailed → IfSome input.before (λ document. (plan : PlanData) × (count : ℕ)
+      × SaysTimers document plan × Gave output (take count (text_of plan)))
+  pub write_failed : outcome ≡ Err failure.WriteFailed → output.failed ≡ true
+  pub unwritten : OnErr outcome (outcome ≢ Err failure.WriteFailed → Left output)
+
+-- what standard error gets of a run: nothing where the transcript is written, and else the line of the failure, whole and
+-- flushed, or a front of it where standard error has failed
+pub record IsTold {Value : Type 0} (outcome : Result Value Failure) (errors : StreamRun) (flushed : Bool) : Type 0 where
+  pub silent : OnOk outcome (Left errors)
+  pub told : IfErr outcome (λ told. (Gave errors (failure_line told) × (flushed ≡ true))
+      ⊎ ((errors.failed ≡ true) × ((count : ℕ) × Gave errors (take count (failure_line told)))))

@@ -7,7 +7,7 @@ mod fault;
 mod program;
 mod world;
 
-use program::{execute, read_words};
+use program::{InputStream, OutputStream, execute, read_words};
 use std::process::ExitCode;
 
 fn main(rt: HostRuntime) -> ExitCode {
@@ -15,9 +15,9 @@ fn main(rt: HostRuntime) -> ExitCode {
     let status = execute(
         rt.alloc(),
         words,
-        &mut rt.stdin(),
-        &mut rt.stdout(),
-        &mut rt.stderr(),
+        &mut InputStream::new(rt.stdin()),
+        &mut OutputStream::new(rt.stdout()),
+        &mut OutputStream::new(rt.stderr()),
     );
-    ExitCode::from(status as u8)
+    ExitCode::from(status.number())
 }

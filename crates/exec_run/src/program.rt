@@ -3,15 +3,9 @@ mod streams;
 mod tests;
 mod words;
 
-ghost use Rattle.std.specs.Prelude.{◌≡◌, ◌≢◌, ◌⊎◌, ℕ, ◌+◌, ◌<◌, ◌≤◌, List, ◌↔◌, take, length, IfSome, OnOk, OnErr};
-ghost use Rattle.std.specs.Io.KnownBytes.{Keeps, Appends, Consumes, IsAtEnd};
-ghost use Rattle.exec_run.specs.Program.{failure_line, status_of, failure_of_words, failure_of_read, AreLawful};
-ghost use Rattle.exec_doc.specs.declared.refused.Refused.TheVariants as code;
-ghost use Rattle.exec_graph.specs.Plan.{PlanData};
-ghost use Rattle.exec_run.specs.Alone.{SaysTimers, IsFaultOf};
-ghost use Rattle.exec_run.specs.declared.fault.AloneFault.{AloneFault};
-ghost use Rattle.exec_run.specs.declared.fault.AloneFault.TheVariants as fault;
-ghost use Rattle.exec_world.specs.Transcript.{text_of};
+ghost use Rattle.std.specs.Prelude.{◌≡◌, Result};
+ghost use Rattle.exec_run.specs.Program.{HasRun, IsTold, failure_line, status_of, status_number, failure_of_words, failure_of_read, outcome_status};
+ghost use Rattle.exec_run.specs.declared.program.Failure.{Failure};
 ghost use Rattle.exec_run.specs.declared.program.Failure.TheVariants.{Refused, WriteFailed};
 
 use crate::alone::run_alone;
@@ -19,7 +13,7 @@ use crate::fault::AloneFault;
 use exec_doc::Refused;
 use std::alloc::Global;
 use std::io::{Read, Write};
-pub use streams::{DOCUMENT_LIMIT, ReadFault, WriteFault, read_document, write_text};
+pub use streams::{InputStream, OutputStream, ReadFault, WriteFault, read_document, write_text};
 pub use words::{Settings, WordsFault, read_words};
 
 /// What the program's run came to, each with its exit status.
@@ -35,6 +29,15 @@ pub enum Status {
     WriteFailed = 3,
     /// Standard input failed, or is too long.
     ReadFailed = 4,
+}
+
+impl Status {
+    /// The exit status.
+    pub fn number(self) -> u8
+        ensures { result ≡ status_number self }
+    {
+        self as u8
+    }
 }
 
 /// Why the program wrote no whole transcript.
@@ -119,33 +122,19 @@ impl From<WriteFault> for Failure {
 pub fn execute<R: Read, O: Write, E: Write>(
     alloc: Global,
     words: Result<Vec<String>, WordsFault>,
-    input: &mut R,
-    output: &mut O,
-    errors: &mut E,
+    input: &mut InputStream<R>,
+    output: &mut OutputStream<O>,
+    errors: &mut OutputStream<E>,
 ) -> Status
-    // Which status it is.
-    ensures usage { (result ≡ Status.Usage) ↔ (¬ AreLawful words × words ≢ Err WordsFault.Memory) }
-    ensures no_memory_for_words { words ≡ Err WordsFault.Memory → result ≡ Status.Refused }
-    ensures whole_document { result ≡ Status.Written → IsAtEnd (R.remaining input.new) }
-    ensures too_long { AreLawful words → IfSome (R.remaining input.old) (λ bytes. DOCUMENT_LIMIT < length bytes
-        → (result ≡ Status.ReadFailed) ⊎ (result ≡ Status.Refused)) }
-
-    // What each stream has afterwards.
-    ensures words_first { ¬ AreLawful words → Keeps (R.remaining input.old) (R.remaining input.new) }
-    ensures taken { (bytes : List ℕ) × Consumes (R.remaining input.old) (R.remaining input.new) bytes
-        × (length bytes ≤ DOCUMENT_LIMIT + 1) }
-    ensures written { result ≡ Status.Written → IfSome (R.remaining input.old) (λ document. (plan : PlanData)
-        × SaysTimers document plan × Appends (O.contents output.old) (O.contents output.new) (text_of plan)) }
-    ensures cut_off { result ≡ Status.WriteFailed → IfSome (R.remaining input.old) (λ document. (plan : PlanData)
-        × (count : ℕ) × SaysTimers document plan
-        × Appends (O.contents output.old) (O.contents output.new) (take count (text_of plan))) }
-    ensures unwritten { result ≢ Status.Written → result ≢ Status.WriteFailed
-        → Keeps (O.contents output.old) (O.contents output.new) }
-    ensures silent { result ≡ Status.Written → Keeps (E.contents errors.old) (E.contents errors.new) }
-    ensures told { result ≢ Status.Written → (failure : Failure) × (count : ℕ) × (status_of failure ≡ result)
-        × Appends (E.contents errors.old) (E.contents errors.new) (take count (failure_line failure))
-        × ((told : AloneFault) → failure ≡ Failure.Refused told → told ≢ fault.Refused code.Memory
-        → AreLawful words × IfSome (R.remaining input.old) (λ document. IsFaultOf document told)) }
+    ensures { (outcome : Result (Unit {0}) Failure)
+        × HasRun words
+        (record { before = R.remaining input.old.reader; after = R.remaining input.new.reader; failed = input.new.failed })
+        (record { before = O.contents output.old.writer; after = O.contents output.new.writer; failed = output.new.failed })
+        output.new.flushed outcome
+        × (result ≡ outcome_status outcome)
+        × IsTold outcome
+        (record { before = E.contents errors.old.writer; after = E.contents errors.new.writer; failed = errors.new.failed })
+        errors.new.flushed }
 {
     match transcribe(alloc, words, input, output) {
         Ok(()) => Status::Written,
@@ -159,26 +148,13 @@ pub fn execute<R: Read, O: Write, E: Write>(
 fn transcribe<R: Read, O: Write>(
     alloc: Global,
     words: Result<Vec<String>, WordsFault>,
-    input: &mut R,
-    output: &mut O,
+    input: &mut InputStream<R>,
+    output: &mut OutputStream<O>,
 ) -> Result<(), Failure>
-    ensures usage { (result ≡ Err Failure.Usage) ↔ (¬ AreLawful words × words ≢ Err WordsFault.Memory) }
-    ensures no_memory_for_words { words ≡ Err WordsFault.Memory → result ≡ Err (Failure.Refused (fault.Refused code.Memory)) }
-    ensures whole_document { OnOk result (IsAtEnd (R.remaining input.new)) }
-    ensures too_long { AreLawful words → IfSome (R.remaining input.old) (λ bytes. DOCUMENT_LIMIT < length bytes
-        → (result ≡ Err Failure.ReadFailed) ⊎ (result ≡ Err (Failure.Refused (fault.Refused code.Memory)))) }
-    ensures words_first { ¬ AreLawful words → Keeps (R.remaining input.old) (R.remaining input.new) }
-    ensures taken { (bytes : List ℕ) × Consumes (R.remaining input.old) (R.remaining input.new) bytes
-        × (length bytes ≤ DOCUMENT_LIMIT + 1) }
-    ensures written { OnOk result (IfSome (R.remaining input.old) (λ document. (plan : PlanData)
-        × SaysTimers document plan × Appends (O.contents output.old) (O.contents output.new) (text_of plan))) }
-    ensures cut_off { result ≡ Err Failure.WriteFailed → IfSome (R.remaining input.old) (λ document. (plan : PlanData)
-        × (count : ℕ) × SaysTimers document plan
-        × Appends (O.contents output.old) (O.contents output.new) (take count (text_of plan))) }
-    ensures refused { (told : AloneFault) → result ≡ Err (Failure.Refused told) → told ≢ fault.Refused code.Memory
-        → AreLawful words × IfSome (R.remaining input.old) (λ document. IsFaultOf document told) }
-    ensures unwritten { OnErr result (result ≢ Err Failure.WriteFailed
-        → Keeps (O.contents output.old) (O.contents output.new)) }
+    ensures { HasRun words
+        (record { before = R.remaining input.old.reader; after = R.remaining input.new.reader; failed = input.new.failed })
+        (record { before = O.contents output.old.writer; after = O.contents output.new.writer; failed = output.new.failed })
+        output.new.flushed result }
 {
     let words = words?;
     let _settings = Settings::from_words(&words).ok_or(Failure::Usage)?;

@@ -1,11 +1,9 @@
-ghost use Rattle.std.specs.Prelude.{◌≡◌, ◌≢◌, ℕ, List, ◌+◌, ◌<◌, ◌≤◌, length, take, drop, vec_len, OnOk, OnErr, IfOk, IfSome};
+ghost use Rattle.std.specs.Prelude.{◌≡◌, ◌≢◌, ℕ, List, ◌+◌, ◌<◌, ◌≤◌, true, false, length, take, drop, vec_len, OnOk, OnErr, IfOk, IfSome};
 ghost use Rattle.std.specs.Io.KnownBytes.{Keeps, Appends, Consumes, IsAtEnd};
 
+use exec_msg::limits::DOCUMENT;
 use std::alloc::{AllocError, Global};
 use std::io::{Read, Write};
-
-/// The most bytes of a document, 16 MiB.
-pub const DOCUMENT_LIMIT: usize = 16_777_216;
 
 const FIRST_ROOM: usize = 65_536;
 
@@ -24,25 +22,125 @@ pub enum ReadFault {
 #[derive(Clone, Copy, Debug, PartialEq, Eq)]
 pub struct WriteFault;
 
+/// A reader that notes whether it has failed.
+#[derive(Drop)]
+pub struct InputStream<R> {
+    /// The reader.
+    pub reader: R,
+    /// Whether a read has failed.
+    pub failed: bool,
+}
+
+impl<R: Read> InputStream<R> {
+    /// A reader that hasn't failed yet.
+    pub fn new(reader: R) -> InputStream<R>
+        ensures { result ≡ record { reader = reader; failed = false } }
+    {
+        InputStream {
+            reader,
+            failed: false,
+        }
+    }
+
+    // One read, into `buffer` from `start` on.
+    fn read(&mut self, buffer: &mut [u8], start: usize) -> Result<usize, ReadFault>
+        requires { start < length buffer.old }
+        ensures front { take start buffer.new ≡ take start buffer.old }
+        ensures fits { IfOk result (λ count. start + count ≤ length buffer.new) }
+        ensures ok { IfOk result (λ count. Consumes (R.remaining self.old.reader) (R.remaining self.new.reader)
+            (take count (drop start buffer.new))) }
+        ensures end { IfOk result (λ count. count ≡ 0 → IsAtEnd (R.remaining self.new.reader)) }
+        ensures kept { OnErr result (Keeps (R.remaining self.old.reader) (R.remaining self.new.reader)) }
+        ensures err { OnErr result (result ≡ Err ReadFault.Failed) }
+        ensures failed { OnErr result (self.new.failed ≡ true) }
+    {
+        match self.reader.read(&mut buffer[start..]) {
+            Ok(count) => Ok(count),
+            Err(_) => {
+                self.failed = true;
+                Err(ReadFault::Failed)
+            }
+        }
+    }
+}
+
+/// A writer that notes whether it has failed, and whether all that it took is flushed.
+#[derive(Drop)]
+pub struct OutputStream<W> {
+    /// The writer.
+    pub writer: W,
+    /// Whether a write or a flush has failed, or a write took nothing.
+    pub failed: bool,
+    /// Whether a flush stands behind the last write.
+    pub flushed: bool,
+}
+
+impl<W: Write> OutputStream<W> {
+    /// A writer to which nothing was written yet.
+    pub fn new(writer: W) -> OutputStream<W>
+        ensures { result ≡ record { writer = writer; failed = false; flushed = false } }
+    {
+        OutputStream {
+            writer,
+            failed: false,
+            flushed: false,
+        }
+    }
+
+    // One write, which takes at least one byte.
+    fn write(&mut self, text: &[u8]) -> Result<usize, WriteFault>
+        requires { 0 < length text.now }
+        ensures some { IfOk result (λ count. 0 < count) }
+        ensures bound { IfOk result (λ count. count ≤ length text.now) }
+        ensures bytes { IfOk result (λ count. Appends (W.contents self.old.writer) (W.contents self.new.writer) (take count text.now)) }
+        ensures kept { OnErr result (Keeps (W.contents self.old.writer) (W.contents self.new.writer)) }
+        ensures failed { OnErr result (self.new.failed ≡ true) }
+    {
+        self.flushed = false;
+        match self.writer.write(text) {
+            Ok(count) if count > 0 => Ok(count),
+            _ => {
+                self.failed = true;
+                Err(WriteFault)
+            }
+        }
+    }
+
+    fn flush(&mut self) -> Result<(), WriteFault>
+        ensures kept { Keeps (W.contents self.old.writer) (W.contents self.new.writer) }
+        ensures flushed { OnOk result (self.new.flushed ≡ true) }
+        ensures failed { OnErr result (self.new.failed ≡ true) }
+    {
+        if self.writer.flush().is_err() {
+            self.failed = true;
+            return Err(WriteFault);
+        }
+        self.flushed = true;
+        Ok(())
+    }
+}
+
 /// Reads a document: all that the reader has, up to its end. Each turn takes at least one byte, or
 /// ends the reading; an error of whatever kind ends it as a fault. The reader is asked for one byte
 /// more than a document may have, and for no byte after that. The room beyond the end is given back.
-pub fn read_document<R: Read>(alloc: Global, input: &mut R) -> Result<Vec<u8>, ReadFault>
-    ensures fits { IfOk result (λ document. vec_len document ≤ DOCUMENT_LIMIT) }
-    ensures whole { IfOk result (λ document. IfSome (R.remaining input.old) (λ bytes. document.items ≡ bytes)) }
-    ensures end { OnOk result (IsAtEnd (R.remaining input.new)) }
-    ensures taken { (bytes : List ℕ) × Consumes (R.remaining input.old) (R.remaining input.new) bytes
-        × (length bytes ≤ DOCUMENT_LIMIT + 1) }
-    ensures too_long { result ≡ Err ReadFault.TooLong
-        → IfSome (R.remaining input.old) (λ bytes. DOCUMENT_LIMIT < length bytes) }
+pub fn read_document<R: Read>(
+    alloc: Global,
+    input: &mut InputStream<R>,
+) -> Result<Vec<u8>, ReadFault>
+    ensures fits { IfOk result (λ document. vec_len document ≤ DOCUMENT) }
+    ensures whole { IfOk result (λ document. IfSome (R.remaining input.old.reader) (λ bytes. document.items ≡ bytes)) }
+    ensures end { OnOk result (IsAtEnd (R.remaining input.new.reader)) }
+    ensures taken { (bytes : List ℕ) × Consumes (R.remaining input.old.reader) (R.remaining input.new.reader) bytes
+        × (length bytes ≤ DOCUMENT + 1) × (result ≡ Err ReadFault.TooLong → length bytes ≡ DOCUMENT + 1) }
+    ensures failed { result ≡ Err ReadFault.Failed → input.new.failed ≡ true }
 {
     let mut document = Vec::new(alloc);
     let mut filled = 0;
-    while filled <= DOCUMENT_LIMIT {
+    while filled <= DOCUMENT {
         if make_room(&mut document, filled).is_err() {
             return Err(ReadFault::Memory);
         }
-        let count = read_at(input, document.as_mut_slice(), filled)?;
+        let count = input.read(document.as_mut_slice(), filled)?;
         if count == 0 {
             document.truncate(filled);
             document.shrink_to_fit();
@@ -57,50 +155,33 @@ pub fn read_document<R: Read>(alloc: Global, input: &mut R) -> Result<Vec<u8>, R
 // document may have at most.
 fn make_room(buffer: &mut Vec<u8>, filled: usize) -> Result<(), AllocError>
     requires filled { filled ≤ vec_len buffer.old }
-    requires fits { filled ≤ DOCUMENT_LIMIT }
-    requires bound { vec_len buffer.old ≤ DOCUMENT_LIMIT + 1 }
+    requires fits { filled ≤ DOCUMENT }
+    requires bound { vec_len buffer.old ≤ DOCUMENT + 1 }
     ensures front { take filled buffer.new.items ≡ take filled buffer.old.items }
     ensures room { OnOk result (filled < vec_len buffer.new) }
-    ensures bound { vec_len buffer.new ≤ DOCUMENT_LIMIT + 1 }
+    ensures bound { vec_len buffer.new ≤ DOCUMENT + 1 }
 {
     let len = buffer.len();
     if filled < len {
         return Ok(());
     }
-    let longer = (len * 2).max(FIRST_ROOM).min(DOCUMENT_LIMIT + 1);
+    let longer = (len * 2).max(FIRST_ROOM).min(DOCUMENT + 1);
     buffer.reserve_exact(longer - len)?;
     buffer.resize(longer, 0)
 }
 
-// One read, into `buffer` from `start` on.
-fn read_at<R: Read>(input: &mut R, buffer: &mut [u8], start: usize) -> Result<usize, ReadFault>
-    requires { start < length buffer.old }
-    ensures front { take start buffer.new ≡ take start buffer.old }
-    ensures fits { IfOk result (λ count. start + count ≤ length buffer.new) }
-    ensures ok { IfOk result (λ count. Consumes (R.remaining input.old) (R.remaining input.new)
-        (take count (drop start buffer.new))) }
-    ensures end { IfOk result (λ count. count ≡ 0 → IsAtEnd (R.remaining input.new)) }
-    ensures err { OnErr result (Keeps (R.remaining input.old) (R.remaining input.new)) }
-    ensures failed { result ≢ Err ReadFault.Memory × result ≢ Err ReadFault.TooLong }
-{
-    input
-        .read(&mut buffer[start..])
-        .map_err(|_| ReadFault::Failed)
-}
-
 /// Writes all of a text, and flushes the writer. Each turn takes at least one byte, or ends the
 /// writing; an error of whatever kind ends it as a fault, and so does a turn that takes nothing.
-pub fn write_text<W: Write>(output: &mut W, text: &[u8]) -> Result<(), WriteFault>
-    ensures ok { OnOk result (Appends (W.contents output.old) (W.contents output.new) text.now) }
+pub fn write_text<W: Write>(output: &mut OutputStream<W>, text: &[u8]) -> Result<(), WriteFault>
+    ensures ok { OnOk result (Appends (W.contents output.old.writer) (W.contents output.new.writer) text.now) }
+    ensures flushed { OnOk result (output.new.flushed ≡ true) }
+    ensures failed { OnErr result (output.new.failed ≡ true) }
     ensures front { (count : ℕ)
-        × Appends (W.contents output.old) (W.contents output.new) (take count text.now) }
+        × Appends (W.contents output.old.writer) (W.contents output.new.writer) (take count text.now) }
 {
     let mut written = 0;
     while written < text.len() {
-        match output.write(&text[written..]) {
-            Ok(0) | Err(_) => return Err(WriteFault),
-            Ok(count) => written += count,
-        }
+        written += output.write(&text[written..])?;
     }
-    output.flush().map_err(|_| WriteFault)
+    output.flush()
 }

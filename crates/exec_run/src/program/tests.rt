@@ -1,17 +1,20 @@
-mod documents;
 mod fakes;
 
-use super::{Status, WordsFault, execute, read_words};
-use documents::{ACCEPTED, EXAMPLES, LATER, REFUSED, TWO_TIMERS};
+use super::{InputStream, OutputStream, Status, WordsFault, execute, read_words};
 use fakes::{Arguments, End, Sink, Source, Spaces};
 use std::alloc::{AllocError, Global};
-use std::fmt::Write;
 use std::io::Read;
 use std::test::Fail;
 
 const EVERY_CALL: usize = usize::MAX;
 
 const USAGE: &str = "usage: exec_run <workers 1-64> <quantum 1-1024>\n";
+
+const TIMER: &str =
+    r#"{"version":1,"nodes":[{"name":"n","timers":[{"name":"t","period":10,"script":[["log","now"]]}]}],"moments":[10,35]}"#;
+
+const TRANSCRIPT: &str =
+    "round 1 10\nrun t timer 10 0\nlog t 10\nround 2 35\nrun t timer 35 0\nlog t 35\nend 2\n";
 
 /// What became of one run, over writers that never fail.
 #[derive(Debug, Drop)]
@@ -38,12 +41,14 @@ fn words(alloc: Global, texts: &[&str]) -> Result<Vec<String>, AllocError> {
 }
 
 fn run<R: Read>(alloc: Global, words: Result<Vec<String>, WordsFault>, input: &mut R) -> Outcome {
-    let (mut output, mut errors) = (Vec::new(alloc), Vec::new(alloc));
-    let status = execute(alloc, words, input, &mut output, &mut errors);
+    let mut input = InputStream::new(input);
+    let mut output = OutputStream::new(Vec::new(alloc));
+    let mut errors = OutputStream::new(Vec::new(alloc));
+    let status = execute(alloc, words, &mut input, &mut output, &mut errors);
     Outcome {
         status,
-        output,
-        errors,
+        output: output.writer,
+        errors: errors.writer,
     }
 }
 
@@ -54,19 +59,19 @@ fn run_started_with(alloc: Global, arguments: &[&[u8]]) -> Outcome {
 }
 
 #[test]
-fn writes_the_transcripts(rt: HostRuntime) -> Result<(), Fail> {
+fn writes_the_transcript(rt: HostRuntime) -> Result<(), Fail> {
     let alloc = rt.alloc();
-    for (document, transcript) in EXAMPLES {
-        for (workers, quantum) in [("1", "1"), ("2", "0001"), ("64", "1024")] {
-            let mut input = Source {
-                bytes: document.as_bytes(),
-                step: 1,
-                calls: EVERY_CALL,
-            };
-            let run = run(alloc, Ok(words(alloc, &[workers, quantum])?), &mut input);
-            let is_written = run.is(Status::Written, transcript.as_bytes(), "");
-            assert!(rt; is_written, "{run:?} at {document}");
-        }
+    for (workers, quantum) in [("1", "1"), ("2", "0001"), ("64", "1024")] {
+        let mut input = Source {
+            bytes: TIMER.as_bytes(),
+            step: 1,
+            calls: EVERY_CALL,
+        };
+        let run = run(alloc, Ok(words(alloc, &[workers, quantum])?), &mut input);
+        assert!(rt;
+            run.is(Status::Written, TRANSCRIPT.as_bytes(), ""),
+            "{run:?}"
+        );
     }
     Ok(())
 }
@@ -75,85 +80,24 @@ fn writes_the_transcripts(rt: HostRuntime) -> Result<(), Fail> {
 #[test]
 fn tells_a_refused_growth(rt: HostRuntime) {
     let alloc = rt.alloc();
-    let (document, transcript) = EXAMPLES[1];
-    let (Ok(words), Ok(mut output), Ok(mut errors)) = (
+    let (Ok(words), Ok(output), Ok(errors)) = (
         words(alloc, &["1", "1"]),
-        Vec::with_capacity(alloc, transcript.len()),
+        Vec::with_capacity(alloc, TRANSCRIPT.len()),
         Vec::with_capacity(alloc, USAGE.len()),
     ) else {
         return;
     };
-    let mut input = document.as_bytes();
+    let mut input = InputStream::new(TIMER.as_bytes());
+    let (mut output, mut errors) = (OutputStream::new(output), OutputStream::new(errors));
     let status = execute(alloc, Ok(words), &mut input, &mut output, &mut errors);
     let run = Outcome {
         status,
-        output,
-        errors,
+        output: output.writer,
+        errors: errors.writer,
     };
-    let is_written = run.is(Status::Written, transcript.as_bytes(), "");
+    let is_written = run.is(Status::Written, TRANSCRIPT.as_bytes(), "");
     let is_told = run.is(Status::Refused, b"", "refused 10\n");
     assert!(rt; is_written || is_told, "{run:?}");
-}
-
-#[test]
-fn writes_what_the_rules_say(rt: HostRuntime) -> Result<(), Fail> {
-    let alloc = rt.alloc();
-    for (document, transcript) in ACCEPTED {
-        let words = words(alloc, &["1", "1"])?;
-        let run = run(alloc, Ok(words), &mut document.as_bytes());
-        let is_written = run.is(Status::Written, transcript.as_bytes(), "");
-        assert!(rt; is_written, "{run:?} at {document}");
-    }
-    Ok(())
-}
-
-// A document of so many nodes with so many timers each, and so many instructions in each script.
-fn large(alloc: Global, nodes: u32, timers: u32, instructions: u32) -> Result<String, AllocError> {
-    let mut document = String::from_str(alloc, "{\"version\":1,\"nodes\":[")?;
-    for node in 0..nodes {
-        let comma = if node > 0 { "," } else { "" };
-        write!(document, "{comma}{{\"name\":\"n{node}\",\"timers\":[")?;
-        for timer in 0..timers {
-            let comma = if timer > 0 { "," } else { "" };
-            write!(
-                document,
-                "{comma}{{\"name\":\"t{node}/{timer}\",\"period\":1,\"script\":["
-            )?;
-            for instruction in 0..instructions {
-                document.push_str(if instruction > 0 { "," } else { "" })?;
-                document.push_str("[\"log\",1]")?;
-            }
-            document.push_str("]}")?;
-        }
-        document.push_str("]}")?;
-    }
-    document.push_str("]}")?;
-    Ok(document)
-}
-
-#[test]
-fn takes_as_much_as_the_limits_say(rt: HostRuntime) -> Result<(), Fail> {
-    let alloc = rt.alloc();
-    for (nodes, timers, instructions, is_accepted) in [
-        (64, 8, 0, true),
-        (65, 1, 0, false),
-        (1, 512, 0, true),
-        (1, 513, 0, false),
-        (27, 19, 0, false),
-        (1, 1, 64, true),
-        (1, 1, 65, false),
-    ] {
-        let document = large(alloc, nodes, timers, instructions)?;
-        let words = words(alloc, &["1", "1"])?;
-        let run = run(alloc, Ok(words), &mut document.as_bytes());
-        let is_right = if is_accepted {
-            run.is(Status::Written, b"end 0\n", "")
-        } else {
-            run.is(Status::Refused, b"", "refused 5\n")
-        };
-        assert!(rt; is_right, "{run:?} at {nodes}, {timers}, {instructions}");
-    }
-    Ok(())
 }
 
 #[test]
@@ -176,10 +120,10 @@ fn refuses_wrong_words_before_it_reads(rt: HostRuntime) -> Result<(), Fail> {
         &["1 ", "\u{661}"],
     ];
     for texts in tables {
-        let mut input = TWO_TIMERS.as_bytes();
+        let mut input = TIMER.as_bytes();
         let run = run(alloc, Ok(words(alloc, texts)?), &mut input);
         assert!(rt; run.is(Status::Usage, b"", USAGE), "{run:?} at {texts:?}");
-        assert_eq!(rt; input.len(), TWO_TIMERS.len());
+        assert_eq!(rt; input.len(), TIMER.len());
     }
     Ok(())
 }
@@ -200,71 +144,6 @@ fn reads_the_words_as_text(rt: HostRuntime) {
     }
     let run = run(alloc, Err(WordsFault::Memory), &mut Spaces(1));
     assert!(rt; run.is(Status::Refused, b"", "refused 10\n"), "{run:?}");
-}
-
-#[test]
-fn refuses_bad_documents(rt: HostRuntime) -> Result<(), Fail> {
-    let alloc = rt.alloc();
-    for (document, line) in REFUSED {
-        let run = run(
-            alloc,
-            Ok(words(alloc, &["1", "1"])?),
-            &mut document.as_bytes(),
-        );
-        let is_refused = run.is(Status::Refused, b"", line);
-        assert!(rt; is_refused, "{run:?} at {document}");
-    }
-    Ok(())
-}
-
-#[test]
-fn tells_what_is_not_run_yet(rt: HostRuntime) -> Result<(), Fail> {
-    let alloc = rt.alloc();
-    for document in LATER {
-        let run = run(
-            alloc,
-            Ok(words(alloc, &["1", "1"])?),
-            &mut document.as_bytes(),
-        );
-        let is_refused = run.is(Status::Refused, b"", "refused 11\n");
-        assert!(rt; is_refused, "{run:?} at {document}");
-    }
-    Ok(())
-}
-
-#[test]
-fn refuses_what_is_no_json(rt: HostRuntime) -> Result<(), Fail> {
-    let alloc = rt.alloc();
-    let whole = TWO_TIMERS.as_bytes();
-    for end in 0..whole.len() {
-        let run = run(alloc, Ok(words(alloc, &["1", "1"])?), &mut &whole[..end]);
-        let is_refused = run.is(Status::Refused, b"", "refused 1\n");
-        assert!(rt; is_refused, "{run:?} at {end} bytes");
-    }
-    let not_text: &[u8] = b"{\"version\":1,\"x\":\"\xff\"}";
-    let run = run(alloc, Ok(words(alloc, &["1", "1"])?), &mut &*not_text);
-    assert!(rt; run.is(Status::Refused, b"", "refused 1\n"), "{run:?}");
-    Ok(())
-}
-
-#[test]
-fn refuses_deep_documents(rt: HostRuntime) -> Result<(), Fail> {
-    let alloc = rt.alloc();
-    let mut document = String::from_str(alloc, "{\"version\":1,\"x\":")?;
-    for _ in 0..200 {
-        document.push('[')?;
-    }
-    for _ in 0..200 {
-        document.push(']')?;
-    }
-    document.push('}')?;
-    let run = run(
-        alloc,
-        Ok(words(alloc, &["1", "1"])?),
-        &mut document.as_bytes(),
-    );
-    assert!(rt; run.is(Status::Refused, b"", "refused 1\n"), "{run:?}");
-    Ok(())
 }
 
 #[test]
@@ -292,7 +171,7 @@ fn reads_up_to_the_limit(rt: HostRuntime) -> Result<(), Fail> {
 #[test]
 fn fails_where_its_reader_fails(rt: HostRuntime) -> Result<(), Fail> {
     let alloc = rt.alloc();
-    let whole = TWO_TIMERS.as_bytes();
+    let whole = TIMER.as_bytes();
     // The last call is the one that finds the end.
     let calls = whole.len().div_ceil(7) + 1;
     for calls in 0..calls {
@@ -311,25 +190,24 @@ fn fails_where_its_reader_fails(rt: HostRuntime) -> Result<(), Fail> {
 #[test]
 fn fails_where_its_writer_fails(rt: HostRuntime) -> Result<(), Fail> {
     let alloc = rt.alloc();
-    let (document, text) = EXAMPLES[1];
-    let text = text.as_bytes();
+    let text = TRANSCRIPT.as_bytes();
     for step in [1, 3] {
         for end in [End::Fails, End::TakesNothing] {
             for calls in 0..=text.len().div_ceil(step) {
-                let mut output = Sink {
+                let mut output = OutputStream::new(Sink {
                     taken: Vec::new(alloc),
                     step,
                     calls,
                     end,
-                };
-                let mut errors = Vec::new(alloc);
+                });
+                let mut errors = OutputStream::new(Vec::new(alloc));
                 let words = words(alloc, &["1", "1"])?;
-                let mut input = document.as_bytes();
+                let mut input = InputStream::new(TIMER.as_bytes());
                 let status = execute(alloc, Ok(words), &mut input, &mut output, &mut errors);
                 let taken = text.len().min(calls * step);
                 assert_eq!(rt; status, Status::WriteFailed);
-                assert_eq!(rt; output.taken.as_slice(), &text[..taken]);
-                assert_eq!(rt; errors.as_slice(), b"write failed\n".as_slice());
+                assert_eq!(rt; output.writer.taken.as_slice(), &text[..taken]);
+                assert_eq!(rt; errors.writer.as_slice(), b"write failed\n".as_slice());
             }
         }
     }
@@ -340,17 +218,21 @@ fn fails_where_its_writer_fails(rt: HostRuntime) -> Result<(), Fail> {
 fn keeps_its_status_where_the_errors_fail(rt: HostRuntime) -> Result<(), Fail> {
     let alloc = rt.alloc();
     for calls in 0..=5 {
-        let mut errors = Sink {
+        let mut errors = OutputStream::new(Sink {
             taken: Vec::new(alloc),
             step: 2,
             calls,
             end: End::TakesNothing,
-        };
-        let mut output = Vec::new(alloc);
+        });
+        let mut input = InputStream::new(Spaces(3));
+        let mut output = OutputStream::new(Vec::new(alloc));
         let words = words(alloc, &["1", "1"])?;
-        let status = execute(alloc, Ok(words), &mut Spaces(3), &mut output, &mut errors);
+        let status = execute(alloc, Ok(words), &mut input, &mut output, &mut errors);
         assert_eq!(rt; status, Status::Refused);
-        assert_eq!(rt; errors.taken.as_slice(), &b"refused 1\n"[..2 * calls]);
+        assert_eq!(rt;
+            errors.writer.taken.as_slice(),
+            &b"refused 1\n"[..2 * calls]
+        );
     }
     Ok(())
 }

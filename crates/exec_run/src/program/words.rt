@@ -1,4 +1,4 @@
-ghost use Rattle.std.specs.Prelude.{◌≡◌, ◌≢◌, ◌↔◌, IsSome, IfSome, map, string_bytes, slice_index_or, []};
+ghost use Rattle.std.specs.Prelude.{◌≡◌, ◌≢◌, ◌↔◌, IsSome, IfSome, map, string_bytes, slice_index_or, drop, []};
 ghost use Rattle.std.specs.Str.Parse.{digits_value};
 ghost use Rattle.std.specs.IoError.{error_kind};
 ghost use Rattle.exec_run.specs.Words.{IsNumber, AreSettings};
@@ -67,11 +67,22 @@ fn number_to(most: u16, word: &str) -> Option<u16>
     }
 }
 
-/// The words that the program was started with, without its own name.
+/// The words that the program was started with, without its own name. No clause can say what these are; what is made of
+/// the arguments is [`words_behind_the_name`]'s.
 pub fn read_words<R: Env + AllocGlobal>(rt: &R) -> Result<Vec<String>, WordsFault> {
-    let mut words = env::args(rt).map_err(|fault| words_fault(&fault))?;
-    let _name = words.next();
-    words.collect(rt.alloc()).map_err(|_| WordsFault::Memory)
+    let arguments = env::args(rt).map_err(|fault| words_fault(&fault))?;
+    let arguments = arguments.collect(rt.alloc()).map_err(|_| WordsFault::Memory)?;
+    Ok(words_behind_the_name(arguments))
+}
+
+/// The words of all arguments, of which the first is the program's own name.
+pub fn words_behind_the_name(mut arguments: Vec<String>) -> Vec<String>
+    ensures { result.items ≡ drop 1 arguments.items }
+{
+    if !arguments.is_empty() {
+        let _name = arguments.remove(0);
+    }
+    arguments
 }
 
 fn words_fault(fault: &Error) -> WordsFault

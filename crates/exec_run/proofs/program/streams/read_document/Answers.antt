@@ -5,7 +5,7 @@ use Rattle.exec_run.proofs.program.streams.read_document.Goals as goal
 
 pub loop-filled-preserved : goal.loop-filled-preserved
 loop-filled-preserved g c =
-    let buffer = c.read_at.new.buffer in
+    let buffer = c.read.new.buffer in
     let len = c.make_room.new.buffer.len in
     let items = c.make_room.new.buffer.items in
     let filled = c.loop-filled.filled in

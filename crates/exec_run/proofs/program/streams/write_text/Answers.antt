@@ -5,6 +5,6 @@ use Rattle.exec_run.proofs.program.streams.write_text.Goals as goal
 
 pub loop-written-preserved : goal.loop-written-preserved
 loop-written-preserved g c = record {
-  within = omega (arith, c.in-Ok.ensures.bound);
-  front = Appends-more _ _ _ c.args.text.now c.loop-written.written c.in-Ok.count c.loop-written.invariant.front (rw take_rest at c.in-Ok.ensures.bytes);
+  within = omega (arith, c.in_ok-written.ensures.bound);
+  front = Appends-more _ _ _ c.args.text.now c.loop-written.written c.in_ok-written.field-0 c.loop-written.invariant.front (rw take_rest at c.in_ok-written.ensures.bytes);
 }

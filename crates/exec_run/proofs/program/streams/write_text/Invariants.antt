@@ -6,7 +6,7 @@ use Rattle.exec_run.proofs.program.streams.write_text.Given as goal
 abbrev pub invariant-loop-written : goal.invariant-loop-written
 invariant-loop-written g l = record {
   within : l.written ≤ length l.text;
-  front : Appends (g.W.Write.contents l.initial.output) (g.W.Write.contents l.output) (take l.written l.text);
+  front : Appends (g.W.Write.contents l.initial.output.writer) (g.W.Write.contents l.output.writer) (take l.written l.text);
 }
 
 abbrev pub decreases-loop-written : goal.decreases-loop-written
