@@ -1,5 +1,4 @@
 mod drafts;
-mod faults;
 mod graphs;
 mod plans;
 mod refused;

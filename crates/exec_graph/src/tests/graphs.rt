@@ -5,10 +5,8 @@ ghost use Rattle.exec_graph.specs.Lawful.{is_at};
 
 use super::drafts::builder_of;
 use super::same;
-use crate::{CallbackGroup, Declared, EntityOf, Graph, GroupNo, Script};
+use crate::{CallbackGroup, Declared, EntityKind, Graph, GroupNo};
 use exec_msg::EntityNo;
-use exec_script::Instr;
-use std::alloc::{AllocError, Global};
 use std::process::Abort;
 use std::test::Fail;
 
@@ -32,48 +30,28 @@ pub(super) const TWO_NODES: &str = "x y
   timer u h 4611686018427387904;
   timer v r 1 | log now";
 
-// A name, its callback group and whether that is exclusive, and what it is declared as.
-type Row = (&'static str, Option<(u16, bool)>, &'static str);
+// A name, its callback group and whether that is exclusive, and its kind; a topic has none.
+type Row = (&'static str, Option<(u16, bool)>, Option<EntityKind>);
 
 // The topics and entities of the two nodes at their numbers.
 const AT_THEIR_NUMBERS: [Row; 17] = [
-    ("x", None, "topic"),
-    ("y", None, "topic"),
-    (
-        "t",
-        Some((0, true)),
-        "timer 10 [Call { client: EntityNo(9), value: Value(1) }, Goal { client: EntityNo(14), value: Value(5) }, Execute { server: EntityNo(12) }]",
-    ),
-    ("u", Some((5, true)), "timer 4611686018427387904 []"),
-    ("v", Some((4, false)), "timer 1 [Log { value: Now }]"),
-    (
-        "s",
-        Some((2, false)),
-        "subscription 2 of 0 [Pub { topic: EntityNo(1), value: In }]",
-    ),
-    ("w", Some((3, true)), "subscription 1024 of 1 []"),
-    ("srv", Some((1, true)), "service 1 [Reply { value: In }]"),
-    ("srv2", Some((4, false)), "service 10 []"),
-    ("c", Some((0, true)), "client 7 of 7 [Log { value: In }]"),
-    ("d", Some((5, true)), "client 1 of 8 []"),
-    ("e", Some((3, true)), "client 1 of 7 []"),
-    (
-        "act",
-        Some((1, true)),
-        "server 5 Some(100) [Decide { value: Variable(Slot(0)) }] [Decide { value: Value(1) }] [Wait { ticks: Value(2) }, Succeed { value: Value(9) }]",
-    ),
-    ("b", Some((3, true)), "server 1 None [] [] []"),
-    (
-        "ask",
-        Some((2, false)),
-        "action client 3 of 12 [Log { value: In }] [Log { value: Aux }] [Log { value: Now }] Some([Pub { topic: EntityNo(0), value: In }])",
-    ),
-    ("a", Some((4, false)), "action client 1 of 12 [] [] [] None"),
-    (
-        "l",
-        Some((3, true)),
-        "action client 1024 of 13 [] [] [] Some([])",
-    ),
+    ("x", None, None),
+    ("y", None, None),
+    ("t", Some((0, true)), Some(EntityKind::Timer)),
+    ("u", Some((5, true)), Some(EntityKind::Timer)),
+    ("v", Some((4, false)), Some(EntityKind::Timer)),
+    ("s", Some((2, false)), Some(EntityKind::Subscription)),
+    ("w", Some((3, true)), Some(EntityKind::Subscription)),
+    ("srv", Some((1, true)), Some(EntityKind::Service)),
+    ("srv2", Some((4, false)), Some(EntityKind::Service)),
+    ("c", Some((0, true)), Some(EntityKind::Client)),
+    ("d", Some((5, true)), Some(EntityKind::Client)),
+    ("e", Some((3, true)), Some(EntityKind::Client)),
+    ("act", Some((1, true)), Some(EntityKind::Server)),
+    ("b", Some((3, true)), Some(EntityKind::Server)),
+    ("ask", Some((2, false)), Some(EntityKind::ActionClient)),
+    ("a", Some((4, false)), Some(EntityKind::ActionClient)),
+    ("l", Some((3, true)), Some(EntityKind::ActionClient)),
 ];
 
 // The callback groups of the two nodes at their numbers: the name of the node, and the group's own.
@@ -86,68 +64,13 @@ const GROUPS: [(&str, Option<&str>, bool); 6] = [
     ("m", Some("h"), true),
 ];
 
-// What stands at a number.
-fn declared(alloc: Global, graph: &Graph, no: EntityNo) -> Result<String, AllocError>
+// The kind of what stands at a number; a topic has none.
+fn kind(graph: &Graph, no: EntityNo) -> Option<EntityKind>
     requires { no < length graph.now.entities }
 {
     match graph.declared(no) {
-        Declared::Topic => String::from_str(alloc, "topic"),
-        Declared::Entity(entity) => said(alloc, &entity.is),
-    }
-}
-
-fn said(alloc: Global, entity: &EntityOf<EntityNo, Script>) -> Result<String, AllocError> {
-    match entity {
-        EntityOf::Timer(entity) => {
-            format!(in alloc; "timer {} {:?}", entity.period, entity.script.as_slice())
-        }
-        EntityOf::Subscription(entity) => {
-            format!(in alloc;
-                "subscription {} of {} {:?}",
-                entity.depth,
-                entity.topic.0,
-                entity.script.as_slice()
-            )
-        }
-        EntityOf::Service(entity) => {
-            format!(in alloc; "service {} {:?}", entity.depth, entity.script.as_slice())
-        }
-        EntityOf::Client(entity) => {
-            format!(in alloc;
-                "client {} of {} {:?}",
-                entity.depth,
-                entity.service.0,
-                entity.script.as_slice()
-            )
-        }
-        EntityOf::Server(entity) => {
-            format!(in alloc;
-                "server {} {:?} {:?} {:?} {:?}",
-                entity.depth,
-                entity.result_timeout,
-                entity.on_goal.as_slice(),
-                entity.on_cancel.as_slice(),
-                entity.script.as_slice()
-            )
-        }
-        EntityOf::ActionClient(entity) => {
-            format!(in alloc;
-                "action client {} of {} {:?} {:?} {:?} {:?}",
-                entity.depth,
-                entity.server.0,
-                entity.on_response.as_slice(),
-                entity.on_code.as_slice(),
-                entity.on_feedback.as_slice(),
-                instructions(&entity.on_result)
-            )
-        }
-    }
-}
-
-fn instructions(script: &Option<Script>) -> Option<&[Instr]> {
-    match script {
-        None => None,
-        Some(script) => Some(script.as_slice()),
+        Declared::Topic => None,
+        Declared::Entity(entity) => Some(entity.is.kind()),
     }
 }
 
@@ -184,23 +107,20 @@ fn name_of(group: &CallbackGroup) -> Option<&str> {
     }
 }
 
-fn has_row(rt: &impl Abort, alloc: Global, graph: &Graph, number: usize, row: &Row) {
+fn has_row(rt: &impl Abort, graph: &Graph, number: usize, row: &Row) {
     assert!(rt; number < graph.len(), "at {number}");
     let no = EntityNo(number as u16);
     let (name, in_group, is) = *row;
     same(rt, graph.names().name(no), name);
     same(rt, group(graph, no), in_group);
-    // Its text may be refused memory.
-    if let Ok(text) = declared(alloc, graph, no) {
-        same(rt, text.as_str(), is);
-    }
+    same(rt, kind(graph, no), is);
 }
 
 // Whether it is the graph of the two nodes.
-pub(super) fn is_of_two_nodes(rt: &impl Abort, alloc: Global, graph: &Graph) {
+pub(super) fn is_of_two_nodes(rt: &impl Abort, graph: &Graph) {
     same(rt, graph.len(), AT_THEIR_NUMBERS.len());
     for (number, row) in AT_THEIR_NUMBERS.iter().enumerate() {
-        has_row(rt, alloc, graph, number, row);
+        has_row(rt, graph, number, row);
     }
     has_groups(rt, graph);
 }
@@ -220,7 +140,7 @@ fn has_groups(rt: &impl Abort, graph: &Graph) {
 #[test]
 fn a_graph_is_as_declared(rt: HostRuntime) -> Result<(), Fail> {
     let graph = builder_of(rt.alloc(), TWO_NODES)?.finish()?;
-    is_of_two_nodes(&rt, rt.alloc(), &graph);
+    is_of_two_nodes(&rt, &graph);
     Ok(())
 }
 

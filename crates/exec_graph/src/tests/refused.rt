@@ -118,7 +118,7 @@ fn a_graph_is_whole_or_memory_is_refused(rt: HostRuntime) {
     let alloc = rt.alloc();
     if let Ok(builder) = builder_of(alloc, TWO_NODES) {
         match builder.finish() {
-            Ok(graph) => is_of_two_nodes(&rt, alloc, &graph),
+            Ok(graph) => is_of_two_nodes(&rt, &graph),
             Err(fault) => same(&rt, fault, GraphFault::Memory),
         }
     }
