@@ -10,11 +10,12 @@ use Rattle.exec_msg.specs.KeepLast.{sent}
 use Rattle.exec_msg.specs.declared.kind.Kind.{Kind}
 use Rattle.exec_msg.specs.declared.kind.Kind.TheVariants as kind
 use Rattle.exec_world.proofs.Running.{KeptByRounds, rounds_keep}
+use Rattle.exec_msg.specs.Kind.{ready_number}
 use Rattle.exec_world.specs.Ready.{queue_taken}
 use Rattle.exec_world.specs.Transcript.{has_queue, first_world, rounds}
-use Rattle.exec_world.specs.World.{WorldState, Queue, Item, change_first, order_of, is_queue, kind_of, items_in}
+use Rattle.exec_world.specs.World.{WorldState, Queue, Item, change_first, is_queue, kind_of, items_in}
 
-kind_back : (one : Kind) → get_or kinds (order_of one - 1) kind.Timer ≡ one
+kind_back : (one : Kind) → get_or kinds (ready_number one - 1) kind.Timer ≡ one
 kind_back kind.Timer = refl
 kind_back kind.Message = refl
 kind_back kind.Request = refl
@@ -29,7 +30,7 @@ kind_back kind.Feedback = refl
 kind_back kind.Result = refl
 
 -- no two kinds have one number
-pub same_kind : (one other : Kind) → order_of one ≡ order_of other → one ≡ other
+pub same_kind : (one other : Kind) → ready_number one ≡ ready_number other → one ≡ other
 same_kind one other e = sym (kind_back one) ∙ ap (λ (n : ℕ). get_or kinds (n - 1) kind.Timer) e ∙ kind_back other
 
 -- a queue holds items of its kind
@@ -42,7 +43,7 @@ kinds_after graph entity item (queue ∷ queues) p = by (is_queue entity (kind_o
   where
     by : (b : Bool) → is_queue entity (kind_of item) queue ≡ b → AllByRecursion IsOfItsKind (change_first (is_queue entity (kind_of item)) (λ queue. record queue { items = sent (depth_of (declared_at graph entity)) item queue.items }) queues) → AllByRecursion IsOfItsKind (change_first (is_queue entity (kind_of item)) (λ queue. record queue { items = sent (depth_of (declared_at graph entity)) item queue.items }) (queue ∷ queues))
     by true e rest =
-        let same : kind_of item ≡ queue.kind = sym (same_kind queue.kind (kind_of item) (eqb-true (order_of queue.kind) (order_of (kind_of item)) (and_parts (queue.entity == entity) (order_of queue.kind == order_of (kind_of item)) e).1)) in
+        let same : kind_of item ≡ queue.kind = sym (same_kind queue.kind (kind_of item) (eqb-true (ready_number queue.kind) (ready_number (kind_of item)) (and_parts (queue.entity == entity) (ready_number queue.kind == ready_number (kind_of item)) e).1)) in
         let held : All (λ one. kind_of one ≡ queue.kind) (sent (depth_of (declared_at graph entity)) item queue.items) =
         All-drop (λ one. kind_of one ≡ queue.kind) (length (queue.items ++ item ∷ []) - depth_of (declared_at graph entity)) (queue.items ++ item ∷ []) (All-push (λ one. kind_of one ≡ queue.kind) queue.items item p.0 same) in
         rw e (held, p.1)
@@ -85,7 +86,7 @@ found_kinds entity of world p = among world.queues p
       where
         by : (b : Bool) → is_queue entity of queue ≡ b → All (λ item. kind_of item ≡ of) (option_map_or (λ queue. queue.items) (find (is_queue entity of) queues) []) → All (λ item. kind_of item ≡ of) (option_map_or (λ queue. queue.items) (find (is_queue entity of) (queue ∷ queues)) [])
         by true e rest =
-            let same : queue.kind ≡ of = same_kind queue.kind of (eqb-true (order_of queue.kind) (order_of of) (and_parts (queue.entity == entity) (order_of queue.kind == order_of of) e).1) in
+            let same : queue.kind ≡ of = same_kind queue.kind of (eqb-true (ready_number queue.kind) (ready_number of) (and_parts (queue.entity == entity) (ready_number queue.kind == ready_number of) e).1) in
             rw e (subst (λ (at : Kind). All (λ item. kind_of item ≡ at) queue.items) same q.0)
         by false e rest = rw e rest
 

@@ -14,9 +14,10 @@ use Rattle.exec_script.specs.declared.instr.Instr.{Instr}
 use Rattle.exec_world.proofs.Keeping.{ids}
 use Rattle.exec_world.proofs.OfKinds.{AreOfTheirKinds, found_kinds, same_kind}
 use Rattle.exec_world.proofs.Pairs.{all_flat, all_map, all_weaker, Pairs, pairs_flat, pairs_map, pairs_tested}
+use Rattle.exec_msg.specs.Kind.{ready_number}
 use Rattle.exec_world.specs.LawWords.{is_callback_of}
 use Rattle.exec_world.specs.Ready.{Ready, Cause, took, woke, kind_of_cause, id_of_cause, due_ready, is_goal_awake, poll_ready, candidates_of, script_for_item, queue_ready, ready_with, ready_of, ready_list}
-use Rattle.exec_world.specs.World.{WorldState, TimerEntry, HeldGoal, Item, message, request, reply, goal_request, cancel_request, ask, response, code, feedback, result, kind_of, order_of, items_in, goals_of, records_of}
+use Rattle.exec_world.specs.World.{WorldState, TimerEntry, HeldGoal, Item, message, request, reply, goal_request, cancel_request, ask, response, code, feedback, result, kind_of, items_in, goals_of, records_of}
 
 -- ---- what is ready of one entity's callbacks of a kind
 
@@ -124,10 +125,10 @@ numbers_apart test number (entity ∷ entities) = by (test entity.is) (numbers_a
 
 -- two kinds have two numbers
 abbrev differ : Kind → Kind → Bool
-differ one other = not (order_of one == order_of other)
+differ one other = not (ready_number one == ready_number other)
 
 differ_self : (of : Kind) → differ of of ≡ false
-differ_self of = rw (eq-eqb (order_of of) (order_of of) refl) refl
+differ_self of = rw (eq-eqb (ready_number of) (ready_number of) refl) refl
 
 not_both : (of one other : Kind) → differ one other ≡ true → one ≡ of → other ≡ of → ⊥
 not_both of one other apart e f = true≢false (sym apart ∙ ap (λ (k : Kind). differ k other) e ∙ ap (λ (k : Kind). differ of k) f ∙ differ_self of)
@@ -165,8 +166,8 @@ list_apart of other graph moment world p =
 -- so at most one passes the test
 is_callback : (entity : ℕ) (of : Kind) (one : Ready) → is_callback_of entity of one ≡ true → (kind_of_cause one.cause ≡ of) × (one.entity ≡ entity)
 is_callback entity of one is =
-    let parts = and_parts (one.entity == entity) (order_of (kind_of_cause one.cause) == order_of of) is in
-    (same_kind (kind_of_cause one.cause) of (eqb-true (order_of (kind_of_cause one.cause)) (order_of of) parts.1), eqb-true one.entity entity parts.0)
+    let parts = and_parts (one.entity == entity) (ready_number (kind_of_cause one.cause) == ready_number of) is in
+    (same_kind (kind_of_cause one.cause) of (eqb-true (ready_number (kind_of_cause one.cause)) (ready_number of) parts.1), eqb-true one.entity entity parts.0)
 
 none_more : (entity : ℕ) (of : Kind) (one : Ready) (rest : List Ready) → is_callback_of entity of one ≡ true → AllByRecursion (Apart of one) rest → filter (is_callback_of entity of) rest ≡ []
 none_more entity of one [] is apart = refl

@@ -7,9 +7,10 @@ use Rattle.exec_graph.specs.Graph.{GraphData, Waitable, wait_set, depth_of, decl
 use Rattle.exec_graph.specs.Plan.{PlanData}
 use Rattle.exec_msg.specs.KeepLast.{sent}
 use Rattle.exec_world.proofs.Running.{KeptByRounds, rounds_keep}
+use Rattle.exec_msg.specs.Kind.{ready_number}
 use Rattle.exec_world.specs.Ready.{queue_taken}
 use Rattle.exec_world.specs.Transcript.{has_queue, first_world, rounds}
-use Rattle.exec_world.specs.World.{Queue, Item, change_first, order_of, is_queue, kind_of}
+use Rattle.exec_world.specs.World.{Queue, Item, change_first, is_queue, kind_of}
 
 -- a queue holds at most its entity's depth
 abbrev IsWithin : GraphData → Queue → Type 0
@@ -24,7 +25,7 @@ within_after graph entity item (queue ∷ queues) p = by (is_queue entity (kind_
   where
     by : (b : Bool) → is_queue entity (kind_of item) queue ≡ b → AllByRecursion (IsWithin graph) (change_first (is_queue entity (kind_of item)) (λ queue. record queue { items = sent (depth_of (declared_at graph entity)) item queue.items }) queues) → AllByRecursion (IsWithin graph) (change_first (is_queue entity (kind_of item)) (λ queue. record queue { items = sent (depth_of (declared_at graph entity)) item queue.items }) (queue ∷ queues))
     by true e rest =
-        let same : queue.entity ≡ entity = eqb-true queue.entity entity (and_parts (queue.entity == entity) (order_of queue.kind == order_of (kind_of item)) e).0 in
+        let same : queue.entity ≡ entity = eqb-true queue.entity entity (and_parts (queue.entity == entity) (ready_number queue.kind == ready_number (kind_of item)) e).0 in
         let fits : length (sent (depth_of (declared_at graph entity)) item queue.items) ≤ depth_of (declared_at graph queue.entity) =
         omega (arith, sent_within (depth_of (declared_at graph entity)) item queue.items, ap (λ (at : ℕ). depth_of (declared_at graph at)) same) in
         rw e (fits, p.1)

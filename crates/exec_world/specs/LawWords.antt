@@ -11,9 +11,10 @@ use Rattle.exec_msg.specs.declared.goal.GoalStatus.{GoalStatus}
 use Rattle.exec_msg.specs.declared.goal.GoalStatus.TheVariants as status
 use Rattle.exec_msg.specs.declared.line.Line.{Line}
 use Rattle.exec_msg.specs.declared.line.Line.TheVariants as line
+use Rattle.exec_msg.specs.Kind.{ready_number}
 use Rattle.exec_world.specs.Ready.{Ready, kind_of_cause}
 use Rattle.exec_world.specs.Transcript.{expire, feed}
-use Rattle.exec_world.specs.World.{WorldState, add_line, order_of}
+use Rattle.exec_world.specs.World.{WorldState, add_line}
 
 -- a cancel handler's decision: 1 rejects, and 2 accepts
 abbrev pub IsDecision : Decided → Type 0
@@ -25,7 +26,7 @@ at_snapshot plan number moment world = feed plan number (expire plan.graph momen
 
 -- whether a ready callback is an entity's of a kind
 abbrev pub is_callback_of : ℕ → Kind → Ready → Bool
-is_callback_of entity kind one = (one.entity == entity) && (order_of (kind_of_cause one.cause) == order_of kind)
+is_callback_of entity kind one = (one.entity == entity) && (ready_number (kind_of_cause one.cause) == ready_number kind)
 
 -- what a world has of its graph: the entities of its timers, queues (with the kind of callback that takes from each),
 -- servers, service clients and action clients (with the place of each among the action clients), in their order, and the

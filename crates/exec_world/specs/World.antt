@@ -7,6 +7,7 @@ use Rattle.exec_goal.specs.Table.{GoalRecord, has_id}
 use Rattle.exec_graph.specs.Graph.{GraphData, depth_of, declared_at}
 use Rattle.exec_msg.specs.Goal.{status_number, code_number}
 use Rattle.exec_msg.specs.KeepLast.{sent, displaced}
+use Rattle.exec_msg.specs.Kind.{ready_number}
 use Rattle.exec_msg.specs.Timer.{TimerState}
 use Rattle.exec_msg.specs.declared.goal.GoalStatus.{GoalStatus}
 use Rattle.exec_msg.specs.declared.goal.ReturnCode.{ReturnCode}
@@ -166,24 +167,9 @@ with_variables group variables world = record world { variables = slice_set worl
 
 -- ---- queues
 
--- the number of a kind of callback in ready order, from 1
-abbrev pub order_of : Kind → ℕ
-order_of kind.Timer = 1
-order_of kind.Message = 2
-order_of kind.Request = 3
-order_of kind.Reply = 4
-order_of kind.Goal = 5
-order_of kind.Cancel = 6
-order_of kind.Ask = 7
-order_of kind.Poll = 8
-order_of kind.Response = 9
-order_of kind.Code = 10
-order_of kind.Feedback = 11
-order_of kind.Result = 12
-
 -- whether a queue is that of an entity and a kind
 abbrev pub is_queue : ℕ → Kind → Queue → Bool
-is_queue entity kind queue = (queue.entity == entity) && (order_of queue.kind == order_of kind)
+is_queue entity kind queue = (queue.entity == entity) && (ready_number queue.kind == ready_number kind)
 
 -- the items in an entity's queue of a kind
 abbrev pub items_in : ℕ → Kind → WorldState → List Item
