@@ -1,3 +1,4 @@
+pub mod Fault
 pub mod LawWords
 pub mod Legality
 pub mod Script
