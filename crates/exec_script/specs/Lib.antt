@@ -1,3 +1,4 @@
+pub mod Fault
 pub mod Instruction
 pub mod LawWords
 pub mod Legality

@@ -1,5 +1,6 @@
 ghost use Rattle.std.specs.Prelude.{◌≡◌};
 ghost use Rattle.exec_script.specs.declared.fault.ScriptFault.TheVariants.{Memory};
+ghost use Rattle.exec_script.specs.Fault.{fault_number};
 
 use std::alloc::AllocFailed;
 use thiserror::Error;
@@ -31,6 +32,15 @@ pub enum ScriptFault {
     /// A growth was refused.
     #[error("out of memory")]
     Memory = 8,
+}
+
+impl ScriptFault {
+    /// The fault's number.
+    pub fn number(self) -> u8
+        ensures { result ≡ fault_number self }
+    {
+        self as u8
+    }
 }
 
 impl<T: Drop> From<AllocFailed<T>> for ScriptFault {
