@@ -1,3 +1,4 @@
 pub mod Fields
 pub mod Queues
+pub mod Walks
 pub mod NextCall

@@ -3,3 +3,4 @@ pub mod KeepLast
 pub mod Kind
 pub mod Line
 pub mod Timer
+pub mod inner

@@ -2,6 +2,7 @@
 #![tactic(auto)]
 
 mod goal;
+mod history;
 mod items;
 mod keep_last;
 mod kind;
@@ -16,15 +17,18 @@ mod numbers;
 mod tests;
 mod text;
 mod timer;
+mod transcript;
 
 pub use goal::{Event, GoalStatus, ReturnCode};
+pub use history::History;
 pub use items::Items;
 pub use keep_last::KeepLast;
 pub use kind::Kind;
 pub use line::Line;
-pub use lines::LineList;
+pub use lines::{LineList, Lines};
 pub use memory::Memory;
 pub use names::Names;
 pub use numbers::{EntityNo, GoalId, Moment};
 pub use text::write_line;
 pub use timer::Timer;
+pub use transcript::{Named, Text};

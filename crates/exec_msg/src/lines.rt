@@ -1,9 +1,21 @@
-ghost use Rattle.std.specs.Prelude.{◌≡◌, [], ◌∷◌, ◌++◌, OnOk, OnErr};
+ghost use Rattle.std.specs.Prelude.{◌≡◌, List, [], ◌∷◌, ◌++◌, OnOk, OnErr};
+ghost use Rattle.exec_msg.specs.declared.line.Line.{Line};
 
 use crate::line::Line;
 use crate::memory::Memory;
 use std::alloc::Global;
 use std::marker::Model;
+
+/// Where the lines of a transcript go.
+pub trait Lines: Drop {
+    /// The lines so far.
+    ghost lines: { Self → List Line };
+
+    /// Adds a line at the end. Where memory is refused, the lines stay as they were.
+    fn add(&mut self, line: &Line) -> Result<(), Memory>
+        ensures ok { OnOk result (lines self.new ≡ lines self.old ++ line.now ∷ []) }
+        ensures err { OnErr result (lines self.new ≡ lines self.old) };
+}
 
 /// The lines of a transcript in their order.
 #[derive(Debug, Drop)]
@@ -21,7 +33,8 @@ impl Model for LineList {
 }
 
 impl LineList {
-    ghost use Rattle.std.specs.Prelude.{◌≡◌, [], ◌∷◌, ◌++◌, OnOk, OnErr};
+    ghost use Rattle.std.specs.Prelude.{◌≡◌, List, [], ◌∷◌, ◌++◌, OnOk, OnErr};
+    ghost use Rattle.exec_msg.specs.declared.line.Line.{Line};
 
     /// No lines. It takes no memory.
     pub fn new(alloc: Global) -> LineList
@@ -59,6 +72,14 @@ impl LineList {
         ensures { result.items ≡ self }
     {
         self.items
+    }
+}
+
+impl Lines for LineList {
+    ghost lines = { λ lines. lines };
+
+    fn add(&mut self, line: &Line) -> Result<(), Memory> {
+        push_copy(&mut self.items, line)
     }
 }
 

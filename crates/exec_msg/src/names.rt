@@ -1,4 +1,4 @@
-ghost use Rattle.std.specs.Prelude.{◌≡◌, ℕ, ◌<◌, ◌≤◌, List, map, length, string_bytes};
+ghost use Rattle.std.specs.Prelude.{◌≡◌, ℕ, ◌≤◌, List, map, length, string_bytes};
 ghost use Rattle.exec_msg.specs.Line.{name_at};
 
 use crate::numbers::EntityNo;
@@ -25,11 +25,13 @@ impl Names {
         Names { texts }
     }
 
-    /// The name at a number.
+    /// The name at a number; behind the last name there is the empty text.
     pub fn name(&self, no: EntityNo) -> &str
-        requires { no < length self.now }
         ensures { result.now ≡ name_at self.now no }
     {
-        self.texts[no.0 as usize].as_str()
+        match self.texts.get(no.0 as usize) {
+            Some(text) => text.as_str(),
+            None => "",
+        }
     }
 }

@@ -1,7 +1,7 @@
 ghost use Rattle.std.specs.Prelude.{◌≡◌, ◌<◌, ◌≤◌, [], ◌∷◌, ◌++◌, OnOk, OnErr, take, drop, replicate, vec_len, codes, decimal};
 ghost use Rattle.std.specs.Fmt.{signed_decimal};
 ghost use Rattle.exec_msg.specs.Goal.{status_number, code_number};
-ghost use Rattle.exec_msg.specs.Line.{spaced, joined, word_of, id_text, id_field, fields_of, line_text, IsNamed};
+ghost use Rattle.exec_msg.specs.Line.{spaced, joined, word_of, id_text, id_field, fields_of, line_text};
 
 use crate::goal::{GoalStatus, ReturnCode};
 use crate::kind::Kind;
@@ -14,7 +14,6 @@ use uuid::Uuid;
 
 /// Appends the text of a line. Where memory is refused, `out` stays as it was.
 pub fn write_line(line: &Line, names: &Names, out: &mut Vec<u8>) -> Result<(), Memory>
-    requires { IsNamed names.now line.now }
     ensures ok { OnOk result (out.new.items ≡ out.old.items ++ line_text names.now line.now) }
     ensures err { OnErr result (out.new.items ≡ out.old.items) }
 {
@@ -27,7 +26,6 @@ pub fn write_line(line: &Line, names: &Names, out: &mut Vec<u8>) -> Result<(), M
 }
 
 fn append(line: &Line, names: &Names, out: &mut Vec<u8>) -> Result<(), Memory>
-    requires { IsNamed names.now line.now }
     ensures ok { OnOk result (out.new.items ≡ out.old.items ++ line_text names.now line.now) }
     ensures err { OnErr result (take (vec_len out.old) out.new.items ≡ out.old.items) }
 {
@@ -37,7 +35,6 @@ fn append(line: &Line, names: &Names, out: &mut Vec<u8>) -> Result<(), Memory>
 }
 
 fn append_fields(line: &Line, names: &Names, out: &mut Vec<u8>) -> Result<(), Memory>
-    requires { IsNamed names.now line.now }
     ensures ok { OnOk result (out.new.items ≡ out.old.items ++ joined (fields_of names.now line.now)) }
     ensures err { OnErr result (take (vec_len out.old) out.new.items ≡ out.old.items) }
 {

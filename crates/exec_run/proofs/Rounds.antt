@@ -2,7 +2,7 @@
 use Rattle.std.proofs.Common.{◌≡◌, ◌==◌, ℕ, zero, suc, ◌+◌, ◌<◌, ◌≤◌, add-one, ℤ, replicate, Bool, true, false, List, [], ◌∷◌, ◌++◌, length, get_or, drop, map, refl, sym, ap, subst, ◌∙◌, arith}
 use Rattle.std.specs.List.{All, filter, filter_map, flat_map, fold}
 use Rattle.std.proofs.lemmas.List.{append-nil, drop_more, length-map, length-replicate}
-use Rattle.std.proofs.lemmas.List.Elements.{All-nil, All-push, All-head, All-tail}
+use Rattle.std.proofs.lemmas.List.Elements.{All-head, All-tail}
 use Rattle.std.proofs.lemmas.List.Folds.{fold-map}
 use Rattle.exec_graph.specs.Entity.{Resolved}
 use Rattle.exec_graph.specs.Graph.{in_group, GraphData, declared_at, is_timer, names_of}
@@ -11,7 +11,6 @@ use Rattle.exec_graph.specs.declared.entity.Declared.{Declared}
 use Rattle.exec_graph.specs.declared.entity.Declared.TheVariants.{Topic, Entity}
 use Rattle.exec_graph.specs.declared.entity.EntityOf.TheVariants.{Timer, Subscription, Service, Client, Server, ActionClient}
 use Rattle.exec_graph.specs.declared.plan.Feed.{Feed}
-use Rattle.exec_msg.specs.Line.{IsNamed}
 use Rattle.exec_msg.specs.Timer.{is_due}
 use Rattle.exec_msg.specs.declared.line.Line.{Line}
 use Rattle.exec_msg.specs.declared.line.Line.TheVariants as line
@@ -22,7 +21,7 @@ use Rattle.exec_run.specs.Timers.{IsOfTimers, HasTimersAlone, due_entity, timer_
 use Rattle.exec_script.specs.Zeros.{zeros}
 use Rattle.exec_world.specs.Ready.{Ready, call_input, due, take_inputs, timer_taken, queue_taken, client_taken}
 use Rattle.exec_world.specs.Run.{run}
-use Rattle.exec_world.specs.Transcript.{expire, expire_lines, server_expired, feed, feed_one, run_all, snapshot_and_run, round, rounds, new_timer, new_action_clients, first_world, finish, lines_of, pending_by}
+use Rattle.exec_world.specs.Transcript.{expire, expire_lines, server_expired, feed, feed_one, run_all, snapshot_and_run, round, rounds, new_timer, new_action_clients, first_world, finish, pending_by}
 use Rattle.exec_world.specs.World.{WorldState, ServerEntry, ClientEntry, ActionClientEntry, Queue, TimerEntry, add_line}
 
 -- a plan's entities are timers
@@ -43,7 +42,7 @@ of_timers_at plan of moment entity world within =
 
 pub alone_run : (plan : PlanData) → IsOfTimers plan → (moment entity : ℕ) (world : WorldState) → entity < length plan.graph.entities → HasTimersAlone plan.graph world → HasTimersAlone plan.graph (run plan.graph moment (timer_ready plan.graph entity) world)
 alone_run plan of moment entity world within alone =
-    run_keeps_alone plan.graph moment entity world (of_timers_at plan of moment entity world within) (omega (arith, as_many_names plan.graph)) alone
+    run_keeps_alone plan.graph moment entity world (of_timers_at plan of moment entity world within) alone
 
 -- callbacks of timers, one after another
 abbrev pub run_timers : GraphData → ℕ → WorldState → List ℕ → WorldState
@@ -57,14 +56,13 @@ alone_all plan of moment (entity ∷ entities) world within alone =
 
 -- ---- a round
 
-pub alone_line : (graph : GraphData) (added : Line) (world : WorldState) → IsNamed (names_of graph) added → HasTimersAlone graph world → HasTimersAlone graph (add_line added world)
-alone_line graph added world here alone = record {
+pub alone_line : (graph : GraphData) (added : Line) (world : WorldState) → HasTimersAlone graph world → HasTimersAlone graph (add_line added world)
+alone_line graph added world alone = record {
   timers = alone.timers;
   queues = alone.queues;
   servers = alone.servers;
   clients = alone.clients;
   groups = alone.groups;
-  named = All-push (IsNamed (names_of graph)) world.lines added alone.named here;
 }
 
 same_entity : (moment : ℕ) (entry : TimerEntry) (b : Bool) → is_due entry.timer moment ≡ b → (timer_taken moment entry).entity ≡ entry.entity
@@ -84,7 +82,6 @@ alone_taken graph moment world alone = record {
   servers = alone.servers;
   clients = ap (λ (clients : List ClientEntry). map (client_taken world) clients) alone.clients;
   groups = alone.groups;
-  named = alone.named;
 }
 
 -- without servers nothing expires
@@ -114,17 +111,13 @@ alone_round plan of number moment world alone =
     subst (HasTimersAlone plan.graph) (round_by_timers plan of number moment world alone)
     (alone_all plan of moment (filter_map (due_entity moment) world.timers) (take_inputs moment (add_line (line.Round number moment) world))
     (due_within plan.graph moment world.timers (timers_of plan of) alone.timers)
-    (alone_taken plan.graph moment (add_line (line.Round number moment) world) (alone_line plan.graph (line.Round number moment) world tt alone)))
+    (alone_taken plan.graph moment (add_line (line.Round number moment) world) (alone_line plan.graph (line.Round number moment) world alone)))
 
 -- the next round
 pub round_next : (plan : PlanData) (moments : List ℕ) (i number moment : ℕ) (world : WorldState) → i < length moments → moment ≡ get_or moments i moment → rounds plan (number + 1) (drop (i + 1) moments) (round plan number moment world) ≡ rounds plan number (drop i moments) world
 round_next plan moments i number moment world within there =
     ap (λ (n : ℕ). rounds plan n (drop (i + 1) moments) (round plan number moment world)) (add-one number)
     ∙ sym (rw (drop_more moments i moment within, ← there) refl)
-
-alone_rounds : (plan : PlanData) → IsOfTimers plan → (number : ℕ) (moments : List ℕ) (world : WorldState) → HasTimersAlone plan.graph world → HasTimersAlone plan.graph (rounds plan number moments world)
-alone_rounds plan of number [] world alone = alone
-alone_rounds plan of number (moment ∷ moments) world alone = alone_rounds plan of (suc number) moments (round plan number moment world) (alone_round plan of number moment world alone)
 
 -- ---- the first world
 
@@ -155,7 +148,6 @@ alone_first graph timers = record {
   servers = ap (map (λ number. record { entity = number; goals = [] })) (no_servers graph timers);
   clients = ap (map (λ number. record { entity = number; calls = 0; pending = [] })) (no_clients graph timers);
   groups = length-replicate (length graph.groups) zeros;
-  named = All-nil (IsNamed (names_of graph));
 }
 
 -- the first world has nothing of other entities
@@ -178,11 +170,3 @@ first_is graph are timers variables lines timers_are variables_are lines_are =
 pub ends : (number : ℕ) (world : WorldState) → world.clients ≡ [] → add_line (line.End number) world ≡ finish number world
 ends number world none =
     sym (ap (λ (clients : List ClientEntry). record world { lines = world.lines ++ (flat_map (λ entry. pending_by entry.entity (length entry.pending)) clients ++ line.End number ∷ []) }) none)
-
--- each line of a transcript is about what has a name
-pub lines_named : (plan : PlanData) → IsOfTimers plan → All (IsNamed (names_of plan.graph)) (lines_of plan)
-lines_named plan of =
-    let before : WorldState = rounds plan 1 plan.moments (first_world plan.graph) in
-    let alone : HasTimersAlone plan.graph before = alone_rounds plan of 1 plan.moments (first_world plan.graph) (alone_first plan.graph (timers_of plan of)) in
-    subst (λ (w : WorldState). All (IsNamed (names_of plan.graph)) w.lines) (ends (length plan.moments) before alone.clients)
-    (All-push (IsNamed (names_of plan.graph)) before.lines (line.End (length plan.moments)) alone.named tt)

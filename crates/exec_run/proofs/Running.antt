@@ -1,17 +1,16 @@
 -- A timer's callback is a call of its script, and then each effect of the call given to the world.
-use Rattle.std.proofs.Common.{◌≡◌, ℕ, zero, suc, ◌<◌, ℤ, pos, Bool, true, false, ◌&&◌, List, [], ◌∷◌, ◌++◌, length, None, refl, sym, ap, subst, ◌∙◌, true≢false}
+use Rattle.std.proofs.Common.{◌≡◌, ℕ, zero, suc, ℤ, pos, Bool, true, false, ◌&&◌, List, [], ◌∷◌, ◌++◌, length, None, refl, sym, ap, subst, ◌∙◌, true≢false}
 use Rattle.std.specs.List.{All, fold, list_all}
 use Rattle.std.specs.Option.{unwrap_or}
 use Rattle.std.proofs.lemmas.List.{length-set}
 use Rattle.std.proofs.lemmas.List.Elements.{All-nil, All-push, All-head, All-tail}
 use Rattle.exec_graph.specs.Entity.{Resolved, scripts_of}
-use Rattle.exec_graph.specs.Graph.{in_group, callback_script, GraphData, declared_at, group_of, is_timer, names_of, script_for}
+use Rattle.exec_graph.specs.Graph.{in_group, callback_script, GraphData, declared_at, group_of, is_timer, script_for}
 use Rattle.exec_graph.specs.Lawful.{IsLawfulDeclared, IsLawfulScript, is_known}
 use Rattle.exec_graph.specs.declared.entity.Declared.{Declared}
 use Rattle.exec_graph.specs.declared.entity.CallbackGroup.{CallbackGroup}
 use Rattle.exec_graph.specs.declared.entity.Declared.TheVariants.{Topic, Entity}
 use Rattle.exec_graph.specs.declared.entity.EntityOf.TheVariants.{Timer, Subscription, Service, Client, Server, ActionClient}
-use Rattle.exec_msg.specs.Line.{IsNamed}
 use Rattle.exec_msg.specs.declared.kind.Kind.TheVariants as kind
 use Rattle.exec_msg.specs.declared.line.Line.TheVariants as line
 use Rattle.exec_run.proofs.OnTimers.{HaveNone, no_topic, no_client_at, no_action_client_at, no_server_at}
@@ -156,28 +155,27 @@ give_all_with graph entity (effect ∷ effects) group variables world h =
     ∙ give_all_with graph entity effects group variables (give graph (timer_caller entity) effect world) (All-tail (λ one. names_nothing one ≡ true) effect effects h)
 
 -- it keeps a world one of timers alone
-give_keeps : (graph : GraphData) (entity : ℕ) (effect : Effect) (world : WorldState) → names_nothing effect ≡ true → entity < length (names_of graph) → HasTimersAlone graph world → HasTimersAlone graph (give graph (timer_caller entity) effect world)
-give_keeps graph entity (effect.Log value) world h here alone = record {
+give_keeps : (graph : GraphData) (entity : ℕ) (effect : Effect) (world : WorldState) → names_nothing effect ≡ true → HasTimersAlone graph world → HasTimersAlone graph (give graph (timer_caller entity) effect world)
+give_keeps graph entity (effect.Log value) world h alone = record {
   timers = alone.timers;
   queues = alone.queues;
   servers = alone.servers;
   clients = alone.clients;
   groups = alone.groups;
-  named = All-push (IsNamed (names_of graph)) world.lines (line.Log entity value) alone.named here;
 }
-give_keeps graph entity (effect.Feedback value) world h here alone = alone
-give_keeps graph entity (effect.Publish topic value) world h here alone = absurd cc
-give_keeps graph entity (effect.Call client value) world h here alone = absurd cc
-give_keeps graph entity (effect.SendGoal client value) world h here alone = absurd cc
-give_keeps graph entity (effect.CancelAll client stamp) world h here alone = absurd cc
-give_keeps graph entity (effect.CancelGoal client goal stamp) world h here alone = absurd cc
-give_keeps graph entity (effect.Execute server) world h here alone = absurd cc
+give_keeps graph entity (effect.Feedback value) world h alone = alone
+give_keeps graph entity (effect.Publish topic value) world h alone = absurd cc
+give_keeps graph entity (effect.Call client value) world h alone = absurd cc
+give_keeps graph entity (effect.SendGoal client value) world h alone = absurd cc
+give_keeps graph entity (effect.CancelAll client stamp) world h alone = absurd cc
+give_keeps graph entity (effect.CancelGoal client goal stamp) world h alone = absurd cc
+give_keeps graph entity (effect.Execute server) world h alone = absurd cc
 
-give_all_keeps : (graph : GraphData) (entity : ℕ) (effects : List Effect) (world : WorldState) → AreOfTimers effects → entity < length (names_of graph) → HasTimersAlone graph world → HasTimersAlone graph (give_all (give graph (timer_caller entity)) world effects)
-give_all_keeps graph entity [] world h here alone = alone
-give_all_keeps graph entity (effect ∷ effects) world h here alone =
-    give_all_keeps graph entity effects (give graph (timer_caller entity) effect world) (All-tail (λ one. names_nothing one ≡ true) effect effects h) here
-    (give_keeps graph entity effect world (All-head (λ one. names_nothing one ≡ true) effect effects h) here alone)
+give_all_keeps : (graph : GraphData) (entity : ℕ) (effects : List Effect) (world : WorldState) → AreOfTimers effects → HasTimersAlone graph world → HasTimersAlone graph (give_all (give graph (timer_caller entity)) world effects)
+give_all_keeps graph entity [] world h alone = alone
+give_all_keeps graph entity (effect ∷ effects) world h alone =
+    give_all_keeps graph entity effects (give graph (timer_caller entity) effect world) (All-tail (λ one. names_nothing one ≡ true) effect effects h)
+    (give_keeps graph entity effect world (All-head (λ one. names_nothing one ≡ true) effect effects h) alone)
 
 -- ---- a timer's callback
 
@@ -202,17 +200,16 @@ run_by_call graph moment entity world h =
     (record { registers = zeros; variables = variables_of (timer_ready graph entity).group world; answer = None; given = []; stop = stop.End })))
 
 -- it keeps a world one of timers alone
-pub run_keeps_alone : (graph : GraphData) (moment entity : ℕ) (world : WorldState) → AreOfTimers (call_at graph moment entity world).given → entity < length (names_of graph) → HasTimersAlone graph world → HasTimersAlone graph (run graph moment (timer_ready graph entity) world)
-run_keeps_alone graph moment entity world h here alone =
+pub run_keeps_alone : (graph : GraphData) (moment entity : ℕ) (world : WorldState) → AreOfTimers (call_at graph moment entity world).given → HasTimersAlone graph world → HasTimersAlone graph (run graph moment (timer_ready graph entity) world)
+run_keeps_alone graph moment entity world h alone =
     subst (HasTimersAlone graph) (run_by_call graph moment entity world h)
-    (give_all_keeps graph entity (call_at graph moment entity world).given (called_world graph moment entity world) h here
+    (give_all_keeps graph entity (call_at graph moment entity world).given (called_world graph moment entity world) h
     (record {
       timers = alone.timers;
       queues = alone.queues;
       servers = alone.servers;
       clients = alone.clients;
       groups = length-set world.variables (timer_ready graph entity).group (call_at graph moment entity world).variables ∙ alone.groups;
-      named = All-push (IsNamed (names_of graph)) world.lines (run_line moment (timer_ready graph entity)) alone.named here;
     }))
 
 -- a timer's callback runs: its line, the call of its script, and each effect of the call

@@ -1,10 +1,8 @@
 -- Worlds of timers alone.
 use Rattle.std.specs.Prelude.{◌≡◌, ℕ, [], length, map, Bool, true, false, if◌then◌else◌, Option, None, Some}
-use Rattle.std.specs.List.{All}
-use Rattle.exec_graph.specs.Graph.{GraphData, declared_at, entities_where, is_timer, names_of, script_for}
+use Rattle.exec_graph.specs.Graph.{GraphData, declared_at, entities_where, is_timer, script_for}
 use Rattle.exec_graph.specs.Lawful.{IsLawfulPlan}
 use Rattle.exec_graph.specs.Plan.{PlanData}
-use Rattle.exec_msg.specs.Line.{IsNamed}
 use Rattle.exec_msg.specs.Timer.{is_due}
 use Rattle.exec_msg.specs.declared.kind.Kind.TheVariants.{Timer}
 use Rattle.exec_script.specs.declared.effects.Effect.{Effect}
@@ -19,15 +17,14 @@ pub record IsOfTimers (plan : PlanData) : Type 0 where
   pub lawful : IsLawfulPlan plan
   pub timers : is_of_timers plan.graph ≡ true
 
--- a world of a graph of timers alone: it has the graph's timers and the variables of each callback group, nothing that
--- other entities have, and lines about what has a name
+-- a world of a graph of timers alone: it has the graph's timers and the variables of each callback group, and nothing that
+-- other entities have
 pub record HasTimersAlone (graph : GraphData) (world : WorldState) : Type 0 where
   pub timers : map (λ entry. entry.entity) world.timers ≡ entities_where is_timer graph
   pub queues : world.queues ≡ []
   pub servers : world.servers ≡ []
   pub clients : world.clients ≡ []
   pub groups : length world.variables ≡ length graph.groups
-  pub named : All (IsNamed (names_of graph)) world.lines
 
 -- the entity of a timer that is due at a moment
 abbrev pub due_entity : ℕ → TimerEntry → Option ℕ

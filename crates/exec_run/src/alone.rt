@@ -1,16 +1,17 @@
 ghost use Rattle.std.specs.Prelude.{◌≡◌, IfOk, IfErr};
-ghost use Rattle.std.specs.List.{All};
+ghost use Rattle.exec_graph.specs.Graph.{names_of};
 ghost use Rattle.exec_graph.specs.Plan.{PlanData};
-ghost use Rattle.exec_msg.specs.Line.{IsNamed, transcript_text};
+ghost use Rattle.exec_run.specs.Timers.{IsOfTimers};
 ghost use Rattle.exec_run.specs.Alone.{SaysTimers, IsFaultOf, is_later, is_of_timers};
 ghost use Rattle.exec_world.specs.Transcript.{text_of};
 
 use crate::fault::AloneFault;
 use crate::world::World;
 use exec_doc::read_document;
-use exec_graph::{Declared, EntityKind, Graph};
-use exec_msg::{EntityNo, Line, Memory, Names, write_line};
+use exec_graph::{Declared, EntityKind, Graph, Plan};
+use exec_msg::{EntityNo, Memory, Named, Text};
 use std::alloc::Global;
+use std::marker::Brand;
 
 /// Runs a document of timers alone on one thread, and gives the text of its transcript.
 ///
@@ -25,9 +26,7 @@ pub fn run_alone(alloc: Global, document: &[u8]) -> Result<Vec<u8>, AloneFault>
     if !is_of_timers(plan.graph()) {
         return Err(AloneFault::Later);
     }
-    let mut world = World::new(alloc, &plan)?;
-    world.run(alloc, &plan)?;
-    Ok(text_of(alloc, world.lines(), plan.graph().names())?)
+    Ok(text_of::<Brand>(alloc, &plan)?)
 }
 
 fn is_of_timers(graph: &Graph) -> bool
@@ -52,13 +51,14 @@ fn is_later(declared: &Declared) -> bool
         || declared.is_a(EntityKind::ActionClient)
 }
 
-fn text_of(alloc: Global, lines: &[Line], names: &Names) -> Result<Vec<u8>, Memory>
-    requires { All (IsNamed names.now) lines.now }
-    ensures { IfOk result (λ text. text.items ≡ transcript_text names.now lines.now) }
+// The text of a plan's transcript; `K` has the names of its graph.
+fn text_of<K: Named>(alloc: Global, plan: &Plan) -> Result<Vec<u8>, Memory>
+    requires plan { IsOfTimers plan.now }
+    requires names { names_of plan.now.graph ≡ K.names }
+    ensures { IfOk result (λ text. text.items ≡ text_of plan.now) }
 {
-    let mut text = Vec::new(alloc);
-    for line in lines {
-        write_line(line, names, &mut text)?;
-    }
-    Ok(text)
+    let lines = Text::<K>::new(alloc, plan.graph().names());
+    let mut world = World::new(alloc, plan, lines)?;
+    world.run(alloc, plan)?;
+    Ok(world.into_lines().into_bytes())
 }

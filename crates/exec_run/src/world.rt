@@ -9,9 +9,9 @@ ghost use Rattle.exec_script.specs.Zeros.{zeros};
 ghost use Rattle.exec_world.specs.Ready.{timer_taken};
 ghost use Rattle.exec_world.specs.Transcript.{new_timer, timer_in, first_world};
 
-use exec_graph::{Declared, EntityOf, Graph, GroupNo, Plan, Script};
-use exec_msg::{EntityNo, Kind, Line, LineList, Memory, Moment, Timer};
-use exec_script::{Bank, Effect, Effects, Input, Instr, Role, run_call};
+use exec_graph::{Declared, EntityOf, Graph, GroupNo, Plan};
+use exec_msg::{EntityNo, Kind, Line, Lines, Memory, Moment, Timer};
+use exec_script::{Bank, Effect, EffectList, Input, Instr, Role, run_call_into};
 use std::alloc::Global;
 use std::marker::Model;
 
@@ -54,14 +54,14 @@ impl EntityTimer {
 }
 
 /// What changes while a plan of timers alone is run.
-#[derive(Debug, Drop)]
-pub struct World {
+#[derive(Drop)]
+pub struct World<L: Lines> {
     timers: Vec<EntityTimer>,
     banks: Vec<Bank>,
-    lines: LineList,
+    lines: L,
 }
 
-impl Model for World {
+impl<L: Lines> Model for World<L> {
     ghost use Rattle.std.specs.Prelude.{[]};
     ghost use Rattle.exec_world.specs.World.{WorldState};
 
@@ -74,12 +74,12 @@ impl Model for World {
       clients = [];
       action_clients = [];
       variables = world.banks.items;
-      lines = world.lines;
+      lines = L.lines world.lines;
     } };
 }
 
-impl World {
-    ghost use Rattle.std.specs.Prelude.{◌≡◌, ◌<◌, length, true, OnOk, IfOk};
+impl<L: Lines> World<L> {
+    ghost use Rattle.std.specs.Prelude.{◌≡◌, ◌<◌, [], length, true, OnOk, IfOk};
     ghost use Rattle.std.specs.List.{All, filter_map, fold};
     ghost use Rattle.exec_graph.specs.Graph.{GraphData};
     ghost use Rattle.exec_run.specs.Timers.{IsOfTimers, HasTimersAlone, due_entity, timer_ready, timer_caller, names_nothing};
@@ -90,24 +90,25 @@ impl World {
     ghost use Rattle.exec_world.specs.Transcript.{round, first_world, last_world};
     ghost use Rattle.exec_world.specs.World.{add_line, variables_of, with_variables};
 
-    /// The world of a plan of timers alone before its first round.
-    pub fn new(alloc: Global, plan: &Plan) -> Result<World, Memory>
-        requires { IsOfTimers plan.now }
+    /// The world of a plan of timers alone before its first round, with no lines yet.
+    pub fn new(alloc: Global, plan: &Plan, lines: L) -> Result<World<L>, Memory>
+        requires plan { IsOfTimers plan.now }
+        requires lines { L.lines lines ≡ [] }
         ensures { IfOk result (λ world. world ≡ first_world plan.now.graph) }
     {
         let graph = plan.graph();
         Ok(World {
             timers: new_timers(alloc, graph)?,
             banks: new_banks(alloc, graph.groups().len())?,
-            lines: LineList::new(alloc),
+            lines,
         })
     }
 
-    /// The lines so far.
-    pub fn lines(&self) -> &[Line]
-        ensures { result.now ≡ self.now.lines }
+    /// The lines.
+    pub fn into_lines(self) -> L
+        ensures { L.lines result ≡ self.lines }
     {
-        self.lines.as_slice()
+        self.lines
     }
 
     /// Runs all rounds of the plan, and closes the transcript.
@@ -116,15 +117,24 @@ impl World {
         requires first { self.old ≡ first_world plan.now.graph }
         ensures { OnOk result (self.new ≡ last_world plan.now) }
     {
+        let mut effects = EffectList::new(alloc);
         let mut number = 0;
         for moment in plan.moments() {
             number += 1;
-            self.round(alloc, plan, number, *moment)?;
+            self.round(alloc, plan, number, *moment, &mut effects)?;
         }
         self.add_line(Line::End { rounds: number })
     }
 
-    fn round(&mut self, alloc: Global, plan: &Plan, number: u64, now: Moment) -> Result<(), Memory>
+    // The list of effects is used again and again, so that it takes memory only where it grows.
+    fn round(
+        &mut self,
+        alloc: Global,
+        plan: &Plan,
+        number: u64,
+        now: Moment,
+        effects: &mut EffectList,
+    ) -> Result<(), Memory>
         requires plan { IsOfTimers plan.now }
         requires timers { HasTimersAlone plan.now.graph self.old }
         ensures { OnOk result (self.new ≡ round plan.now number now self.old) }
@@ -135,7 +145,7 @@ impl World {
         })?;
         let due = self.take_due(alloc, now)?;
         for entity in &due {
-            self.run_timer(alloc, plan, *entity, now)?;
+            self.run_timer(plan, *entity, now, effects)?;
         }
         Ok(())
     }
@@ -149,10 +159,10 @@ impl World {
 
     fn run_timer(
         &mut self,
-        alloc: Global,
         plan: &Plan,
         entity: EntityNo,
         now: Moment,
+        effects: &mut EffectList,
     ) -> Result<(), Memory>
         requires plan { IsOfTimers plan.now }
         requires entity { entity < length plan.now.graph.entities }
@@ -173,24 +183,26 @@ impl World {
             id: None,
         })?;
         let script = timer_script(graph.declared(entity));
-        let effects = self.call(alloc, graph.group_of(entity), script, &input)?;
-        self.give_all(entity, effects.list.as_slice())
+        self.call(graph.group_of(entity), script, &input, effects)?;
+        self.give_all(entity, effects.as_slice())
     }
 
     fn call(
         &mut self,
-        alloc: Global,
         group: GroupNo,
         script: &[Instr],
         input: &Input,
-    ) -> Result<Effects, Memory>
+        effects: &mut EffectList,
+    ) -> Result<(), Memory>
         requires { group < length self.old.variables }
         ensures world { OnOk result (self.new ≡ with_variables group
             (call_of script.now (variables_of group self.old) input.now).variables self.old) }
-        ensures effects { IfOk result (λ effects. effects.list ≡ (call_of script.now (variables_of group self.old) input.now).given) }
+        ensures effects { OnOk result (effects.new ≡ (call_of script.now (variables_of group self.old) input.now).given) }
     {
+        effects.clear();
         let bank = &mut self.banks[group.0 as usize];
-        run_call(alloc, script, Role::Callback, bank, input)
+        let _nothing = run_call_into(script, Role::Callback, bank, input, effects)?;
+        Ok(())
     }
 
     fn give_all(&mut self, entity: EntityNo, effects: &[Effect]) -> Result<(), Memory>
@@ -217,7 +229,7 @@ impl World {
     fn add_line(&mut self, line: Line) -> Result<(), Memory>
         ensures { OnOk result (self.new ≡ add_line line self.old) }
     {
-        self.lines.push(line)
+        self.lines.add(&line)
     }
 }
 

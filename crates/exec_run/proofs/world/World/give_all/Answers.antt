@@ -9,7 +9,7 @@ use Rattle.exec_world.specs.World.{WorldState}
 use Rattle.exec_run.proofs.world.World.give_all.Goals as goal
 
 pub loop-effect-preserved : goal.loop-effect-preserved
-loop-effect-preserved c = λ graph.
+loop-effect-preserved g c = λ graph.
     let step = λ (world : WorldState) (effect : Effect). give graph (timer_caller c.args.entity) effect world in
     let effects = c.args.effects.now in
     let i = c.loop-effect.effect-index in
@@ -19,6 +19,6 @@ loop-effect-preserved c = λ graph.
     ∙ sym (fold_more step c.args.self.now effects i c.effect-item.result c.loop-effect-test.true)
 
 pub returns : goal.returns
-returns c = λ graph.
+returns g c = λ graph.
     c.loop-effect.invariant graph
     ∙ ap (fold (λ (world : WorldState) (effect : Effect). give graph (timer_caller c.args.entity) effect world) c.args.self.now) (take_all c.loop-effect.effect-index c.args.effects.now c.loop-effect-test.false)

@@ -7,4 +7,4 @@ use Rattle.exec_run.proofs.world.World.give_all.Given as goal
 
 -- the effects so far are given
 abbrev pub invariant-loop-effect : goal.invariant-loop-effect
-invariant-loop-effect l = (graph : GraphData) → l.self ≡ fold (λ world effect. give graph (timer_caller l.entity) effect world) l.initial.self (take l.effect-index l.effects)
+invariant-loop-effect g l = (graph : GraphData) → l.self ≡ fold (λ world effect. give graph (timer_caller l.entity) effect world) l.initial.self (take l.effect-index l.effects)

@@ -7,8 +7,8 @@ use Rattle.exec_run.proofs.Rounds.{first_is, timers_of}
 use Rattle.exec_run.proofs.world.World.new.Goals as goal
 
 pub returns : goal.returns
-returns c =
-    first_is c.args.plan.now.graph (timers_of c.args.plan.now c.requires) _ _ _
+returns g c =
+    first_is c.args.plan.now.graph (timers_of c.args.plan.now c.requires.plan) _ _ _
     (c.in_ok-new_timers.ensures ∙ ap (λ (graph : GraphData). (first_world graph).timers) c.graph-graph.ensures.graph)
     (c.in_ok-new_banks.ensures ∙ ap (λ (groups : List CallbackGroup). replicate (length groups) zeros) (c.groups.ensures ∙ ap (λ (graph : GraphData). graph.groups) c.graph-graph.ensures.graph))
-    c.new.ensures
+    c.requires.lines

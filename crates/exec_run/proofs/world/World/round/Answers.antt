@@ -13,15 +13,15 @@ use Rattle.exec_world.specs.World.{WorldState, add_line}
 use Rattle.exec_run.proofs.world.World.round.Goals as goal
 
 pub loop-entity-init : goal.loop-entity-init
-loop-entity-init c = record {
+loop-entity-init g c = record {
   ran = refl;
   alone = subst (HasTimersAlone c.args.plan.now.graph) (sym (c.in_ok-due.ensures.world ∙ ap (take_inputs c.args.now) c.in_ok-add_line.ensures))
       (alone_taken c.args.plan.now.graph c.args.now (add_line (line.Round c.args.number c.args.now) c.args.self.now)
-      (alone_line c.args.plan.now.graph (line.Round c.args.number c.args.now) c.args.self.now tt c.requires.timers));
+      (alone_line c.args.plan.now.graph (line.Round c.args.number c.args.now) c.args.self.now c.requires.timers));
 }
 
 pub run_timer-requires-clause-entity : goal.run_timer-requires-clause-entity
-run_timer-requires-clause-entity c =
+run_timer-requires-clause-entity g c =
     let graph = c.args.plan.now.graph in
     let entities : List ℕ = c.deref-entity-items.result.now in
     let are : entities ≡ filter_map (due_entity c.args.now) c.args.self.now.timers =
@@ -32,7 +32,7 @@ run_timer-requires-clause-entity c =
     (due_within graph c.args.now c.args.self.now.timers (timers_of c.args.plan.now c.requires.plan) c.requires.timers.timers)))
 
 pub loop-entity-preserved : goal.loop-entity-preserved
-loop-entity-preserved c =
+loop-entity-preserved g c =
     let graph = c.args.plan.now.graph in
     let entities : List ℕ = c.deref-entity-items.result.now in
     let step = λ (world : WorldState) (entity : ℕ). run graph c.args.now (timer_ready graph entity) world in
@@ -54,7 +54,7 @@ loop-entity-preserved c =
     }
 
 pub returns : goal.returns
-returns c =
+returns g c =
     let graph = c.args.plan.now.graph in
     let entities : List ℕ = c.deref-entity-items.result.now in
     let are : entities ≡ filter_map (due_entity c.args.now) c.args.self.now.timers =

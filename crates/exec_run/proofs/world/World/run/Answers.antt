@@ -6,14 +6,14 @@ use Rattle.exec_world.specs.World.{WorldState}
 use Rattle.exec_run.proofs.world.World.run.Goals as goal
 
 pub loop-moment-init : goal.loop-moment-init
-loop-moment-init c = record {
+loop-moment-init g c = record {
   counted = refl;
   left = refl;
   alone = subst (HasTimersAlone c.args.plan.now.graph) (sym c.requires.first) (alone_first c.args.plan.now.graph (timers_of c.args.plan.now c.requires.plan));
 }
 
 pub loop-moment-preserved : goal.loop-moment-preserved
-loop-moment-preserved c =
+loop-moment-preserved g c =
     let moments : List ℕ = c.moments-moment-items.result.now in
     let number : ℕ = c.loop-moment.number in
     record {
