@@ -8,15 +8,16 @@ mod directory;
 mod draft;
 mod entity;
 mod fault;
+mod feed_by_round;
 mod graph;
 mod grouping;
 mod items;
 pub mod laws;
 mod limits;
+mod named;
 mod naming;
 mod numbering;
 mod plan;
-mod rounds;
 mod schedule;
 mod scope;
 mod script;
@@ -35,8 +36,10 @@ pub use entity::{
     ServiceEntity, SubscriptionEntity, TimerEntity,
 };
 pub use fault::{GraphFault, PlanFault};
+pub use feed_by_round::FeedByRound;
 pub use graph::Graph;
 pub use items::Items;
+pub use named::NamedGraph;
 pub use plan::{Fed, Feed, Plan};
 pub use schedule::schedule_fits;
 pub use script::{Script, Spelled};

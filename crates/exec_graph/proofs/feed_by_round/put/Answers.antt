@@ -1,9 +1,9 @@
 use Rattle.std.proofs.Common.{◌∙◌, [], ◌∷◌, ◌++◌, map, set, ap, sym}
 use Rattle.std.proofs.lemmas.List.{map-set, get_or-map}
-use Rattle.exec_graph.proofs.rounds.put.Goals as goal
+use Rattle.exec_graph.proofs.feed_by_round.put.Goals as goal
 
-pub returns-clause-lists : goal.returns-clause-lists
-returns-clause-lists g c =
+pub returns : goal.returns
+returns g c =
     let lists = map (λ list. list.items) c.args.lists.now.items in
     map-set (λ list. list.items) c.args.lists.now.items c.args.place c.push.new.self
     ∙ ap (λ list. set lists c.args.place list)

@@ -4,7 +4,7 @@ use Rattle.std.proofs.lemmas.List.{append-nil, map-append, drop_all}
 use Rattle.exec_graph.specs.Feeding.{feeds_from}
 use Rattle.exec_graph.specs.declared.plan.Feed.{Feed}
 use Rattle.exec_graph.proofs.ByRound.{one_more_empty}
-use Rattle.exec_graph.proofs.rounds.empty_rounds.Goals as goal
+use Rattle.exec_graph.proofs.feed_by_round.empty_rounds.Goals as goal
 
 pub loop-preserved : goal.loop-preserved
 loop-preserved c =
@@ -14,8 +14,8 @@ loop-preserved c =
     ap (λ (lists : List (List Feed)). lists ++ feeds_from (suc (c.loop.index + 1)) (drop (c.loop.index + 1) c.args.moments.now) []) added
     ∙ one_more_empty lists c.loop.index c.args.moments.now (feeds_from 1 c.args.moments.now []) 0 c.loop-test.true c.loop.invariant
 
-pub returns-clause-rounds : goal.returns-clause-rounds
-returns-clause-rounds c =
+pub returns : goal.returns
+returns c =
     let lists = map (λ (feed : Vec Feed Global). feed.items) c.loop.rounds.items in
     sym (append-nil lists)
     ∙ ap (λ rest. lists ++ feeds_from (suc c.loop.index) rest []) (sym (drop_all c.loop.index c.args.moments.now c.loop-test.false))
