@@ -136,7 +136,5 @@ fn have_action(nodes: &[NodeDraft], name: &str) -> bool
 fn has_action(entities: &[EntityDraft], name: &str) -> bool
     ensures { result ≡ list_any (λ entity. is_server entity.is && bytes_eq entity.name name.now) entities.now }
 {
-    entities
-        .iter()
-        .any(|entity| EntityKind::Server.has(&entity.is) && entity.name.as_str() == name)
+    entities.iter().any(|entity| EntityKind::Server.has(&entity.is) && entity.name.as_str() == name)
 }

@@ -228,10 +228,7 @@ fn add_topics<'a>(names: &mut TextSet<'a>, topics: &'a [String]) -> Result<bool,
     Ok(true)
 }
 
-fn add_entities<'a>(
-    names: &mut TextSet<'a>,
-    entities: &[PlacedEntity<'a>],
-) -> Result<bool, Memory>
+fn add_entities<'a>(names: &mut TextSet<'a>, entities: &[PlacedEntity<'a>]) -> Result<bool, Memory>
     ensures { IfOk result (λ added. names_from names.old (map (λ placed. placed.entity.name) entities.now) ≡ where_so added names.new) }
 {
     for placed in entities {

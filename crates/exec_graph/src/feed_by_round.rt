@@ -36,10 +36,18 @@ impl FeedByRound {
     /// # Errors
     /// [`Memory`] where a growth was refused.
     pub fn of(alloc: Global, plan: &Plan) -> Result<FeedByRound, Memory>
-        ensures { IfOk result (λ index. index ≡ feeds_by_round plan.now) }
+        ensures feed { IfOk result (λ index. index ≡ feeds_by_round plan.now) }
+        ensures rounds { IfOk result (λ index. length index ≡ length plan.now.moments) }
     {
         let rounds = rounds_of(alloc, plan.moments(), plan.feed())?;
         Ok(FeedByRound { rounds })
+    }
+
+    /// How many rounds there are.
+    pub fn len(&self) -> usize
+        ensures { result ≡ length self.now }
+    {
+        self.rounds.len()
     }
 
     /// What is fed in a round, from 1, in the order in which it was declared.
