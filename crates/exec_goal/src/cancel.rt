@@ -1,4 +1,4 @@
-ghost use Rattle.std.specs.Prelude.{◌≡◌, ℕ, ◌++◌, ◌∷◌, [], length, ◌==◌, OnOk, OnErr, IfOk};
+ghost use Rattle.std.specs.Prelude.{◌≡◌, ℕ, IfOk};
 ghost use Rattle.std.specs.List.{list_any};
 ghost use Rattle.exec_goal.specs.Calls.{is_among, moves_by};
 ghost use Rattle.exec_goal.specs.Cancel.{selects, is_candidate, is_acceptance, is_accepted_for, is_refused};
@@ -6,7 +6,7 @@ ghost use Rattle.exec_goal.specs.Info.{info_of};
 ghost use Rattle.exec_goal.specs.Table.{GoalRecord};
 
 use crate::info::GoalInfo;
-use exec_msg::{GoalId, Memory, ReturnCode};
+use exec_msg::{GoalId, Items, Memory, ReturnCode};
 use indexmap::IndexSet;
 use std::alloc::Global;
 use std::marker::Model;
@@ -63,52 +63,7 @@ pub struct CancelAnswer {
     /// The return code.
     pub code: ReturnCode,
     /// The goals that moved, in the order of their acceptance.
-    pub moved: GoalIdList,
-}
-
-/// Identifiers of goals in the order of their acceptance.
-#[derive(Debug, Drop)]
-pub struct GoalIdList {
-    items: Vec<GoalId>,
-}
-
-impl Model for GoalIdList {
-    ghost use Rattle.std.specs.Prelude.{ℕ, List};
-
-    ghost Value = { List ℕ };
-
-    ghost view = { λ ids. ids.items.items };
-}
-
-impl GoalIdList {
-    /// The identifiers in their order.
-    pub fn as_slice(&self) -> &[GoalId]
-        ensures { result.now ≡ self.now }
-    {
-        self.items.as_slice()
-    }
-
-    pub(crate) fn new(alloc: Global) -> GoalIdList
-        ensures { result ≡ [] }
-    {
-        GoalIdList {
-            items: Vec::new(alloc),
-        }
-    }
-
-    pub(crate) fn is_empty(&self) -> bool
-        ensures { result ≡ (length self.now == 0) }
-    {
-        self.items.is_empty()
-    }
-
-    pub(crate) fn push(&mut self, id: GoalId) -> Result<(), Memory>
-        ensures ok { OnOk result (self.new ≡ self.old ++ id ∷ []) }
-        ensures err { OnErr result (self.new ≡ self.old) }
-    {
-        self.items.push(id)?;
-        Ok(())
-    }
+    pub moved: Items<GoalId>,
 }
 
 // The identifiers that a cancel handler accepted, to be found in constant time.

@@ -1,7 +1,6 @@
-use crate::askers::AskerList;
 use crate::info::GoalInfo;
 use crate::state::State;
-use exec_msg::{GoalId, Moment};
+use exec_msg::{EntityNo, GoalId, Items, Moment};
 use std::alloc::Global;
 
 // A goal that a server holds, but for its identifier, by which the table finds it.
@@ -14,7 +13,8 @@ pub(crate) struct HeldGoal {
     pub(crate) result: i64,
     // The stamp until the goal ends.
     pub(crate) ended: Moment,
-    pub(crate) askers: AskerList,
+    // The action clients that asked for its result, in the order of asking.
+    pub(crate) askers: Items<EntityNo>,
 }
 
 impl HeldGoal {
@@ -40,7 +40,7 @@ impl HeldGoal {
             state,
             result: 0,
             ended: moment,
-            askers: AskerList::new(alloc),
+            askers: Items::new(alloc),
         }
     }
 

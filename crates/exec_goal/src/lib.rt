@@ -2,7 +2,6 @@
 #![tactic(auto)]
 
 mod asked;
-mod askers;
 mod cancel;
 pub mod examples;
 mod goals;
@@ -15,8 +14,8 @@ mod state;
 mod tests;
 
 pub use asked::Asked;
-pub use cancel::{CancelAnswer, CancelRequest, GoalIdList};
+pub use cancel::{CancelAnswer, CancelRequest};
 pub use goals::{Accepted, Goals};
-pub use info::{GoalInfo, GoalInfoList};
+pub use info::GoalInfo;
 pub use refusals::{Illegal, Reject};
 pub use state::State;

@@ -1,5 +1,5 @@
-use crate::items::Items;
 use crate::script::Spelled;
+use exec_msg::Items;
 use exec_script::WordText;
 
 /// A named callback group, as its node declares it.

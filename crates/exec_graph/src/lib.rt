@@ -11,7 +11,6 @@ mod fault;
 mod feed_by_round;
 mod graph;
 mod grouping;
-mod items;
 pub mod laws;
 mod limits;
 mod named;
@@ -38,7 +37,6 @@ pub use entity::{
 pub use fault::{GraphFault, PlanFault};
 pub use feed_by_round::FeedByRound;
 pub use graph::Graph;
-pub use items::Items;
 pub use named::NamedGraph;
 pub use plan::{Fed, Feed, Plan};
 pub use schedule::schedule_fits;

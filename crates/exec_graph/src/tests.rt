@@ -5,11 +5,11 @@ mod plans;
 mod refused;
 
 use crate::{
-    Drafted, EntityDraft, GraphBuilder, GraphFault, GroupDraft, Items, NodeDraft, PlanFault,
-    Script, ServerDraft, Spelled, schedule_fits,
+    Drafted, EntityDraft, GraphBuilder, GraphFault, GroupDraft, NodeDraft, PlanFault, Script,
+    ServerDraft, Spelled, schedule_fits,
 };
-use exec_msg::Moment;
 use exec_msg::limits::{FEED, TICKS};
+use exec_msg::{Items, Moment};
 use exec_script::{Instr, Word, WordText};
 use std::alloc::{AllocError, Global};
 use std::fmt::Debug;

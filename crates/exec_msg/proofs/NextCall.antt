@@ -114,7 +114,10 @@ IsNextCall-from_least timer now found p =
 -- the definition finds the least
 pub next_call_least : (timer : TimerState) (now : ℕ) → 1 ≤ timer.period → IsLeastFrom (timer.next + timer.period) timer.period now (next_call timer now)
 next_call_least timer now positive =
-    first_reached_least now (timer.next + timer.period) timer.period now (omega (arith, mul-le-mul_right now positive))
+    let late = now - timer.next in
+    let whole : timer.period * (late / timer.period) + late % timer.period ≡ late = omega arith in
+    let below : late % timer.period < timer.period = omega arith in
+    first_reached_least (late / timer.period) (timer.next + timer.period) timer.period now (omega arith)
 
 -- the definition's next call is the least of its times
 pub next_call-is : (timer : TimerState) (now : ℕ) → 1 ≤ timer.period → IsNextCall timer now (next_call timer now)

@@ -1,4 +1,5 @@
 pub mod Goal
 pub mod KeepLast
+pub mod Kind
 pub mod Line
 pub mod Timer

@@ -1,5 +1,5 @@
 -- Timers: when one is due, and when its next call comes.
-use Rattle.std.specs.Prelude.{◌≡◌, ℕ, zero, suc, ◌+◌, ◌*◌, ◌≤◌, ◌^◌, Bool, nat_le, if◌then◌else◌}
+use Rattle.std.specs.Prelude.{◌≡◌, ℕ, zero, suc, ◌+◌, ◌-◌, ◌*◌, ◌/◌, ◌≤◌, ◌^◌, Bool, nat_le, if◌then◌else◌}
 
 -- a timer: the time of its next call and its period, in ticks
 pub record TimerState : Type 0 where
@@ -20,9 +20,9 @@ first_reached zero time period now = time
 first_reached (suc more) time period now = if nat_le now time then time else first_reached more (time + period) period now
 
 -- when the next call of a timer comes after its call at now: one period on, and from there by whole
--- periods to the first such time at or after now
+-- periods to the first such time at or after now, which takes no more of them than now is periods late
 abbrev pub next_call : TimerState → ℕ → ℕ
-next_call timer now = first_reached now (timer.next + timer.period) timer.period now
+next_call timer now = first_reached ((now - timer.next) / timer.period) (timer.next + timer.period) timer.period now
 
 -- the timer after its call at now
 abbrev pub called : TimerState → ℕ → TimerState

@@ -1,12 +1,21 @@
 //! Laws of the definitions that the crate's contracts cite, for all values that they speak of.
 ghost use Rattle.std.specs.Prelude.{◌≡◌, ℕ, ◌+◌, ◌-◌, ◌*◌, ◌<◌, ◌≤◌, ◌^◌, List, [], ◌∷◌, ◌++◌, length, take, drop};
 ghost use Rattle.std.specs.List.{fold};
+ghost use Rattle.std.specs.Ordering.{nat_cmp};
 ghost use Rattle.exec_msg.specs.Goal.{status_number, code_number};
 ghost use Rattle.exec_msg.specs.declared.goal.GoalStatus.{GoalStatus};
 ghost use Rattle.exec_msg.specs.declared.goal.ReturnCode.{ReturnCode};
+ghost use Rattle.exec_msg.specs.Kind.{ready_number};
 ghost use Rattle.exec_msg.specs.KeepLast.{sent, displaced, taken};
 ghost use Rattle.exec_msg.specs.Timer.{TimerState, next_call, IsNextCall};
-ghost use Rattle.exec_msg.specs.declared.limits.TheConstants.{NODES, NAMED_GROUPS, TOPICS, ENTITIES, INSTRUCTIONS, GOALS, DEPTH, DEFAULT_DEPTH, MOMENTS, FEED, NAME_LENGTH, TICKS};
+ghost use Rattle.exec_msg.specs.declared.limits.TheConstants.{DOCUMENT, NODES, NAMED_GROUPS, TOPICS, ENTITIES, INSTRUCTIONS, GOALS, DEPTH, DEFAULT_DEPTH, MOMENTS, FEED, NAME_LENGTH, TICKS};
+
+use crate::kind::Kind;
+
+/// Kinds compare as their numbers in the order of ready callbacks.
+pub fn kinds_are_in_ready_order()
+    ensures { (first second : Kind) → ⟦<Kind as Ord>⟧.cmp first second ≡ nat_cmp (ready_number first) (ready_number second) }
+{}
 
 /// No two statuses have one number.
 pub fn status_numbers_differ()
@@ -78,6 +87,7 @@ pub fn next_call_is_later()
 
 /// The numbers of the limits, each in `limits`.
 pub fn limits_are_these_numbers()
+    ensures document { DOCUMENT ≡ 2 ^ 24 }
     ensures nodes { NODES ≡ 64 }
     ensures named_groups { NAMED_GROUPS ≡ 256 }
     ensures topics { TOPICS ≡ 256 }

@@ -2,6 +2,7 @@
 #![tactic(auto)]
 
 mod goal;
+mod items;
 mod keep_last;
 mod kind;
 pub mod laws;
@@ -17,6 +18,7 @@ mod text;
 mod timer;
 
 pub use goal::{Event, GoalStatus, ReturnCode};
+pub use items::Items;
 pub use keep_last::KeepLast;
 pub use kind::Kind;
 pub use line::Line;

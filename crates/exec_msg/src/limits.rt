@@ -1,5 +1,8 @@
 //! The limits of a document and of what runs it.
 
+/// Bytes of a document, at most: 16 MiB.
+pub const DOCUMENT: usize = 16_777_216;
+
 /// Nodes of a document, at most.
 pub const NODES: usize = 64;
 

@@ -1,4 +1,5 @@
-ghost use Rattle.std.specs.Prelude.{◌≡◌, ◌↔◌, Ok, None, Some, IsSome, IsErr, OnErr};
+ghost use Rattle.std.specs.Prelude.{◌≡◌, ◌↔◌, ⊤, Ok, None, Some, IsSome, IsErr, OnErr};
+ghost use Rattle.futures.specs.Poll.{IfReady, OnPending};
 ghost use Rattle.futures.specs.Task.{Covers, Keeps};
 ghost use Rattle.exec_task.specs.Call.{new_call, completed, CallNeeds, poll_of_reply};
 ghost use Rattle.exec_task.specs.Wake.{LeftWaker};
@@ -77,22 +78,7 @@ impl PendingCall {
         ensures waker { self.old.call.reply ≡ None → LeftWaker cx.old cx.new self.new.wake }
         ensures kept { Keeps cx.old cx.new }
     {
-        Ok(self.poll_now(cx))
-    }
-
-    fn poll_now(&mut self, cx: &mut Context<'_>) -> Poll<i64>
-        ensures answer { result ≡ poll_of_reply self.old.call.reply }
-        ensures call { self.new.call ≡ self.old.call }
-        ensures source { self.new.wake.source ≡ self.old.wake.source }
-        ensures same { IsSome self.old.call.reply → self.new ≡ self.old }
-        ensures registered { self.old.call.reply ≡ None → Covers cx.new (CallNeeds self.new) }
-        ensures waker { self.old.call.reply ≡ None → LeftWaker cx.old cx.new self.new.wake }
-        ensures kept { Keeps cx.old cx.new }
-    {
-        match self.reply {
-            Some(reply) => Poll::Ready(reply),
-            None => self.wake.register(cx),
-        }
+        Ok(self.poll(cx))
     }
 }
 
@@ -103,7 +89,24 @@ impl Future for PendingCall {
 
     ghost gives = { λ pending reply. pending.call.reply ≡ Some reply };
 
-    fn poll(&mut self, cx: &mut Context<'_>) -> Poll<i64> {
-        self.poll_now(cx)
+    fn poll(&mut self, cx: &mut Context<'_>) -> Poll<i64>
+        // What the trait asks of each future.
+        ensures value { IfReady result (λ reply. self.old.call.reply ≡ Some reply) }
+        ensures again { OnPending result ⊤ }
+        ensures same { OnPending result ((reply : _) → self.new.call.reply ≡ Some reply → self.old.call.reply ≡ Some reply) }
+        ensures registered { OnPending result (Covers cx.new (CallNeeds self.new)) }
+        ensures kept { Keeps cx.old cx.new }
+
+        // What this one answers, and leaves.
+        ensures answer { result ≡ poll_of_reply self.old.call.reply }
+        ensures call { self.new.call ≡ self.old.call }
+        ensures source { self.new.wake.source ≡ self.old.wake.source }
+        ensures ready { IsSome self.old.call.reply → self.new ≡ self.old }
+        ensures waker { self.old.call.reply ≡ None → LeftWaker cx.old cx.new self.new.wake }
+    {
+        match self.reply {
+            Some(reply) => Poll::Ready(reply),
+            None => self.wake.register(cx),
+        }
     }
 }

@@ -4,6 +4,7 @@ use super::{
 use exec_msg::{Event, Memory, Moment};
 use exec_script::{Bank, Destination, Effect, Instr, Operand, Operation, Slot};
 use futures::task::Poll;
+use futures::{Future, FutureExt};
 use std::alloc::Global;
 use std::sync::Arc;
 use std::test::Fail;
@@ -292,6 +293,22 @@ fn a_call_keeps_its_first_reply(rt: HostRuntime) -> Result<(), Fail> {
     assert!(rt; poll(&poller, &mut call) == Ok(Poll::Ready(8)));
     assert!(rt; poll(&poller, &mut call) == Ok(Poll::Ready(8)));
     assert!(rt; call.number() == 1);
+    Ok(())
+}
+
+#[test]
+fn a_call_is_a_future(rt: HostRuntime) -> Result<(), Fail> {
+    let poller = Poller::new(rt.alloc())?;
+    let mut context = poller.begin();
+    let mut call = PendingCall::new(1);
+    let before = Future::poll(&mut call, &mut context);
+    let completed = call.complete(8);
+    let mut next = call.map(|reply| reply.wrapping_add(1));
+    let after = next.poll(&mut context);
+    context.cancel();
+    assert!(rt; before == Poll::Pending);
+    assert!(rt; completed.is_ok());
+    assert!(rt; after == Poll::Ready(9));
     Ok(())
 }
 

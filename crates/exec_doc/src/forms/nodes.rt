@@ -5,7 +5,8 @@ ghost use Rattle.exec_doc.specs.Forms.{exclusive_named, group_kind, group, node}
 use crate::forms::entities::{EntityKind, append_entities};
 use crate::forms::fields::{Form, list, required};
 use crate::refused::Refused;
-use exec_graph::{GroupDraft, Items, NodeDraft};
+use exec_graph::{GroupDraft, NodeDraft};
+use exec_msg::Items;
 use serde_json::Value;
 use std::alloc::Global;
 

@@ -15,7 +15,7 @@ impl Goals {
         ensures { result ≡ slice_get (askers_in id self.now) index }
     {
         let goal = self.held.get(&id)?;
-        goal.askers.get(index)
+        goal.askers.get(index).copied()
     }
 
     /// What an action client is told that asks for a goal's result. Where it comes later, the

@@ -1,8 +1,8 @@
 //! Cancel requests to a table of goals.
 use super::Goals;
-use crate::cancel::{AcceptedIds, CancelAnswer, CancelRequest, GoalIdList, is_refused};
-use crate::info::GoalInfoList;
-use exec_msg::{GoalId, Memory, ReturnCode};
+use crate::cancel::{AcceptedIds, CancelAnswer, CancelRequest, is_refused};
+use crate::info::GoalInfo;
+use exec_msg::{GoalId, Items, Memory, ReturnCode};
 
 impl Goals {
     ghost use Rattle.std.specs.Prelude.{◌≡◌, ℕ, ◌<◌, length, map, slice_index_or, slice_set, OnOk, OnErr, IfOk};
@@ -12,12 +12,12 @@ impl Goals {
     ghost use Rattle.exec_goal.specs.Info.{info_of};
     ghost use Rattle.exec_goal.specs.Table.{GoalRecord, has_id};
 
-    /// The goals that a cancel request selects and that may be moved: those that are ACCEPTED or
-    /// EXECUTING.
-    pub fn candidates(&self, request: &CancelRequest) -> Result<GoalInfoList, Memory>
+    /// The goals that a cancel request selects and that may be moved, those that are ACCEPTED or
+    /// EXECUTING, in the order of their acceptance.
+    pub fn candidates(&self, request: &CancelRequest) -> Result<Items<GoalInfo>, Memory>
         ensures { IfOk result (λ infos. infos ≡ map info_of (candidates request.now self.now)) }
     {
-        let mut infos = GoalInfoList::new(self.alloc);
+        let mut infos = Items::new(self.alloc);
         for index in 0..self.len() {
             let info = self.at(index);
             if request.is_candidate(&info) {
@@ -52,10 +52,10 @@ impl Goals {
         Ok(CancelAnswer { code, moved })
     }
 
-    fn moved_by(&self, accepted: &AcceptedIds) -> Result<GoalIdList, Memory>
+    fn moved_by(&self, accepted: &AcceptedIds) -> Result<Items<GoalId>, Memory>
         ensures { IfOk result (λ ids. ids ≡ map (λ goal. goal.id) (filter (moves_by (is_among accepted.now)) self.now)) }
     {
-        let mut ids = GoalIdList::new(self.alloc);
+        let mut ids = Items::new(self.alloc);
         for index in 0..self.len() {
             let info = self.at(index);
             if accepted.moves(&info) {

@@ -1,9 +1,9 @@
 //! Drafts of graphs, written as texts.
 use crate::{
-    ActionClientDraft, ClientDraft, Drafted, EntityDraft, GraphBuilder, GroupDraft, Items,
-    NodeDraft, ServerDraft, ServiceDraft, Spelled, SubscriptionDraft, TimerDraft,
+    ActionClientDraft, ClientDraft, Drafted, EntityDraft, GraphBuilder, GroupDraft, NodeDraft,
+    ServerDraft, ServiceDraft, Spelled, SubscriptionDraft, TimerDraft,
 };
-use exec_msg::Memory;
+use exec_msg::{Items, Memory};
 use exec_script::{Word, WordText};
 use std::alloc::{AllocError, AllocFailed, Global};
 use std::num::ParseIntError;

@@ -11,5 +11,6 @@ returns-in_err-goal c =
 
 pub returns : goal.returns
 returns c =
-    c.get-2.ensures
+    c.copied.ensures
+    ∙ c.get-2.ensures
     ∙ sym (ap (λ (found : Option GoalRecord). slice_get (askers_of found) c.args.index) (found-in _ c.args.id (key_test _ (λ a b. ids_decide a b) c.args.id) c.self.inside.held.entries c.args.self.now (Some c.in_ok-goal.goal.now) c.self.view_is c.in_ok-goal.ensures.value))
