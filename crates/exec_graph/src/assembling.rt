@@ -32,32 +32,31 @@ use exec_script::ScriptFault;
 use indexmap::IndexMap;
 use std::alloc::Global;
 
-// The graph of topics and nodes, or the least fault of what they declare.
+// The graph of topics and nodes that are well named, or the least fault of what they declare.
 pub(crate) fn graph_of(
     alloc: Global,
     topics: &[String],
     nodes: &[NodeDraft],
+    directory: &Directory<'_>,
 ) -> Result<Graph, GraphFault>
+    requires { Some directory.now ≡ where_so (is_well_named (draft_of (map string_bytes topics.now) nodes.now)) (directory_of (draft_of (map string_bytes topics.now) nodes.now)) }
     ensures graph { IfOk result (λ graph. (fault_in (draft_of (map string_bytes topics.now) nodes.now) ≡ None)
         × (graph_in (draft_of (map string_bytes topics.now) nodes.now) ≡ Some graph)) }
     ensures fault { IfErr result (λ fault. (fault ≡ graph_fault.Memory) ⊎ (fault_in (draft_of (map string_bytes topics.now) nodes.now) ≡ Some fault)) }
 {
-    let Some(directory) = well_named(alloc, topics, nodes)? else {
-        return Err(GraphFault::Name);
-    };
     let small = is_small(alloc, topics, nodes, directory.entities())?;
     if !small {
         return Err(GraphFault::Limit);
     }
     let groups = callback_groups(alloc, nodes)?;
-    let faults = script_faults(alloc, &directory, &groups)?;
+    let faults = script_faults(alloc, directory, &groups)?;
     if is_any_faulty(&faults) {
         return Err(GraphFault::Script);
     }
     if !faults.is_empty() {
         return Err(GraphFault::GroupVariable);
     }
-    let entities = entities_of(alloc, topics, &directory, &groups)?;
+    let entities = entities_of(alloc, topics, directory, &groups)?;
     let names = names_of(alloc, topics, directory.entities())?;
     let nodes = node_names(alloc, nodes)?;
     Ok(Graph {
@@ -69,9 +68,9 @@ pub(crate) fn graph_of(
 }
 
 // What topics and nodes declare, where all of it is well named.
-fn well_named<'a>(
+pub(crate) fn well_named<'a>(
     alloc: Global,
-    topics: &[String],
+    topics: &'a [String],
     nodes: &'a [NodeDraft],
 ) -> Result<Option<Directory<'a>>, Memory>
     ensures { IfOk result (λ found. found ≡ where_so (is_well_named (draft_of (map string_bytes topics.now) nodes.now)) (directory_of (draft_of (map string_bytes topics.now) nodes.now))) }

@@ -31,6 +31,14 @@ impl Form for WordText {
     }
 }
 
+impl Form for i64 {
+    ghost form = { integer };
+
+    fn read(_alloc: Global, value: &Value) -> Result<i64, Refused> {
+        value.as_i64().ok_or(Refused::Shape)
+    }
+}
+
 impl Form for u64 {
     ghost form = { count };
 

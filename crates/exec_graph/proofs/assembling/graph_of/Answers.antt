@@ -12,48 +12,48 @@ use Rattle.exec_graph.proofs.assembling.graph_of.Goals as goal
 pub script_faults-requires : goal.script_faults-requires
 script_faults-requires c =
     let draft = (draft_of (map string_bytes c.args.topics.now) c.args.nodes.now) in
-    let there : Some c.in-Some.directory ≡ where_so (is_well_named draft) (directory_of draft) = sym c.in-Some.is ∙ c.in_ok-directory.ensures in
+    let there : Some c.args.directory.now ≡ where_so (is_well_named draft) (directory_of draft) = c.requires in
     let small : is_small draft ≡ true = sym c.in_ok-small.ensures ∙ c.if-not-small.false in
-    few_names draft c.in-Some.directory there small
+    few_names draft c.args.directory.now there small
 
 pub returns-then-is_any_faulty-clause-fault : goal.returns-then-is_any_faulty-clause-fault
 returns-then-is_any_faulty-clause-fault c =
     let draft = (draft_of (map string_bytes c.args.topics.now) c.args.nodes.now) in
-    let there : Some c.in-Some.directory ≡ where_so (is_well_named draft) (directory_of draft) = sym c.in-Some.is ∙ c.in_ok-directory.ensures in
+    let there : Some c.args.directory.now ≡ where_so (is_well_named draft) (directory_of draft) = c.requires in
     let small : is_small draft ≡ true = sym c.in_ok-small.ensures ∙ c.if-not-small.false in
-    inr (of_script draft c.in-Some.directory there small c.deref.result.now (c.deref.ensures.value ∙ c.in_ok-groups.ensures) c.deref-2.result.now (c.deref-2.ensures.value ∙ c.in_ok-faults.ensures) (sym c.if-is_any_faulty.true ∙ c.is_any_faulty.ensures))
+    inr (of_script draft c.args.directory.now there small c.deref.result.now (c.deref.ensures.value ∙ c.in_ok-groups.ensures) c.deref-2.result.now (c.deref-2.ensures.value ∙ c.in_ok-faults.ensures) (sym c.if-is_any_faulty.true ∙ c.is_any_faulty.ensures))
 
 pub returns-then-not-is_empty-clause-fault : goal.returns-then-not-is_empty-clause-fault
 returns-then-not-is_empty-clause-fault c =
     let draft = (draft_of (map string_bytes c.args.topics.now) c.args.nodes.now) in
-    let there : Some c.in-Some.directory ≡ where_so (is_well_named draft) (directory_of draft) = sym c.in-Some.is ∙ c.in_ok-directory.ensures in
+    let there : Some c.args.directory.now ≡ where_so (is_well_named draft) (directory_of draft) = c.requires in
     let small : is_small draft ≡ true = sym c.in_ok-small.ensures ∙ c.if-not-small.false in
-    inr (of_variable draft c.in-Some.directory there small c.deref.result.now (c.deref.ensures.value ∙ c.in_ok-groups.ensures) c.deref-2.result.now (c.deref-2.ensures.value ∙ c.in_ok-faults.ensures) (sym c.if-is_any_faulty.false ∙ c.is_any_faulty.ensures) (ap (λ (n : ℕ). n == 0) c.deref-2.ensures.len ∙ sym c.is_empty.ensures ∙ c.if-not-is_empty.true))
+    inr (of_variable draft c.args.directory.now there small c.deref.result.now (c.deref.ensures.value ∙ c.in_ok-groups.ensures) c.deref-2.result.now (c.deref-2.ensures.value ∙ c.in_ok-faults.ensures) (sym c.if-is_any_faulty.false ∙ c.is_any_faulty.ensures) (ap (λ (n : ℕ). n == 0) c.deref-2.ensures.len ∙ sym c.is_empty.ensures ∙ c.if-not-is_empty.true))
 
 pub entities_of-requires-clause-names : goal.entities_of-requires-clause-names
 entities_of-requires-clause-names c =
     let draft = (draft_of (map string_bytes c.args.topics.now) c.args.nodes.now) in
-    let there : Some c.in-Some.directory ≡ where_so (is_well_named draft) (directory_of draft) = sym c.in-Some.is ∙ c.in_ok-directory.ensures in
+    let there : Some c.args.directory.now ≡ where_so (is_well_named draft) (directory_of draft) = c.requires in
     let small : is_small draft ≡ true = sym c.in_ok-small.ensures ∙ c.if-not-small.false in
-    few_names draft c.in-Some.directory there small
+    few_names draft c.args.directory.now there small
 
 pub entities_of-requires-clause-groups : goal.entities_of-requires-clause-groups
 entities_of-requires-clause-groups c =
     let draft = (draft_of (map string_bytes c.args.topics.now) c.args.nodes.now) in
-    let there : Some c.in-Some.directory ≡ where_so (is_well_named draft) (directory_of draft) = sym c.in-Some.is ∙ c.in_ok-directory.ensures in
+    let there : Some c.args.directory.now ≡ where_so (is_well_named draft) (directory_of draft) = c.requires in
     let small : is_small draft ≡ true = sym c.in_ok-small.ensures ∙ c.if-not-small.false in
     let grouped : c.deref-3.result.now ≡ groups_of draft = c.deref-3.ensures.value ∙ c.in_ok-groups.ensures in
-    subst (λ (groups : List CallbackGroup). length groups ≤ 65536) (sym grouped) (few_groups draft c.in-Some.directory there small)
+    subst (λ (groups : List CallbackGroup). length groups ≤ 65536) (sym grouped) (few_groups draft c.args.directory.now there small)
 
 pub returns-in_err-entities-clause-fault : goal.returns-in_err-entities-clause-fault
 returns-in_err-entities-clause-fault c =
     let draft = (draft_of (map string_bytes c.args.topics.now) c.args.nodes.now) in
-    let there : Some c.in-Some.directory ≡ where_so (is_well_named draft) (directory_of draft) = sym c.in-Some.is ∙ c.in_ok-directory.ensures in
+    let there : Some c.args.directory.now ≡ where_so (is_well_named draft) (directory_of draft) = c.requires in
     let small : is_small draft ≡ true = sym c.in_ok-small.ensures ∙ c.if-not-small.false in
-    let faultless = of_none draft c.in-Some.directory there small c.deref.result.now (c.deref.ensures.value ∙ c.in_ok-groups.ensures) c.deref-2.result.now (c.deref-2.ensures.value ∙ c.in_ok-faults.ensures) (sym c.if-is_any_faulty.false ∙ c.is_any_faulty.ensures) (ap (λ (n : ℕ). n == 0) c.deref-2.ensures.len ∙ sym c.is_empty.ensures ∙ c.if-not-is_empty.false) in
+    let faultless = of_none draft c.args.directory.now there small c.deref.result.now (c.deref.ensures.value ∙ c.in_ok-groups.ensures) c.deref-2.result.now (c.deref-2.ensures.value ∙ c.in_ok-faults.ensures) (sym c.if-is_any_faulty.false ∙ c.is_any_faulty.ensures) (ap (λ (n : ℕ). n == 0) c.deref-2.ensures.len ∙ sym c.is_empty.ensures ∙ c.if-not-is_empty.false) in
     let grouped : c.deref-3.result.now ≡ groups_of draft = c.deref-3.ensures.value ∙ c.in_ok-groups.ensures in
     let p = err_from_is_err_and c.from_residual-in_err-entities.result c.from_residual-in_err-entities.ensures.1 in
-    rw (p.1, p.2) (only_memory draft c.in-Some.directory c.deref-3.result.now c.in_err-entities.field-0.0 faultless (distinct draft c.in-Some.directory there small) (directory_is draft c.in-Some.directory there small) grouped c.in_err-entities.ensures.fault)
+    rw (p.1, p.2) (only_memory draft c.args.directory.now c.deref-3.result.now c.in_err-entities.field-0.0 faultless (distinct draft c.args.directory.now there) (directory_is draft c.args.directory.now there) grouped c.in_err-entities.ensures.fault)
 
 pub returns-in_err-names-clause-fault : goal.returns-in_err-names-clause-fault
 returns-in_err-names-clause-fault c =
@@ -68,21 +68,21 @@ returns-in_err-nodes-clause-fault c =
 pub of-requires-2 : goal.of-requires-2
 of-requires-2 c =
     let draft = (draft_of (map string_bytes c.args.topics.now) c.args.nodes.now) in
-    let there : Some c.in-Some.directory ≡ where_so (is_well_named draft) (directory_of draft) = sym c.in-Some.is ∙ c.in_ok-directory.ensures in
+    let there : Some c.args.directory.now ≡ where_so (is_well_named draft) (directory_of draft) = c.requires in
     let small : is_small draft ≡ true = sym c.in_ok-small.ensures ∙ c.if-not-small.false in
-    few_texts draft c.in-Some.directory there small c.in_ok-names.names.items string_bytes c.entities-2.result.now c.in_ok-names.ensures c.entities-2.ensures
+    few_texts draft c.args.directory.now there small c.in_ok-names.names.items string_bytes c.entities-2.result.now c.in_ok-names.ensures c.entities-2.ensures
 
 pub invariant_of-result : goal.invariant_of-result
 invariant_of-result c =
     let draft = (draft_of (map string_bytes c.args.topics.now) c.args.nodes.now) in
-    let there : Some c.in-Some.directory ≡ where_so (is_well_named draft) (directory_of draft) = sym c.in-Some.is ∙ c.in_ok-directory.ensures in
+    let there : Some c.args.directory.now ≡ where_so (is_well_named draft) (directory_of draft) = c.requires in
     let small : is_small draft ≡ true = sym c.in_ok-small.ensures ∙ c.if-not-small.false in
-    let faultless = of_none draft c.in-Some.directory there small c.deref.result.now (c.deref.ensures.value ∙ c.in_ok-groups.ensures) c.deref-2.result.now (c.deref-2.ensures.value ∙ c.in_ok-faults.ensures) (sym c.if-is_any_faulty.false ∙ c.is_any_faulty.ensures) (ap (λ (n : ℕ). n == 0) c.deref-2.ensures.len ∙ sym c.is_empty.ensures ∙ c.if-not-is_empty.false) in
+    let faultless = of_none draft c.args.directory.now there small c.deref.result.now (c.deref.ensures.value ∙ c.in_ok-groups.ensures) c.deref-2.result.now (c.deref-2.ensures.value ∙ c.in_ok-faults.ensures) (sym c.if-is_any_faulty.false ∙ c.is_any_faulty.ensures) (ap (λ (n : ℕ). n == 0) c.deref-2.ensures.len ∙ sym c.is_empty.ensures ∙ c.if-not-is_empty.false) in
     let grouped : c.deref-3.result.now ≡ groups_of draft = c.deref-3.ensures.value ∙ c.in_ok-groups.ensures in
     let made : GraphData = graph_with c.of.result c.in_ok-groups.groups.items (entries_of c.in_ok-entities.entities.entries) in
     let nodes = c.of.ensures ∙ c.in_ok-nodes.ensures in
-    let all = c.in_ok-entities.ensures.entities draft (distinct draft c.in-Some.directory there small) refl (directory_is draft c.in-Some.directory there small) grouped in
-    let placed = c.entities-2.ensures ∙ ap (λ (directory : DirectoryData). directory.entities) (directory_is draft c.in-Some.directory there small) in
+    let all = c.in_ok-entities.ensures.entities draft (distinct draft c.args.directory.now there) refl (directory_is draft c.args.directory.now there) grouped in
+    let placed = c.entities-2.ensures ∙ ap (λ (directory : DirectoryData). directory.entities) (directory_is draft c.args.directory.now there) in
     let names =
     c.of-2.ensures ∙ c.in_ok-names.ensures ∙ ap (λ (placed : List Placed). map string_bytes c.args.topics.now ++ map (λ placed. placed.entity.name) placed) placed
     ∙ names_are draft made nodes c.in_ok-groups.ensures all in
@@ -91,18 +91,18 @@ invariant_of-result c =
 pub returns-clause-graph : goal.returns-clause-graph
 returns-clause-graph c =
     let draft = (draft_of (map string_bytes c.args.topics.now) c.args.nodes.now) in
-    let there : Some c.in-Some.directory ≡ where_so (is_well_named draft) (directory_of draft) = sym c.in-Some.is ∙ c.in_ok-directory.ensures in
+    let there : Some c.args.directory.now ≡ where_so (is_well_named draft) (directory_of draft) = c.requires in
     let small : is_small draft ≡ true = sym c.in_ok-small.ensures ∙ c.if-not-small.false in
-    let faultless = of_none draft c.in-Some.directory there small c.deref.result.now (c.deref.ensures.value ∙ c.in_ok-groups.ensures) c.deref-2.result.now (c.deref-2.ensures.value ∙ c.in_ok-faults.ensures) (sym c.if-is_any_faulty.false ∙ c.is_any_faulty.ensures) (ap (λ (n : ℕ). n == 0) c.deref-2.ensures.len ∙ sym c.is_empty.ensures ∙ c.if-not-is_empty.false) in
+    let faultless = of_none draft c.args.directory.now there small c.deref.result.now (c.deref.ensures.value ∙ c.in_ok-groups.ensures) c.deref-2.result.now (c.deref-2.ensures.value ∙ c.in_ok-faults.ensures) (sym c.if-is_any_faulty.false ∙ c.is_any_faulty.ensures) (ap (λ (n : ℕ). n == 0) c.deref-2.ensures.len ∙ sym c.is_empty.ensures ∙ c.if-not-is_empty.false) in
     let grouped : c.deref-3.result.now ≡ groups_of draft = c.deref-3.ensures.value ∙ c.in_ok-groups.ensures in
     let made : GraphData = graph_with c.of.result c.in_ok-groups.groups.items (entries_of c.in_ok-entities.entities.entries) in
     let nodes = c.of.ensures ∙ c.in_ok-nodes.ensures in
-    let all = c.in_ok-entities.ensures.entities draft (distinct draft c.in-Some.directory there small) refl (directory_is draft c.in-Some.directory there small) grouped in
+    let all = c.in_ok-entities.ensures.entities draft (distinct draft c.args.directory.now there) refl (directory_is draft c.args.directory.now there) grouped in
     (faultless, graph_is draft made nodes c.in_ok-groups.ensures all)
 
 pub of-requires : goal.of-requires
 of-requires c =
     let draft = (draft_of (map string_bytes c.args.topics.now) c.args.nodes.now) in
-    let there : Some c.in-Some.directory ≡ where_so (is_well_named draft) (directory_of draft) = sym c.in-Some.is ∙ c.in_ok-directory.ensures in
+    let there : Some c.args.directory.now ≡ where_so (is_well_named draft) (directory_of draft) = c.requires in
     let small : is_small draft ≡ true = sym c.in_ok-small.ensures ∙ c.if-not-small.false in
-    few_nodes draft c.in-Some.directory there small c.in_ok-nodes.nodes.items string_bytes c.in_ok-nodes.ensures
+    few_nodes draft c.args.directory.now there small c.in_ok-nodes.nodes.items string_bytes c.in_ok-nodes.ensures
