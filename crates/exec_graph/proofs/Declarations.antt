@@ -1,10 +1,7 @@
 -- Whether what is named is declared.
-use Rattle.std.proofs.Common.{◌≡◌, ℕ, suc, ◌+◌, Bool, true, false, cond, if◌then◌else◌, ◌&&◌, ◌||◌, is_some, Result, Ok, Err, OnErr, List, [], ◌∷◌, ◌++◌, map, length, Option, Some, refl, ap, ap₂, sym, subst, ◌∙◌, bytes_eq}
+use Rattle.std.proofs.Common.{◌≡◌, ℕ, suc, ◌+◌, Bool, true, false, cond, if◌then◌else◌, ◌&&◌, ◌||◌, is_some, List, [], ◌∷◌, ◌++◌, map, length, Option, Some, refl, ap, ap₂, ◌∙◌, bytes_eq}
 use Rattle.std.specs.List.{filter, list_any, position_from}
-use Rattle.std.proofs.lemmas.List.{append-nil, append_assoc, map-append}
-use Rattle.std.proofs.lemmas.List.Elements.{filter-append}
 use Rattle.std.proofs.lemmas.List.Folds.{list_any-append}
-use Rattle.std.proofs.lemmas.Slice.Eq.{bytes_eq-Decides}
 use Rattle.exec_graph.specs.Draft.{GraphDraft}
 use Rattle.exec_graph.specs.Numbers.{is_timer, is_subscription, is_service, is_client, is_server, is_action_client, Placed, entities_from, entities_of, server_named}
 use Rattle.exec_graph.specs.declared.draft.Drafted.{Drafted}

@@ -1,7 +1,7 @@
 use Rattle.std.proofs.Common.{◌∙◌, ap, is_some, map, string_bytes}
 use Rattle.exec_graph.specs.Directory.{DirectoryData, draft_of, entity_in}
 use Rattle.exec_graph.specs.Draft.{GraphDraft}
-use Rattle.exec_graph.specs.Numbers.{Placed, is_server, server_named}
+use Rattle.exec_graph.specs.Numbers.{is_server, server_named}
 use Rattle.exec_graph.proofs.Assembled.{directory_is, distinct}
 use Rattle.exec_graph.proofs.Lookups.{entity_found}
 use Rattle.exec_graph.proofs.named.NamedGraph.action_named.Goals as goal
