@@ -1,20 +1,19 @@
 -- The identifiers of a document have 128 bits.
-use Rattle.std.proofs.Common.{◌≡◌, ℕ, ◌-◌, ◌^◌, Bool, true, false, ◌&&◌, nat_le, codes, List, [], ◌∷◌, Option, None, Some, option_map, refl, ap, sym, ◌∙◌, subst}
+use Rattle.std.proofs.Common.{◌≡◌, ℕ, ◌-◌, ◌^◌, Bool, true, false, nat_le, codes, List, [], ◌∷◌, Option, None, Some, option_map, refl, ap, sym, ◌∙◌, subst}
 use Rattle.std.specs.List.{list_all}
 use Rattle.std.specs.Option.{unwrap_or}
 use Rattle.std.proofs.lemmas.Bool.{le-leb}
-use Rattle.serde_json.specs.Data.{Data, Items}
+use Rattle.serde_json.specs.Data.{Data}
 use Rattle.serde_json.specs.Find.{as_array, get}
 use Rattle.exec_doc.specs.Document.{fed_in, entry_in}
 use Rattle.exec_doc.specs.Draft.{DocumentDraft}
-use Rattle.exec_doc.specs.Forms.{id_of, text, count, integer, identifier, values_of, list_of, list, required, defaulted, if_there, message_form, goal_form, cancel_form, form_by, fed, entry, node, declared, draft_of}
+use Rattle.exec_doc.specs.Forms.{id_of, text, count, integer, identifier, values_of, list_of, list, required, defaulted, if_there, message_form, goal_form, cancel_form, form_by, fed, entry, declared, draft_of}
 use Rattle.exec_doc.specs.declared.draft.EntryDraft.{EntryDraft}
 use Rattle.exec_doc.specs.declared.draft.FedDraft.{FedDraft}
 use Rattle.exec_doc.specs.declared.draft.FedDraft.TheVariants as draft
 use Rattle.exec_graph.specs.Draft.{GraphDraft}
 use Rattle.exec_graph.specs.Feeding.{has_128_bits}
 use Rattle.exec_graph.specs.Numbers.{topic_named, server_named}
-use Rattle.exec_graph.specs.Options.{◌>>=◌, each}
 use Rattle.exec_graph.specs.declared.plan.Fed.{Fed}
 use Rattle.exec_graph.specs.declared.plan.Fed.TheVariants.{Message, Goal, Cancel}
 use Rattle.exec_graph.specs.declared.plan.Feed.{Feed}

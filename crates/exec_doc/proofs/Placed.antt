@@ -1,6 +1,6 @@
 -- What a graph is fed by a draft.
-use Rattle.std.proofs.Common.{◌≡◌, ℕ, ◌+◌, Bool, true, false, cond, ◌&&◌, length, map, IsTrue, List, [], ◌∷◌, ◌++◌, Option, None, Some, All, is_some, option_map, unwrap_or, nat_le, slice_get, bytes_eq, refl, ap, ap₂, sym, ◌∙◌, subst, arith, zero-add}
-use Rattle.std.specs.List.{list_all, position_from}
+use Rattle.std.proofs.Common.{◌≡◌, ℕ, true, false, length, map, IsTrue, List, [], ◌∷◌, Option, None, Some, All, is_some, option_map, unwrap_or, nat_le, bytes_eq, refl, ap, sym, ◌∙◌, subst}
+use Rattle.std.specs.List.{list_all}
 use Rattle.std.specs.Option.{option_map_or}
 use Rattle.std.proofs.lemmas.List.Elements.{All-nil, All-cons}
 use Rattle.exec_doc.specs.Document.{fed_in, entry_in}
@@ -12,19 +12,18 @@ use Rattle.exec_doc.specs.Refusals as refusals
 use Rattle.exec_doc.specs.Refusals.{feeds}
 use Rattle.exec_graph.specs.Draft.{GraphDraft}
 use Rattle.exec_graph.specs.Feeding.{goes_somewhere}
-use Rattle.exec_graph.specs.Graph.{EntityData, GraphData, is_topic, is_server}
+use Rattle.exec_graph.specs.Graph.{GraphData, is_topic, is_server}
 use Rattle.exec_graph.specs.Lawful.{is_at}
-use Rattle.exec_graph.specs.Numbers as numbers
-use Rattle.exec_graph.specs.Numbers.{Placed, entities_of, topic_named, server_named}
+use Rattle.exec_graph.specs.Numbers.{topic_named, server_named}
 use Rattle.exec_graph.specs.Options.{each}
-use Rattle.exec_graph.specs.Resolved.{entity_in, topic_in, graph_in}
+use Rattle.exec_graph.specs.Resolved.{graph_in}
 use Rattle.exec_graph.specs.Schedule.{stamp_of, is_identified}
 use Rattle.exec_graph.specs.declared.plan.Fed.{Fed}
 use Rattle.exec_graph.specs.declared.plan.Fed.TheVariants.{Goal, Cancel}
 use Rattle.exec_graph.specs.declared.plan.Feed.{Feed}
 use Rattle.exec_graph.proofs.Bools.{and_left, and_right, both_true}
 use Rattle.exec_graph.proofs.Found.{found_there, Finds, finds}
-use Rattle.exec_graph.proofs.Reading.{then_read, AreRead, are_read, some_is, as_many, seen_alike, each_some}
+use Rattle.exec_graph.proofs.Reading.{AreRead, are_read, as_many, seen_alike, each_some}
 
 -- ---- what is found in a graph
 

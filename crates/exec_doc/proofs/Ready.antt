@@ -132,10 +132,6 @@ pub by_name : {A X : Type 0} (refusal : Option Refused) (said : Option A) (code 
 by_name refusal said code (inl memory) then = inl memory
 by_name refusal said code (inr named) then = inr (then named.1 ∙ ap (λ (code : Refused). Some code) (sym named.0))
 
-pub by_code : {A X : Type 0} (refusal : Option Refused) (said : Option A) (code : Refused) → (code ≡ refused.Memory) ⊎ X → (X → refusal ≡ Some code) → Answers {A = A} refusal said (Err code)
-by_code refusal said code (inl memory) then = inl memory
-by_code refusal said code (inr found) then = inr (then found)
-
 -- ---- what was found of a document whose parts these are
 
 pub declared_is : (document : DocumentDraft) (builder : GraphDraft) (feed : List EntryDraft) (answer b : Bool) → builder ≡ document.graph → feed ≡ document.feed

@@ -1,9 +1,8 @@
 -- What a reader answers of drafts: a plan, or the refusal.
-use Rattle.std.specs.Prelude.{◌≡◌, ℕ, ◌⊎◌, List, Bool, true, false, not, ◌&&◌, if◌then◌else◌, Option, None, Some, find, Result, Ok, Err}
-use Rattle.std.specs.List.{list_all}
+use Rattle.std.specs.Prelude.{◌≡◌, ℕ, ◌⊎◌, List, Bool, false, not, ◌&&◌, if◌then◌else◌, Option, None, Some, find, Result, Ok, Err}
 use Rattle.exec_doc.specs.Draft.{DocumentDraft}
 use Rattle.exec_doc.specs.declared.draft.EntryDraft.{EntryDraft}
-use Rattle.exec_doc.specs.Refusals.{feeds, is_within, has_fault, codes_in_order}
+use Rattle.exec_doc.specs.Refusals.{has_fault, codes_in_order}
 use Rattle.exec_doc.specs.declared.refused.Refused.{Refused}
 use Rattle.exec_doc.specs.declared.refused.Refused.TheVariants as refused
 use Rattle.exec_graph.specs.Draft.{GraphDraft}

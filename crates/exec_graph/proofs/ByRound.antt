@@ -1,7 +1,6 @@
 -- The entries of each round.
 use Rattle.std.proofs.Common.{◌≡◌, ap₂, drop, drop-cons, set, if◌then◌else◌, ℕ, zero, suc, ◌+◌, ◌-◌, ◌<◌, ◌≤◌, ◌==◌, Bool, true, false, nat_le, length, map, List, [], ◌∷◌, ◌++◌, get_or, refl, ap, sym, ◌∙◌, arith, Vec}
 use Rattle.std.specs.declared.alloc.Global.{Global}
-use Rattle.std.specs.List.{list_all}
 use Rattle.std.proofs.lemmas.Bool.{leb-true, eqb-true, eq-eqb}
 use Rattle.std.proofs.lemmas.List.{get_or-map, length-map, append-nil, append_assoc}
 use Rattle.std.proofs.lemmas.List.Elements.{filter-append}

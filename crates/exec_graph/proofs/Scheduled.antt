@@ -104,18 +104,13 @@ all_rounds most (entry ∷ feed) within =
     (and_left (is_from_1 most entry.round) others within) (all_rounds most feed (and_right (is_from_1 most entry.round) others within))
 
 -- a test of rounds is one of entries
-pub rounds_among : (most : ℕ) (feed : List Feed) → list_all (λ entry. is_from_1 most entry.round) feed ≡ list_all (is_from_1 most) (map (λ entry. entry.round) feed)
+rounds_among : (most : ℕ) (feed : List Feed) → list_all (λ entry. is_from_1 most entry.round) feed ≡ list_all (is_from_1 most) (map (λ entry. entry.round) feed)
 rounds_among most [] = refl
 rounds_among most (entry ∷ feed) = ap (λ (b : Bool). is_from_1 most entry.round && b) (rounds_among most feed)
 
 -- moments in order, and rounds that are theirs
 pub in_order : (moments : List ℕ) (feed : List Feed) (rounds : Bool) → is_ascending_from 0 moments ≡ true → rounds ≡ list_all (λ entry. is_from_1 (length moments) entry.round) feed → rounds ≡ is_in_order moments (map (λ entry. entry.round) feed)
 in_order moments feed rounds ascending are = rw ascending (are ∙ rounds_among (length moments) feed)
-
--- the rounds of a feed without a fault are those of the moments
-pub rounds_kept : (moments : List ℕ) (feed : List Feed) → plan_fault_in moments feed ≡ None → list_all (λ entry. is_from_1 (length moments) entry.round) feed ≡ true
-rounds_kept moments feed faultless =
-    rounds_among (length moments) feed ∙ and_right (is_ascending_from 0 moments) (list_all (is_from_1 (length moments)) (map (λ entry. entry.round) feed)) (scheduled moments feed faultless).order
 
 -- what isn't something is nothing
 pub nothing : {A : Type 0} (o : Option A) → ((x : A) → o ≡ Some x → ⊥) → o ≡ None

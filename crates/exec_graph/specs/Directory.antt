@@ -1,4 +1,4 @@
--- A directory of what a graph declares, which finds names by hash.
+-- A directory of what a graph declares, which finds names.
 use Rattle.std.specs.Prelude.{ℕ, ◌-◌, List, [], ◌∷◌, ◌++◌, length, map, Bool, true, false, not, ◌&&◌, ◌==◌, nat_lt, is_some, if◌then◌else◌, Option, None, Some, option_and_then, slice_get}
 use Rattle.std.specs.List.{filter_map, list_any, position_from}
 use Rattle.std.specs.List.{find as first}

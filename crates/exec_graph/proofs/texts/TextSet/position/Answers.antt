@@ -1,5 +1,4 @@
-use Rattle.std.proofs.Common.{◌≡◌, ◌∙◌, ◌<◌, List, ℕ, Option, None, Some, IfSome, ap, sym, subst, map, length, zero-add, bytes_eq}
-use Rattle.std.specs.Borrow.{Bor}
+use Rattle.std.proofs.Common.{◌≡◌, ◌∙◌, ◌<◌, List, ℕ, Option, None, Some, IfSome, ap, sym, subst, length, zero-add, bytes_eq}
 use Rattle.std.specs.List.{position_from}
 use Rattle.exec_graph.proofs.TextPlaces.{found_within}
 use Rattle.exec_graph.proofs.texts.TextSet.position.Goals as goal
