@@ -4,7 +4,7 @@ ghost use Rattle.exec_graph.specs.Numbers.{topic_named, server_named};
 ghost use Rattle.exec_graph.specs.Refusals.{fault_in};
 ghost use Rattle.exec_graph.specs.Resolved.{graph_in};
 
-use crate::assembling::graph_of;
+use crate::assembling::{graph_of, well_named};
 use crate::draft::{EntityDraft, NodeDraft};
 use crate::entity::EntityKind;
 use crate::fault::GraphFault;
@@ -105,7 +105,10 @@ impl GraphBuilder {
         ensures graph { IfOk result (λ graph. (fault_in self ≡ None) × (graph_in self ≡ Some graph)) }
         ensures fault { IfErr result (λ fault. (fault ≡ GraphFault.Memory) ⊎ (fault_in self ≡ Some fault)) }
     {
-        graph_of(self.alloc, &self.topics, &self.nodes)
+        match well_named(self.alloc, &self.topics, &self.nodes)? {
+            Some(directory) => graph_of(self.alloc, &self.topics, &self.nodes, &directory),
+            None => Err(GraphFault::Name),
+        }
     }
 }
 
