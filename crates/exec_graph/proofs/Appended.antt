@@ -1,5 +1,5 @@
 -- Entries that are added one after another, each of a new name.
-use Rattle.std.proofs.Common.{◌≡◌, ◌⊎◌, inl, inr, ℕ, zero, suc, ◌+◌, ◌<◌, Bool, true, false, not, ◌||◌, if◌then◌else◌, List, [], ◌∷◌, ◌++◌, length, map, drop, get_or, Option, None, Some, option_and_then, String, Global, string_bytes, refl, sym, ap, ◌∙◌, append_assoc, append-nil}
+use Rattle.std.proofs.Common.{◌≡◌, ℕ, zero, suc, ◌+◌, ◌<◌, Bool, true, false, not, ◌||◌, if◌then◌else◌, List, [], ◌∷◌, ◌++◌, length, map, drop, get_or, Option, None, Some, option_and_then, String, Global, string_bytes, refl, sym, ap, ◌∙◌, append_assoc, append-nil}
 use Rattle.std.specs.List.{list_any}
 use Rattle.std.specs.Option.{option_map}
 use Rattle.std.specs.Str.{bytes_eq}
@@ -189,11 +189,3 @@ none_at : (source : GraphDraft) (placeds : List Placed) (i : ℕ) (placed : Plac
 none_at source placeds i placed within there those none =
     ap (each (entity_in source)) (sym those)
     ∙ none_behind (entity_in source) i placeds (ap (each (entity_in source)) (from_place placeds i placed within there) ∙ here_none (entity_in source) placed (drop (i + 1) placeds) none)
-
--- the same where a fault says so
-pub fault_at : {M : Type 0} (directory : DirectoryData) (groups : List CallbackGroup) (placeds : List Placed) (i : ℕ) (placed : Placed) → i < length placeds → placed ≡ get_or placeds i placed → placeds ≡ directory.entities →
-    M ⊎ ((source : GraphDraft) → are_distinct (names_of source) ≡ true → directory ≡ directory_of source → groups ≡ groups_of source → entity_in source placed ≡ None) →
-    M ⊎ ((source : GraphDraft) → are_distinct (names_of source) ≡ true → directory ≡ directory_of source → groups ≡ groups_of source → each (entity_in source) (entities_of source) ≡ None)
-fault_at directory groups placeds i placed within there those (inl memory) = inl memory
-fault_at directory groups placeds i placed within there those (inr none) =
-    inr (λ source distinct from grouped. none_at source placeds i placed within there (those ∙ ap (λ (d : DirectoryData). d.entities) from) (none source distinct from grouped))

@@ -1,40 +1,78 @@
 -- What is known of a draft when its graph is made: its names, its limits, its scripts, and then the graph.
-use Rattle.std.proofs.Common.{◌≡◌, ◌⊎◌, inl, inr, ℕ, suc, ◌+◌, ◌≤◌, Bool, true, false, not, ◌||◌, ◌==◌, length, map, flat_map, filter_map, sum_by, List, [], ◌∷◌, ◌++◌, Option, None, Some, is_some, option_map, refl, sym, ap, subst, ◌∙◌, arith, length-append}
+use Rattle.std.proofs.Common.{◌≡◌, ℕ, suc, ◌+◌, ◌≤◌, Bool, true, false, not, ◌||◌, ◌==◌, length, map, flat_map, filter_map, sum_by, List, [], ◌∷◌, ◌++◌, Option, None, Some, is_some, option_map, String, Global, refl, sym, ap, subst, ◌∙◌, arith, length-append}
 use Rattle.std.specs.List.{list_all, list_any}
+use Rattle.std.specs.Map.{values_of}
+use Rattle.std.specs.Option.{option_map_or}
 use Rattle.std.proofs.lemmas.Bool.{leb-true, eqb-true}
 use Rattle.std.proofs.lemmas.List.Sums.{sum_by-cons}
 use Rattle.std.proofs.lemmas.List.{length-map}
-use Rattle.exec_graph.specs.Directory.{DirectoryData, directory_of, where_so, faults_in}
+use Rattle.exec_graph.specs.Directory.{DirectoryData, directory_of, where_so, is_reentrant_at, fault_at, faults_of}
 use Rattle.exec_graph.specs.Draft.{GraphDraft}
-use Rattle.exec_graph.specs.declared.draft.NodeDraft.{NodeDraft}
-use Rattle.exec_graph.specs.declared.entity.CallbackGroup.{CallbackGroup}
-use Rattle.exec_graph.specs.declared.fault.GraphFault.{GraphFault}
-use Rattle.exec_graph.specs.declared.fault.GraphFault.TheVariants as graph_fault
+use Rattle.exec_graph.specs.Entity.{scripts_of}
+use Rattle.exec_graph.specs.Entries.{entities_of as entries_of}
 use Rattle.exec_graph.specs.Faults.{names_of, is_of_variable, is_well_named, is_small, has_faulty_script, shares_variables}
 use Rattle.exec_graph.specs.Graph as graph
 use Rattle.exec_graph.specs.Graph.{EntityData, GraphData}
 use Rattle.exec_graph.specs.Lawful.{IsLawful}
 use Rattle.exec_graph.specs.Names.{is_name, are_distinct}
-use Rattle.exec_graph.specs.Numbers.{Placed, entities_of, groups_of, groups_from, named_group}
+use Rattle.exec_graph.specs.Numbers.{Placed, entities_of, groups_of, groups_from, named_group, scope_of}
 use Rattle.exec_graph.specs.Options.{◌>>=◌, each}
 use Rattle.exec_graph.specs.Refusals.{fault_in}
 use Rattle.exec_graph.specs.Resolved.{entity_in, graph_in, topic_in}
-use Rattle.exec_graph.specs.Entity.{scripts_of}
-use Rattle.exec_graph.specs.Scripts.{fault_of, is_reentrant, script_faults}
+use Rattle.exec_graph.specs.Scripts.{is_reentrant, entity_faults, script_faults}
+use Rattle.exec_graph.specs.declared.draft.NodeDraft.{NodeDraft}
+use Rattle.exec_graph.specs.declared.entity.CallbackGroup.{CallbackGroup}
+use Rattle.exec_graph.specs.declared.entity.Declared.{Declared}
+use Rattle.exec_graph.specs.declared.fault.GraphFault.TheVariants as graph_fault
 use Rattle.exec_msg.specs.declared.limits.TheConstants.{NODES, NAMED_GROUPS, TOPICS, ENTITIES}
 use Rattle.exec_script.specs.declared.fault.ScriptFault.{ScriptFault}
 use Rattle.exec_graph.proofs.Bools.{and_right}
-use Rattle.exec_graph.proofs.Complete.{has_graph}
+use Rattle.exec_graph.proofs.Complete.{has_entities}
+use Rattle.exec_graph.proofs.Faultless.{scripts_same}
 use Rattle.exec_graph.proofs.Kept.{names_kept, small_kept}
 use Rattle.exec_graph.proofs.Lawful as lawful
-use Rattle.exec_graph.proofs.Lookups.{scope_same}
-use Rattle.exec_graph.proofs.Reading.{then_read, are_read, some_is}
-use Rattle.exec_graph.proofs.Resolving.{graph_of}
+use Rattle.exec_graph.proofs.Reading.{then_read, AreRead, are_read, some_is}
+use Rattle.exec_graph.proofs.Resolving.{graph_of, IsBuilt, built, has_group}
 
--- ---- the scripts
+-- ---- the faults of scripts
 
-faults_same : (draft : GraphDraft) → are_distinct (names_of draft) ≡ true → flat_map (faults_in (directory_of draft) (groups_of draft)) (entities_of draft) ≡ script_faults draft
-faults_same draft distinct = λ i. flat_map (λ placed. filter_map (fault_of (scope_same draft distinct placed.node i) (is_reentrant draft placed)) (scripts_of placed.entity.is)) (entities_of draft)
+entity_same : (draft : GraphDraft) (placed : Placed) (entity : EntityData) → IsBuilt draft placed entity → faults_of (groups_of draft) entity.is ≡ entity_faults draft placed
+entity_same draft placed entity build =
+    let has = has_group draft placed build.number build.found in
+    let scope = scope_of draft placed.node in
+    let reentrant : is_reentrant_at (groups_of draft) build.number ≡ is_reentrant draft placed =
+    ap (λ (group : Option CallbackGroup). option_map_or (λ found. not found.exclusive) group false) has.there ∙ sym has.reentrant in
+    ap (faults_of (groups_of draft)) build.declared
+    ∙ ap (λ (b : Bool). filter_map (fault_at b) (scripts_of build.is)) reentrant
+    ∙ scripts_same scope (is_reentrant draft placed) (scripts_of placed.entity.is) (scripts_of build.is) build.read.scripts
+
+entities_same : (draft : GraphDraft) (placed : List Placed) (entities : List EntityData) → AreRead (entity_in draft) placed entities → flat_map (λ entity. faults_of (groups_of draft) entity.is) entities ≡ flat_map (entity_faults draft) placed
+entities_same draft [] [] reads = refl
+entities_same draft [] (entity ∷ entities) reads = absurd reads
+entities_same draft (p ∷ placed) [] reads = absurd reads
+entities_same draft (p ∷ placed) (entity ∷ entities) reads =
+    λ i. entity_same draft p entity (built draft p entity reads.0) i ++ entities_same draft placed entities reads.1 i
+
+topics_have_none : (groups : List CallbackGroup) (topics : List (List ℕ)) (entities : List EntityData) → flat_map (λ entity. faults_of groups entity.is) (map topic_in topics ++ entities) ≡ flat_map (λ entity. faults_of groups entity.is) entities
+topics_have_none groups [] entities = refl
+topics_have_none groups (topic ∷ topics) entities = topics_have_none groups topics entities
+
+values_same : {B : Type 0} (f : Declared → List B) (entries : List (String Global × Declared)) → flat_map f (values_of entries) ≡ flat_map (λ entity. f entity.is) (entries_of entries)
+values_same f [] = refl
+values_same {B} f (entry ∷ entries) = ap (λ (rest : List B). f entry.1 ++ rest) (values_same f entries)
+
+mapped_some : {A B : Type 0} (K : Type 0) (f : A → B) (o : Option A) (b : B) → option_map f o ≡ Some b → ((a : A) → o ≡ Some a → f a ≡ b → K) → K
+mapped_some K f None b e next = absurd cc
+mapped_some K f (Some a) b e next = next a refl (some_is (f a) b e)
+
+-- the faults of a graph's scripts are those of its draft
+faults_same : (draft : GraphDraft) (entries : List (String Global × Declared)) → option_map (λ others. map topic_in draft.topics ++ others) (each (entity_in draft) (entities_of draft)) ≡ Some (entries_of entries) → flat_map (faults_of (groups_of draft)) (values_of entries) ≡ script_faults draft
+faults_same draft entries is =
+    values_same (faults_of (groups_of draft)) entries
+    ∙ mapped_some _ _ (each (entity_in draft) (entities_of draft)) (entries_of entries) is (λ entities read e.
+    ap (flat_map (λ entity. faults_of (groups_of draft) entity.is)) (sym e)
+    ∙ topics_have_none (groups_of draft) draft.topics entities
+    ∙ entities_same draft (entities_of draft) entities (are_read (entity_in draft) (entities_of draft) entities read))
 
 -- ---- what is found
 
@@ -80,6 +118,22 @@ all_shared [] some others = absurd cc
 all_shared (fault ∷ faults) some others =
     let is = first_shares (is_of_variable fault) (list_any (λ fault. not (is_of_variable fault)) faults) others in
     rw is refl
+
+unmapped : {A B : Type 0} (f : A → B) (o : Option A) → option_map f o ≡ None → o ≡ None
+unmapped f None none = refl
+unmapped f (Some a) none = absurd cc
+
+-- what is neither something is nothing
+pub nothing_else : {A : Type 0} (o : Option A) → ((a : A) → o ≡ Some a → ⊥) → o ≡ None
+nothing_else None other = refl
+nothing_else (Some a) other = absurd (other a refl)
+
+-- what is seen of something, and of nothing
+pub mapped_is : {A B : Type 0} (said : Option B) (f : A → B) (o : Option A) (a : A) → said ≡ option_map f o → o ≡ Some a → said ≡ Some (f a)
+mapped_is said f o a is there = is ∙ ap (option_map f) there
+
+pub mapped_none : {A B : Type 0} (said : Option B) (f : A → B) (o : Option A) → said ≡ option_map f o → o ≡ None → said ≡ None
+mapped_none said f o is there = is ∙ ap (option_map f) there
 
 -- ---- from what is read
 
@@ -127,9 +181,21 @@ module _ (draft : GraphDraft) (found : DirectoryData) (there : Some found ≡ wh
         let long = ap (λ (xs : List (List ℕ)). length xs) (same ∙ ap (λ (ps : List Placed). draft.topics ++ map (λ placed. placed.entity.name) ps) (all ∙ ap (λ (directory : DirectoryData). directory.entities) directory_is)) in
         omega (arith, names_few, length-map texts text_of, long)
 
-    module _ (groups : List CallbackGroup) (grouped : groups ≡ groups_of draft) (faults : List ScriptFault) (listed : faults ≡ flat_map (faults_in found groups) found.entities) where
-      pub faults_are : faults ≡ script_faults draft
-      faults_are = listed ∙ (λ i. flat_map (faults_in (directory_is i) (grouped i)) (directory_is i).entities) ∙ faults_same draft distinct
+    -- what isn't there has a faulty script
+    pub of_unread : option_map (λ others. map topic_in draft.topics ++ others) (each (entity_in draft) (entities_of draft)) ≡ None → fault_in draft ≡ Some graph_fault.Script
+    of_unread none = by (has_faulty_script draft) refl
+      where
+        by : (b : Bool) → has_faulty_script draft ≡ b → fault_in draft ≡ Some graph_fault.Script
+        by true faulty = script_by draft named small faulty
+        by false spelt =
+            let there = has_entities draft (names_kept draft named).resolved spelt in
+            let missing = unmapped _ (each (entity_in draft) (entities_of draft)) none in
+            let contrary : true ≡ false = sym there ∙ ap is_some missing in
+            absurd cc
+
+    module _ (groups : List CallbackGroup) (grouped : groups ≡ groups_of draft) (entries : List (String Global × Declared)) (read : option_map (λ others. map topic_in draft.topics ++ others) (each (entity_in draft) (entities_of draft)) ≡ Some (entries_of entries)) (faults : List ScriptFault) (listed : faults ≡ flat_map (faults_of groups) (values_of entries)) where
+      faults_are : faults ≡ script_faults draft
+      faults_are = listed ∙ ap (λ (groups : List CallbackGroup). flat_map (faults_of groups) (values_of entries)) grouped ∙ faults_same draft entries read
 
       -- a script is faulty
       pub of_script : true ≡ list_any (λ fault. not (is_of_variable fault)) faults → fault_in draft ≡ Some graph_fault.Script
@@ -147,20 +213,6 @@ module _ (draft : GraphDraft) (found : DirectoryData) (there : Some found ≡ wh
       of_none faulty none = none_by draft named small (unfaulty faulty) (ap (list_any is_of_variable) (sym faults_are) ∙ ap (list_any is_of_variable) (nothing faults (eqb-true (length faults) 0 none)))
 
 -- ---- the graph
-
--- a draft without a fault has its entities
-unread : (draft : GraphDraft) → each (entity_in draft) (entities_of draft) ≡ None → is_some (graph_in draft) ≡ false
-unread draft none = rw none refl
-
-no_entities : (draft : GraphDraft) → fault_in draft ≡ None → each (entity_in draft) (entities_of draft) ≡ None → false ≡ true
-no_entities draft faultless none = sym (unread draft none) ∙ has_graph draft faultless
-
--- so a refusal of them is one of memory
-pub only_memory : (draft : GraphDraft) (found : DirectoryData) (groups : List CallbackGroup) (fault : GraphFault) → fault_in draft ≡ None → are_distinct (names_of draft) ≡ true → found ≡ directory_of draft → groups ≡ groups_of draft →
-    (fault ≡ graph_fault.Memory) ⊎ ((source : GraphDraft) → are_distinct (names_of source) ≡ true → found ≡ directory_of source → groups ≡ groups_of source → each (entity_in source) (entities_of source) ≡ None) →
-    (fault ≡ graph_fault.Memory) ⊎ (fault_in draft ≡ Some fault)
-only_memory draft found groups fault faultless distinct same grouped (inl memory) = inl memory
-only_memory draft found groups fault faultless distinct same grouped (inr none) = let e = no_entities draft faultless (none draft distinct same grouped) in absurd cc
 
 -- the names of a graph
 graph_names : (draft : GraphDraft) (made : GraphData) → graph_in draft ≡ Some made → graph.names_of made ≡ names_of draft

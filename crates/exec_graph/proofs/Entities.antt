@@ -1,5 +1,5 @@
 -- Each entity of a document that no code refuses is lawful.
-use Rattle.std.proofs.Common.{◌≡◌, ℕ, true, not, ◌&&◌, length, map, nat_le, ◌++◌, List, [], ◌∷◌, Option, None, Some, Result, Ok, Err, All, flat_map, filter_map, option_map, refl, sym, ap, ◌∙◌, subst}
+use Rattle.std.proofs.Common.{◌≡◌, true, not, ◌&&◌, length, map, nat_le, ◌++◌, List, [], ◌∷◌, Option, None, Some, Result, Ok, Err, All, flat_map, filter_map, option_map, refl, sym, ap, ◌∙◌, subst}
 use Rattle.std.specs.List.{list_all}
 use Rattle.std.specs.Result.{result_ok, result_err}
 use Rattle.std.proofs.lemmas.Bool.{leb-true}

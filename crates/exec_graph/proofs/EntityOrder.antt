@@ -1,6 +1,7 @@
 -- The entities of all kinds, one kind after another.
-use Rattle.std.proofs.Common.{◌≡◌, ℕ, suc, ◌+◌, ◌<◌, length, get_or, drop, add-one, List, ◌∷◌, ◌++◌, flat_map, filter_map, Option, None, Some, refl, sym, ap, ◌∙◌, append_assoc}
+use Rattle.std.proofs.Common.{◌≡◌, ℕ, suc, ◌+◌, ◌<◌, length, get_or, drop, add-one, List, ◌∷◌, ◌++◌, flat_map, filter_map, Option, None, Some, slice_get, refl, sym, ap, ◌∙◌, append_assoc}
 use Rattle.std.proofs.Math.Seq.{drop-cons}
+use Rattle.std.proofs.lemmas.Option.{get_or_from_slice_get, slice_get_within}
 use Rattle.exec_graph.specs.Directory.{listed}
 
 -- what is gathered so far gains what the next gives
@@ -32,3 +33,9 @@ next_listed {A} {B} f xs i x front more found within there is gives =
     ap (λ (all : List B). all ++ filter_map f (drop (i + 1) xs)) is
     ∙ append_assoc front (listed found) (filter_map f (drop (i + 1) xs))
     ∙ ap (λ (all : List B). front ++ all) (kept_by f x (drop (i + 1) xs) found (sym gives) ∙ ap (filter_map f) (sym (from_place xs i x within there)))
+
+-- the same where the next is the one at a place
+pub next_at : {A B : Type 0} (f : A → List B) (xs : List A) (i : ℕ) (x : A) (front more : List B) → slice_get xs i ≡ Some x → more ≡ front ++ f x →
+    more ++ flat_map f (drop (i + 1) xs) ≡ front ++ flat_map f (drop i xs)
+next_at f xs i x front more there is =
+    next_given f xs i x front more (f x) (slice_get_within xs i x there) (sym (get_or_from_slice_get xs i x x there)) is refl

@@ -1,8 +1,7 @@
 -- What an entity has of the one of which it is read, and when it can be read.
-use Rattle.std.proofs.Common.{◌≡◌, Bool, true, ◌&&◌, is_some, List, [], ◌∷◌, Option, None, Some, option_map, refl, ap, subst}
+use Rattle.std.proofs.Common.{◌≡◌, Bool, true, ◌&&◌, is_some, Option, None, Some, option_map, refl, ap, subst}
 use Rattle.std.specs.List.{list_all}
-use Rattle.exec_graph.specs.Entity.{EntityNo, RoleScriptData, kind_of, is_of, refers, is_within, result_scripts, scripts_of, if_there, read_by}
-use Rattle.exec_graph.specs.declared.entity.EntityKind.{EntityKind}
+use Rattle.exec_graph.specs.Entity.{RoleScriptData, kind_of, refers, is_within, result_scripts, scripts_of, if_there, read_by}
 use Rattle.exec_graph.specs.declared.entity.EntityKind.TheVariants as entity_kind
 use Rattle.exec_graph.specs.declared.entity.EntityOf.{EntityOf}
 use Rattle.exec_graph.specs.declared.entity.EntityOf.TheVariants.{Timer, Subscription, Service, Client, Server, ActionClient}
@@ -14,7 +13,7 @@ use Rattle.exec_graph.proofs.Bools.{and_left, and_right}
 use Rattle.exec_graph.proofs.Reading.{then_read, then_some, AreRead, some_is}
 
 -- a script with its role
-abbrev roled : {S : Type 0} → Role → S → RoleScriptData S
+abbrev pub roled : {S : Type 0} → Role → S → RoleScriptData S
 roled runs script = record { role = runs; script = script }
 
 -- a script with its role, where it can be read

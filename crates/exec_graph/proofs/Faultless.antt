@@ -1,15 +1,21 @@
--- A document without faults in its scripts: each of them is spelt well, and is legal in its place.
-use Rattle.std.proofs.Common.{◌≡◌, Bool, true, is_some, List, [], ◌∷◌, ◌++◌, Option, None, Some, Result, Ok, Err, filter_map, refl}
-use Rattle.std.specs.List.{cons_option, list_all}
+-- Scripts without faults: each is spelt well.
+use Rattle.std.proofs.Common.{◌≡◌, Bool, true, false, not, is_some, List, [], ◌∷◌, ◌++◌, Option, None, Some, Result, Ok, Err, filter_map, option_map, refl, ap, sym, ◌∙◌}
+use Rattle.std.specs.List.{cons_option, list_all, list_any}
 use Rattle.std.specs.Result.{result_ok, result_err}
-use Rattle.exec_graph.specs.Entity.{Spelled, RoleScriptData}
+use Rattle.exec_graph.specs.Directory.{fault_at}
+use Rattle.exec_graph.specs.Entity.{Spelled, Script, RoleScriptData}
+use Rattle.exec_graph.specs.Faults.{is_of_variable}
 use Rattle.exec_graph.specs.Resolved.{script_in}
 use Rattle.exec_graph.specs.Scripts.{fault_of}
 use Rattle.exec_script.specs.Legality.{legality_of}
 use Rattle.exec_script.specs.Spelling.{ScopeNames, script_of, ◌>>=◌}
 use Rattle.exec_script.specs.declared.fault.ScriptFault.{ScriptFault}
 use Rattle.exec_script.specs.declared.instr.Instr.{Instr}
-use Rattle.exec_graph.proofs.Bools.{both_true}
+use Rattle.exec_script.specs.declared.place.Role.{Role}
+use Rattle.exec_graph.proofs.Bools.{or_left, or_right, both_true}
+use Rattle.exec_graph.proofs.EntityReading.{roled, roled_by}
+use Rattle.exec_graph.proofs.Misspelt.{IsOther, script_other}
+use Rattle.exec_graph.proofs.Reading.{AreRead, some_is}
 
 -- ---- lists with nothing in them
 
@@ -31,19 +37,39 @@ others_nothing (Some x) xs e = absurd cc
 
 -- ---- scripts
 
-read_well : (read : Result (List Instr) ScriptFault) (legal : List Instr → Result (Unit {0}) ScriptFault) → result_err (read >>= legal) ≡ None → is_some (result_ok read) ≡ true
-read_well (Ok script) legal faultless = refl
-read_well (Err fault) legal faultless = absurd cc
+-- whether a fault isn't that of a group variable
+abbrev pub is_another : ScriptFault → Bool
+is_another fault = not (is_of_variable fault)
 
--- a script without a fault is spelt well
-spelt_well : (scope : ScopeNames) (reentrant : Bool) (roled : RoleScriptData Spelled) → fault_of scope reentrant roled ≡ None → is_some (script_in scope roled.script) ≡ true
-spelt_well scope reentrant roled faultless = read_well (script_of scope roled.script) (λ script. legality_of script (record { reentrant = reentrant; role = roled.role })) faultless
+spelt_by : (read : Result (List Instr) ScriptFault) (legal : List Instr → Result (Unit {0}) ScriptFault) (others : List ScriptFault) → IsOther read → list_any is_another (cons_option (result_err (read >>= legal)) others) ≡ false → is_some (result_ok read) ≡ true
+spelt_by (Ok script) legal others other none = refl
+spelt_by (Err fault) legal others other none =
+    let contrary : true ≡ false = sym (ap not other) ∙ or_left (is_another fault) (list_any is_another others) none in
+    absurd cc
 
--- so are all scripts without one
-pub all_spelt : (scope : ScopeNames) (reentrant : Bool) (scripts : List (RoleScriptData Spelled)) → filter_map (fault_of scope reentrant) scripts ≡ [] → list_all (λ roled. is_some (script_in scope roled.script)) scripts ≡ true
-all_spelt scope reentrant [] faultless = refl
-all_spelt scope reentrant (roled ∷ scripts) faultless =
+others_none : (o : Option ScriptFault) (others : List ScriptFault) → list_any is_another (cons_option o others) ≡ false → list_any is_another others ≡ false
+others_none None others none = none
+others_none (Some fault) others none = or_right (is_another fault) (list_any is_another others) none
+
+-- scripts of which none has another fault than that of a variable are spelt well
+pub all_spelt : (scope : ScopeNames) (reentrant : Bool) (scripts : List (RoleScriptData Spelled)) → list_any is_another (filter_map (fault_of scope reentrant) scripts) ≡ false → list_all (λ roled. is_some (script_in scope roled.script)) scripts ≡ true
+all_spelt scope reentrant [] none = refl
+all_spelt scope reentrant (roled ∷ scripts) none =
     let others = filter_map (fault_of scope reentrant) scripts in
     both_true (is_some (script_in scope roled.script)) (list_all (λ roled. is_some (script_in scope roled.script)) scripts)
-    (spelt_well scope reentrant roled (first_none (fault_of scope reentrant roled) others faultless))
-    (all_spelt scope reentrant scripts (others_nothing (fault_of scope reentrant roled) others faultless))
+    (spelt_by (script_of scope roled.script) (λ script. legality_of script (record { reentrant = reentrant; role = roled.role })) others (script_other scope roled.script) none)
+    (all_spelt scope reentrant scripts (others_none (fault_of scope reentrant roled) others none))
+
+-- ---- faults of scripts that were read
+
+fault_by : (reentrant : Bool) (runs : Role) (read : Result (List Instr) ScriptFault) (is : RoleScriptData Script) → option_map (roled runs) (result_ok read) ≡ Some is → fault_at reentrant is ≡ result_err (read >>= (λ script. legality_of script (record { reentrant = reentrant; role = runs })))
+fault_by reentrant runs (Ok script) is e = ap (fault_at reentrant) (sym (some_is (roled runs script) is e))
+fault_by reentrant runs (Err fault) is e = absurd cc
+
+-- the faults of scripts that were read are those of their spelling
+pub scripts_same : (scope : ScopeNames) (reentrant : Bool) (spelt : List (RoleScriptData Spelled)) (scripts : List (RoleScriptData Script)) → AreRead (roled_by (script_in scope)) spelt scripts → filter_map (fault_at reentrant) scripts ≡ filter_map (fault_of scope reentrant) spelt
+scripts_same scope reentrant [] [] reads = refl
+scripts_same scope reentrant [] (is ∷ scripts) reads = absurd reads
+scripts_same scope reentrant (from ∷ spelt) [] reads = absurd reads
+scripts_same scope reentrant (from ∷ spelt) (is ∷ scripts) reads =
+    λ i. cons_option (fault_by reentrant from.role (script_of scope from.script) is reads.0 i) (scripts_same scope reentrant spelt scripts reads.1 i)

@@ -20,6 +20,7 @@ pub mod Lawful
 pub mod Listed
 pub mod Looking
 pub mod Lookups
+pub mod Misspelt
 pub mod NameLists
 pub mod Positions
 pub mod Reading

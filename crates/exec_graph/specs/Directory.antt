@@ -1,22 +1,26 @@
 -- A directory of what a graph declares, which finds names.
 use Rattle.std.specs.Prelude.{ℕ, ◌-◌, List, [], ◌∷◌, ◌++◌, length, map, Bool, true, false, not, ◌&&◌, ◌==◌, nat_lt, is_some, if◌then◌else◌, Option, None, Some, option_and_then, slice_get}
 use Rattle.std.specs.List.{filter_map, list_any, position_from}
-use Rattle.std.specs.List.{find as first}
 use Rattle.std.specs.Option.{option_map, option_map_or}
-use Rattle.exec_graph.specs.Scripts.{fault_of}
+use Rattle.std.specs.Result.{result_err}
 use Rattle.exec_graph.specs.declared.entity.CallbackGroup.{CallbackGroup}
+use Rattle.exec_graph.specs.declared.entity.Declared.{Declared}
+use Rattle.exec_graph.specs.declared.entity.Declared.TheVariants.{Topic, Entity}
+use Rattle.exec_graph.specs.declared.entity.GraphEntity.{GraphEntity}
 use Rattle.exec_graph.specs.declared.entity.EntityKind.TheVariants as kind
 use Rattle.exec_graph.specs.declared.entity.Referent.{Referent}
 use Rattle.exec_graph.specs.declared.entity.Referent.TheVariants as referent
 use Rattle.exec_script.specs.declared.fault.ScriptFault.{ScriptFault}
 use Rattle.std.specs.Str.{bytes_eq}
 use Rattle.exec_graph.specs.Draft.{GraphDraft}
-use Rattle.exec_graph.specs.Entity.{Drafted, Resolved, is_of, refers, scripts_of, read_by}
+use Rattle.exec_graph.specs.Entity.{Drafted, Script, Resolved, RoleScriptData, is_of, refers, scripts_of, read_by}
+use Rattle.exec_graph.specs.Graph.{EntityData, GroupNo}
 use Rattle.exec_graph.specs.declared.draft.NodeDraft.{NodeDraft}
 use Rattle.exec_graph.specs.Faults.{names_of}
 use Rattle.exec_graph.specs.Names.{is_name}
-use Rattle.exec_graph.specs.Numbers.{Placed, entities_of, is_group}
+use Rattle.exec_graph.specs.Numbers.{Placed, entities_of}
 use Rattle.exec_graph.specs.Resolved.{script_in}
+use Rattle.exec_script.specs.Legality.{legality_of}
 use Rattle.exec_script.specs.Spelling.{ScopeNames}
 
 -- ---- names
@@ -125,13 +129,26 @@ pub record NodeData : Type 0 where
 abbrev pub resolved_by : NodeData → Drafted → Option Resolved
 resolved_by scope = read_by (number_in scope.directory) (script_in (scope_in scope.directory scope.node))
 
--- whether the group of an entity is reentrant, where these are the groups
-abbrev pub is_reentrant_in : List CallbackGroup → Placed → Bool
-is_reentrant_in groups placed = option_map_or (λ group. not group.exclusive) (first (is_group placed.node placed.entity.group) groups) false
+-- what is declared as this, with the name of a placed entity
+abbrev pub titled : Placed → Declared → EntityData
+titled placed is = record { name = placed.entity.name; is = is }
 
--- the faults of an entity's scripts
-abbrev pub faults_in : DirectoryData → List CallbackGroup → Placed → List ScriptFault
-faults_in directory groups placed = filter_map (fault_of (scope_in directory placed.node) (is_reentrant_in groups placed)) (scripts_of placed.entity.is)
+-- whether the callback group of a number is reentrant
+abbrev pub is_reentrant_at : List CallbackGroup → GroupNo → Bool
+is_reentrant_at groups group = option_map_or (λ found. not found.exclusive) (slice_get groups group) false
+
+-- the fault of a decoded script in its place
+abbrev pub fault_at : Bool → RoleScriptData Script → Option ScriptFault
+fault_at reentrant roled = result_err (legality_of roled.script (record { reentrant = reentrant; role = roled.role }))
+
+-- the faults of the scripts of an entity of a graph
+abbrev pub faults_at : List CallbackGroup → GraphEntity → List ScriptFault
+faults_at groups entity = filter_map (fault_at (is_reentrant_at groups entity.group)) (scripts_of entity.is)
+
+-- the faults of the scripts of what is declared
+abbrev pub faults_of : List CallbackGroup → Declared → List ScriptFault
+faults_of groups Topic = []
+faults_of groups (Entity entity) = faults_at groups entity
 
 -- what there is, as a list
 abbrev pub listed : {A : Type 0} → Option A → List A

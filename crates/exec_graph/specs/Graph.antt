@@ -11,7 +11,6 @@ use Rattle.exec_graph.specs.declared.entity.Declared.TheVariants.{Topic, Entity}
 use Rattle.exec_graph.specs.declared.entity.EntityKind.{EntityKind}
 use Rattle.exec_graph.specs.declared.entity.EntityKind.TheVariants as entity_kind
 use Rattle.exec_graph.specs.declared.entity.EntityOf.TheVariants.{Timer, Subscription, Service, Client, Server, ActionClient}
-use Rattle.exec_graph.specs.declared.entity.GraphEntity.{GraphEntity}
 
 -- the number of a callback group
 abbrev pub GroupNo : Type 0

@@ -1,12 +1,12 @@
 //! How a graph is made of what was declared.
-ghost use Rattle.std.specs.Prelude.{◌≡◌, ◌⊎◌, ◌++◌, ◌≤◌, length, map, string_bytes, ◌∷◌, [], None, Some, true, false, not, IfOk, IfErr, OnOk};
+ghost use Rattle.std.specs.Prelude.{◌≡◌, ◌⊎◌, ◌++◌, ◌≤◌, length, map, string_bytes, ◌∷◌, [], None, Some, true, false, IfOk, IfErr, OnOk};
 ghost use Rattle.std.specs.List.{list_any};
 ghost use Rattle.std.specs.Option.{option_map};
 ghost use Rattle.std.specs.Str.{bytes_eq};
-ghost use Rattle.exec_graph.specs.Directory.{directory_of, draft_of, where_so};
+ghost use Rattle.exec_graph.specs.Directory.{directory_of, draft_of, titled, where_so};
 ghost use Rattle.exec_graph.specs.Draft.{GraphDraft};
 ghost use Rattle.exec_graph.specs.Entries.{entities_of as entries_of};
-ghost use Rattle.exec_graph.specs.Faults.{is_of_variable, is_well_named};
+ghost use Rattle.exec_graph.specs.Faults.{is_well_named};
 ghost use Rattle.exec_graph.specs.Faults as faults;
 ghost use Rattle.exec_graph.specs.Names.{are_distinct};
 ghost use Rattle.exec_graph.specs.Numbers.{groups_of};
@@ -16,7 +16,7 @@ ghost use Rattle.exec_graph.specs.Refusals.{fault_in};
 ghost use Rattle.exec_graph.specs.Resolved.{entity_in, graph_in, topic_in};
 ghost use Rattle.exec_graph.specs.declared.fault.GraphFault.TheVariants as graph_fault;
 
-use crate::declaring::resolved;
+use crate::declaring::{Unread, resolved};
 use crate::directory::{Directory, has_node_names};
 use crate::draft::NodeDraft;
 use crate::entity::{CallbackGroup, Declared, GraphEntity};
@@ -26,9 +26,8 @@ use crate::grouping::{callback_groups, group_named};
 use crate::limits::is_small;
 use crate::numbering::PlacedEntity;
 use crate::scope::NodeScope;
-use crate::scripts::script_faults;
+use crate::scripts::{is_any_faulty, script_faults};
 use exec_msg::{Memory, Names};
-use exec_script::ScriptFault;
 use indexmap::IndexMap;
 use std::alloc::Global;
 
@@ -49,14 +48,16 @@ pub(crate) fn graph_of(
         return Err(GraphFault::Limit);
     }
     let groups = callback_groups(alloc, nodes)?;
-    let faults = script_faults(alloc, directory, &groups)?;
+    let Some(entities) = entities_of(alloc, topics, directory, &groups)? else {
+        return Err(GraphFault::Script);
+    };
+    let faults = script_faults(alloc, &entities, &groups)?;
     if is_any_faulty(&faults) {
         return Err(GraphFault::Script);
     }
     if !faults.is_empty() {
         return Err(GraphFault::GroupVariable);
     }
-    let entities = entities_of(alloc, topics, directory, &groups)?;
     let names = names_of(alloc, topics, directory.entities())?;
     let nodes = node_names(alloc, nodes)?;
     Ok(Graph {
@@ -87,38 +88,26 @@ pub(crate) fn well_named<'a>(
     Ok(Some(directory))
 }
 
-// Whether a fault isn't that of a group variable in a reentrant group.
-fn is_any_faulty(faults: &[ScriptFault]) -> bool
-    ensures { result ≡ list_any (λ fault. not (is_of_variable fault)) faults.now }
-{
-    for fault in faults {
-        if !matches!(fault, ScriptFault::GroupVariable) {
-            return true;
-        }
-    }
-    false
-}
-
-// The topics and entities at their numbers.
+// The topics and entities at their numbers, where what they refer to is declared and their scripts are spelt well.
 fn entities_of(
     alloc: Global,
     topics: &[String],
     directory: &Directory<'_>,
     groups: &[CallbackGroup],
-) -> Result<IndexMap<String, Declared>, GraphFault>
+) -> Result<Option<IndexMap<String, Declared>>, Memory>
     requires names { length directory.now.names ≤ 65536 }
     requires groups { length groups.now ≤ 65536 }
-    ensures entities { IfOk result (λ entities. (source : GraphDraft) → are_distinct (faults.names_of source) ≡ true → map string_bytes topics.now ≡ source.topics → directory.now ≡ directory_of source → groups.now ≡ groups_of source →
-        option_map (λ others. map topic_in source.topics ++ others) (each (entity_in source) (numbers.entities_of source)) ≡ Some (entries_of entities.entries)) }
-    ensures fault { IfErr result (λ fault. (fault ≡ graph_fault.Memory) ⊎ ((source : GraphDraft) → are_distinct (faults.names_of source) ≡ true → directory.now ≡ directory_of source → groups.now ≡ groups_of source →
-        each (entity_in source) (numbers.entities_of source) ≡ None)) }
+    ensures { IfOk result (λ found. (source : GraphDraft) → are_distinct (faults.names_of source) ≡ true → map string_bytes topics.now ≡ source.topics → directory.now ≡ directory_of source → groups.now ≡ groups_of source →
+        option_map (λ others. map topic_in source.topics ++ others) (each (entity_in source) (numbers.entities_of source)) ≡ option_map (λ entities. entries_of entities.entries) found) }
 {
     let mut entities = topics_of(alloc, topics)?;
     for placed in directory.entities() {
-        let is = declared(alloc, directory, groups, placed)?;
+        let Some(is) = declared(alloc, directory, groups, placed)? else {
+            return Ok(None);
+        };
         append(alloc, placed.entity.name.as_str(), is, &mut entities)?;
     }
-    Ok(entities)
+    Ok(Some(entities))
 }
 
 // The topics at their numbers.
@@ -152,20 +141,21 @@ fn declared(
     directory: &Directory<'_>,
     groups: &[CallbackGroup],
     placed: &PlacedEntity<'_>,
-) -> Result<Declared, GraphFault>
+) -> Result<Option<Declared>, Memory>
     requires names { length directory.now.names ≤ 65536 }
     requires groups { length groups.now ≤ 65536 }
-    ensures is { IfOk result (λ is. (source : GraphDraft) → are_distinct (faults.names_of source) ≡ true → directory.now ≡ directory_of source → groups.now ≡ groups_of source →
-        entity_in source placed.now ≡ Some (record { name = placed.now.entity.name; is = is })) }
-    ensures fault { IfErr result (λ fault. (fault ≡ graph_fault.Memory) ⊎ ((source : GraphDraft) → are_distinct (faults.names_of source) ≡ true → directory.now ≡ directory_of source → groups.now ≡ groups_of source →
-        entity_in source placed.now ≡ None)) }
+    ensures { IfOk result (λ found. (source : GraphDraft) → are_distinct (faults.names_of source) ≡ true → directory.now ≡ directory_of source → groups.now ≡ groups_of source →
+        entity_in source placed.now ≡ option_map (titled placed.now) found) }
 {
     let Some(group) = group_named(groups, placed.node, &placed.entity.group) else {
-        return Err(GraphFault::Name);
+        return Ok(None);
     };
     let scope = NodeScope::of(directory, placed.node);
-    let entity = resolved(alloc, &scope, &placed.entity.is)?;
-    Ok(Declared::Entity(GraphEntity { group, is: entity }))
+    match resolved(alloc, &scope, &placed.entity.is) {
+        Ok(is) => Ok(Some(Declared::Entity(GraphEntity { group, is }))),
+        Err(Unread::Memory) => Err(Memory),
+        Err(Unread::Wrong) => Ok(None),
+    }
 }
 
 // The names of topics and entities at their numbers.

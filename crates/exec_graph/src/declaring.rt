@@ -4,6 +4,7 @@ ghost use Rattle.exec_graph.specs.Directory.{number_in, scope_in, resolved_by};
 ghost use Rattle.exec_graph.specs.Entity.{if_there};
 ghost use Rattle.exec_graph.specs.Gives.{Gives};
 ghost use Rattle.exec_graph.specs.Resolved.{script_in};
+ghost use Rattle.exec_graph.specs.declared.declaring.Unread.TheVariants as unread;
 ghost use Rattle.exec_graph.specs.declared.entity.EntityOf.TheVariants as variant;
 
 use crate::draft::Drafted;
@@ -11,22 +12,38 @@ use crate::entity::{
     ActionClientEntity, ClientEntity, EntityKind, EntityOf, Referent, ServerEntity, ServiceEntity,
     SubscriptionEntity, TimerEntity,
 };
-use crate::fault::GraphFault;
 use crate::scope::NodeScope;
 use crate::script::{Script, Spelled};
 use exec_msg::EntityNo;
 use exec_script::{ScriptFault, WordText, decode};
-use std::alloc::Global;
+use std::alloc::{AllocFailed, Global};
 use std::sync::Arc;
 
 type Resolved = EntityOf<EntityNo, Script>;
+
+// Why an entity isn't read.
+#[derive(Clone, Copy)]
+pub(crate) enum Unread {
+    // A growth was refused.
+    Memory,
+    // A name isn't declared, or a script is misspelt.
+    Wrong,
+}
+
+impl<T: Drop> From<AllocFailed<T>> for Unread {
+    ghost from_gives = { λ _ fault. fault ≡ unread.Memory };
+
+    fn from(_refused: AllocFailed<T>) -> Unread {
+        Unread::Memory
+    }
+}
 
 // What an entity of the scope's node is.
 pub(crate) fn resolved(
     alloc: Global,
     scope: &NodeScope<'_, '_>,
     entity: &Drafted,
-) -> Result<Resolved, GraphFault>
+) -> Result<Resolved, Unread>
     ensures { Gives result (resolved_by scope.now entity.now) }
 {
     match entity {
@@ -43,7 +60,7 @@ fn timer(
     alloc: Global,
     scope: &NodeScope<'_, '_>,
     entity: &TimerEntity<Spelled>,
-) -> Result<Resolved, GraphFault>
+) -> Result<Resolved, Unread>
     ensures { Gives result (resolved_by scope.now (variant.Timer entity.now)) }
 {
     Ok(EntityOf::Timer(TimerEntity {
@@ -56,7 +73,7 @@ fn subscription(
     alloc: Global,
     scope: &NodeScope<'_, '_>,
     entity: &SubscriptionEntity<WordText, Spelled>,
-) -> Result<Resolved, GraphFault>
+) -> Result<Resolved, Unread>
     ensures { Gives result (resolved_by scope.now (variant.Subscription entity.now)) }
 {
     Ok(EntityOf::Subscription(SubscriptionEntity {
@@ -70,7 +87,7 @@ fn service(
     alloc: Global,
     scope: &NodeScope<'_, '_>,
     entity: &ServiceEntity<Spelled>,
-) -> Result<Resolved, GraphFault>
+) -> Result<Resolved, Unread>
     ensures { Gives result (resolved_by scope.now (variant.Service entity.now)) }
 {
     Ok(EntityOf::Service(ServiceEntity {
@@ -83,7 +100,7 @@ fn client(
     alloc: Global,
     scope: &NodeScope<'_, '_>,
     entity: &ClientEntity<WordText, Spelled>,
-) -> Result<Resolved, GraphFault>
+) -> Result<Resolved, Unread>
     ensures { Gives result (resolved_by scope.now (variant.Client entity.now)) }
 {
     Ok(EntityOf::Client(ClientEntity {
@@ -101,7 +118,7 @@ fn server(
     alloc: Global,
     scope: &NodeScope<'_, '_>,
     entity: &ServerEntity<Spelled>,
-) -> Result<Resolved, GraphFault>
+) -> Result<Resolved, Unread>
     ensures { Gives result (resolved_by scope.now (variant.Server entity.now)) }
 {
     Ok(EntityOf::Server(ServerEntity {
@@ -117,7 +134,7 @@ fn action_client(
     alloc: Global,
     scope: &NodeScope<'_, '_>,
     entity: &ActionClientEntity<WordText, Spelled>,
-) -> Result<Resolved, GraphFault>
+) -> Result<Resolved, Unread>
     ensures { Gives result (resolved_by scope.now (variant.ActionClient entity.now)) }
 {
     Ok(EntityOf::ActionClient(ActionClientEntity {
@@ -131,12 +148,12 @@ fn action_client(
 }
 
 // The number of what a name must be declared as.
-fn number(scope: &NodeScope<'_, '_>, to: Referent, name: &WordText) -> Result<EntityNo, GraphFault>
+fn number(scope: &NodeScope<'_, '_>, to: Referent, name: &WordText) -> Result<EntityNo, Unread>
     ensures { Gives result (number_in scope.now.directory to name.now) }
 {
     match scope.number(to, name.as_str()) {
         Some(number) => Ok(number),
-        None => Err(GraphFault::Name),
+        None => Err(Unread::Wrong),
     }
 }
 
@@ -145,7 +162,7 @@ fn result_script_in(
     alloc: Global,
     scope: &NodeScope<'_, '_>,
     words: &Option<Spelled>,
-) -> Result<Option<Script>, GraphFault>
+) -> Result<Option<Script>, Unread>
     ensures { Gives result (if_there (script_in (scope_in scope.now.directory scope.now.node)) words.now) }
 {
     let Some(words) = words else {
@@ -155,16 +172,12 @@ fn result_script_in(
     Ok(Some(script))
 }
 
-fn script_in(
-    alloc: Global,
-    scope: &NodeScope<'_, '_>,
-    words: &Spelled,
-) -> Result<Script, GraphFault>
+fn script_in(alloc: Global, scope: &NodeScope<'_, '_>, words: &Spelled) -> Result<Script, Unread>
     ensures { Gives result (script_in (scope_in scope.now.directory scope.now.node) words.now) }
 {
     match decode(alloc, words.as_slice(), scope) {
         Ok(script) => Ok(Script::of(Arc::new(alloc, script)?)),
-        Err(ScriptFault::Memory) => Err(GraphFault::Memory),
-        Err(_) => Err(GraphFault::Script),
+        Err(ScriptFault::Memory) => Err(Unread::Memory),
+        Err(_) => Err(Unread::Wrong),
     }
 }

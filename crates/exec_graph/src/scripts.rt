@@ -1,50 +1,58 @@
-//! The scripts of a graph and their faults.
-ghost use Rattle.std.specs.Prelude.{◌≡◌, [], ◌∷◌, ◌++◌, ◌≤◌, length, IfOk, OnOk};
-ghost use Rattle.std.specs.List.{filter_map, flat_map};
-ghost use Rattle.exec_graph.specs.Directory.{scope_in, faults_in, listed};
+//! The faults of a graph's scripts, which are decoded, in their places.
+ghost use Rattle.std.specs.Prelude.{◌≡◌, [], ◌++◌, not, IfOk, OnOk};
+ghost use Rattle.std.specs.List.{filter_map, flat_map, list_any};
+ghost use Rattle.std.specs.Map.{values_of};
+ghost use Rattle.exec_graph.specs.Directory.{fault_at, faults_at, faults_of, is_reentrant_at, listed};
 ghost use Rattle.exec_graph.specs.Entity.{scripts_of};
-ghost use Rattle.exec_graph.specs.Scripts.{fault_of};
+ghost use Rattle.exec_graph.specs.Faults.{is_of_variable};
 
-use crate::directory::Directory;
-use crate::draft::Drafted;
-use crate::entity::{CallbackGroup, RoleScript};
-use crate::grouping::is_reentrant;
-use crate::scope::NodeScope;
-use crate::script::Spelled;
+use crate::entity::{CallbackGroup, Declared, GraphEntity, GroupNo, RoleScript};
+use crate::script::Script;
 use exec_msg::Memory;
-use exec_script::{Place, ScriptFault, check, decode};
+use exec_script::{Place, ScriptFault, check};
+use indexmap::IndexMap;
 use std::alloc::Global;
 
 // The faults of all scripts in the order of the entities, one at most of each.
 pub(crate) fn script_faults(
     alloc: Global,
-    directory: &Directory<'_>,
+    entities: &IndexMap<String, Declared>,
     groups: &[CallbackGroup],
 ) -> Result<Vec<ScriptFault>, Memory>
-    requires { length directory.now.names ≤ 65536 }
-    ensures { IfOk result (λ faults. faults.items ≡ flat_map (faults_in directory.now groups.now) directory.now.entities) }
+    ensures { IfOk result (λ faults. faults.items ≡ flat_map (faults_of groups.now) (values_of entities.now.entries)) }
 {
     let mut faults = Vec::new(alloc);
-    for placed in directory.entities() {
-        let scope = NodeScope::of(directory, placed.node);
-        let reentrant = is_reentrant(groups, placed.node, &placed.entity.group);
-        append_faults(alloc, &scope, reentrant, &placed.entity.is, &mut faults)?;
+    for number in 0..entities.len() {
+        append_declared(alloc, groups, &entities[number], &mut faults)?;
     }
     Ok(faults)
 }
 
-fn append_faults(
+fn append_declared(
     alloc: Global,
-    scope: &NodeScope<'_, '_>,
-    reentrant: bool,
-    entity: &Drafted,
+    groups: &[CallbackGroup],
+    declared: &Declared,
     faults: &mut Vec<ScriptFault>,
 ) -> Result<(), Memory>
-    ensures { OnOk result (faults.new.items
-        ≡ faults.old.items ++ filter_map (fault_of (scope_in scope.now.directory scope.now.node) reentrant) (scripts_of entity.now)) }
+    ensures { OnOk result (faults.new.items ≡ faults.old.items ++ faults_of groups.now declared.now) }
 {
-    for roled in entity.scripts(alloc)?.iter() {
-        append_fault(faults, fault_of(alloc, scope, reentrant, roled)?)?;
+    match declared {
+        Declared::Topic => Ok(()),
+        Declared::Entity(entity) => append_faults(alloc, groups, entity, faults),
+    }
+}
+
+fn append_faults(
+    alloc: Global,
+    groups: &[CallbackGroup],
+    entity: &GraphEntity,
+    faults: &mut Vec<ScriptFault>,
+) -> Result<(), Memory>
+    ensures { OnOk result (faults.new.items ≡ faults.old.items ++ faults_at groups.now entity.now) }
+{
+    let reentrant = is_reentrant(groups, entity.group);
+    for roled in entity.is.scripts(alloc)?.iter() {
+        append_fault(faults, fault_of(reentrant, roled))?;
     }
     Ok(())
 }
@@ -58,22 +66,34 @@ fn append_fault(faults: &mut Vec<ScriptFault>, fault: Option<ScriptFault>) -> Re
     Ok(())
 }
 
-// The first fault of a script in its place: of its spelling, else of what is legal there.
-fn fault_of(
-    alloc: Global,
-    scope: &NodeScope<'_, '_>,
-    reentrant: bool,
-    roled: &RoleScript<'_, Spelled>,
-) -> Result<Option<ScriptFault>, Memory>
-    ensures { IfOk result (λ fault. fault ≡ fault_of (scope_in scope.now.directory scope.now.node) reentrant roled.now) }
+fn fault_of(reentrant: bool, roled: &RoleScript<'_, Script>) -> Option<ScriptFault>
+    ensures { result ≡ fault_at reentrant roled.now }
 {
     let place = Place {
         reentrant,
         role: roled.role,
     };
-    match decode(alloc, roled.script.as_slice(), scope) {
-        Ok(script) => Ok(check(&script, place).err()),
-        Err(ScriptFault::Memory) => Err(Memory),
-        Err(fault) => Ok(Some(fault)),
+    check(roled.script.as_slice(), place).err()
+}
+
+// Whether a callback group is reentrant.
+fn is_reentrant(groups: &[CallbackGroup], group: GroupNo) -> bool
+    ensures { result ≡ is_reentrant_at groups.now group }
+{
+    match groups.get(group.0 as usize) {
+        Some(found) => !found.exclusive,
+        None => false,
     }
+}
+
+// Whether a fault isn't that of a group variable in a reentrant group.
+pub(crate) fn is_any_faulty(faults: &[ScriptFault]) -> bool
+    ensures { result ≡ list_any (λ fault. not (is_of_variable fault)) faults.now }
+{
+    for fault in faults {
+        if !matches!(fault, ScriptFault::GroupVariable) {
+            return true;
+        }
+    }
+    false
 }

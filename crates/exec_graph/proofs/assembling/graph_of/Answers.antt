@@ -1,108 +1,82 @@
-use Rattle.std.proofs.Common.{ℕ, ◌==◌, inl, inr, ap, sym, subst, ◌∙◌, ◌≡◌, ◌≤◌, ◌++◌, length, map, string_bytes, List, Some, true, refl}
+use Rattle.std.proofs.Common.{ℕ, ◌==◌, inl, inr, ap, sym, subst, ◌∙◌, ◌≡◌, ◌≤◌, ◌++◌, length, map, string_bytes, List, true, refl}
 use Rattle.std.proofs.lemmas.Result.{err_from_is_err_and}
-use Rattle.exec_graph.specs.Directory.{DirectoryData, directory_of, draft_of, where_so}
+use Rattle.exec_graph.specs.Directory.{DirectoryData, draft_of}
 use Rattle.exec_graph.specs.Entries.{entities_of as entries_of}
-use Rattle.exec_graph.specs.Faults.{is_well_named, is_small}
+use Rattle.exec_graph.specs.Faults.{is_small}
 use Rattle.exec_graph.specs.Graph.{GraphData}
 use Rattle.exec_graph.specs.Numbers.{Placed, groups_of}
 use Rattle.exec_graph.specs.declared.entity.CallbackGroup.{CallbackGroup}
-use Rattle.exec_graph.proofs.Assembled.{few_names, few_nodes, few_groups, few_texts, directory_is, distinct, of_script, of_variable, of_none, only_memory, graph_with, graph_is, is_lawful, names_are}
+use Rattle.exec_graph.proofs.Assembled.{few_nodes, few_groups, few_texts, directory_is, distinct, of_unread, of_script, of_variable, of_none, graph_with, graph_is, is_lawful, names_are, nothing_else, mapped_none, mapped_is}
 use Rattle.exec_graph.proofs.assembling.graph_of.Goals as goal
-
-pub script_faults-requires : goal.script_faults-requires
-script_faults-requires c =
-    let draft = (draft_of (map string_bytes c.args.topics.now) c.args.nodes.now) in
-    let there : Some c.args.directory.now ≡ where_so (is_well_named draft) (directory_of draft) = c.requires in
-    let small : is_small draft ≡ true = sym c.in_ok-small.ensures ∙ c.if-not-small.false in
-    few_names draft c.args.directory.now there small
-
-pub returns-then-is_any_faulty-clause-fault : goal.returns-then-is_any_faulty-clause-fault
-returns-then-is_any_faulty-clause-fault c =
-    let draft = (draft_of (map string_bytes c.args.topics.now) c.args.nodes.now) in
-    let there : Some c.args.directory.now ≡ where_so (is_well_named draft) (directory_of draft) = c.requires in
-    let small : is_small draft ≡ true = sym c.in_ok-small.ensures ∙ c.if-not-small.false in
-    inr (of_script draft c.args.directory.now there small c.deref.result.now (c.deref.ensures.value ∙ c.in_ok-groups.ensures) c.deref-2.result.now (c.deref-2.ensures.value ∙ c.in_ok-faults.ensures) (sym c.if-is_any_faulty.true ∙ c.is_any_faulty.ensures))
-
-pub returns-then-not-is_empty-clause-fault : goal.returns-then-not-is_empty-clause-fault
-returns-then-not-is_empty-clause-fault c =
-    let draft = (draft_of (map string_bytes c.args.topics.now) c.args.nodes.now) in
-    let there : Some c.args.directory.now ≡ where_so (is_well_named draft) (directory_of draft) = c.requires in
-    let small : is_small draft ≡ true = sym c.in_ok-small.ensures ∙ c.if-not-small.false in
-    inr (of_variable draft c.args.directory.now there small c.deref.result.now (c.deref.ensures.value ∙ c.in_ok-groups.ensures) c.deref-2.result.now (c.deref-2.ensures.value ∙ c.in_ok-faults.ensures) (sym c.if-is_any_faulty.false ∙ c.is_any_faulty.ensures) (ap (λ (n : ℕ). n == 0) c.deref-2.ensures.len ∙ sym c.is_empty.ensures ∙ c.if-not-is_empty.true))
-
-pub entities_of-requires-clause-names : goal.entities_of-requires-clause-names
-entities_of-requires-clause-names c =
-    let draft = (draft_of (map string_bytes c.args.topics.now) c.args.nodes.now) in
-    let there : Some c.args.directory.now ≡ where_so (is_well_named draft) (directory_of draft) = c.requires in
-    let small : is_small draft ≡ true = sym c.in_ok-small.ensures ∙ c.if-not-small.false in
-    few_names draft c.args.directory.now there small
 
 pub entities_of-requires-clause-groups : goal.entities_of-requires-clause-groups
 entities_of-requires-clause-groups c =
-    let draft = (draft_of (map string_bytes c.args.topics.now) c.args.nodes.now) in
-    let there : Some c.args.directory.now ≡ where_so (is_well_named draft) (directory_of draft) = c.requires in
+    let draft = draft_of (map string_bytes c.args.topics.now) c.args.nodes.now in
     let small : is_small draft ≡ true = sym c.in_ok-small.ensures ∙ c.if-not-small.false in
-    let grouped : c.deref-3.result.now ≡ groups_of draft = c.deref-3.ensures.value ∙ c.in_ok-groups.ensures in
-    subst (λ (groups : List CallbackGroup). length groups ≤ 65536) (sym grouped) (few_groups draft c.args.directory.now there small)
+    subst (λ (groups : List CallbackGroup). length groups ≤ 65536) (sym (c.deref.ensures.value ∙ c.in_ok-groups.ensures)) (few_groups draft c.args.directory.now c.requires small)
 
-pub returns-in_err-entities-clause-fault : goal.returns-in_err-entities-clause-fault
-returns-in_err-entities-clause-fault c =
-    let draft = (draft_of (map string_bytes c.args.topics.now) c.args.nodes.now) in
-    let there : Some c.args.directory.now ≡ where_so (is_well_named draft) (directory_of draft) = c.requires in
+pub returns-in_default-clause-fault : goal.returns-in_default-clause-fault
+returns-in_default-clause-fault c =
+    let draft = draft_of (map string_bytes c.args.topics.now) c.args.nodes.now in
     let small : is_small draft ≡ true = sym c.in_ok-small.ensures ∙ c.if-not-small.false in
-    let faultless = of_none draft c.args.directory.now there small c.deref.result.now (c.deref.ensures.value ∙ c.in_ok-groups.ensures) c.deref-2.result.now (c.deref-2.ensures.value ∙ c.in_ok-faults.ensures) (sym c.if-is_any_faulty.false ∙ c.is_any_faulty.ensures) (ap (λ (n : ℕ). n == 0) c.deref-2.ensures.len ∙ sym c.is_empty.ensures ∙ c.if-not-is_empty.false) in
-    let grouped : c.deref-3.result.now ≡ groups_of draft = c.deref-3.ensures.value ∙ c.in_ok-groups.ensures in
-    let p = err_from_is_err_and c.from_residual-in_err-entities.result c.from_residual-in_err-entities.ensures.1 in
-    rw (p.1, p.2) (only_memory draft c.args.directory.now c.deref-3.result.now c.in_err-entities.field-0.0 faultless (distinct draft c.args.directory.now there) (directory_is draft c.args.directory.now there) grouped c.in_err-entities.ensures.fault)
+    let grouped : c.deref.result.now ≡ groups_of draft = c.deref.ensures.value ∙ c.in_ok-groups.ensures in
+    let found = c.in_ok-entities.ensures draft (distinct draft c.args.directory.now c.requires) refl (directory_is draft c.args.directory.now c.requires) grouped in
+    inr (of_unread draft c.args.directory.now c.requires small (mapped_none _ _ _ found (nothing_else c.in_ok-entities.field-0 c.in_default.not-Some)))
+
+pub returns-then-is_any_faulty-clause-fault : goal.returns-then-is_any_faulty-clause-fault
+returns-then-is_any_faulty-clause-fault c =
+    let draft = draft_of (map string_bytes c.args.topics.now) c.args.nodes.now in
+    let small : is_small draft ≡ true = sym c.in_ok-small.ensures ∙ c.if-not-small.false in
+    let grouped : c.deref.result.now ≡ groups_of draft = c.deref.ensures.value ∙ c.in_ok-groups.ensures in
+    let found = c.in_ok-entities.ensures draft (distinct draft c.args.directory.now c.requires) refl (directory_is draft c.args.directory.now c.requires) grouped in
+    inr (of_script draft c.args.directory.now c.requires small c.deref-2.result.now (c.deref-2.ensures.value ∙ c.in_ok-groups.ensures) c.in-Some.entities.entries (mapped_is _ _ _ _ found c.in-Some.is) c.deref-3.result.now (c.deref-3.ensures.value ∙ c.in_ok-faults.ensures) (sym c.if-is_any_faulty.true ∙ c.is_any_faulty.ensures))
+
+pub returns-then-not-is_empty-clause-fault : goal.returns-then-not-is_empty-clause-fault
+returns-then-not-is_empty-clause-fault c =
+    let draft = draft_of (map string_bytes c.args.topics.now) c.args.nodes.now in
+    let small : is_small draft ≡ true = sym c.in_ok-small.ensures ∙ c.if-not-small.false in
+    let grouped : c.deref.result.now ≡ groups_of draft = c.deref.ensures.value ∙ c.in_ok-groups.ensures in
+    let found = c.in_ok-entities.ensures draft (distinct draft c.args.directory.now c.requires) refl (directory_is draft c.args.directory.now c.requires) grouped in
+    inr (of_variable draft c.args.directory.now c.requires small c.deref-2.result.now (c.deref-2.ensures.value ∙ c.in_ok-groups.ensures) c.in-Some.entities.entries (mapped_is _ _ _ _ found c.in-Some.is) c.deref-3.result.now (c.deref-3.ensures.value ∙ c.in_ok-faults.ensures) (sym c.if-is_any_faulty.false ∙ c.is_any_faulty.ensures) (ap (λ (n : ℕ). n == 0) c.deref-3.ensures.len ∙ sym c.is_empty.ensures ∙ c.if-not-is_empty.true))
 
 pub returns-in_err-names-clause-fault : goal.returns-in_err-names-clause-fault
 returns-in_err-names-clause-fault c =
     let p = err_from_is_err_and c.from_residual-in_err-names.result c.from_residual-in_err-names.ensures.1 in
     rw (p.1) (inl p.2)
 
-pub returns-in_err-nodes-clause-fault : goal.returns-in_err-nodes-clause-fault
-returns-in_err-nodes-clause-fault c =
-    let p = err_from_is_err_and c.from_residual-in_err-nodes.result c.from_residual-in_err-nodes.ensures.1 in
-    rw (p.1) (inl p.2)
-
 pub of-requires-2 : goal.of-requires-2
 of-requires-2 c =
-    let draft = (draft_of (map string_bytes c.args.topics.now) c.args.nodes.now) in
-    let there : Some c.args.directory.now ≡ where_so (is_well_named draft) (directory_of draft) = c.requires in
+    let draft = draft_of (map string_bytes c.args.topics.now) c.args.nodes.now in
     let small : is_small draft ≡ true = sym c.in_ok-small.ensures ∙ c.if-not-small.false in
-    few_texts draft c.args.directory.now there small c.in_ok-names.names.items string_bytes c.entities-2.result.now c.in_ok-names.ensures c.entities-2.ensures
-
-pub invariant_of-result : goal.invariant_of-result
-invariant_of-result c =
-    let draft = (draft_of (map string_bytes c.args.topics.now) c.args.nodes.now) in
-    let there : Some c.args.directory.now ≡ where_so (is_well_named draft) (directory_of draft) = c.requires in
-    let small : is_small draft ≡ true = sym c.in_ok-small.ensures ∙ c.if-not-small.false in
-    let faultless = of_none draft c.args.directory.now there small c.deref.result.now (c.deref.ensures.value ∙ c.in_ok-groups.ensures) c.deref-2.result.now (c.deref-2.ensures.value ∙ c.in_ok-faults.ensures) (sym c.if-is_any_faulty.false ∙ c.is_any_faulty.ensures) (ap (λ (n : ℕ). n == 0) c.deref-2.ensures.len ∙ sym c.is_empty.ensures ∙ c.if-not-is_empty.false) in
-    let grouped : c.deref-3.result.now ≡ groups_of draft = c.deref-3.ensures.value ∙ c.in_ok-groups.ensures in
-    let made : GraphData = graph_with c.of.result c.in_ok-groups.groups.items (entries_of c.in_ok-entities.entities.entries) in
-    let nodes = c.of.ensures ∙ c.in_ok-nodes.ensures in
-    let all = c.in_ok-entities.ensures.entities draft (distinct draft c.args.directory.now there) refl (directory_is draft c.args.directory.now there) grouped in
-    let placed = c.entities-2.ensures ∙ ap (λ (directory : DirectoryData). directory.entities) (directory_is draft c.args.directory.now there) in
-    let names =
-    c.of-2.ensures ∙ c.in_ok-names.ensures ∙ ap (λ (placed : List Placed). map string_bytes c.args.topics.now ++ map (λ placed. placed.entity.name) placed) placed
-    ∙ names_are draft made nodes c.in_ok-groups.ensures all in
-    (is_lawful draft made nodes c.in_ok-groups.ensures all faultless, names)
-
-pub returns-clause-graph : goal.returns-clause-graph
-returns-clause-graph c =
-    let draft = (draft_of (map string_bytes c.args.topics.now) c.args.nodes.now) in
-    let there : Some c.args.directory.now ≡ where_so (is_well_named draft) (directory_of draft) = c.requires in
-    let small : is_small draft ≡ true = sym c.in_ok-small.ensures ∙ c.if-not-small.false in
-    let faultless = of_none draft c.args.directory.now there small c.deref.result.now (c.deref.ensures.value ∙ c.in_ok-groups.ensures) c.deref-2.result.now (c.deref-2.ensures.value ∙ c.in_ok-faults.ensures) (sym c.if-is_any_faulty.false ∙ c.is_any_faulty.ensures) (ap (λ (n : ℕ). n == 0) c.deref-2.ensures.len ∙ sym c.is_empty.ensures ∙ c.if-not-is_empty.false) in
-    let grouped : c.deref-3.result.now ≡ groups_of draft = c.deref-3.ensures.value ∙ c.in_ok-groups.ensures in
-    let made : GraphData = graph_with c.of.result c.in_ok-groups.groups.items (entries_of c.in_ok-entities.entities.entries) in
-    let nodes = c.of.ensures ∙ c.in_ok-nodes.ensures in
-    let all = c.in_ok-entities.ensures.entities draft (distinct draft c.args.directory.now there) refl (directory_is draft c.args.directory.now there) grouped in
-    (faultless, graph_is draft made nodes c.in_ok-groups.ensures all)
+    few_texts draft c.args.directory.now c.requires small c.in_ok-names.names.items string_bytes c.entities-3.result.now c.in_ok-names.ensures c.entities-3.ensures
 
 pub of-requires : goal.of-requires
 of-requires c =
-    let draft = (draft_of (map string_bytes c.args.topics.now) c.args.nodes.now) in
-    let there : Some c.args.directory.now ≡ where_so (is_well_named draft) (directory_of draft) = c.requires in
+    let draft = draft_of (map string_bytes c.args.topics.now) c.args.nodes.now in
     let small : is_small draft ≡ true = sym c.in_ok-small.ensures ∙ c.if-not-small.false in
-    few_nodes draft c.args.directory.now there small c.in_ok-nodes.nodes.items string_bytes c.in_ok-nodes.ensures
+    few_nodes draft c.args.directory.now c.requires small c.in_ok-nodes.nodes.items string_bytes c.in_ok-nodes.ensures
+
+pub invariant_of-result : goal.invariant_of-result
+invariant_of-result c =
+    let draft = draft_of (map string_bytes c.args.topics.now) c.args.nodes.now in
+    let small : is_small draft ≡ true = sym c.in_ok-small.ensures ∙ c.if-not-small.false in
+    let grouped : c.deref.result.now ≡ groups_of draft = c.deref.ensures.value ∙ c.in_ok-groups.ensures in
+    let found = c.in_ok-entities.ensures draft (distinct draft c.args.directory.now c.requires) refl (directory_is draft c.args.directory.now c.requires) grouped in
+    let faultless = of_none draft c.args.directory.now c.requires small c.deref-2.result.now (c.deref-2.ensures.value ∙ c.in_ok-groups.ensures) c.in-Some.entities.entries (mapped_is _ _ _ _ found c.in-Some.is) c.deref-3.result.now (c.deref-3.ensures.value ∙ c.in_ok-faults.ensures) (sym c.if-is_any_faulty.false ∙ c.is_any_faulty.ensures) (ap (λ (n : ℕ). n == 0) c.deref-3.ensures.len ∙ sym c.is_empty.ensures ∙ c.if-not-is_empty.false) in
+    let made : GraphData = graph_with c.of.result c.in_ok-groups.groups.items (entries_of c.in-Some.entities.entries) in
+    let nodes = c.of.ensures ∙ c.in_ok-nodes.ensures in
+    let placed = c.entities-3.ensures ∙ ap (λ (directory : DirectoryData). directory.entities) (directory_is draft c.args.directory.now c.requires) in
+    let names =
+    c.of-2.ensures ∙ c.in_ok-names.ensures ∙ ap (λ (placed : List Placed). map string_bytes c.args.topics.now ++ map (λ placed. placed.entity.name) placed) placed
+    ∙ names_are draft made nodes c.in_ok-groups.ensures (mapped_is _ _ _ _ found c.in-Some.is) in
+    (is_lawful draft made nodes c.in_ok-groups.ensures (mapped_is _ _ _ _ found c.in-Some.is) faultless, names)
+
+pub returns-clause-graph : goal.returns-clause-graph
+returns-clause-graph c =
+    let draft = draft_of (map string_bytes c.args.topics.now) c.args.nodes.now in
+    let small : is_small draft ≡ true = sym c.in_ok-small.ensures ∙ c.if-not-small.false in
+    let grouped : c.deref.result.now ≡ groups_of draft = c.deref.ensures.value ∙ c.in_ok-groups.ensures in
+    let found = c.in_ok-entities.ensures draft (distinct draft c.args.directory.now c.requires) refl (directory_is draft c.args.directory.now c.requires) grouped in
+    let faultless = of_none draft c.args.directory.now c.requires small c.deref-2.result.now (c.deref-2.ensures.value ∙ c.in_ok-groups.ensures) c.in-Some.entities.entries (mapped_is _ _ _ _ found c.in-Some.is) c.deref-3.result.now (c.deref-3.ensures.value ∙ c.in_ok-faults.ensures) (sym c.if-is_any_faulty.false ∙ c.is_any_faulty.ensures) (ap (λ (n : ℕ). n == 0) c.deref-3.ensures.len ∙ sym c.is_empty.ensures ∙ c.if-not-is_empty.false) in
+    let made : GraphData = graph_with c.of.result c.in_ok-groups.groups.items (entries_of c.in-Some.entities.entries) in
+    (faultless, graph_is draft made (c.of.ensures ∙ c.in_ok-nodes.ensures) c.in_ok-groups.ensures (mapped_is _ _ _ _ found c.in-Some.is))

@@ -1,7 +1,7 @@
 use Rattle.std.proofs.Common.{◌≡◌, not, drop}
 use Rattle.std.specs.List.{list_any}
 use Rattle.exec_graph.specs.Faults.{is_of_variable}
-use Rattle.exec_graph.proofs.assembling.is_any_faulty.Given as goal
+use Rattle.exec_graph.proofs.scripts.is_any_faulty.Given as goal
 
 -- one is among all where one is among those that are left
 abbrev pub invariant-loop-fault : goal.invariant-loop-fault
