@@ -1,17 +1,15 @@
 -- What is read of a feed keeps what its draft keeps.
-use Rattle.std.proofs.Common.{◌≡◌, ℕ, ◌-◌, ◌^◌, Bool, true, false, ◌&&◌, nat_le, length, map, List, [], ◌∷◌, Option, None, Some, is_some, refl, ap, ap₂, sym, ◌∙◌, subst}
+use Rattle.std.proofs.Common.{◌≡◌, ℕ, Bool, true, false, ◌&&◌, nat_le, length, map, List, [], ◌∷◌, Option, None, Some, is_some, refl, ap, ap₂, sym, ◌∙◌, subst}
 use Rattle.std.specs.List.{list_all}
 use Rattle.std.specs.Option.{option_map_or}
-use Rattle.std.proofs.lemmas.Bool.{le-leb}
 use Rattle.exec_doc.specs.Document.{fed_in, entry_in}
 use Rattle.exec_doc.specs.declared.draft.FedDraft.{FedDraft}
 use Rattle.exec_doc.specs.declared.draft.EntryDraft.{EntryDraft}
 use Rattle.exec_doc.specs.Draft.{DocumentDraft}
 use Rattle.exec_doc.specs.declared.draft.FedDraft.TheVariants as draft
 use Rattle.exec_doc.specs.Refusals as refusals
-use Rattle.exec_doc.specs.Refusals.{id_of}
 use Rattle.exec_graph.specs.Draft.{GraphDraft}
-use Rattle.exec_graph.specs.Feeding.{goes_somewhere, has_128_bits}
+use Rattle.exec_graph.specs.Feeding.{goes_somewhere}
 use Rattle.exec_graph.specs.Graph.{GraphData, is_topic, is_server}
 use Rattle.exec_graph.specs.Lawful.{is_at}
 use Rattle.exec_graph.specs.Numbers.{topic_named, server_named}
@@ -21,34 +19,31 @@ use Rattle.exec_graph.specs.declared.plan.Fed.TheVariants.{Message, Goal, Cancel
 use Rattle.exec_graph.specs.declared.plan.Feed.{Feed}
 use Rattle.exec_graph.proofs.Bools.{both_true}
 use Rattle.exec_graph.proofs.Reading.{then_read, AreRead, as_many, seen_alike, some_is}
-use Rattle.exec_doc.proofs.Identifiers.{id_below}
 use Rattle.exec_doc.proofs.Kept.{IsKept}
 
 not_zero : (read : Option ℕ) (id : ℕ) → read ≡ Some id → option_map_or (λ id. nat_le 1 id) read false ≡ nat_le 1 id
 not_zero None id is = absurd cc
 not_zero (Some n) id is = ap (nat_le 1) (some_is n id is)
 
--- what is fed, read of its draft: its stamp and whether it is identified are the draft's, it goes where its draft's name is
--- declared, and its identifier has 128 bits
+-- what is fed, read of its draft: its stamp and whether it is identified are the draft's, and it goes where its draft's name is
+-- declared
 pub record IsFed (made : GraphData) (drafted : FedDraft) (fed : Fed) : Type 0 where
   pub stamp : stamp_of fed ≡ refusals.stamp_of drafted
   pub identified : is_identified fed ≡ refusals.is_identified drafted
   pub goes : goes_somewhere made fed ≡ true
-  pub bits : has_128_bits fed ≡ true
 
 -- an entry, read of its draft
 pub record IsEntry (made : GraphData) (drafted : EntryDraft) (entry : Feed) : Type 0 where
   pub round : entry.round ≡ drafted.round
   pub fed : IsFed made drafted.fed entry.fed
 
--- a feed, read of its draft: it has the draft's schedule, goes to what is there, and its identifiers have 128 bits
+-- a feed, read of its draft: it has the draft's schedule and goes to what is there
 pub record IsFeed (made : GraphData) (drafted : List EntryDraft) (feed : List Feed) : Type 0 where
   pub many : length feed ≡ length drafted
   pub rounds : map (λ entry. entry.round) feed ≡ map (λ entry. entry.round) drafted
   pub stamps : map (λ entry. stamp_of entry.fed) feed ≡ map (λ entry. refusals.stamp_of entry.fed) drafted
   pub identified : list_all (λ entry. is_identified entry.fed) feed ≡ list_all (λ entry. refusals.is_identified entry.fed) drafted
   pub goes : list_all (λ entry. goes_somewhere made entry.fed) feed ≡ true
-  pub bits : list_all (λ entry. has_128_bits entry.fed) feed ≡ true
 
 -- tests that agree on each element and what is read of it agree on all
 all_alike : {A B : Type 0} (f : A → Option B) (test : A → Bool) (other : B → Bool) (xs : List A) (ys : List B) → ((x : A) (y : B) → f x ≡ Some y → other y ≡ test x) → AreRead f xs ys → list_all other ys ≡ list_all test xs
@@ -58,7 +53,7 @@ all_alike f test other (x ∷ xs) [] alike reads = absurd reads
 all_alike f test other (x ∷ xs) (y ∷ ys) alike reads = ap₂ (λ (a b : Bool). a && b) (alike x y reads.0) (all_alike f test other xs ys alike reads.1)
 
 -- a test that all passes that is read of elements holds of a list that is read
-all_read : {A B : Type 0} (f : A → Option B) (test : B → Bool) (xs : List A) (ys : List B) → ((x : A) (y : B) → f x ≡ Some y → test y ≡ true) → AreRead f xs ys → list_all test ys ≡ true
+pub all_read : {A B : Type 0} (f : A → Option B) (test : B → Bool) (xs : List A) (ys : List B) → ((x : A) (y : B) → f x ≡ Some y → test y ≡ true) → AreRead f xs ys → list_all test ys ≡ true
 all_read f test [] [] passes reads = refl
 all_read f test [] (y ∷ ys) passes reads = absurd reads
 all_read f test (x ∷ xs) [] passes reads = absurd reads
@@ -71,17 +66,17 @@ module _ (source : GraphDraft) (made : GraphData)
   fed_of (draft.Message name value) fed e =
       then_read _ (topic_named source name) _ fed e (λ topic found e1.
       subst (IsFed made (draft.Message name value)) (some_is (Message topic value) fed e1)
-      (record { stamp = refl; identified = refl; goes = topic_there name topic found; bits = refl }))
-  fed_of (draft.Goal name text value) fed e =
+      (record { stamp = refl; identified = refl; goes = topic_there name topic found }))
+  fed_of (draft.Goal name said value) fed e =
       then_read _ (server_named source name) _ fed e (λ server found e1.
-      then_read _ (id_of text) _ fed e1 (λ id read e2.
-      subst (IsFed made (draft.Goal name text value)) (some_is (Goal server id value) fed e2)
-      (record { stamp = refl; identified = sym (not_zero (id_of text) id read); goes = server_there name server found; bits = le-leb id (2 ^ 128 - 1) (id_below text id read) })))
-  fed_of (draft.Cancel name text stamp) fed e =
+      then_read _ said _ fed e1 (λ id read e2.
+      subst (IsFed made (draft.Goal name said value)) (some_is (Goal server id value) fed e2)
+      (record { stamp = refl; identified = sym (not_zero said id read); goes = server_there name server found })))
+  fed_of (draft.Cancel name said stamp) fed e =
       then_read _ (server_named source name) _ fed e (λ server found e1.
-      then_read _ (id_of text) _ fed e1 (λ id read e2.
-      subst (IsFed made (draft.Cancel name text stamp)) (some_is (Cancel server id stamp) fed e2)
-      (record { stamp = refl; identified = sym (ap is_some read); goes = server_there name server found; bits = le-leb id (2 ^ 128 - 1) (id_below text id read) })))
+      then_read _ said _ fed e1 (λ id read e2.
+      subst (IsFed made (draft.Cancel name said stamp)) (some_is (Cancel server id stamp) fed e2)
+      (record { stamp = refl; identified = sym (ap is_some read); goes = server_there name server found })))
 
   entry_of : (drafted : EntryDraft) (entry : Feed) → entry_in source drafted ≡ Some entry → IsEntry made drafted entry
   entry_of drafted entry e =
@@ -96,7 +91,6 @@ module _ (source : GraphDraft) (made : GraphData)
     stamps = seen_alike (entry_in source) (λ entry. refusals.stamp_of entry.fed) (λ entry. stamp_of entry.fed) drafted feed (λ d entry e. (entry_of d entry e).fed.stamp) reads;
     identified = all_alike (entry_in source) (λ entry. refusals.is_identified entry.fed) (λ entry. is_identified entry.fed) drafted feed (λ d entry e. (entry_of d entry e).fed.identified) reads;
     goes = all_read (entry_in source) (λ entry. goes_somewhere made entry.fed) drafted feed (λ d entry e. (entry_of d entry e).fed.goes) reads;
-    bits = all_read (entry_in source) (λ entry. has_128_bits entry.fed) drafted feed (λ d entry e. (entry_of d entry e).fed.bits) reads;
   }
 
 -- moments and a feed that keep what each of their faults asks have none

@@ -4,7 +4,7 @@ use Rattle.std.specs.Int.{from_be_bytes, w128}
 use Rattle.std.specs.List.{list_all}
 use Rattle.std.proofs.lemmas.Bool.{leb-true, or_cases}
 use Rattle.uuid.specs.Text.{by_index, is_hex_digit, value_of, byte_of_digits, parsed_simple, parsed_hyphenated, parsed_braced, parsed_urn, parsed, digits_of}
-use Rattle.exec_doc.specs.Refusals.{id_of}
+use Rattle.exec_doc.specs.Forms.{id_of}
 use Rattle.exec_graph.proofs.Bools.{and_left, and_right}
 use Rattle.exec_graph.proofs.Reading.{some_is}
 

@@ -19,6 +19,7 @@ use Rattle.exec_graph.specs.Resolved.{graph_in}
 use Rattle.exec_graph.specs.Schedule.{plan_fault_in}
 use Rattle.exec_graph.specs.declared.plan.Feed.{Feed}
 use Rattle.exec_graph.proofs.Reading.{then_read, are_read, some_is}
+use Rattle.exec_doc.proofs.Bits.{has_bits, draft_small, feed_small}
 use Rattle.exec_doc.proofs.Feeding.{feed_of, feed_without_fault}
 use Rattle.exec_doc.proofs.Kept.{IsKept, holds_of, kept}
 
@@ -30,18 +31,19 @@ pub record Laws : Type 0 where
   pub plan : (made : GraphData) (moments : List ℕ) (feed : List Feed) → IsLawful made → list_all (λ entry. goes_somewhere made entry.fed) feed ≡ true → list_all (λ entry. has_128_bits entry.fed) feed ≡ true → plan_fault_in moments feed ≡ None → IsLawfulPlan (record { graph = made; moments = moments; feed = feed })
 
 module _ (laws : Laws) where
-  plan_lawful : (document : DocumentDraft) (plan : PlanData) → IsKept document → plan_of document ≡ Some plan → IsLawfulPlan plan
-  plan_lawful document plan keeps e =
+  plan_lawful : (document : DocumentDraft) (plan : PlanData) → IsKept document → list_all (λ entry. has_bits entry.fed) document.feed ≡ true → plan_of document ≡ Some plan → IsLawfulPlan plan
+  plan_lawful document plan keeps small e =
       then_read _ (graph_in document.graph) _ plan e (λ made is e1.
       then_read _ (each (entry_in document.graph) document.feed) _ plan e1 (λ feed fed e2.
       let read = feed_of document.graph made (λ name number found. laws.topic document.graph made name number is found) (λ name number found. laws.server document.graph made name number is found)
       document.feed feed (are_read (entry_in document.graph) document.feed feed fed) in
+      let bits = feed_small document.graph document.feed feed small (are_read (entry_in document.graph) document.feed feed fed) in
       subst IsLawfulPlan (some_is (record { graph = made; moments = document.moments; feed = feed }) plan e2)
-      (laws.plan made document.moments feed (laws.graph document.graph made keeps.graph is) read.goes read.bits (feed_without_fault made document feed read keeps))))
+      (laws.plan made document.moments feed (laws.graph document.graph made keeps.graph is) read.goes bits (feed_without_fault made document feed read keeps))))
 
-  drafted_lawful : (drafted : Option DocumentDraft) (plan : PlanData) → find (holds_of drafted) codes_in_order ≡ None → (drafted >>= plan_of) ≡ Some plan → IsLawfulPlan plan
-  drafted_lawful None plan found e = absurd cc
-  drafted_lawful (Some document) plan found e = plan_lawful document plan (kept document found) e
+  drafted_lawful : (drafted : Option DocumentDraft) (plan : PlanData) → ((document : DocumentDraft) → drafted ≡ Some document → list_all (λ entry. has_bits entry.fed) document.feed ≡ true) → find (holds_of drafted) codes_in_order ≡ None → (drafted >>= plan_of) ≡ Some plan → IsLawfulPlan plan
+  drafted_lawful None plan small found e = absurd cc
+  drafted_lawful (Some document) plan small found e = plan_lawful document plan (kept document found) (small document refl) e
 
   let_through : (refusal : Option Refused) (planned : Option PlanData) (plan : PlanData) → unless_refused refusal planned ≡ Some plan → (refusal ≡ None → planned ≡ Some plan → IsLawfulPlan plan) → IsLawfulPlan plan
   let_through None planned plan e next = next refl e
@@ -50,4 +52,4 @@ module _ (laws : Laws) where
   -- a value that isn't refused has a lawful plan
   pub value_lawful : (value : Option Data) (plan : PlanData) → plan_in value ≡ Some plan → IsLawfulPlan plan
   value_lawful None plan e = absurd cc
-  value_lawful (Some value) plan e = let_through (refusal_in (Some value)) (draft_of value >>= plan_of) plan e (λ accepted planned. drafted_lawful (draft_of value) plan accepted planned)
+  value_lawful (Some value) plan e = let_through (refusal_in (Some value)) (draft_of value >>= plan_of) plan e (λ accepted planned. drafted_lawful (draft_of value) plan (draft_small value) accepted planned)

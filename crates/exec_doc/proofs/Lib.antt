@@ -1,3 +1,4 @@
+pub mod Bits
 pub mod Bytes
 pub mod Each
 pub mod Feeding
@@ -12,5 +13,3 @@ pub mod Planned
 pub mod Ready
 pub mod Refusing
 pub mod Scheduled
-pub mod Signs
-pub mod Trees

@@ -9,7 +9,7 @@ use Rattle.exec_doc.specs.declared.draft.FedDraft.TheVariants as draft
 use Rattle.exec_doc.specs.declared.draft.EntryDraft.{EntryDraft}
 use Rattle.exec_doc.specs.Placing.{topic_at, server_at, fed_by, entry_by}
 use Rattle.exec_doc.specs.Refusals as refusals
-use Rattle.exec_doc.specs.Refusals.{id_of, feeds}
+use Rattle.exec_doc.specs.Refusals.{feeds}
 use Rattle.exec_graph.specs.Draft.{GraphDraft}
 use Rattle.exec_graph.specs.Feeding.{goes_somewhere}
 use Rattle.exec_graph.specs.Graph.{EntityData, GraphData, is_topic, is_server}
@@ -50,12 +50,12 @@ fed_placed : (made : GraphData) (drafted : FedDraft) (fed : Fed) → fed_by made
 fed_placed made (draft.Message name value) fed e =
     then_made _ _ (topic_at made name) fed e (λ topic found is.
     subst (IsPlaced made (draft.Message name value)) is (record { stamp = refl; goes = topic_there made name topic found }))
-fed_placed made (draft.Goal name text value) fed e =
+fed_placed made (draft.Goal name id value) fed e =
     then_made _ _ (server_at made name) fed e (λ server found is.
-    subst (IsPlaced made (draft.Goal name text value)) is (record { stamp = refl; goes = server_there made name server found }))
-fed_placed made (draft.Cancel name text stamp) fed e =
+    subst (IsPlaced made (draft.Goal name id value)) is (record { stamp = refl; goes = server_there made name server found }))
+fed_placed made (draft.Cancel name id stamp) fed e =
     then_made _ _ (server_at made name) fed e (λ server found is.
-    subst (IsPlaced made (draft.Cancel name text stamp)) is (record { stamp = refl; goes = server_there made name server found }))
+    subst (IsPlaced made (draft.Cancel name id stamp)) is (record { stamp = refl; goes = server_there made name server found }))
 
 -- an entry has its draft's round
 record IsEntry (made : GraphData) (drafted : EntryDraft) (entry : Feed) : Type 0 where
@@ -116,8 +116,8 @@ made_there f (Some a) e = refl
 
 fed_there : (source : GraphDraft) (made : GraphData) → Finds source made → (drafted : FedDraft) → feeds source drafted ≡ true → is_some (fed_by made drafted) ≡ true
 fed_there source made find (draft.Message name value) e = made_there _ (topic_at made name) (ap is_some (find.topic name) ∙ e)
-fed_there source made find (draft.Goal name text value) e = made_there _ (server_at made name) (ap is_some (find.server name) ∙ e)
-fed_there source made find (draft.Cancel name text stamp) e = made_there _ (server_at made name) (ap is_some (find.server name) ∙ e)
+fed_there source made find (draft.Goal name id value) e = made_there _ (server_at made name) (ap is_some (find.server name) ∙ e)
+fed_there source made find (draft.Cancel name id stamp) e = made_there _ (server_at made name) (ap is_some (find.server name) ∙ e)
 
 entries_there : (source : GraphDraft) (made : GraphData) → Finds source made → (drafted : List EntryDraft) → list_all (λ entry. feeds source entry.fed) drafted ≡ true → list_all (λ entry. is_some (entry_by made entry)) drafted ≡ true
 entries_there source made find [] e = refl
@@ -133,6 +133,24 @@ feed_there source made drafted e fed none =
     let same = ap is_some none in
     absurd cc
 
+-- what is fed is declared
+fed_feeds : (source : GraphDraft) (made : GraphData) → Finds source made → (drafted : FedDraft) (fed : Fed) → fed_by made drafted ≡ Some fed → feeds source drafted ≡ true
+fed_feeds source made find (draft.Message name value) fed e = then_made _ _ (topic_at made name) fed e (λ topic found is. ap is_some (sym (find.topic name) ∙ found))
+fed_feeds source made find (draft.Goal name id value) fed e = then_made _ _ (server_at made name) fed e (λ server found is. ap is_some (sym (find.server name) ∙ found))
+fed_feeds source made find (draft.Cancel name id stamp) fed e = then_made _ _ (server_at made name) fed e (λ server found is. ap is_some (sym (find.server name) ∙ found))
+
+each_feeds : (source : GraphDraft) (made : GraphData) → Finds source made → (drafted : List EntryDraft) (feed : List Feed) → AreRead (entry_by made) drafted feed → list_all (λ entry. feeds source entry.fed) drafted ≡ true
+each_feeds source made find [] [] reads = refl
+each_feeds source made find [] (entry ∷ feed) reads = absurd reads
+each_feeds source made find (d ∷ drafted) [] reads = absurd reads
+each_feeds source made find (d ∷ drafted) (entry ∷ feed) reads =
+    both_true (feeds source d.fed) (list_all (λ entry. feeds source entry.fed) drafted)
+    (fed_feeds source made find d.fed entry.fed (entry_placed made d entry reads.0).fed)
+    (each_feeds source made find drafted feed reads.1)
+
+pub are_declared : (source : GraphDraft) (made : GraphData) (drafted : List EntryDraft) (feed : List Feed) → graph_in source ≡ Some made → each (entry_by made) drafted ≡ Some feed → list_all (λ entry. feeds source entry.fed) drafted ≡ true
+are_declared source made drafted feed e read = each_feeds source made (finds source made e) drafted feed (are_read (entry_by made) drafted feed read)
+
 -- what is fed to a graph is what its draft says, where that is identified, and goals have identifiers
 record IsSaid (source : GraphDraft) (drafted : FedDraft) (fed : Fed) : Type 0 where
   pub said : fed_in source drafted ≡ Some fed
@@ -143,18 +161,18 @@ fed_said source made find (draft.Message name value) fed e identified =
     then_made _ _ (topic_at made name) fed e (λ topic found is.
     let named : topic_named source name ≡ Some topic = sym (find.topic name) ∙ found in
     subst (IsSaid source (draft.Message name value)) is (record { said = rw named refl; identified = refl }))
-fed_said source made find (draft.Goal name text value) fed e identified =
+fed_said source made find (draft.Goal name said value) fed e identified =
     then_made _ _ (server_at made name) fed e (λ server found is.
     let named : server_named source name ≡ Some server = sym (find.server name) ∙ found in
-    subst (IsSaid source (draft.Goal name text value)) is (goal server named (id_of text) refl identified)) where
-      goal : (server : ℕ) → server_named source name ≡ Some server → (id : Option ℕ) → id_of text ≡ id → option_map_or (λ n. nat_le 1 n) id false ≡ true → IsSaid source (draft.Goal name text value) (Goal server (unwrap_or (id_of text) 0) value)
+    subst (IsSaid source (draft.Goal name said value)) is (goal server named said refl identified)) where
+      goal : (server : ℕ) → server_named source name ≡ Some server → (id : Option ℕ) → said ≡ id → option_map_or (λ n. nat_le 1 n) id false ≡ true → IsSaid source (draft.Goal name said value) (Goal server (unwrap_or said 0) value)
       goal server named None is e = absurd cc
       goal server named (Some id) is e = record { said = rw (named, is) refl; identified = rw is e }
-fed_said source made find (draft.Cancel name text stamp) fed e identified =
+fed_said source made find (draft.Cancel name said stamp) fed e identified =
     then_made _ _ (server_at made name) fed e (λ server found is.
     let named : server_named source name ≡ Some server = sym (find.server name) ∙ found in
-    subst (IsSaid source (draft.Cancel name text stamp)) is (cancel server named (id_of text) refl identified)) where
-      cancel : (server : ℕ) → server_named source name ≡ Some server → (id : Option ℕ) → id_of text ≡ id → is_some id ≡ true → IsSaid source (draft.Cancel name text stamp) (Cancel server (unwrap_or (id_of text) 0) stamp)
+    subst (IsSaid source (draft.Cancel name said stamp)) is (cancel server named said refl identified)) where
+      cancel : (server : ℕ) → server_named source name ≡ Some server → (id : Option ℕ) → said ≡ id → is_some id ≡ true → IsSaid source (draft.Cancel name said stamp) (Cancel server (unwrap_or said 0) stamp)
       cancel server named None is e = absurd cc
       cancel server named (Some id) is e = record { said = rw (named, is) refl; identified = refl }
 

@@ -9,7 +9,7 @@ use Rattle.exec_doc.specs.declared.draft.FedDraft.TheVariants.{Message, Goal, Ca
 use Rattle.exec_doc.specs.declared.draft.EntryDraft.{EntryDraft}
 use Rattle.exec_doc.specs.Draft.{DocumentDraft}
 use Rattle.exec_doc.specs.Forms.{draft_of}
-use Rattle.exec_doc.specs.Refusals.{feeds, is_identified, id_of, codes_in_order, refusal_in}
+use Rattle.exec_doc.specs.Refusals.{feeds, is_identified, codes_in_order, refusal_in}
 use Rattle.exec_doc.specs.declared.refused.Refused.{Refused}
 use Rattle.exec_graph.specs.Draft.{GraphDraft}
 use Rattle.exec_graph.specs.Numbers.{topic_named, server_named}
@@ -28,10 +28,10 @@ identified (Some id) test e = refl
 
 is_fed : (source : GraphDraft) (fed : FedDraft) → feeds source fed ≡ true → is_identified fed ≡ true → is_some (fed_in source fed) ≡ true
 is_fed source (Message name value) feeding has_id = then_some (topic_named source name) _ feeding (λ topic. refl)
-is_fed source (Goal name text value) feeding has_id =
-    then_some (server_named source name) _ feeding (λ server. then_some (id_of text) _ (identified (id_of text) _ has_id) (λ id. refl))
-is_fed source (Cancel name text stamp) feeding has_id =
-    then_some (server_named source name) _ feeding (λ server. then_some (id_of text) _ has_id (λ id. refl))
+is_fed source (Goal name id value) feeding has_id =
+    then_some (server_named source name) _ feeding (λ server. then_some id _ (identified id _ has_id) (λ id. refl))
+is_fed source (Cancel name id stamp) feeding has_id =
+    then_some (server_named source name) _ feeding (λ server. then_some id _ has_id (λ id. refl))
 
 are_fed : (source : GraphDraft) (feed : List EntryDraft) → list_all (λ entry. feeds source entry.fed) feed ≡ true → list_all (λ entry. is_identified entry.fed) feed ≡ true → list_all (λ entry. is_some (entry_in source entry)) feed ≡ true
 are_fed source [] feeding has_ids = refl

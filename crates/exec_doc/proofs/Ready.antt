@@ -1,7 +1,7 @@
--- What is answered of a document for which no code up to that of group variables holds.
-use Rattle.std.proofs.Common.{◌≡◌, ℕ, ◌⊎◌, inl, inr, Bool, true, false, length, map, List, Option, None, Some, Err, ap, ap₂, sym, ◌∙◌, subst}
+-- What is answered of a document whose graph has no fault.
+use Rattle.std.proofs.Common.{◌≡◌, ℕ, ◌⊎◌, inl, inr, Bool, true, false, ◌&&◌, nat_le, length, map, List, Option, None, Some, Err, refl, ap, ap₂, sym, ◌∙◌, subst}
 use Rattle.std.specs.List.{list_all}
-use Rattle.exec_doc.specs.Answering.{Answers, IsReady, draft_refusal, code_of}
+use Rattle.exec_doc.specs.Answering.{Answers, IsReady, draft_refusal, graph_refusal, code_of}
 use Rattle.exec_doc.specs.Document.{entry_in, plan_of}
 use Rattle.exec_doc.specs.Draft.{DocumentDraft}
 use Rattle.exec_doc.specs.declared.draft.EntryDraft.{EntryDraft}
@@ -16,17 +16,25 @@ use Rattle.exec_graph.specs.Options.{each}
 use Rattle.exec_graph.specs.Plan.{PlanData}
 use Rattle.exec_graph.specs.Resolved.{graph_in}
 use Rattle.exec_graph.specs.Schedule.{schedule_fits, greatest, stamp_of, is_in_order, is_identified, plan_fault_in}
+use Rattle.exec_graph.specs.Refusals.{fault_in}
+use Rattle.exec_graph.specs.declared.fault.GraphFault.{GraphFault}
+use Rattle.exec_graph.specs.declared.fault.GraphFault.TheVariants as graph_fault
 use Rattle.exec_graph.specs.declared.fault.PlanFault.{PlanFault}
-use Rattle.exec_graph.specs.declared.fault.PlanFault.TheVariants as plan_fault
 use Rattle.exec_graph.specs.declared.plan.Feed.{Feed}
-use Rattle.exec_doc.proofs.Placed.{has_schedule, feed_there, are_said}
-use Rattle.exec_doc.proofs.Refusing.{late, plan_by, by_late, plan_tests, in_order}
+use Rattle.exec_msg.specs.declared.limits.TheConstants.{MOMENTS, FEED, TICKS}
+use Rattle.exec_doc.proofs.Placed.{has_schedule, feed_there, are_declared, are_said}
+use Rattle.exec_doc.proofs.Refusing.{plan_by, undeclared, of_graph, scheduled, by_schedule, plan_tests, IsScheduled, is_scheduled}
 
--- its feed goes to what is there
-pub ready_there : (document : DocumentDraft) (graph : GraphData) (moments : List ℕ) (entries : List EntryDraft) → IsReady document graph moments entries → each (entry_by graph) entries ≡ None → ⊥
-ready_there document graph moments entries ready none =
-    feed_there document.graph graph entries ready.made
-    (subst (λ (es : List EntryDraft). list_all (λ entry. feeds document.graph entry.fed) es ≡ true) ready.entries ready.feeding) none
+-- the same with the moments that were made
+pub with_moments : (document : DocumentDraft) (graph : GraphData) (ticks moments : List ℕ) (entries : List EntryDraft) → ticks ≡ moments → IsReady document graph ticks entries → IsReady document graph moments entries
+with_moments document graph ticks moments entries same ready = record { version = ready.version; faultless = ready.faultless; made = ready.made; ticks = ready.ticks ∙ same; entries = ready.entries }
+
+-- where something is fed to what isn't there its name is wrong
+pub ready_there : (document : DocumentDraft) (graph : GraphData) (moments : List ℕ) (entries : List EntryDraft) → IsReady document graph moments entries → each (entry_by graph) entries ≡ None → draft_refusal document ≡ Some refused.Name
+ready_there document graph moments entries ready none = by (list_all (λ entry. feeds document.graph entry.fed) document.feed) refl where
+  by : (b : Bool) → list_all (λ entry. feeds document.graph entry.fed) document.feed ≡ b → draft_refusal document ≡ Some refused.Name
+  by true declared = absurd (feed_there document.graph graph entries ready.made (subst (λ (es : List EntryDraft). list_all (λ entry. feeds document.graph entry.fed) es ≡ true) ready.entries declared) none)
+  by false undeclared_is = undeclared document ready.version undeclared_is
 
 -- what is fed to its graph, with the tests of a plan
 record IsFed (document : DocumentDraft) (moments : List ℕ) (feed : List Feed) : Type 0 where
@@ -47,6 +55,33 @@ fed_ready document graph moments entries feed ready read =
       identified = λ ids. (are_said document.graph graph document.feed feed ready.made here ids).identified;
     }
 
+-- its refusal by the schedule and identifiers
+ready_refusal : (document : DocumentDraft) (graph : GraphData) (moments : List ℕ) (entries : List EntryDraft) (feed : List Feed) → IsReady document graph moments entries → each (entry_by graph) entries ≡ Some feed
+    → draft_refusal document ≡ scheduled (is_within document) (is_clocked document) (list_all (λ entry. refusals.is_identified entry.fed) document.feed)
+ready_refusal document graph moments entries feed ready read =
+    by_schedule document ready.version
+    (ap (λ (es : List EntryDraft). list_all (λ entry. feeds document.graph entry.fed) es) ready.entries ∙ are_declared document.graph graph entries feed ready.made read)
+    ready.faultless
+
+scheduled_by : (within clocked identified w c i : Bool) → within ≡ w → clocked ≡ c → identified ≡ i → scheduled within clocked identified ≡ scheduled w c i
+scheduled_by within clocked identified w c i e f g = λ n. scheduled (e n) (f n) (g n)
+
+-- moments beyond their limit
+beyond : (few fed stamped : Bool) → (few && false && fed && stamped) ≡ false
+beyond true fed stamped = refl
+beyond false fed stamped = refl
+
+pub ready_limit : (document : DocumentDraft) (graph : GraphData) (moments : List ℕ) (entries : List EntryDraft) (feed : List Feed) → IsReady document graph moments entries → each (entry_by graph) entries ≡ Some feed
+    → list_all (λ moment. nat_le moment TICKS) moments ≡ false → draft_refusal document ≡ Some refused.Limit
+ready_limit document graph moments entries feed ready read late_moment =
+    let late : list_all (λ moment. nat_le moment TICKS) document.moments ≡ false = ap (list_all (λ moment. nat_le moment TICKS)) ready.ticks ∙ late_moment in
+    let few = nat_le (length document.moments) MOMENTS in
+    let fed = nat_le (length document.feed) FEED in
+    let stamped = nat_le (greatest (map (λ entry. refusals.stamp_of entry.fed) document.feed)) TICKS in
+    let within : is_within document ≡ false = ap (λ (b : Bool). few && b && fed && stamped) late ∙ beyond few fed stamped in
+    ready_refusal document graph moments entries feed ready read
+    ∙ ap (λ (b : Bool). scheduled b (is_clocked document) (list_all (λ entry. refusals.is_identified entry.fed) document.feed)) within
+
 -- a fault of its plan is its refusal
 pub ready_fault : (document : DocumentDraft) (graph : GraphData) (moments : List ℕ) (entries : List EntryDraft) (feed : List Feed) (fault : PlanFault) → IsReady document graph moments entries → each (entry_by graph) entries ≡ Some feed
     → plan_fault_in moments feed ≡ Some fault → draft_refusal document ≡ Some (code_of fault)
@@ -57,17 +92,15 @@ ready_fault document graph moments entries feed fault ready read found =
     let by : plan_by (is_within document) (is_clocked document) these ≡ Some fault =
     subst (λ (a : Bool). plan_by a (is_clocked document) these ≡ Some fault) fed.within
     (subst (λ (b : Bool). plan_by (schedule_fits moments (length feed) (greatest (map (λ entry. stamp_of entry.fed) feed))) b these ≡ Some fault) fed.clocked found) in
-    by_late document ready.version ready.feeding ready.within ready.faultless
-    ∙ plan_tests (is_within document) (is_clocked document) these ids fault ready.within fed.identified by
+    ready_refusal document graph moments entries feed ready read
+    ∙ plan_tests (is_within document) (is_clocked document) these ids fault fed.identified by
 
-ready_clocked : (document : DocumentDraft) (graph : GraphData) (moments : List ℕ) (entries : List EntryDraft) (feed : List Feed) → IsReady document graph moments entries → each (entry_by graph) entries ≡ Some feed
-    → plan_fault_in moments feed ≡ None → is_clocked document ≡ true
-ready_clocked document graph moments entries feed ready read none =
+ready_scheduled : (document : DocumentDraft) (graph : GraphData) (moments : List ℕ) (entries : List EntryDraft) (feed : List Feed) → IsReady document graph moments entries → each (entry_by graph) entries ≡ Some feed
+    → plan_fault_in moments feed ≡ None → IsScheduled (is_within document) (is_clocked document)
+ready_scheduled document graph moments entries feed ready read none =
     let fed = fed_ready document graph moments entries feed ready read in
-    sym fed.clocked ∙ in_order (schedule_fits moments (length feed) (greatest (map (λ entry. stamp_of entry.fed) feed))) (is_in_order moments (map (λ entry. entry.round) feed)) (list_all (λ entry. is_identified entry.fed) feed) none
-
-late_by : (clocked identified c i : Bool) → clocked ≡ c → identified ≡ i → late clocked identified ≡ late c i
-late_by clocked identified c i e f = ap₂ late e f
+    let scheduled = is_scheduled (schedule_fits moments (length feed) (greatest (map (λ entry. stamp_of entry.fed) feed))) (is_in_order moments (map (λ entry. entry.round) feed)) (list_all (λ entry. is_identified entry.fed) feed) none in
+    record { fits = sym fed.within ∙ scheduled.fits; ordered = sym fed.clocked ∙ scheduled.ordered }
 
 plan_is : (document : DocumentDraft) (graph : GraphData) (moments : List ℕ) (feed : List Feed) → graph_in document.graph ≡ Some graph → each (entry_in document.graph) document.feed ≡ Some feed → document.moments ≡ moments
     → plan_of document ≡ Some (record { graph = graph; moments = moments; feed = feed })
@@ -79,9 +112,9 @@ pub ready_plan : (document : DocumentDraft) (graph : GraphData) (moments : List 
     → (draft_refusal document ≡ None) × (plan_of document ≡ Some plan)
 ready_plan document graph moments entries feed plan ready read none is ids =
     let fed = fed_ready document graph moments entries feed ready read in
-    let clocked = ready_clocked document graph moments entries feed ready read none in
+    let keeps = ready_scheduled document graph moments entries feed ready read none in
     let all : list_all (λ entry. refusals.is_identified entry.fed) document.feed ≡ true = ap (λ (es : List EntryDraft). list_all (λ entry. refusals.is_identified entry.fed) es) ready.entries ∙ ids in (
-      by_late document ready.version ready.feeding ready.within ready.faultless ∙ late_by (is_clocked document) _ true true clocked all,
+      ready_refusal document graph moments entries feed ready read ∙ scheduled_by (is_within document) (is_clocked document) _ true true true keeps.fits keeps.ordered all,
       plan_is document graph moments feed ready.made (fed.said all) ready.ticks ∙ ap (λ (p : PlanData). Some p) (sym is),
     )
 
@@ -89,19 +122,15 @@ ready_plan document graph moments entries feed plan ready read none is ids =
 pub ready_id : (document : DocumentDraft) (graph : GraphData) (moments : List ℕ) (entries : List EntryDraft) (feed : List Feed) → IsReady document graph moments entries → each (entry_by graph) entries ≡ Some feed
     → plan_fault_in moments feed ≡ None → list_all (λ entry. refusals.is_identified entry.fed) entries ≡ false → draft_refusal document ≡ Some refused.Id
 ready_id document graph moments entries feed ready read none ids =
-    let clocked = ready_clocked document graph moments entries feed ready read none in
+    let keeps = ready_scheduled document graph moments entries feed ready read none in
     let some : list_all (λ entry. refusals.is_identified entry.fed) document.feed ≡ false = ap (λ (es : List EntryDraft). list_all (λ entry. refusals.is_identified entry.fed) es) ready.entries ∙ ids in
-    by_late document ready.version ready.feeding ready.within ready.faultless ∙ late_by (is_clocked document) _ true false clocked some
+    ready_refusal document graph moments entries feed ready read ∙ scheduled_by (is_within document) (is_clocked document) _ true true false keeps.fits keeps.ordered some
 
 -- ---- what is answered
 
-pub by_name : {A X : Type 0} (refusal : Option Refused) (said : Option A) (code : Refused) → (code ≡ refused.Memory) ⊎ ((code ≡ refused.Name) × X) → (X → ⊥) → Answers {A = A} refusal said (Err code)
-by_name refusal said code (inl memory) never = inl memory
-by_name refusal said code (inr named) never = absurd (never named.1)
-
-pub by_fault : {A X : Type 0} (refusal : Option Refused) (said : Option A) (fault : PlanFault) → (fault ≡ plan_fault.Memory) ⊎ X → (X → refusal ≡ Some (code_of fault)) → Answers {A = A} refusal said (Err (code_of fault))
-by_fault refusal said fault (inl memory) then = inl (ap code_of memory)
-by_fault refusal said fault (inr found) then = inr (then found)
+pub by_name : {A X : Type 0} (refusal : Option Refused) (said : Option A) (code : Refused) → (code ≡ refused.Memory) ⊎ ((code ≡ refused.Name) × X) → (X → refusal ≡ Some refused.Name) → Answers {A = A} refusal said (Err code)
+by_name refusal said code (inl memory) then = inl memory
+by_name refusal said code (inr named) then = inr (then named.1 ∙ ap (λ (code : Refused). Some code) (sym named.0))
 
 pub by_code : {A X : Type 0} (refusal : Option Refused) (said : Option A) (code : Refused) → (code ≡ refused.Memory) ⊎ X → (X → refusal ≡ Some code) → Answers {A = A} refusal said (Err code)
 by_code refusal said code (inl memory) then = inl memory
@@ -118,3 +147,10 @@ pub within_is : (document : DocumentDraft) (moments : List ℕ) (feed : List Ent
     → schedule_fits moments (length feed) (greatest (map (λ entry. refusals.stamp_of entry.fed) feed)) ≡ is_within document
 within_is document moments feed ticks entries =
     ap₂ (λ (ms : List ℕ) (es : List EntryDraft). schedule_fits ms (length es) (greatest (map (λ entry. refusals.stamp_of entry.fed) es))) ticks entries
+
+-- the code of a graph's fault
+pub by_graph : (document : DocumentDraft) (within : Bool) (fault : GraphFault) (code : Refused) → document.version ≡ 1 → list_all (λ entry. feeds document.graph entry.fed) document.feed ≡ true → within ≡ is_within document
+    → (fault ≡ graph_fault.Memory → code ≡ refused.Memory) → ((graph : GraphDraft) → fault_in graph ≡ Some fault → graph_refusal graph within ≡ Some code)
+    → (fault ≡ graph_fault.Memory) ⊎ (fault_in document.graph ≡ Some fault) → (code ≡ refused.Memory) ⊎ (draft_refusal document ≡ Some code)
+by_graph document within fault code version fed same memory coded (inl is) = inl (memory is)
+by_graph document within fault code version fed same memory coded (inr found) = inr (of_graph document within code version fed same (coded document.graph found))

@@ -65,6 +65,17 @@ undeclared document version missing = names_by
     (document.version == 1) (is_well_named document.graph) (list_all (λ entry. feeds document.graph entry.fed) document.feed) (is_small document.graph) (is_within document) (has_faulty_script document.graph) (shares_variables document.graph) (is_clocked document) (list_all (λ entry. is_identified entry.fed) document.feed)
     (version_1 document version) missing
 
+misnamed_by : (v w f s h c g o i : Bool) → v ≡ true → w ≡ false → by_tests v w f s h c g o i ≡ Some refused.Name
+misnamed_by true true f s h c g o i version misnamed = absurd cc
+misnamed_by true false f s h c g o i version misnamed = refl
+misnamed_by false w f s h c g o i version misnamed = absurd cc
+
+-- the graph isn't well named
+pub misnamed : (document : DocumentDraft) → document.version ≡ 1 → is_well_named document.graph ≡ false → draft_refusal document ≡ Some refused.Name
+misnamed document version wrong = misnamed_by
+    (document.version == 1) (is_well_named document.graph) (list_all (λ entry. feeds document.graph entry.fed) document.feed) (is_small document.graph) (is_within document) (has_faulty_script document.graph) (shares_variables document.graph) (is_clocked document) (list_all (λ entry. is_identified entry.fed) document.feed)
+    (version_1 document version) wrong
+
 -- ---- the graph
 
 graph_tests : (v w f s h c g o i : Bool) (code : Refused) → v ≡ true → f ≡ true → graph_by w s h c g ≡ Some code → by_tests v w f s h c g o i ≡ Some code
@@ -86,57 +97,52 @@ of_graph document within code version fed same found =
     (document.version == 1) (is_well_named document.graph) (list_all (λ entry. feeds document.graph entry.fed) document.feed) (is_small document.graph) (is_within document) (has_faulty_script document.graph) (shares_variables document.graph) (is_clocked document) (list_all (λ entry. is_identified entry.fed) document.feed)
     code (version_1 document version) fed (subst (λ (b : Bool). graph_refusal document.graph b ≡ Some code) same found)
 
-limit_tests : (v w f s h c g o i : Bool) → v ≡ true → f ≡ true → h ≡ false → fault_by w s c g ≡ None → by_tests v w f s h c g o i ≡ Some refused.Limit
-limit_tests false w f s h c g o i version fed beyond none = absurd cc
-limit_tests true w false s h c g o i version fed beyond none = absurd cc
-limit_tests true w true s true c g o i version fed beyond none = absurd cc
-limit_tests true false true s false c g o i version fed beyond none = absurd cc
-limit_tests true true true true false c g o i version fed beyond none = refl
-limit_tests true true true false false c g o i version fed beyond none = refl
+-- ---- the schedule and identifiers
 
--- the schedule is beyond its limits, and the graph has no fault
-pub of_schedule : (document : DocumentDraft) → document.version ≡ 1 → list_all (λ entry. feeds document.graph entry.fed) document.feed ≡ true → is_within document ≡ false
-    → fault_in document.graph ≡ None → draft_refusal document ≡ Some refused.Limit
-of_schedule document version fed beyond none = limit_tests
+-- the refusal by the schedule and identifiers alone
+abbrev pub scheduled : (within clocked identified : Bool) → Option Refused
+scheduled within clocked identified = cond (not within) (Some refused.Limit) (late clocked identified)
+
+schedule_tests : (v w f s h c g o i : Bool) → v ≡ true → f ≡ true → fault_by w s c g ≡ None → by_tests v w f s h c g o i ≡ scheduled h o i
+schedule_tests false w f s h c g o i version fed none = absurd cc
+schedule_tests true w false s h c g o i version fed none = absurd cc
+schedule_tests true false true s h c g o i version fed none = absurd cc
+schedule_tests true true true false h c g o i version fed none = absurd cc
+schedule_tests true true true true h true g o i version fed none = absurd cc
+schedule_tests true true true true h false true o i version fed none = absurd cc
+schedule_tests true true true true true false false o i version fed none = refl
+schedule_tests true true true true false false false o i version fed none = refl
+
+-- the graph has no fault, and what is fed goes to what is declared
+pub by_schedule : (document : DocumentDraft) → document.version ≡ 1 → list_all (λ entry. feeds document.graph entry.fed) document.feed ≡ true
+    → fault_in document.graph ≡ None → draft_refusal document ≡ scheduled (is_within document) (is_clocked document) (list_all (λ entry. is_identified entry.fed) document.feed)
+by_schedule document version fed none = schedule_tests
     (document.version == 1) (is_well_named document.graph) (list_all (λ entry. feeds document.graph entry.fed) document.feed) (is_small document.graph) (is_within document) (has_faulty_script document.graph) (shares_variables document.graph) (is_clocked document) (list_all (λ entry. is_identified entry.fed) document.feed)
-    (version_1 document version) fed beyond none
+    (version_1 document version) fed none
 
--- ---- order and identifiers
-
-late_tests : (v w f s h c g o i : Bool) → v ≡ true → f ≡ true → h ≡ true → fault_by w s c g ≡ None → by_tests v w f s h c g o i ≡ late o i
-late_tests false w f s h c g o i version fed fits none = absurd cc
-late_tests true w false s h c g o i version fed fits none = absurd cc
-late_tests true w true s false c g o i version fed fits none = absurd cc
-late_tests true false true s true c g o i version fed fits none = absurd cc
-late_tests true true true false true c g o i version fed fits none = absurd cc
-late_tests true true true true true true g o i version fed fits none = absurd cc
-late_tests true true true true true false true o i version fed fits none = absurd cc
-late_tests true true true true true false false o i version fed fits none = refl
-
--- no code up to that of group variables holds
-pub by_late : (document : DocumentDraft) → document.version ≡ 1 → list_all (λ entry. feeds document.graph entry.fed) document.feed ≡ true → is_within document ≡ true
-    → fault_in document.graph ≡ None → draft_refusal document ≡ late (is_clocked document) (list_all (λ entry. is_identified entry.fed) document.feed)
-by_late document version fed fits none = late_tests
-    (document.version == 1) (is_well_named document.graph) (list_all (λ entry. feeds document.graph entry.fed) document.feed) (is_small document.graph) (is_within document) (has_faulty_script document.graph) (shares_variables document.graph) (is_clocked document) (list_all (λ entry. is_identified entry.fed) document.feed)
-    (version_1 document version) fed fits none
-
--- a plan's fault is the refusal, where its schedule fits, and its goals are identified where the document's are
-pub plan_tests : (fits ordered these identified : Bool) (fault : PlanFault) → fits ≡ true → (identified ≡ true → these ≡ true) → plan_by fits ordered these ≡ Some fault → late ordered identified ≡ Some (code_of fault)
-plan_tests false ordered these identified fault fit same found = absurd cc
-plan_tests true false these identified fault fit same found = subst (λ (f : PlanFault). Some refused.Clock ≡ Some (code_of f)) (the plan_fault.Clock fault found) refl where
+-- a plan's fault is the refusal, where its goals are identified where the document's are
+pub plan_tests : (fits ordered these identified : Bool) (fault : PlanFault) → (identified ≡ true → these ≡ true) → plan_by fits ordered these ≡ Some fault → scheduled fits ordered identified ≡ Some (code_of fault)
+plan_tests false ordered these identified fault same found = subst (λ (f : PlanFault). Some refused.Limit ≡ Some (code_of f)) (the plan_fault.Limit fault found) refl where
   the : (a b : PlanFault) → Some a ≡ Some b → a ≡ b
   the a b e = cc
-plan_tests true true true identified fault fit same found = absurd cc
-plan_tests true true false true fault fit same found = let e = same refl in absurd cc
-plan_tests true true false false fault fit same found = subst (λ (f : PlanFault). Some refused.Id ≡ Some (code_of f)) (the plan_fault.Id fault found) refl where
+plan_tests true false these identified fault same found = subst (λ (f : PlanFault). Some refused.Clock ≡ Some (code_of f)) (the plan_fault.Clock fault found) refl where
+  the : (a b : PlanFault) → Some a ≡ Some b → a ≡ b
+  the a b e = cc
+plan_tests true true true identified fault same found = absurd cc
+plan_tests true true false true fault same found = let e = same refl in absurd cc
+plan_tests true true false false fault same found = subst (λ (f : PlanFault). Some refused.Id ≡ Some (code_of f)) (the plan_fault.Id fault found) refl where
   the : (a b : PlanFault) → Some a ≡ Some b → a ≡ b
   the a b e = cc
 
--- without such a fault all is in order
-pub in_order : (fits ordered these : Bool) → plan_by fits ordered these ≡ None → ordered ≡ true
-in_order true true these none = refl
-in_order true false these none = absurd cc
-in_order false ordered these none = absurd cc
+-- without such a fault it fits, and all is in order
+pub record IsScheduled (within clocked : Bool) : Type 0 where
+  pub fits : within ≡ true
+  pub ordered : clocked ≡ true
+
+pub is_scheduled : (fits ordered these : Bool) → plan_by fits ordered these ≡ None → IsScheduled fits ordered
+is_scheduled true true these none = record { fits = refl; ordered = refl }
+is_scheduled true false these none = absurd cc
+is_scheduled false ordered these none = absurd cc
 
 -- ---- the moments
 

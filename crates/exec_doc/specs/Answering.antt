@@ -10,6 +10,8 @@ use Rattle.exec_graph.specs.Draft.{GraphDraft}
 use Rattle.exec_graph.specs.Graph.{GraphData}
 use Rattle.exec_graph.specs.Refusals.{fault_in}
 use Rattle.exec_graph.specs.Resolved.{graph_in}
+use Rattle.exec_graph.specs.declared.fault.GraphFault.{GraphFault}
+use Rattle.exec_graph.specs.declared.fault.GraphFault.TheVariants as graph_fault
 use Rattle.exec_graph.specs.declared.fault.PlanFault.{PlanFault}
 use Rattle.exec_graph.specs.declared.fault.PlanFault.TheVariants as plan_fault
 use Rattle.exec_graph.specs.Faults.{has_faulty_script, shares_variables, is_small, is_well_named}
@@ -34,22 +36,27 @@ has_graph_fault graph within _ = false
 abbrev pub graph_refusal : GraphDraft → Bool → Option Refused
 graph_refusal graph within = find (has_graph_fault graph within) codes_in_order
 
--- a document of this graph, these moments and this feed, for which no code up to that of group variables holds
+-- a document of version 1 of this graph, which has no fault, these moments and this feed
 pub record IsReady (document : DocumentDraft) (graph : GraphData) (moments : List ℕ) (feed : List EntryDraft) : Type 0 where
   pub version : document.version ≡ 1
   pub faultless : fault_in document.graph ≡ None
   pub made : graph_in document.graph ≡ Some graph
-  pub feeding : list_all (λ entry. feeds document.graph entry.fed) document.feed ≡ true
-  pub within : is_within document ≡ true
   pub ticks : document.moments ≡ moments
   pub entries : document.feed ≡ feed
+
+-- the code of a graph's fault
+abbrev pub graph_code_of : GraphFault → Refused
+graph_code_of graph_fault.Name = refused.Name
+graph_code_of graph_fault.Limit = refused.Limit
+graph_code_of graph_fault.Script = refused.Script
+graph_code_of graph_fault.GroupVariable = refused.GroupVariable
+graph_code_of graph_fault.Memory = refused.Memory
 
 -- the code of a plan's fault
 abbrev pub code_of : PlanFault → Refused
 code_of plan_fault.Limit = refused.Limit
 code_of plan_fault.Clock = refused.Clock
 code_of plan_fault.Id = refused.Id
-code_of plan_fault.Memory = refused.Memory
 
 -- what is found where nothing is refused, and else the refusal; unless memory was refused
 abbrev pub Answers : {A : Type 0} → Option Refused → Option A → Result A Refused → Type 0

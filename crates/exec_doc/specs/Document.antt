@@ -10,7 +10,7 @@ use Rattle.exec_doc.specs.Forms.{draft_of}
 use Rattle.exec_graph.specs.Numbers.{topic_named, server_named}
 use Rattle.exec_graph.specs.Resolved.{graph_in}
 use Rattle.exec_graph.specs.Options.{◌>>=◌, each}
-use Rattle.exec_doc.specs.Refusals.{value_of, id_of, refusal_in}
+use Rattle.exec_doc.specs.Refusals.{value_of, refusal_in}
 use Rattle.exec_doc.specs.declared.refused.Refused.{Refused}
 use Rattle.exec_graph.specs.Plan.{PlanData}
 use Rattle.exec_graph.specs.declared.plan.Feed.{Feed}
@@ -24,13 +24,13 @@ abbrev pub fed_in : GraphDraft → FedDraft → Option Fed
 fed_in drafted (draft.Message name value) = do
   topic ← topic_named drafted name
   Some (Message topic value)
-fed_in drafted (draft.Goal name text value) = do
+fed_in drafted (draft.Goal name said value) = do
   server ← server_named drafted name
-  id ← id_of text
+  id ← said
   Some (Goal server id value)
-fed_in drafted (draft.Cancel name text stamp) = do
+fed_in drafted (draft.Cancel name said stamp) = do
   server ← server_named drafted name
-  id ← id_of text
+  id ← said
   Some (Cancel server id stamp)
 
 -- an entry of the feed

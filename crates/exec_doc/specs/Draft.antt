@@ -1,4 +1,4 @@
--- Drafts of documents: what one says, its references still names, its identifiers still texts, and its scripts still words.
+-- Drafts of documents: what one says, its references still names, and its scripts still words.
 use Rattle.std.specs.Prelude.{ℕ, List}
 use Rattle.exec_doc.specs.declared.draft.EntryDraft.{EntryDraft}
 use Rattle.exec_graph.specs.Draft.{GraphDraft}

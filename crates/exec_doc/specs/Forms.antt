@@ -1,5 +1,6 @@
 -- The forms of a document: which JSON value is which draft, object by object.
 use Rattle.std.specs.Prelude.{ℕ, ℤ, List, [], ◌∷◌, ◌++◌, codes, Bool, true, false, if◌then◌else◌, is_some, Option, None, Some}
+use Rattle.std.specs.Int.{from_be_bytes, w128}
 use Rattle.std.specs.Option.{option_map, unwrap_or}
 use Rattle.std.specs.Str.{bytes_eq}
 use Rattle.serde_json.specs.Data.{Data, null, boolean, number, string, array, object, Items, no_items, item}
@@ -11,12 +12,14 @@ use Rattle.exec_doc.specs.Draft.{DocumentDraft}
 use Rattle.exec_graph.specs.declared.draft.GroupDraft.{GroupDraft}
 use Rattle.exec_graph.specs.declared.draft.NodeDraft.{NodeDraft}
 use Rattle.exec_graph.specs.declared.draft.EntityDraft.{EntityDraft}
+use Rattle.exec_graph.specs.Draft.{GraphDraft}
 use Rattle.exec_graph.specs.Entity.{Drafted, Spelled, if_there}
 use Rattle.exec_graph.specs.Options.{◌>>=◌, each}
 use Rattle.exec_graph.specs.declared.entity.EntityOf.TheVariants.{Timer, Subscription, Service, Client, Server, ActionClient}
 use Rattle.exec_msg.specs.declared.limits.TheConstants.{DEFAULT_DEPTH}
 use Rattle.exec_script.specs.declared.word.Word.{Word}
 use Rattle.exec_script.specs.declared.word.Word.TheVariants.{Text, Number}
+use Rattle.uuid.specs.Text.{parsed}
 
 -- ---- values
 
@@ -31,6 +34,14 @@ count value = as_number value >>= as_u64
 -- a value is a number for which `as_i64` answers
 abbrev pub integer : Data → Option ℤ
 integer value = as_number value >>= as_i64
+
+-- the identifier that a text says, in any of the text forms of a UUID
+abbrev pub id_of : List ℕ → Option ℕ
+id_of text = option_map (from_be_bytes w128) (parsed text)
+
+-- an identifier is a text, which may say none
+abbrev pub identifier : Data → Option (Option ℕ)
+identifier value = option_map id_of (text value)
 
 -- the values of a list
 abbrev pub values_of : Items → List Data
@@ -188,7 +199,7 @@ message_form value = do
 abbrev pub goal_form : Data → Option FedDraft
 goal_form value = do
   action ← required text (codes "action") value
-  id ← required text (codes "goal") value
+  id ← required identifier (codes "goal") value
   sent ← required integer (codes "value") value
   Some (Goal action id sent)
 
@@ -196,7 +207,7 @@ goal_form value = do
 abbrev pub cancel_form : Data → Option FedDraft
 cancel_form value = do
   action ← required text (codes "action") value
-  id ← required text (codes "cancel") value
+  id ← required identifier (codes "cancel") value
   stamp ← defaulted count 0 (codes "stamp") value
   Some (Cancel action id stamp)
 
@@ -224,12 +235,18 @@ entry value = do
 
 -- ---- the document
 
+-- what a document declares
+abbrev pub declared : Data → Option GraphDraft
+declared value = do
+  topics ← list text (codes "topics") value
+  nodes ← list node (codes "nodes") value
+  Some (record { topics = topics; nodes = nodes })
+
 -- the draft of a document, where the value has the forms of one
 abbrev pub draft_of : Data → Option DocumentDraft
 draft_of value = do
   version ← required count (codes "version") value
-  topics ← list text (codes "topics") value
-  nodes ← list node (codes "nodes") value
+  graph ← declared value
   moments ← list count (codes "moments") value
   feed ← list entry (codes "feed") value
-  Some (record { version = version; graph = record { topics = topics; nodes = nodes }; moments = moments; feed = feed })
+  Some (record { version = version; graph = graph; moments = moments; feed = feed })

@@ -7,5 +7,4 @@ pub mod Kinds
 pub mod Placing
 pub mod Reading
 pub mod Refusals
-pub mod Tree
 pub mod Words

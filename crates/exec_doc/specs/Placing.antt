@@ -6,7 +6,6 @@ use Rattle.std.specs.Str.{bytes_eq}
 use Rattle.exec_doc.specs.declared.draft.FedDraft.{FedDraft}
 use Rattle.exec_doc.specs.declared.draft.FedDraft.TheVariants as draft
 use Rattle.exec_doc.specs.declared.draft.EntryDraft.{EntryDraft}
-use Rattle.exec_doc.specs.Refusals.{id_of}
 use Rattle.exec_graph.specs.Graph.{GraphData, is_topic, is_server}
 use Rattle.exec_graph.specs.declared.plan.Feed.{Feed}
 use Rattle.exec_graph.specs.declared.plan.Fed.{Fed}
@@ -20,15 +19,15 @@ topic_at graph name = position_from (λ entity. is_topic entity.is && bytes_eq e
 abbrev pub server_at : GraphData → List ℕ → Option ℕ
 server_at graph name = position_from (λ entity. is_server entity.is && bytes_eq entity.name name) 0 graph.entities
 
--- the identifier that a text says, and 0 where it says none
-abbrev pub id_or_0 : List ℕ → ℕ
-id_or_0 text = unwrap_or (id_of text) 0
+-- an identifier, and 0 where there is none
+abbrev pub id_or_0 : Option ℕ → ℕ
+id_or_0 id = unwrap_or id 0
 
 -- what is fed to the graph's own topics and servers
 abbrev pub fed_by : GraphData → FedDraft → Option Fed
 fed_by graph (draft.Message name value) = option_map (λ topic. Message topic value) (topic_at graph name)
-fed_by graph (draft.Goal name text value) = option_map (λ server. Goal server (id_or_0 text) value) (server_at graph name)
-fed_by graph (draft.Cancel name text stamp) = option_map (λ server. Cancel server (id_or_0 text) stamp) (server_at graph name)
+fed_by graph (draft.Goal name id value) = option_map (λ server. Goal server (id_or_0 id) value) (server_at graph name)
+fed_by graph (draft.Cancel name id stamp) = option_map (λ server. Cancel server (id_or_0 id) stamp) (server_at graph name)
 
 -- an entry of the feed
 abbrev pub entry_by : GraphData → EntryDraft → Option Feed

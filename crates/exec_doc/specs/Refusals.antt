@@ -1,12 +1,10 @@
 -- Why a document is refused: the predicate of each code, and the least code whose predicate holds.
 use Rattle.std.specs.Prelude.{ℕ, List, [], ◌∷◌, length, map, Bool, true, false, not, ◌&&◌, ◌==◌, nat_le, is_some, is_none, if◌then◌else◌, Option, None, find}
-use Rattle.std.specs.Int.{from_be_bytes, w128}
 use Rattle.std.specs.List.{list_all}
-use Rattle.std.specs.Option.{option_map, option_map_or}
+use Rattle.std.specs.Option.{option_map_or}
 use Rattle.std.specs.Str.{is_utf8}
 use Rattle.serde_json.specs.Data.{Data}
 use Rattle.serde_json.specs.Read.{read}
-use Rattle.uuid.specs.Text.{parsed}
 use Rattle.exec_doc.specs.declared.draft.FedDraft.{FedDraft}
 use Rattle.exec_doc.specs.declared.draft.FedDraft.TheVariants.{Message, Goal, Cancel}
 use Rattle.exec_doc.specs.Draft.{DocumentDraft}
@@ -57,15 +55,11 @@ is_clocked document = is_in_order document.moments (map (λ entry. entry.round) 
 
 -- ---- 9: identifiers
 
--- the identifier that a text says, in any of the text forms of a UUID
-abbrev pub id_of : List ℕ → Option ℕ
-id_of text = option_map (from_be_bytes w128) (parsed text)
-
 -- each identifier is one, and a goal's isn't 0
 abbrev pub is_identified : FedDraft → Bool
 is_identified (Message name value) = true
-is_identified (Goal name text value) = option_map_or (λ id. nat_le 1 id) (id_of text) false
-is_identified (Cancel name text stamp) = is_some (id_of text)
+is_identified (Goal name id value) = option_map_or (λ id. nat_le 1 id) id false
+is_identified (Cancel name id stamp) = is_some id
 
 -- ---- the refusal
 

@@ -1,28 +1,20 @@
-ghost use Rattle.std.specs.Prelude.{[], ◌≡◌, ◌≢◌, ◌⊎◌, Option, None, Some, OnErr, IfOk, IfErr, map};
-ghost use Rattle.std.specs.Bool.{MatchBool};
-ghost use Rattle.serde_json.specs.Read.{read};
+ghost use Rattle.std.specs.Prelude.{◌≡◌, ◌⊎◌, None, Some, IfOk, IfErr};
+ghost use Rattle.serde_json.specs.View.{view};
 ghost use Rattle.exec_doc.specs.Answering.{Answers, IsReady, draft_refusal, graph_refusal};
 ghost use Rattle.exec_doc.specs.Draft.{DocumentDraft};
 ghost use Rattle.exec_doc.specs.Document.{plan_of, document_of};
 ghost use Rattle.exec_doc.specs.Refusals.{value_of, refusal_of};
-ghost use Rattle.exec_doc.specs.Tree.{view};
+ghost use Rattle.exec_graph.specs.Draft.{GraphDraft};
 ghost use Rattle.exec_graph.specs.Refusals.{fault_in};
-ghost use Rattle.exec_graph.specs.Resolved.{graph_in};
 
 use crate::draft::{DocumentDraft, EntryDraft};
 use crate::fed::{are_declared, are_identified, feed_of};
 use crate::forms::draft_of;
 use crate::refused::Refused;
-use crate::schedule::moments_within;
-use crate::tree::is_kept;
-use exec_graph::{Graph, GraphBuilder, GraphFault, NodeDraft, Plan};
-use exec_msg::Moment;
-use exec_script::WordText;
-use json::{Error, Reader, Scratch, Value};
+use crate::schedule::{moments_of, moments_within};
+use exec_graph::{Graph, GraphFault, NamedGraph, Plan};
+use serde_json::Value;
 use std::alloc::Global;
-
-// How deep arrays and objects may nest, as in `serde_json`.
-const MAX_DEPTH: usize = 127;
 
 /// The plan that a document says.
 ///
@@ -32,122 +24,90 @@ pub fn read_document(alloc: Global, bytes: &[u8]) -> Result<Plan, Refused>
     ensures plan { IfOk result (λ plan. document_of bytes.now ≡ Some plan) }
     ensures refused { IfErr result (λ code. (code ≡ Refused.Memory) ⊎ (refusal_of bytes.now ≡ Some code)) }
 {
-    let mut scratch = Scratch::new(alloc);
-    let value = value_of(alloc, bytes, &mut scratch)?;
-    let draft = draft_of(alloc, &value)?;
-    // The tree is the largest part by now, and the draft borrows from the document and the scratch alone.
-    drop(value);
+    let value = value_of(alloc, bytes)?;
+    let draft = draft_of(alloc, value)?;
     plan_of(alloc, draft)
 }
 
-fn value_of<'a>(
-    alloc: Global,
-    bytes: &'a [u8],
-    scratch: &'a mut Scratch,
-) -> Result<Value<'a>, Refused>
+fn value_of(alloc: Global, bytes: &[u8]) -> Result<Value, Refused>
     ensures value { IfOk result (λ value. value_of bytes.now ≡ Some (view value)) }
     ensures refused { IfErr result (λ code. (code ≡ Refused.Memory) ⊎ ((code ≡ Refused.NotJson) × (value_of bytes.now ≡ None))) }
 {
-    match std::str::from_utf8(bytes) {
-        Ok(text) => read(alloc, text, scratch),
+    match Value::from_slice(alloc, bytes) {
+        Ok(value) => Ok(value),
+        Err(fault) if fault.is_memory() => Err(Refused::Memory),
         Err(_) => Err(Refused::NotJson),
     }
 }
 
-fn read<'a>(alloc: Global, text: &'a str, scratch: &'a mut Scratch) -> Result<Value<'a>, Refused>
-    ensures value { IfOk result (λ value. read text.now ≡ Some (view value)) }
-    ensures refused { IfErr result (λ code. (code ≡ Refused.Memory) ⊎ ((code ≡ Refused.NotJson) × (read text.now ≡ None))) }
-{
-    let mut reader = Reader::new(text, scratch)?;
-    let value = match Value::read(alloc, &mut reader, MAX_DEPTH) {
-        Ok(value) => value,
-        Err(Error::OutOfMemory) => return Err(Refused::Memory),
-        Err(_) => return Err(Refused::NotJson),
-    };
-    if is_at_end(&mut reader) && is_kept(&value) {
-        Ok(value)
-    } else {
-        Err(Refused::NotJson)
-    }
-}
-
-// Whether nothing is left to read.
-fn is_at_end(reader: &mut Reader<'_>) -> bool
-    ensures { MatchBool result (reader.old ≡ []) (reader.old ≢ []) }
-{
-    reader.next().is_none()
-}
-
-fn plan_of(alloc: Global, draft: DocumentDraft<'_>) -> Result<Plan, Refused>
-    ensures { Answers (draft_refusal draft.entry) (plan_of draft.entry) result }
+fn plan_of(alloc: Global, draft: DocumentDraft) -> Result<Plan, Refused>
+    ensures { Answers (draft_refusal draft) (plan_of draft) result }
 {
     let DocumentDraft {
         version,
-        topics,
-        nodes,
+        graph,
         moments,
         feed,
     } = draft;
     if version != 1 {
         return Err(Refused::Version);
     }
-    let builder = declared(alloc, topics, nodes)?;
-    if !are_declared(&builder, &feed) {
-        return Err(Refused::Name);
+    let named = graph.named()?;
+    match named.graph() {
+        Ok(graph) => planned(alloc, graph, &moments, &feed),
+        Err(fault) => Err(refusal_by(alloc, &named, fault, &moments, &feed)),
     }
-    let moments = moments_within(alloc, &moments, &feed)?;
-    let graph = graph_of(builder, moments.is_some())?;
-    let Some(moments) = moments else {
-        return Err(Refused::Limit);
-    };
-    planned(alloc, graph, moments, &feed)
 }
 
-fn declared(
+// Why a document is refused whose names are right and whose graph has this fault.
+fn refusal_by(
     alloc: Global,
-    topics: Vec<WordText>,
-    nodes: Vec<NodeDraft>,
-) -> Result<GraphBuilder, Refused>
-    ensures builder { IfOk result (λ builder. builder ≡ record { topics = topics.items; nodes = nodes.items }) }
-    ensures memory { OnErr result (result ≡ Err Refused.Memory) }
+    named: &NamedGraph<'_>,
+    fault: GraphFault,
+    moments: &[u64],
+    feed: &[EntryDraft],
+) -> Refused
+    ensures { (document : DocumentDraft) → document.version ≡ 1 → named.now ≡ document.graph → moments.now ≡ document.moments → feed.now ≡ document.feed
+        → (fault ≡ GraphFault.Memory) ⊎ (fault_in document.graph ≡ Some fault) → (result ≡ Refused.Memory) ⊎ (draft_refusal document ≡ Some result) }
 {
-    let mut builder = GraphBuilder::new(alloc);
-    for topic in topics {
-        builder.topic(topic.into_string())?;
+    if !are_declared(named, feed) {
+        return Refused::Name;
     }
-    for node in nodes {
-        builder.node(node)?;
-    }
-    Ok(builder)
-}
-
-// The graph, or the least code up to that of group variables, where the schedule may be beyond its limits too.
-fn graph_of(builder: GraphBuilder, fits: bool) -> Result<Graph, Refused>
-    ensures graph { IfOk result (λ graph. (fault_in builder ≡ None) × (graph_in builder ≡ Some graph)) }
-    ensures refused { IfErr result (λ code. (code ≡ Refused.Memory) ⊎ (graph_refusal builder fits ≡ Some code)) }
-{
-    match builder.finish() {
-        Ok(graph) => Ok(graph),
-        Err(GraphFault::Memory) => Err(Refused::Memory),
-        Err(GraphFault::Name) => Err(Refused::Name),
-        Err(_) if !fits => Err(Refused::Limit),
-        Err(GraphFault::Limit) => Err(Refused::Limit),
-        Err(GraphFault::Script) => Err(Refused::Script),
-        Err(GraphFault::GroupVariable) => Err(Refused::GroupVariable),
+    match moments_within(alloc, moments, feed) {
+        Ok(moments) => code_of(fault, moments.is_some()),
+        Err(refused) => refused,
     }
 }
 
-// The plan of a graph, where no code up to that of group variables holds.
+// The code of a graph's fault, where the schedule may be beyond its limits too.
+fn code_of(fault: GraphFault, fits: bool) -> Refused
+    ensures memory { fault ≡ GraphFault.Memory → result ≡ Refused.Memory }
+    ensures code { (graph : GraphDraft) → fault_in graph ≡ Some fault → graph_refusal graph fits ≡ Some result }
+{
+    match fault {
+        GraphFault::Memory => Refused::Memory,
+        GraphFault::Name => Refused::Name,
+        _ if !fits => Refused::Limit,
+        GraphFault::Limit => Refused::Limit,
+        GraphFault::Script => Refused::Script,
+        GraphFault::GroupVariable => Refused::GroupVariable,
+    }
+}
+
+// The plan of a graph, where no code up to that of group variables holds but of names that are fed and of the schedule.
 fn planned(
     alloc: Global,
     graph: Graph,
-    moments: Vec<Moment>,
-    entries: &[EntryDraft<'_>],
+    moments: &[u64],
+    entries: &[EntryDraft],
 ) -> Result<Plan, Refused>
-    ensures { (document : DocumentDraft) → IsReady document graph moments.items entries.now → Answers (draft_refusal document) (plan_of document) result }
+    ensures { (document : DocumentDraft) → IsReady document graph moments.now entries.now → Answers (draft_refusal document) (plan_of document) result }
 {
     let feed = feed_of(alloc, &graph, entries)?;
-    let plan = Plan::new(alloc, graph, moments, feed)?;
+    let Some(moments) = moments_of(alloc, moments)? else {
+        return Err(Refused::Limit);
+    };
+    let plan = Plan::new(graph, moments, feed)?;
     if are_identified(entries) {
         Ok(plan)
     } else {

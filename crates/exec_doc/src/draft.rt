@@ -1,62 +1,33 @@
-use exec_graph::NodeDraft;
+use exec_graph::GraphBuilder;
+use exec_msg::GoalId;
 use exec_script::WordText;
 use std::marker::Model;
 
-/// A text of the feed, borrowed from the document and seen by contracts as its bytes.
-#[derive(Debug, Drop)]
-pub struct FedText<'a>(&'a str);
-
-impl<'a> Model for FedText<'a> {
-    ghost use Rattle.std.specs.Prelude.{ℕ, List};
-
-    ghost Value = { List ℕ };
-
-    ghost view = { λ text. text.0.now };
-}
-
-impl<'a> FedText<'a> {
-    ghost use Rattle.std.specs.Prelude.{◌≡◌};
-
-    /// This text of a document.
-    pub fn of(text: &'a str) -> FedText<'a>
-        ensures { result ≡ text.now }
-    {
-        FedText(text)
-    }
-
-    /// The text.
-    pub fn as_str(&self) -> &str
-        ensures { result.now ≡ self.now }
-    {
-        self.0
-    }
-}
-
 /// What is said to be fed.
 #[derive(Debug, Drop)]
-pub enum FedDraft<'a> {
+pub enum FedDraft {
     /// A message to a topic.
     Message {
         /// The name of the topic.
-        topic: FedText<'a>,
+        topic: WordText,
         /// What is sent.
         value: i64,
     },
     /// A goal request to an action server.
     Goal {
         /// The name of the server.
-        action: FedText<'a>,
-        /// The goal's identifier.
-        id: FedText<'a>,
+        action: WordText,
+        /// The goal's identifier, or `None` where the text is none.
+        id: Option<GoalId>,
         /// What is asked for.
         value: i64,
     },
     /// A cancel request to an action server.
     Cancel {
         /// The name of the server.
-        action: FedText<'a>,
-        /// The identifier of a goal, or of none.
-        id: FedText<'a>,
+        action: WordText,
+        /// The identifier of a goal, or 0 for no goal, or `None` where the text is no identifier.
+        id: Option<GoalId>,
         /// In ticks; 0 is none.
         stamp: u64,
     },
@@ -64,36 +35,34 @@ pub enum FedDraft<'a> {
 
 /// An entry of a feed.
 #[derive(Debug, Drop)]
-pub struct EntryDraft<'a> {
+pub struct EntryDraft {
     /// The number of its round.
     pub round: u64,
     /// What it feeds.
-    pub fed: FedDraft<'a>,
+    pub fed: FedDraft,
 }
 
-/// What a document says, its references still names, its identifiers still texts, and its scripts still words.
-#[derive(Debug, Drop)]
-pub struct DocumentDraft<'a> {
+/// What a document says, its references still names, and its scripts still words.
+#[derive(Drop)]
+pub struct DocumentDraft {
     /// Its version.
     pub version: u64,
-    /// The names of its topics.
-    pub topics: Vec<WordText>,
-    /// Its nodes.
-    pub nodes: Vec<NodeDraft>,
+    /// What it declares.
+    pub graph: GraphBuilder,
     /// The moment of each round, in ticks.
     pub moments: Vec<u64>,
     /// What is fed.
-    pub feed: Vec<EntryDraft<'a>>,
+    pub feed: Vec<EntryDraft>,
 }
 
-impl<'a> Model for DocumentDraft<'a> {
+impl Model for DocumentDraft {
     ghost use Rattle.exec_doc.specs.Draft.{DocumentDraft};
 
     ghost Value = { DocumentDraft };
 
     ghost view = { λ draft. record {
       version = draft.version;
-      graph = record { topics = draft.topics.items; nodes = draft.nodes.items };
+      graph = draft.graph;
       moments = draft.moments.items;
       feed = draft.feed.items;
     } };

@@ -2,32 +2,33 @@
 mod entities;
 mod feed;
 mod fields;
+mod graph;
 mod nodes;
+mod owned;
 mod scripts;
 
-ghost use Rattle.exec_doc.specs.Tree.{view};
+ghost use Rattle.serde_json.specs.View.{view};
 ghost use Rattle.exec_doc.specs.Forms.{draft_of};
 ghost use Rattle.exec_doc.specs.Reading.{Gives};
 
 use crate::draft::DocumentDraft;
 use crate::refused::Refused;
-use feed::feed;
 use fields::{list, required};
-use json::Value;
+use graph::declared;
+use serde_json::Value;
 use std::alloc::Global;
 
 /// The draft of a document.
 ///
 /// # Errors
 /// [`Refused::Shape`] where the value hasn't the forms of a document, [`Refused::Memory`] where a growth was refused.
-pub fn draft_of<'a>(alloc: Global, document: &Value<'a>) -> Result<DocumentDraft<'a>, Refused>
-    ensures { Gives (λ draft. draft) result (draft_of (view document.now)) }
+pub fn draft_of(alloc: Global, document: Value) -> Result<DocumentDraft, Refused>
+    ensures { Gives (λ draft. draft) result (draft_of (view document)) }
 {
     Ok(DocumentDraft {
-        version: required(alloc, document, "version")?,
-        topics: list(alloc, document, "topics")?,
-        nodes: list(alloc, document, "nodes")?,
-        moments: list(alloc, document, "moments")?,
-        feed: feed(alloc, document)?,
+        version: required(alloc, &document, "version")?,
+        moments: list(alloc, &document, "moments")?,
+        feed: list(alloc, &document, "feed")?,
+        graph: declared(alloc, document)?,
     })
 }

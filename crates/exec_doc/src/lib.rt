@@ -12,7 +12,6 @@ mod refused;
 mod schedule;
 #[cfg(test)]
 mod tests;
-mod tree;
 
 pub use document::read_document;
 pub use refused::Refused;

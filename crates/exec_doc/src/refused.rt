@@ -2,7 +2,7 @@ ghost use Rattle.std.specs.Prelude.{◌≡◌};
 ghost use Rattle.exec_doc.specs.Refusals.{number_of};
 ghost use Rattle.exec_doc.specs.declared.refused.Refused.TheVariants as variants;
 
-use exec_graph::PlanFault;
+use exec_graph::{GraphFault, PlanFault};
 use exec_msg::Memory;
 use std::alloc::{AllocError, AllocFailed};
 use thiserror::Error;
@@ -75,6 +75,22 @@ impl<T: Drop> From<AllocFailed<T>> for Refused {
     }
 }
 
+impl From<GraphFault> for Refused {
+    ghost use Rattle.exec_doc.specs.Answering.{graph_code_of};
+
+    ghost from_gives = { λ fault refused. refused ≡ graph_code_of fault };
+
+    fn from(fault: GraphFault) -> Refused {
+        match fault {
+            GraphFault::Name => Refused::Name,
+            GraphFault::Limit => Refused::Limit,
+            GraphFault::Script => Refused::Script,
+            GraphFault::GroupVariable => Refused::GroupVariable,
+            GraphFault::Memory => Refused::Memory,
+        }
+    }
+}
+
 impl From<PlanFault> for Refused {
     ghost use Rattle.exec_doc.specs.Answering.{code_of};
 
@@ -85,7 +101,6 @@ impl From<PlanFault> for Refused {
             PlanFault::Limit => Refused::Limit,
             PlanFault::Clock => Refused::Clock,
             PlanFault::Id => Refused::Id,
-            PlanFault::Memory => Refused::Memory,
         }
     }
 }

@@ -19,7 +19,7 @@ use std::alloc::Global;
 pub fn moments_within(
     alloc: Global,
     ticks: &[u64],
-    feed: &[EntryDraft<'_>],
+    feed: &[EntryDraft],
 ) -> Result<Option<Vec<Moment>>, Refused>
     ensures moments { IfOk result (λ found. option_map (λ moments. moments.items) found
         ≡ only_if (schedule_fits ticks.now (length feed.now) (greatest (map (λ entry. stamp_of entry.fed) feed.now))) ticks.now) }
@@ -35,7 +35,11 @@ pub fn moments_within(
     }
 }
 
-fn moments_of(alloc: Global, ticks: &[u64]) -> Result<Option<Vec<Moment>>, Refused>
+/// The moments of the rounds, or `None` where one is beyond its limit.
+///
+/// # Errors
+/// [`Refused::Memory`] alone.
+pub fn moments_of(alloc: Global, ticks: &[u64]) -> Result<Option<Vec<Moment>>, Refused>
     ensures moments { IfOk result (λ found. option_map (λ moments. moments.items) found
         ≡ only_if (list_all (λ moment. nat_le moment TICKS) ticks.now) ticks.now) }
     ensures memory { OnErr result (result ≡ Err Refused.Memory) }
@@ -50,7 +54,7 @@ fn moments_of(alloc: Global, ticks: &[u64]) -> Result<Option<Vec<Moment>>, Refus
     Ok(Some(moments))
 }
 
-fn greatest_stamp(feed: &[EntryDraft<'_>]) -> u64
+fn greatest_stamp(feed: &[EntryDraft]) -> u64
     ensures { result ≡ greatest (map (λ entry. stamp_of entry.fed) feed.now) }
 {
     let mut greatest: u64 = 0;
@@ -60,7 +64,7 @@ fn greatest_stamp(feed: &[EntryDraft<'_>]) -> u64
     greatest
 }
 
-fn stamp_of(fed: &FedDraft<'_>) -> u64
+fn stamp_of(fed: &FedDraft) -> u64
     ensures { result ≡ stamp_of fed.now }
 {
     match fed {

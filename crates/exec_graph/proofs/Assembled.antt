@@ -137,7 +137,7 @@ mapped_none said f o is there = is ∙ ap (option_map f) there
 
 -- ---- from what is read
 
-module _ (draft : GraphDraft) (found : DirectoryData) (there : Some found ≡ where_so (is_well_named draft) (directory_of draft)) (small : is_small draft ≡ true) where
+module _ (draft : GraphDraft) (found : DirectoryData) (there : Some found ≡ where_so (is_well_named draft) (directory_of draft)) where
   pub named : is_well_named draft ≡ true
   named = so (is_well_named draft) found (directory_of draft) there
 
@@ -147,69 +147,70 @@ module _ (draft : GraphDraft) (found : DirectoryData) (there : Some found ≡ wh
   pub distinct : are_distinct (names_of draft) ≡ true
   distinct = and_right (list_all is_name (names_of draft)) (are_distinct (names_of draft)) (names_kept draft named).names
 
-  names_few : length (names_of draft) ≤ 65536
-  names_few =
-      let keeps = small_kept draft small in
-      let topics = leb-true (length draft.topics) TOPICS keeps.few_topics in
-      let entities = leb-true (length (entities_of draft)) ENTITIES keeps.few_entities in
-      omega (arith, topics, entities, length-append draft.topics (map (λ placed. placed.entity.name) (entities_of draft)), length-map (entities_of draft) (λ (placed : Placed). placed.entity.name))
+  module _ (small : is_small draft ≡ true) where
+    names_few : length (names_of draft) ≤ 65536
+    names_few =
+        let keeps = small_kept draft small in
+        let topics = leb-true (length draft.topics) TOPICS keeps.few_topics in
+        let entities = leb-true (length (entities_of draft)) ENTITIES keeps.few_entities in
+        omega (arith, topics, entities, length-append draft.topics (map (λ placed. placed.entity.name) (entities_of draft)), length-map (entities_of draft) (λ (placed : Placed). placed.entity.name))
 
-  -- names have numbers of 16 bits
-  pub few_names : length found.names ≤ 65536
-  few_names = subst (λ (directory : DirectoryData). length directory.names ≤ 65536) (sym directory_is) names_few
+    -- names have numbers of 16 bits
+    pub few_names : length found.names ≤ 65536
+    few_names = subst (λ (directory : DirectoryData). length directory.names ≤ 65536) (sym directory_is) names_few
 
-  -- so have nodes
-  pub few_nodes : {A : Type 0} (texts : List A) (text_of : A → List ℕ) → map text_of texts ≡ map (λ node. node.name) draft.nodes → length texts ≤ 65536
-  few_nodes texts text_of same =
-      let keeps = small_kept draft small in
-      let nodes = leb-true (length draft.nodes) NODES keeps.few_nodes in
-      let long = ap (λ (xs : List (List ℕ)). length xs) same in
-      omega (arith, nodes, length-map texts text_of, length-map draft.nodes (λ (node : NodeDraft). node.name), long)
+    -- so have nodes
+    pub few_nodes : {A : Type 0} (texts : List A) (text_of : A → List ℕ) → map text_of texts ≡ map (λ node. node.name) draft.nodes → length texts ≤ 65536
+    few_nodes texts text_of same =
+        let keeps = small_kept draft small in
+        let nodes = leb-true (length draft.nodes) NODES keeps.few_nodes in
+        let long = ap (λ (xs : List (List ℕ)). length xs) same in
+        omega (arith, nodes, length-map texts text_of, length-map draft.nodes (λ (node : NodeDraft). node.name), long)
 
-  -- and groups
-  pub few_groups : length (groups_of draft) ≤ 65536
-  few_groups =
-      let keeps = small_kept draft small in
-      let nodes = leb-true (length draft.nodes) NODES keeps.few_nodes in
-      let groups = leb-true (sum_by (λ node. length node.groups) draft.nodes) NAMED_GROUPS keeps.few_groups in
-      omega (arith, nodes, groups, groups_counted 0 draft.nodes)
+    -- and groups
+    pub few_groups : length (groups_of draft) ≤ 65536
+    few_groups =
+        let keeps = small_kept draft small in
+        let nodes = leb-true (length draft.nodes) NODES keeps.few_nodes in
+        let groups = leb-true (sum_by (λ node. length node.groups) draft.nodes) NAMED_GROUPS keeps.few_groups in
+        omega (arith, nodes, groups, groups_counted 0 draft.nodes)
 
-  -- and what is as long as the names
-  pub few_texts : {A : Type 0} (texts : List A) (text_of : A → List ℕ) (placed : List Placed) → map text_of texts ≡ draft.topics ++ map (λ placed. placed.entity.name) placed → placed ≡ found.entities → length texts ≤ 65536
-  few_texts texts text_of placed same all =
-      let long = ap (λ (xs : List (List ℕ)). length xs) (same ∙ ap (λ (ps : List Placed). draft.topics ++ map (λ placed. placed.entity.name) ps) (all ∙ ap (λ (directory : DirectoryData). directory.entities) directory_is)) in
-      omega (arith, names_few, length-map texts text_of, long)
+    -- and what is as long as the names
+    pub few_texts : {A : Type 0} (texts : List A) (text_of : A → List ℕ) (placed : List Placed) → map text_of texts ≡ draft.topics ++ map (λ placed. placed.entity.name) placed → placed ≡ found.entities → length texts ≤ 65536
+    few_texts texts text_of placed same all =
+        let long = ap (λ (xs : List (List ℕ)). length xs) (same ∙ ap (λ (ps : List Placed). draft.topics ++ map (λ placed. placed.entity.name) ps) (all ∙ ap (λ (directory : DirectoryData). directory.entities) directory_is)) in
+        omega (arith, names_few, length-map texts text_of, long)
 
-  -- what isn't there has a faulty script
-  pub of_unread : option_map (λ others. map topic_in draft.topics ++ others) (each (entity_in draft) (entities_of draft)) ≡ None → fault_in draft ≡ Some graph_fault.Script
-  of_unread none = by (has_faulty_script draft) refl
-    where
-      by : (b : Bool) → has_faulty_script draft ≡ b → fault_in draft ≡ Some graph_fault.Script
-      by true faulty = script_by draft named small faulty
-      by false spelt =
-          let there = has_entities draft (names_kept draft named).resolved spelt in
-          let missing = unmapped _ (each (entity_in draft) (entities_of draft)) none in
-          let contrary : true ≡ false = sym there ∙ ap is_some missing in
-          absurd cc
+    -- what isn't there has a faulty script
+    pub of_unread : option_map (λ others. map topic_in draft.topics ++ others) (each (entity_in draft) (entities_of draft)) ≡ None → fault_in draft ≡ Some graph_fault.Script
+    of_unread none = by (has_faulty_script draft) refl
+      where
+        by : (b : Bool) → has_faulty_script draft ≡ b → fault_in draft ≡ Some graph_fault.Script
+        by true faulty = script_by draft named small faulty
+        by false spelt =
+            let there = has_entities draft (names_kept draft named).resolved spelt in
+            let missing = unmapped _ (each (entity_in draft) (entities_of draft)) none in
+            let contrary : true ≡ false = sym there ∙ ap is_some missing in
+            absurd cc
 
-  module _ (groups : List CallbackGroup) (grouped : groups ≡ groups_of draft) (entries : List (String Global × Declared)) (read : option_map (λ others. map topic_in draft.topics ++ others) (each (entity_in draft) (entities_of draft)) ≡ Some (entries_of entries)) (faults : List ScriptFault) (listed : faults ≡ flat_map (faults_of groups) (values_of entries)) where
-    faults_are : faults ≡ script_faults draft
-    faults_are = listed ∙ ap (λ (groups : List CallbackGroup). flat_map (faults_of groups) (values_of entries)) grouped ∙ faults_same draft entries read
+    module _ (groups : List CallbackGroup) (grouped : groups ≡ groups_of draft) (entries : List (String Global × Declared)) (read : option_map (λ others. map topic_in draft.topics ++ others) (each (entity_in draft) (entities_of draft)) ≡ Some (entries_of entries)) (faults : List ScriptFault) (listed : faults ≡ flat_map (faults_of groups) (values_of entries)) where
+      faults_are : faults ≡ script_faults draft
+      faults_are = listed ∙ ap (λ (groups : List CallbackGroup). flat_map (faults_of groups) (values_of entries)) grouped ∙ faults_same draft entries read
 
-    -- a script is faulty
-    pub of_script : true ≡ list_any (λ fault. not (is_of_variable fault)) faults → fault_in draft ≡ Some graph_fault.Script
-    of_script faulty = script_by draft named small (ap (list_any (λ fault. not (is_of_variable fault))) (sym faults_are) ∙ sym faulty)
+      -- a script is faulty
+      pub of_script : true ≡ list_any (λ fault. not (is_of_variable fault)) faults → fault_in draft ≡ Some graph_fault.Script
+      of_script faulty = script_by draft named small (ap (list_any (λ fault. not (is_of_variable fault))) (sym faults_are) ∙ sym faulty)
 
-    unfaulty : false ≡ list_any (λ fault. not (is_of_variable fault)) faults → has_faulty_script draft ≡ false
-    unfaulty faulty = ap (list_any (λ fault. not (is_of_variable fault))) (sym faults_are) ∙ sym faulty
+      unfaulty : false ≡ list_any (λ fault. not (is_of_variable fault)) faults → has_faulty_script draft ≡ false
+      unfaulty faulty = ap (list_any (λ fault. not (is_of_variable fault))) (sym faults_are) ∙ sym faulty
 
-    -- a variable is shared
-    pub of_variable : false ≡ list_any (λ fault. not (is_of_variable fault)) faults → (length faults == 0) ≡ false → fault_in draft ≡ Some graph_fault.GroupVariable
-    of_variable faulty some = variable_by draft named small (unfaulty faulty) (ap (list_any is_of_variable) (sym faults_are) ∙ all_shared faults some (sym faulty))
+      -- a variable is shared
+      pub of_variable : false ≡ list_any (λ fault. not (is_of_variable fault)) faults → (length faults == 0) ≡ false → fault_in draft ≡ Some graph_fault.GroupVariable
+      of_variable faulty some = variable_by draft named small (unfaulty faulty) (ap (list_any is_of_variable) (sym faults_are) ∙ all_shared faults some (sym faulty))
 
-    -- no fault is left
-    pub of_none : false ≡ list_any (λ fault. not (is_of_variable fault)) faults → (length faults == 0) ≡ true → fault_in draft ≡ None
-    of_none faulty none = none_by draft named small (unfaulty faulty) (ap (list_any is_of_variable) (sym faults_are) ∙ ap (list_any is_of_variable) (nothing faults (eqb-true (length faults) 0 none)))
+      -- no fault is left
+      pub of_none : false ≡ list_any (λ fault. not (is_of_variable fault)) faults → (length faults == 0) ≡ true → fault_in draft ≡ None
+      of_none faulty none = none_by draft named small (unfaulty faulty) (ap (list_any is_of_variable) (sym faults_are) ∙ ap (list_any is_of_variable) (nothing faults (eqb-true (length faults) 0 none)))
 
 -- ---- the graph
 

@@ -35,30 +35,26 @@ is_round most round is = record {
   last = leb-true round most (and_right (nat_le 1 round) (nat_le round most) is);
 }
 
--- what all pass each passes
-pub all_at : {A : Type 0} (test : A → Bool) (xs : List A) (place : ℕ) (default : A) → place < length xs → list_all test xs ≡ true → test (get_or xs place default) ≡ true
-all_at test [] place default below all = absurd (omega (arith, below))
-all_at test (x ∷ xs) zero default below all = and_left (test x) (list_all test xs) all
-all_at test (x ∷ xs) (suc place) default below all = all_at test xs place default (omega (arith, below)) (and_right (test x) (list_all test xs) all)
+-- the place of a round among the vectors of rounds
+pub place_below : (rounds : List (Vec Feed Global)) (index : List (List Feed)) (round : ℕ) → map (λ feed. feed.items) rounds ≡ index → is_from_1 (length index) round ≡ true → round - 1 < length rounds
+place_below rounds index round are is =
+    let within = is_round (length index) round is in
+    let many = sym (length-map rounds (λ (feed : Vec Feed Global). feed.items)) ∙ ap (λ (feeds : List (List Feed)). length feeds) are in
+    omega (arith, within.first, within.last, many)
 
--- the vectors of a plan's rounds
-module _ (rounds : List (Vec Feed Global)) (plan : PlanData) (are : map (λ feed. feed.items) rounds ≡ feeds_by_round plan) (round : ℕ) (is : is_from_1 (length plan.moments) round ≡ true) where
-  pub place_below : round - 1 < length rounds
-  place_below =
-      let within = is_round (length plan.moments) round is in
-      let many = sym (length-map rounds (λ (feed : Vec Feed Global). feed.items)) ∙ ap (λ (feeds : List (List Feed)). length feeds) are ∙ as_many_rounds 1 plan.moments plan.feed in
-      omega (arith, within.first, within.last, many)
-
-  pub entries_at : (found : Vec Feed Global) → found ≡ get_or rounds (round - 1) found → found.items ≡ fed_in round plan.feed
-  entries_at found there =
-      let within = is_round (length plan.moments) round is in
-      let below : round - 1 < length plan.moments = omega (arith, within.first, within.last) in
-      let counted : 1 + (round - 1) ≡ round = omega (arith, within.first) in
-      ap (λ (feed : Vec Feed Global). feed.items) there
-      ∙ sym (get_or-map (λ (feed : Vec Feed Global). feed.items) rounds (round - 1) found found.items place_below)
-      ∙ ap (λ (feeds : List (List Feed)). get_or feeds (round - 1) found.items) are
-      ∙ at_round 1 (round - 1) plan.moments plan.feed found.items below
-      ∙ ap (λ (n : ℕ). fed_in n plan.feed) counted
+-- the vector at it has the round's entries
+pub entries_at : (rounds : List (Vec Feed Global)) (plan : PlanData) (round : ℕ) → map (λ feed. feed.items) rounds ≡ feeds_by_round plan → is_from_1 (length (feeds_by_round plan)) round ≡ true
+    → (found : Vec Feed Global) → found ≡ get_or rounds (round - 1) found → found.items ≡ fed_in round plan.feed
+entries_at rounds plan round are is found there =
+    let within = is_round (length (feeds_by_round plan)) round is in
+    let many = as_many_rounds 1 plan.moments plan.feed in
+    let below : round - 1 < length plan.moments = omega (arith, within.first, within.last, many) in
+    let counted : 1 + (round - 1) ≡ round = omega (arith, within.first) in
+    ap (λ (feed : Vec Feed Global). feed.items) there
+    ∙ sym (get_or-map (λ (feed : Vec Feed Global). feed.items) rounds (round - 1) found found.items (place_below rounds (feeds_by_round plan) round are is))
+    ∙ ap (λ (feeds : List (List Feed)). get_or feeds (round - 1) found.items) are
+    ∙ at_round 1 (round - 1) plan.moments plan.feed found.items below
+    ∙ ap (λ (n : ℕ). fed_in n plan.feed) counted
 
 -- ---- the lists are made empty
 

@@ -1,4 +1,3 @@
-pub mod Declaring
 pub mod Directory
 pub mod Draft
 pub mod Entity

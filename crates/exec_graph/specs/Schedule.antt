@@ -1,9 +1,9 @@
 -- Schedules: the moments of a plan and what is fed at them, and why they are refused.
-use Rattle.std.specs.Prelude.{ℕ, List, [], ◌∷◌, length, map, Bool, true, false, not, ◌&&◌, nat_le, max, Option, find}
+use Rattle.std.specs.Prelude.{ℕ, List, [], ◌∷◌, length, map, Bool, true, not, ◌&&◌, nat_le, max, Option, find}
 use Rattle.std.specs.List.{list_all}
 use Rattle.exec_graph.specs.Lawful.{is_from_1, is_ascending_from}
 use Rattle.exec_graph.specs.declared.fault.PlanFault.{PlanFault}
-use Rattle.exec_graph.specs.declared.fault.PlanFault.TheVariants.{Limit, Clock, Id, Memory}
+use Rattle.exec_graph.specs.declared.fault.PlanFault.TheVariants.{Limit, Clock, Id}
 use Rattle.exec_graph.specs.declared.plan.Fed.{Fed}
 use Rattle.exec_graph.specs.declared.plan.Fed.TheVariants.{Message, Goal, Cancel}
 use Rattle.exec_graph.specs.declared.plan.Feed.{Feed}
@@ -43,7 +43,6 @@ abbrev pub has_plan_fault : PlanFault → List ℕ → List Feed → Bool
 has_plan_fault Limit moments feed = not (schedule_fits moments (length feed) (greatest (map (λ entry. stamp_of entry.fed) feed)))
 has_plan_fault Clock moments feed = not (is_in_order moments (map (λ entry. entry.round) feed))
 has_plan_fault Id moments feed = not (list_all (λ entry. is_identified entry.fed) feed)
-has_plan_fault Memory moments feed = false
 
 -- the faults of a plan in order
 abbrev pub plan_faults_in_order : List PlanFault
@@ -58,4 +57,3 @@ abbrev pub plan_number_of : PlanFault → ℕ
 plan_number_of Limit = 5
 plan_number_of Clock = 8
 plan_number_of Id = 9
-plan_number_of Memory = 10

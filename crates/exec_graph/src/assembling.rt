@@ -71,7 +71,7 @@ pub(crate) fn graph_of(
 // What topics and nodes declare, where all of it is well named.
 pub(crate) fn well_named<'a>(
     alloc: Global,
-    topics: &[String],
+    topics: &'a [String],
     nodes: &'a [NodeDraft],
 ) -> Result<Option<Directory<'a>>, Memory>
     ensures { IfOk result (λ found. found ≡ where_so (is_well_named (draft_of (map string_bytes topics.now) nodes.now)) (directory_of (draft_of (map string_bytes topics.now) nodes.now))) }

@@ -21,8 +21,8 @@ use std::marker::Model;
 pub(crate) struct Directory<'a> {
     // How many of the names are topics'. Those of the entities stand behind them.
     topics: usize,
-    names: TextSet,
-    groups: Vec<TextSet>,
+    names: TextSet<'a>,
+    groups: Vec<TextSet<'a>>,
     entities: Vec<PlacedEntity<'a>>,
 }
 
@@ -39,7 +39,7 @@ impl<'a> Directory<'a> {
     // are names and differ.
     pub(crate) fn of(
         alloc: Global,
-        topics: &[String],
+        topics: &'a [String],
         nodes: &'a [NodeDraft],
     ) -> Result<Option<Directory<'a>>, Memory>
         ensures { IfOk result (λ found. found ≡ where_so
@@ -169,7 +169,7 @@ impl<'a> Directory<'a> {
 }
 
 // Whether the names of a node's groups have one; the default group has none.
-fn has_group_in(names: &TextSet, group: &Option<WordText>) -> bool
+fn has_group_in(names: &TextSet<'_>, group: &Option<WordText>) -> bool
     ensures { result ≡ has_in (Some names.now) group.now }
 {
     match group {
@@ -192,7 +192,10 @@ pub(crate) fn has_node_names(alloc: Global, nodes: &[NodeDraft]) -> Result<bool,
 }
 
 // The names of each node's groups, where they are names and differ within each node.
-fn group_names(alloc: Global, nodes: &[NodeDraft]) -> Result<Option<Vec<TextSet>>, Memory>
+fn group_names<'a>(
+    alloc: Global,
+    nodes: &'a [NodeDraft],
+) -> Result<Option<Vec<TextSet<'a>>>, Memory>
     ensures { IfOk result (λ found. option_map (λ groups. groups.items) found ≡ where_so (list_all has_named_groups nodes.now) (map group_names nodes.now)) }
 {
     let mut groups = Vec::new(alloc);
@@ -205,7 +208,10 @@ fn group_names(alloc: Global, nodes: &[NodeDraft]) -> Result<Option<Vec<TextSet>
     Ok(Some(groups))
 }
 
-fn names_of_groups(alloc: Global, groups: &[GroupDraft]) -> Result<Option<TextSet>, Memory>
+fn names_of_groups<'a>(
+    alloc: Global,
+    groups: &'a [GroupDraft],
+) -> Result<Option<TextSet<'a>>, Memory>
     ensures { IfOk result (λ found. found ≡ where_so (are_names (map (λ group. group.name) groups.now)) (map (λ group. group.name) groups.now)) }
 {
     let mut names = TextSet::new(alloc);
@@ -217,7 +223,7 @@ fn names_of_groups(alloc: Global, groups: &[GroupDraft]) -> Result<Option<TextSe
     Ok(Some(names))
 }
 
-fn add_topics(names: &mut TextSet, topics: &[String]) -> Result<bool, Memory>
+fn add_topics<'a>(names: &mut TextSet<'a>, topics: &'a [String]) -> Result<bool, Memory>
     ensures { IfOk result (λ added. names_from names.old (map string_bytes topics.now) ≡ where_so added names.new) }
 {
     for topic in topics {
@@ -228,7 +234,7 @@ fn add_topics(names: &mut TextSet, topics: &[String]) -> Result<bool, Memory>
     Ok(true)
 }
 
-fn add_entities(names: &mut TextSet, entities: &[PlacedEntity<'_>]) -> Result<bool, Memory>
+fn add_entities<'a>(names: &mut TextSet<'a>, entities: &[PlacedEntity<'a>]) -> Result<bool, Memory>
     ensures { IfOk result (λ added. names_from names.old (map (λ placed. placed.entity.name) entities.now) ≡ where_so added names.new) }
 {
     for placed in entities {

@@ -2,7 +2,6 @@ ghost use Rattle.std.specs.Prelude.{◌≡◌};
 ghost use Rattle.exec_graph.specs.Refusals.{number_of};
 ghost use Rattle.exec_graph.specs.Schedule.{plan_number_of};
 ghost use Rattle.exec_graph.specs.declared.fault.GraphFault.TheVariants as graph_fault;
-ghost use Rattle.exec_graph.specs.declared.fault.PlanFault.TheVariants as plan_fault;
 
 use exec_msg::Memory;
 use std::alloc::{AllocError, AllocFailed};
@@ -73,24 +72,13 @@ pub enum PlanFault {
     /// The identifier of a goal that is fed is 0.
     #[error("no identifier")]
     Id = 9,
-    /// A growth was refused.
-    #[error("out of memory")]
-    Memory = 10,
 }
 
 impl PlanFault {
-    /// The number of the fault, from 5 to 10.
+    /// The number of the fault, from 5 to 9.
     pub fn number(self) -> u8
         ensures { result ≡ plan_number_of self }
     {
         self as u8
-    }
-}
-
-impl<T: Drop> From<AllocFailed<T>> for PlanFault {
-    ghost from_gives = { λ _ fault. fault ≡ plan_fault.Memory };
-
-    fn from(_refused: AllocFailed<T>) -> PlanFault {
-        PlanFault::Memory
     }
 }

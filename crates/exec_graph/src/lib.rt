@@ -8,14 +8,15 @@ mod directory;
 mod draft;
 mod entity;
 mod fault;
+mod feed_by_round;
 mod graph;
 mod grouping;
 pub mod laws;
 mod limits;
+mod named;
 mod naming;
 mod numbering;
 mod plan;
-mod rounds;
 mod schedule;
 mod scope;
 mod script;
@@ -31,7 +32,9 @@ pub use entity::{
     GroupNo, ServerEntity, ServiceEntity, SubscriptionEntity, TimerEntity,
 };
 pub use fault::{GraphFault, PlanFault};
+pub use feed_by_round::FeedByRound;
 pub use graph::Graph;
+pub use named::NamedGraph;
 pub use plan::{Fed, Feed, Plan};
 pub use schedule::schedule_fits;
 pub use script::{Script, Spelled};

@@ -1,5 +1,5 @@
 //! Names, and lists of different ones.
-ghost use Rattle.std.specs.Prelude.{◌≡◌, [], ◌∷◌, ◌++◌, not, ◌&&◌, if◌then◌else◌, IfOk};
+ghost use Rattle.std.specs.Prelude.{◌≡◌, [], ◌∷◌, ◌++◌, not, ◌&&◌, if◌then◌else◌, IfOk, OnErr};
 ghost use Rattle.std.specs.List.{list_all, list_any};
 ghost use Rattle.std.specs.Str.{bytes_eq};
 ghost use Rattle.exec_graph.specs.Names.{is_name_byte, is_name};
@@ -9,9 +9,10 @@ use exec_msg::Memory;
 use exec_msg::limits::NAME_LENGTH;
 
 // Adds a text behind the others where it is a name and not there yet, and answers whether it was added.
-pub(crate) fn add_name(names: &mut TextSet, text: &str) -> Result<bool, Memory>
+pub(crate) fn add_name<'a>(names: &mut TextSet<'a>, text: &'a str) -> Result<bool, Memory>
     ensures added { IfOk result (λ added. added ≡ (is_name text.now && not (list_any (λ other. bytes_eq other text.now) names.old))) }
     ensures names { IfOk result (λ added. names.new ≡ (if added then names.old ++ text.now ∷ [] else names.old)) }
+    ensures err { OnErr result (names.new ≡ names.old) }
 {
     if is_name(text.as_bytes()) {
         names.insert(text)

@@ -1,9 +1,7 @@
 use crate::fault::PlanFault;
 use crate::graph::Graph;
-use crate::rounds::by_round;
 use crate::schedule::fault_of;
 use exec_msg::{EntityNo, GoalId, Moment};
-use std::alloc::Global;
 use std::marker::Model;
 
 /// What is fed.
@@ -52,13 +50,9 @@ pub struct Plan {
     graph: Graph,
     moments: Vec<Moment>,
     feed: Vec<Feed>,
-    // The entries of each round, from the first.
-    by_round: Vec<Vec<Feed>>,
 }
 
 impl Model for Plan {
-    ghost use Rattle.std.specs.Prelude.{◌≡◌, map};
-    ghost use Rattle.exec_graph.specs.Feeding.{feeds_by_round};
     ghost use Rattle.exec_graph.specs.Lawful.{IsLawfulPlan};
     ghost use Rattle.exec_graph.specs.Plan.{PlanData};
 
@@ -67,41 +61,33 @@ impl Model for Plan {
     ghost view = { λ plan. record { graph = plan.graph; moments = plan.moments.items; feed = plan.feed.items } };
 
     ghost invariant = { λ plan.
-        IsLawfulPlan (record { graph = plan.graph; moments = plan.moments.items; feed = plan.feed.items })
-        × (map (λ feed. feed.items) plan.by_round.items ≡ feeds_by_round (record { graph = plan.graph; moments = plan.moments.items; feed = plan.feed.items })) };
+        IsLawfulPlan (record { graph = plan.graph; moments = plan.moments.items; feed = plan.feed.items }) };
 }
 
 impl Plan {
-    ghost use Rattle.std.specs.Prelude.{◌≡◌, ◌⊎◌, true, None, Some, IsTrue, IfOk, IfErr, length};
+    ghost use Rattle.std.specs.Prelude.{◌≡◌, true, None, Some, IfOk, IfErr};
     ghost use Rattle.std.specs.List.{list_all};
-    ghost use Rattle.exec_graph.specs.Feeding.{goes_somewhere, fed_in};
-    ghost use Rattle.exec_graph.specs.Lawful.{is_from_1, IsLawfulPlan};
+    ghost use Rattle.exec_graph.specs.Feeding.{goes_somewhere};
+    ghost use Rattle.exec_graph.specs.Lawful.{IsLawfulPlan};
     ghost use Rattle.exec_graph.specs.Schedule.{plan_fault_in};
 
     /// The plan of a graph, the moment of each round, and what is fed to topics and servers of the graph. What was handed in
-    /// is given up on a fault.
+    /// is given up on a fault. It takes no memory.
     ///
     /// # Errors
-    /// The least fault of moments and feed, or [`PlanFault::Memory`] where a growth was refused.
-    pub fn new(
-        alloc: Global,
-        graph: Graph,
-        moments: Vec<Moment>,
-        feed: Vec<Feed>,
-    ) -> Result<Plan, PlanFault>
+    /// The least fault of moments and feed.
+    pub fn new(graph: Graph, moments: Vec<Moment>, feed: Vec<Feed>) -> Result<Plan, PlanFault>
         requires { list_all (λ entry. goes_somewhere graph entry.fed) feed.items ≡ true }
         ensures plan { IfOk result (λ plan. (plan_fault_in moments.items feed.items ≡ None) × (plan ≡ record { graph = graph; moments = moments.items; feed = feed.items })) }
-        ensures fault { IfErr result (λ fault. (fault ≡ PlanFault.Memory) ⊎ (plan_fault_in moments.items feed.items ≡ Some fault)) }
+        ensures fault { IfErr result (λ fault. plan_fault_in moments.items feed.items ≡ Some fault) }
     {
         if let Some(fault) = fault_of(&moments, &feed) {
             return Err(fault);
         }
-        let by_round = by_round(alloc, &moments, &feed)?;
         Ok(Plan {
             graph,
             moments,
             feed,
-            by_round,
         })
     }
 
@@ -122,17 +108,9 @@ impl Plan {
 
     /// What is fed in all rounds, in the order in which it was declared.
     pub fn feed(&self) -> &[Feed]
-        ensures { result.now ≡ self.now.feed }
+        ensures feed { result.now ≡ self.now.feed }
+        ensures lawful { IsLawfulPlan self.now }
     {
         self.feed.as_slice()
-    }
-
-    /// What is fed in a round, from 1, in the order in which it was declared. It takes no walk over other entries.
-    pub fn fed_in(&self, round: usize) -> &[Feed]
-        requires { IsTrue (is_from_1 (length self.now.moments) round) }
-        ensures { result.now ≡ fed_in round self.now.feed }
-    {
-        let rounds = self.by_round.as_slice();
-        rounds[round - 1].as_slice()
     }
 }

@@ -1,5 +1,5 @@
 ghost use Rattle.std.specs.Prelude.{◌≡◌, ◌++◌, OnOk, IfErr, map};
-ghost use Rattle.exec_doc.specs.Tree.{view};
+ghost use Rattle.serde_json.specs.View.{view};
 ghost use Rattle.exec_doc.specs.Forms.{depth_field, timer_form, subscription_form, service_form, client_form, server_form, action_client_form, entity, list};
 ghost use Rattle.exec_graph.specs.Options.{each};
 ghost use Rattle.exec_doc.specs.Kinds.{form_of};
@@ -8,20 +8,19 @@ ghost use Rattle.exec_doc.specs.Reading.{Gives, Fails, IsAppended};
 use crate::forms::fields::{optional, required};
 use crate::forms::scripts::script_field;
 use crate::refused::Refused;
-use crate::tree::{as_array, field};
 use exec_graph::{
     ActionClientEntity, ClientEntity, Drafted, EntityDraft, EntityKind, EntityOf, ServerEntity,
     ServiceEntity, SubscriptionEntity, TimerEntity,
 };
 use exec_msg::limits::DEFAULT_DEPTH;
-use json::Value;
+use serde_json::Value;
 use std::alloc::Global;
 
 /// Appends the entities of a kind that a node lists in a field.
 #[tactic(auto, using(crate::proofs::Lists::any_list))]
 pub fn append_entities(
     alloc: Global,
-    node: &Value<'_>,
+    node: &Value,
     name: &str,
     kind: EntityKind,
     entities: &mut Vec<EntityDraft>,
@@ -29,10 +28,10 @@ pub fn append_entities(
     ensures ok { OnOk result (IsAppended (list (entity (form_of kind)) name.now (view node.now)) entities.old.items entities.new.items) }
     ensures err { IfErr result (λ code. Fails code (list (entity (form_of kind)) name.now (view node.now))) }
 {
-    match field(node, name) {
+    match node.get(name) {
         Some(value) => append_each(
             alloc,
-            as_array(value).ok_or(Refused::Shape)?,
+            value.as_array().ok_or(Refused::Shape)?,
             kind,
             entities,
         ),
@@ -42,7 +41,7 @@ pub fn append_entities(
 
 fn append_each(
     alloc: Global,
-    values: &[Value<'_>],
+    values: &[Value],
     kind: EntityKind,
     entities: &mut Vec<EntityDraft>,
 ) -> Result<(), Refused>
@@ -55,7 +54,7 @@ fn append_each(
     Ok(())
 }
 
-fn entity(alloc: Global, value: &Value<'_>, kind: EntityKind) -> Result<EntityDraft, Refused>
+fn entity(alloc: Global, value: &Value, kind: EntityKind) -> Result<EntityDraft, Refused>
     ensures { Gives (λ found. found) result (entity (form_of kind) (view value.now)) }
 {
     Ok(EntityDraft {
@@ -65,7 +64,7 @@ fn entity(alloc: Global, value: &Value<'_>, kind: EntityKind) -> Result<EntityDr
     })
 }
 
-fn drafted(alloc: Global, value: &Value<'_>, kind: EntityKind) -> Result<Drafted, Refused>
+fn drafted(alloc: Global, value: &Value, kind: EntityKind) -> Result<Drafted, Refused>
     ensures { Gives (λ found. found) result (form_of kind (view value.now)) }
 {
     match kind {
@@ -78,7 +77,7 @@ fn drafted(alloc: Global, value: &Value<'_>, kind: EntityKind) -> Result<Drafted
     }
 }
 
-fn timer(alloc: Global, value: &Value<'_>) -> Result<Drafted, Refused>
+fn timer(alloc: Global, value: &Value) -> Result<Drafted, Refused>
     ensures { Gives (λ found. found) result (timer_form (view value.now)) }
 {
     Ok(EntityOf::Timer(TimerEntity {
@@ -87,7 +86,7 @@ fn timer(alloc: Global, value: &Value<'_>) -> Result<Drafted, Refused>
     }))
 }
 
-fn subscription(alloc: Global, value: &Value<'_>) -> Result<Drafted, Refused>
+fn subscription(alloc: Global, value: &Value) -> Result<Drafted, Refused>
     ensures { Gives (λ found. found) result (subscription_form (view value.now)) }
 {
     Ok(EntityOf::Subscription(SubscriptionEntity {
@@ -97,7 +96,7 @@ fn subscription(alloc: Global, value: &Value<'_>) -> Result<Drafted, Refused>
     }))
 }
 
-fn service(alloc: Global, value: &Value<'_>) -> Result<Drafted, Refused>
+fn service(alloc: Global, value: &Value) -> Result<Drafted, Refused>
     ensures { Gives (λ found. found) result (service_form (view value.now)) }
 {
     Ok(EntityOf::Service(ServiceEntity {
@@ -106,7 +105,7 @@ fn service(alloc: Global, value: &Value<'_>) -> Result<Drafted, Refused>
     }))
 }
 
-fn client(alloc: Global, value: &Value<'_>) -> Result<Drafted, Refused>
+fn client(alloc: Global, value: &Value) -> Result<Drafted, Refused>
     ensures { Gives (λ found. found) result (client_form (view value.now)) }
 {
     Ok(EntityOf::Client(ClientEntity {
@@ -116,7 +115,7 @@ fn client(alloc: Global, value: &Value<'_>) -> Result<Drafted, Refused>
     }))
 }
 
-fn server(alloc: Global, value: &Value<'_>) -> Result<Drafted, Refused>
+fn server(alloc: Global, value: &Value) -> Result<Drafted, Refused>
     ensures { Gives (λ found. found) result (server_form (view value.now)) }
 {
     Ok(EntityOf::Server(ServerEntity {
@@ -128,7 +127,7 @@ fn server(alloc: Global, value: &Value<'_>) -> Result<Drafted, Refused>
     }))
 }
 
-fn action_client(alloc: Global, value: &Value<'_>) -> Result<Drafted, Refused>
+fn action_client(alloc: Global, value: &Value) -> Result<Drafted, Refused>
     ensures { Gives (λ found. found) result (action_client_form (view value.now)) }
 {
     Ok(EntityOf::ActionClient(ActionClientEntity {
@@ -141,7 +140,7 @@ fn action_client(alloc: Global, value: &Value<'_>) -> Result<Drafted, Refused>
     }))
 }
 
-fn depth_field(alloc: Global, value: &Value<'_>) -> Result<u64, Refused>
+fn depth_field(alloc: Global, value: &Value) -> Result<u64, Refused>
     ensures { Gives (λ found. found) result (depth_field (view value.now)) }
 {
     Ok(optional(alloc, value, "depth")?.unwrap_or(DEFAULT_DEPTH))

@@ -1,112 +1,91 @@
-ghost use Rattle.std.specs.Prelude.{◌≡◌, codes, map};
-ghost use Rattle.exec_doc.specs.Tree.{view};
-ghost use Rattle.exec_graph.specs.Options.{each};
-ghost use Rattle.exec_doc.specs.Forms.{text, count, integer, has, required, defaulted, list, message_form, goal_form, cancel_form, fed, entry};
+ghost use Rattle.std.specs.Prelude.{◌≡◌, codes};
+ghost use Rattle.serde_json.specs.View.{view};
+ghost use Rattle.exec_doc.specs.Forms.{id_of, identifier, has, message_form, goal_form, cancel_form, fed, entry};
 ghost use Rattle.exec_doc.specs.Reading.{Gives};
 
-use crate::draft::{EntryDraft, FedDraft, FedText};
+use crate::draft::{EntryDraft, FedDraft};
+use crate::forms::fields::{Form, optional, required};
 use crate::refused::Refused;
-use crate::tree::{as_array, as_i64, as_str, as_u64, field};
-use json::Value;
+use exec_msg::GoalId;
+use serde_json::Value;
 use std::alloc::Global;
+use uuid::Uuid;
 
-/// The entries of a document's feed.
-#[tactic(auto, using(crate::proofs::Lists::any_list))]
-pub fn feed<'a>(alloc: Global, document: &Value<'a>) -> Result<Vec<EntryDraft<'a>>, Refused>
-    ensures { Gives (λ found. found.items) result (list entry (codes "feed") (view document.now)) }
-{
-    match field(document, "feed") {
-        Some(value) => entries(alloc, as_array(value).ok_or(Refused::Shape)?),
-        None => Ok(Vec::new(alloc)),
+impl Form for EntryDraft {
+    ghost form = { entry };
+
+    fn read(alloc: Global, value: &Value) -> Result<EntryDraft, Refused> {
+        Ok(EntryDraft {
+            round: required(alloc, value, "round")?,
+            fed: fed(alloc, value)?,
+        })
     }
 }
 
-fn entries<'a>(alloc: Global, values: &[Value<'a>]) -> Result<Vec<EntryDraft<'a>>, Refused>
-    ensures { Gives (λ found. found.items) result (each entry (map view values.now)) }
-{
-    let mut entries = Vec::new(alloc);
-    for value in values {
-        entries.push(entry(value).ok_or(Refused::Shape)?)?;
-    }
-    Ok(entries)
-}
-
-fn entry<'a>(value: &Value<'a>) -> Option<EntryDraft<'a>>
-    ensures { result ≡ entry (view value.now) }
-{
-    Some(EntryDraft {
-        round: as_u64(field(value, "round")?)?,
-        fed: fed(value)?,
-    })
-}
-
-fn fed<'a>(value: &Value<'a>) -> Option<FedDraft<'a>>
-    ensures { result ≡ fed (view value.now) }
+fn fed(alloc: Global, value: &Value) -> Result<FedDraft, Refused>
+    ensures { Gives (λ found. found) result (fed (view value.now)) }
 {
     match (
         has(value, "topic"),
         has(value, "goal"),
         has(value, "cancel"),
     ) {
-        (true, false, false) => message(value),
-        (false, true, false) => goal(value),
-        (false, false, true) => cancel(value),
-        _ => None,
+        (true, false, false) => message(alloc, value),
+        (false, true, false) => goal(alloc, value),
+        (false, false, true) => cancel(alloc, value),
+        _ => Err(Refused::Shape),
     }
 }
 
-fn has(value: &Value<'_>, name: &str) -> bool
+fn has(value: &Value, name: &str) -> bool
     ensures { result ≡ has name.now (view value.now) }
 {
-    field(value, name).is_some()
+    value.get(name).is_some()
 }
 
-fn message<'a>(value: &Value<'a>) -> Option<FedDraft<'a>>
-    ensures { result ≡ message_form (view value.now) }
+fn message(alloc: Global, value: &Value) -> Result<FedDraft, Refused>
+    ensures { Gives (λ found. found) result (message_form (view value.now)) }
 {
-    Some(FedDraft::Message {
-        topic: text_field(value, "topic")?,
-        value: value_field(value)?,
+    Ok(FedDraft::Message {
+        topic: required(alloc, value, "topic")?,
+        value: required(alloc, value, "value")?,
     })
 }
 
-fn goal<'a>(value: &Value<'a>) -> Option<FedDraft<'a>>
-    ensures { result ≡ goal_form (view value.now) }
+fn goal(alloc: Global, value: &Value) -> Result<FedDraft, Refused>
+    ensures { Gives (λ found. found) result (goal_form (view value.now)) }
 {
-    Some(FedDraft::Goal {
-        action: text_field(value, "action")?,
-        id: text_field(value, "goal")?,
-        value: value_field(value)?,
+    Ok(FedDraft::Goal {
+        action: required(alloc, value, "action")?,
+        id: required(alloc, value, "goal")?,
+        value: required(alloc, value, "value")?,
     })
 }
 
-fn cancel<'a>(value: &Value<'a>) -> Option<FedDraft<'a>>
-    ensures { result ≡ cancel_form (view value.now) }
+fn cancel(alloc: Global, value: &Value) -> Result<FedDraft, Refused>
+    ensures { Gives (λ found. found) result (cancel_form (view value.now)) }
 {
-    Some(FedDraft::Cancel {
-        action: text_field(value, "action")?,
-        id: text_field(value, "cancel")?,
-        stamp: stamp_field(value)?,
+    Ok(FedDraft::Cancel {
+        action: required(alloc, value, "action")?,
+        id: required(alloc, value, "cancel")?,
+        stamp: optional(alloc, value, "stamp")?.unwrap_or(0),
     })
 }
 
-fn text_field<'a>(value: &Value<'a>, name: &str) -> Option<FedText<'a>>
-    ensures { result ≡ required text name.now (view value.now) }
-{
-    Some(FedText::of(as_str(field(value, name)?)?))
+impl Form for Option<GoalId> {
+    ghost form = { identifier };
+
+    fn read(_alloc: Global, value: &Value) -> Result<Option<GoalId>, Refused> {
+        let text = value.as_str().ok_or(Refused::Shape)?;
+        Ok(id_of(text))
+    }
 }
 
-fn value_field(value: &Value<'_>) -> Option<i64>
-    ensures { result ≡ required integer (codes "value") (view value.now) }
+fn id_of(text: &str) -> Option<GoalId>
+    ensures { result ≡ id_of text.now }
 {
-    as_i64(field(value, "value")?)
-}
-
-fn stamp_field(value: &Value<'_>) -> Option<u64>
-    ensures { result ≡ defaulted count 0 (codes "stamp") (view value.now) }
-{
-    match field(value, "stamp") {
-        Some(stamp) => as_u64(stamp),
-        None => Some(0),
+    match Uuid::parse_str(text) {
+        Ok(id) => Some(GoalId::new(id.as_u128())),
+        Err(_) => None,
     }
 }

@@ -1,14 +1,13 @@
 ghost use Rattle.std.specs.Prelude.{Option, map};
 ghost use Rattle.serde_json.specs.Data.{Data};
-ghost use Rattle.exec_doc.specs.Tree.{view};
+ghost use Rattle.serde_json.specs.View.{view};
 ghost use Rattle.exec_doc.specs.Forms.{text, count, integer, list_of, required, optional, defaulted, list};
 ghost use Rattle.exec_doc.specs.Reading.{Gives};
 ghost use Rattle.exec_graph.specs.Options.{each};
 
 use crate::refused::Refused;
-use crate::tree::{as_array, as_str, as_u64, field};
 use exec_script::WordText;
-use json::Value;
+use serde_json::Value;
 use std::alloc::Global;
 
 /// What a JSON value says where it has a form.
@@ -19,54 +18,58 @@ pub trait Form: Drop {
     ///
     /// # Errors
     /// [`Refused::Shape`] where the value hasn't the form, [`Refused::Memory`] where a growth was refused.
-    fn read(alloc: Global, value: &Value<'_>) -> Result<Self, Refused>
+    fn read(alloc: Global, value: &Value) -> Result<Self, Refused>
         ensures { Gives (λ found. found) result (form (view value.now)) };
 }
 
 impl Form for WordText {
     ghost form = { text };
 
-    fn read(alloc: Global, value: &Value<'_>) -> Result<WordText, Refused> {
-        let text = as_str(value).ok_or(Refused::Shape)?;
+    fn read(alloc: Global, value: &Value) -> Result<WordText, Refused> {
+        let text = value.as_str().ok_or(Refused::Shape)?;
         Ok(WordText::of(String::from_str(alloc, text)?))
+    }
+}
+
+impl Form for i64 {
+    ghost form = { integer };
+
+    fn read(_alloc: Global, value: &Value) -> Result<i64, Refused> {
+        value.as_i64().ok_or(Refused::Shape)
     }
 }
 
 impl Form for u64 {
     ghost form = { count };
 
-    fn read(_alloc: Global, value: &Value<'_>) -> Result<u64, Refused> {
-        as_u64(value).ok_or(Refused::Shape)
+    fn read(_alloc: Global, value: &Value) -> Result<u64, Refused> {
+        value.as_u64().ok_or(Refused::Shape)
     }
 }
 
 /// The value of a required field.
-pub fn required<T: Form>(alloc: Global, holder: &Value<'_>, name: &str) -> Result<T, Refused>
+pub fn required<T: Form>(alloc: Global, holder: &Value, name: &str) -> Result<T, Refused>
     ensures { Gives (λ found. found) result (required T.form name.now (view holder.now)) }
 {
-    let value = field(holder, name).ok_or(Refused::Shape)?;
+    let value = holder.get(name).ok_or(Refused::Shape)?;
     T::read(alloc, value)
 }
 
 /// The value of an optional field.
-pub fn optional<T: Form>(
-    alloc: Global,
-    holder: &Value<'_>,
-    name: &str,
-) -> Result<Option<T>, Refused>
+pub fn optional<T: Form>(alloc: Global, holder: &Value, name: &str) -> Result<Option<T>, Refused>
     ensures { Gives (λ found. found) result (optional T.form name.now (view holder.now)) }
 {
-    match field(holder, name) {
+    match holder.get(name) {
         Some(value) => Ok(Some(T::read(alloc, value)?)),
         None => Ok(None),
     }
 }
 
 /// The list in a field, which is empty where the field is missing.
-pub fn list<T: Form>(alloc: Global, holder: &Value<'_>, name: &str) -> Result<Vec<T>, Refused>
+pub fn list<T: Form>(alloc: Global, holder: &Value, name: &str) -> Result<Vec<T>, Refused>
     ensures { Gives (λ found. found.items) result (list T.form name.now (view holder.now)) }
 {
-    match field(holder, name) {
+    match holder.get(name) {
         Some(value) => list_of(alloc, value),
         None => Ok(Vec::new(alloc)),
     }
@@ -74,14 +77,14 @@ pub fn list<T: Form>(alloc: Global, holder: &Value<'_>, name: &str) -> Result<Ve
 
 /// The list that a value is.
 #[tactic(auto, using(crate::proofs::Lists::any_list))]
-pub fn list_of<T: Form>(alloc: Global, value: &Value<'_>) -> Result<Vec<T>, Refused>
+pub fn list_of<T: Form>(alloc: Global, value: &Value) -> Result<Vec<T>, Refused>
     ensures { Gives (λ found. found.items) result (list_of T.form (view value.now)) }
 {
-    let values = as_array(value).ok_or(Refused::Shape)?;
+    let values = value.as_array().ok_or(Refused::Shape)?;
     each(alloc, values)
 }
 
-fn each<T: Form>(alloc: Global, values: &[Value<'_>]) -> Result<Vec<T>, Refused>
+fn each<T: Form>(alloc: Global, values: &[Value]) -> Result<Vec<T>, Refused>
     ensures { Gives (λ found. found.items) result (each T.form (map view values.now)) }
 {
     let mut found = Vec::new(alloc);

@@ -1,20 +1,19 @@
 ghost use Rattle.std.specs.Prelude.{◌≡◌};
-ghost use Rattle.exec_doc.specs.Tree.{view};
+ghost use Rattle.serde_json.specs.View.{view};
 ghost use Rattle.exec_doc.specs.Forms.{exclusive_named, group_kind, group, node};
 
 use crate::forms::entities::append_entities;
 use crate::forms::fields::{Form, list, required};
 use crate::refused::Refused;
-use crate::tree::{as_str, field};
 use exec_graph::{EntityKind, GroupDraft, NodeDraft};
 use exec_msg::Items;
-use json::Value;
+use serde_json::Value;
 use std::alloc::Global;
 
 impl Form for NodeDraft {
     ghost form = { node };
 
-    fn read(alloc: Global, value: &Value<'_>) -> Result<NodeDraft, Refused> {
+    fn read(alloc: Global, value: &Value) -> Result<NodeDraft, Refused> {
         let name = required(alloc, value, "name")?;
         let groups = list(alloc, value, "groups")?;
         let mut entities = Vec::new(alloc);
@@ -47,9 +46,9 @@ impl Form for NodeDraft {
 impl Form for GroupDraft {
     ghost form = { group };
 
-    fn read(alloc: Global, value: &Value<'_>) -> Result<GroupDraft, Refused> {
+    fn read(alloc: Global, value: &Value) -> Result<GroupDraft, Refused> {
         let name = required(alloc, value, "name")?;
-        let kind = field(value, "kind").ok_or(Refused::Shape)?;
+        let kind = value.get("kind").ok_or(Refused::Shape)?;
         Ok(GroupDraft {
             name,
             exclusive: is_exclusive(kind).ok_or(Refused::Shape)?,
@@ -58,10 +57,10 @@ impl Form for GroupDraft {
 }
 
 // Whether a group of this kind is mutually exclusive.
-fn is_exclusive(kind: &Value<'_>) -> Option<bool>
+fn is_exclusive(kind: &Value) -> Option<bool>
     ensures { result ≡ group_kind (view kind.now) }
 {
-    exclusive_named(as_str(kind)?)
+    exclusive_named(kind.as_str()?)
 }
 
 fn exclusive_named(kind: &str) -> Option<bool>

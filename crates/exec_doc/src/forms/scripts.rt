@@ -1,25 +1,24 @@
 ghost use Rattle.std.specs.Prelude.{map};
-ghost use Rattle.exec_doc.specs.Tree.{view};
+ghost use Rattle.serde_json.specs.View.{view};
 ghost use Rattle.exec_graph.specs.Options.{each};
 ghost use Rattle.exec_doc.specs.Forms.{list_of, word, script, script_field};
 ghost use Rattle.exec_doc.specs.Reading.{Gives};
 
 use crate::forms::fields::{self, Form};
 use crate::refused::Refused;
-use crate::tree::{as_array, as_i64, as_str};
 use exec_graph::Spelled;
 use exec_script::{Word, WordText};
-use json::Value;
+use serde_json::Value;
 use std::alloc::Global;
 
 impl Form for Word {
     ghost form = { word };
 
-    fn read(alloc: Global, value: &Value<'_>) -> Result<Word, Refused> {
-        if let Some(text) = as_str(value) {
+    fn read(alloc: Global, value: &Value) -> Result<Word, Refused> {
+        if let Some(text) = value.as_str() {
             return Ok(Word::Text(WordText::of(String::from_str(alloc, text)?)));
         }
-        let number = as_i64(value).ok_or(Refused::Shape)?;
+        let number = value.as_i64().ok_or(Refused::Shape)?;
         Ok(Word::Number(number))
     }
 }
@@ -28,13 +27,13 @@ impl Form for Spelled {
     ghost form = { script };
 
     #[tactic(auto, using(crate::proofs::Lists::any_list))]
-    fn read(alloc: Global, value: &Value<'_>) -> Result<Spelled, Refused> {
-        let values = as_array(value).ok_or(Refused::Shape)?;
+    fn read(alloc: Global, value: &Value) -> Result<Spelled, Refused> {
+        let values = value.as_array().ok_or(Refused::Shape)?;
         Ok(Spelled::of(instructions(alloc, values)?))
     }
 }
 
-fn instructions(alloc: Global, values: &[Value<'_>]) -> Result<Vec<Vec<Word>>, Refused>
+fn instructions(alloc: Global, values: &[Value]) -> Result<Vec<Vec<Word>>, Refused>
     ensures { Gives (λ found. map (λ words. words.items) found.items) result (each (list_of word) (map view values.now)) }
 {
     let mut instructions = Vec::new(alloc);
@@ -45,7 +44,7 @@ fn instructions(alloc: Global, values: &[Value<'_>]) -> Result<Vec<Vec<Word>>, R
 }
 
 /// The script in a field, which is empty where the field is missing.
-pub fn script_field(alloc: Global, holder: &Value<'_>, name: &str) -> Result<Spelled, Refused>
+pub fn script_field(alloc: Global, holder: &Value, name: &str) -> Result<Spelled, Refused>
     ensures { Gives (λ found. found) result (script_field name.now (view holder.now)) }
 {
     match fields::optional(alloc, holder, name)? {

@@ -7,8 +7,8 @@ ghost use Rattle.exec_graph.specs.Lawful.{is_at};
 
 use super::drafts::{Unread, builder_of};
 use super::same;
-use crate::{EntityKind, Fed, Feed, Graph, GraphFault, Plan, PlanFault};
-use exec_msg::{EntityNo, GoalId, Moment};
+use crate::{EntityKind, Fed, Feed, FeedByRound, Graph, GraphFault, Plan, PlanFault};
+use exec_msg::{EntityNo, GoalId, Memory, Moment};
 use std::alloc::Global;
 use std::process::Abort;
 use std::test::Fail;
@@ -102,7 +102,7 @@ pub(super) fn planned(
     let moments = moments(alloc, ticks)?;
     let feed = feed.to_vec(alloc)?;
     if all_go_somewhere(&graph, &feed) {
-        Ok(Plan::new(alloc, graph, moments, feed))
+        Ok(Plan::new(graph, moments, feed))
     } else {
         Err(Unread::Text)
     }
@@ -136,15 +136,17 @@ pub(super) fn is_as_fed(rt: &impl Abort, plan: &Plan) {
     same(rt, plan.graph().len(), 2);
     same(rt, plan.feed(), fed().as_slice());
     has_ticks(rt, plan);
-    is_fed(rt, plan, 1, &[goal(1, 7)]);
-    is_fed(
-        rt,
-        plan,
-        2,
-        &[message(2, -1), cancel(2, 0, 0), message(2, 3)],
-    );
-    is_fed(rt, plan, 3, &[]);
-    is_fed(rt, plan, 4, &[cancel(4, 7, LATEST)]);
+}
+
+// Each round has its entries, or memory is refused.
+pub(super) fn is_fed_by_round(rt: &impl Abort, alloc: Global, plan: &Plan) -> Result<(), Memory> {
+    let index = FeedByRound::of(alloc, plan)?;
+    is_fed(rt, &index, 1, &[goal(1, 7)]);
+    let second = [message(2, -1), cancel(2, 0, 0), message(2, 3)];
+    is_fed(rt, &index, 2, &second);
+    is_fed(rt, &index, 3, &[]);
+    is_fed(rt, &index, 4, &[cancel(4, 7, LATEST)]);
+    Ok(())
 }
 
 fn has_ticks(rt: &impl Abort, plan: &Plan) {
@@ -152,9 +154,9 @@ fn has_ticks(rt: &impl Abort, plan: &Plan) {
     assert!(rt; found.eq(TICKS.iter().copied()));
 }
 
-fn is_fed(rt: &impl Abort, plan: &Plan, round: usize, wanted: &[Feed]) {
-    assert!(rt; 1 <= round && round <= plan.moments().len());
-    same(rt, plan.fed_in(round), wanted);
+fn is_fed(rt: &impl Abort, index: &FeedByRound, round: usize, wanted: &[Feed]) {
+    assert!(rt; 1 <= round && round <= index.len());
+    same(rt, index.fed_in(round), wanted);
 }
 
 #[test]
@@ -162,6 +164,7 @@ fn a_plan_is_as_declared(rt: HostRuntime) -> Result<(), Fail> {
     let alloc = rt.alloc();
     let plan = planned(alloc, &TICKS, &fed())??;
     is_as_fed(&rt, &plan);
+    is_fed_by_round(&rt, alloc, &plan)?;
     Ok(())
 }
 

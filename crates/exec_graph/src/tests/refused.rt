@@ -4,9 +4,9 @@
 
 use super::drafts::{builder_of, node_of};
 use super::graphs::{TWO_NODES, is_of_two_nodes};
-use super::plans::{TICKS, fed, is_as_fed, planned};
+use super::plans::{TICKS, fed, is_as_fed, is_fed_by_round, planned};
 use super::same;
-use crate::{GraphBuilder, GraphFault, PlanFault};
+use crate::{GraphBuilder, GraphFault};
 use std::alloc::Global;
 use std::process::Abort;
 
@@ -155,9 +155,10 @@ fn a_faulty_draft_has_its_fault_or_memory_is_refused(rt: HostRuntime) {
 fn a_plan_is_whole_or_memory_is_refused(rt: HostRuntime) {
     let alloc = rt.alloc();
     if let Ok(plan) = planned(alloc, &TICKS, &fed()) {
-        match plan {
-            Ok(plan) => is_as_fed(&rt, &plan),
-            Err(fault) => same(&rt, fault, PlanFault::Memory),
+        assert!(&rt; plan.is_ok());
+        if let Ok(plan) = plan {
+            is_as_fed(&rt, &plan);
+            let _ = is_fed_by_round(&rt, alloc, &plan);
         }
     }
 }

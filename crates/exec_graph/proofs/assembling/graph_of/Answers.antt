@@ -20,7 +20,7 @@ returns-in_default-clause-fault c =
     let draft = draft_of (map string_bytes c.args.topics.now) c.args.nodes.now in
     let small : is_small draft ≡ true = sym c.in_ok-small.ensures ∙ c.if-not-small.false in
     let grouped : c.deref.result.now ≡ groups_of draft = c.deref.ensures.value ∙ c.in_ok-groups.ensures in
-    let found = c.in_ok-entities.ensures draft (distinct draft c.args.directory.now c.requires small) refl (directory_is draft c.args.directory.now c.requires small) grouped in
+    let found = c.in_ok-entities.ensures draft (distinct draft c.args.directory.now c.requires) refl (directory_is draft c.args.directory.now c.requires) grouped in
     inr (of_unread draft c.args.directory.now c.requires small (mapped_none _ _ _ found (nothing_else c.in_ok-entities.field-0 c.in_default.not-Some)))
 
 pub returns-then-is_any_faulty-clause-fault : goal.returns-then-is_any_faulty-clause-fault
@@ -28,7 +28,7 @@ returns-then-is_any_faulty-clause-fault c =
     let draft = draft_of (map string_bytes c.args.topics.now) c.args.nodes.now in
     let small : is_small draft ≡ true = sym c.in_ok-small.ensures ∙ c.if-not-small.false in
     let grouped : c.deref.result.now ≡ groups_of draft = c.deref.ensures.value ∙ c.in_ok-groups.ensures in
-    let found = c.in_ok-entities.ensures draft (distinct draft c.args.directory.now c.requires small) refl (directory_is draft c.args.directory.now c.requires small) grouped in
+    let found = c.in_ok-entities.ensures draft (distinct draft c.args.directory.now c.requires) refl (directory_is draft c.args.directory.now c.requires) grouped in
     inr (of_script draft c.args.directory.now c.requires small c.deref-2.result.now (c.deref-2.ensures.value ∙ c.in_ok-groups.ensures) c.in-Some.entities.entries (mapped_is _ _ _ _ found c.in-Some.is) c.deref-3.result.now (c.deref-3.ensures.value ∙ c.in_ok-faults.ensures) (sym c.if-is_any_faulty.true ∙ c.is_any_faulty.ensures))
 
 pub returns-then-not-is_empty-clause-fault : goal.returns-then-not-is_empty-clause-fault
@@ -36,7 +36,7 @@ returns-then-not-is_empty-clause-fault c =
     let draft = draft_of (map string_bytes c.args.topics.now) c.args.nodes.now in
     let small : is_small draft ≡ true = sym c.in_ok-small.ensures ∙ c.if-not-small.false in
     let grouped : c.deref.result.now ≡ groups_of draft = c.deref.ensures.value ∙ c.in_ok-groups.ensures in
-    let found = c.in_ok-entities.ensures draft (distinct draft c.args.directory.now c.requires small) refl (directory_is draft c.args.directory.now c.requires small) grouped in
+    let found = c.in_ok-entities.ensures draft (distinct draft c.args.directory.now c.requires) refl (directory_is draft c.args.directory.now c.requires) grouped in
     inr (of_variable draft c.args.directory.now c.requires small c.deref-2.result.now (c.deref-2.ensures.value ∙ c.in_ok-groups.ensures) c.in-Some.entities.entries (mapped_is _ _ _ _ found c.in-Some.is) c.deref-3.result.now (c.deref-3.ensures.value ∙ c.in_ok-faults.ensures) (sym c.if-is_any_faulty.false ∙ c.is_any_faulty.ensures) (ap (λ (n : ℕ). n == 0) c.deref-3.ensures.len ∙ sym c.is_empty.ensures ∙ c.if-not-is_empty.true))
 
 pub returns-in_err-names-clause-fault : goal.returns-in_err-names-clause-fault
@@ -61,11 +61,11 @@ invariant_of-result c =
     let draft = draft_of (map string_bytes c.args.topics.now) c.args.nodes.now in
     let small : is_small draft ≡ true = sym c.in_ok-small.ensures ∙ c.if-not-small.false in
     let grouped : c.deref.result.now ≡ groups_of draft = c.deref.ensures.value ∙ c.in_ok-groups.ensures in
-    let found = c.in_ok-entities.ensures draft (distinct draft c.args.directory.now c.requires small) refl (directory_is draft c.args.directory.now c.requires small) grouped in
+    let found = c.in_ok-entities.ensures draft (distinct draft c.args.directory.now c.requires) refl (directory_is draft c.args.directory.now c.requires) grouped in
     let faultless = of_none draft c.args.directory.now c.requires small c.deref-2.result.now (c.deref-2.ensures.value ∙ c.in_ok-groups.ensures) c.in-Some.entities.entries (mapped_is _ _ _ _ found c.in-Some.is) c.deref-3.result.now (c.deref-3.ensures.value ∙ c.in_ok-faults.ensures) (sym c.if-is_any_faulty.false ∙ c.is_any_faulty.ensures) (ap (λ (n : ℕ). n == 0) c.deref-3.ensures.len ∙ sym c.is_empty.ensures ∙ c.if-not-is_empty.false) in
     let made : GraphData = graph_with c.of.result c.in_ok-groups.groups.items (entries_of c.in-Some.entities.entries) in
     let nodes = c.of.ensures ∙ c.in_ok-nodes.ensures in
-    let placed = c.entities-3.ensures ∙ ap (λ (directory : DirectoryData). directory.entities) (directory_is draft c.args.directory.now c.requires small) in
+    let placed = c.entities-3.ensures ∙ ap (λ (directory : DirectoryData). directory.entities) (directory_is draft c.args.directory.now c.requires) in
     let names =
     c.of-2.ensures ∙ c.in_ok-names.ensures ∙ ap (λ (placed : List Placed). map string_bytes c.args.topics.now ++ map (λ placed. placed.entity.name) placed) placed
     ∙ names_are draft made nodes c.in_ok-groups.ensures (mapped_is _ _ _ _ found c.in-Some.is) in
@@ -76,7 +76,7 @@ returns-clause-graph c =
     let draft = draft_of (map string_bytes c.args.topics.now) c.args.nodes.now in
     let small : is_small draft ≡ true = sym c.in_ok-small.ensures ∙ c.if-not-small.false in
     let grouped : c.deref.result.now ≡ groups_of draft = c.deref.ensures.value ∙ c.in_ok-groups.ensures in
-    let found = c.in_ok-entities.ensures draft (distinct draft c.args.directory.now c.requires small) refl (directory_is draft c.args.directory.now c.requires small) grouped in
+    let found = c.in_ok-entities.ensures draft (distinct draft c.args.directory.now c.requires) refl (directory_is draft c.args.directory.now c.requires) grouped in
     let faultless = of_none draft c.args.directory.now c.requires small c.deref-2.result.now (c.deref-2.ensures.value ∙ c.in_ok-groups.ensures) c.in-Some.entities.entries (mapped_is _ _ _ _ found c.in-Some.is) c.deref-3.result.now (c.deref-3.ensures.value ∙ c.in_ok-faults.ensures) (sym c.if-is_any_faulty.false ∙ c.is_any_faulty.ensures) (ap (λ (n : ℕ). n == 0) c.deref-3.ensures.len ∙ sym c.is_empty.ensures ∙ c.if-not-is_empty.false) in
     let made : GraphData = graph_with c.of.result c.in_ok-groups.groups.items (entries_of c.in-Some.entities.entries) in
     (faultless, graph_is draft made (c.of.ensures ∙ c.in_ok-nodes.ensures) c.in_ok-groups.ensures (mapped_is _ _ _ _ found c.in-Some.is))

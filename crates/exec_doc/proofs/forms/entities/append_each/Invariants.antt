@@ -1,5 +1,5 @@
 use Rattle.std.proofs.Common.{◌≡◌, ◌++◌, map, drop, Some}
-use Rattle.exec_doc.specs.Tree.{view}
+use Rattle.serde_json.specs.View.{view}
 use Rattle.exec_graph.specs.Options.{◌>>=◌, each}
 use Rattle.exec_doc.specs.Forms.{entity}
 use Rattle.exec_doc.specs.Kinds.{form_of}

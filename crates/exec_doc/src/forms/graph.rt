@@ -1,0 +1,57 @@
+ghost use Rattle.std.specs.Prelude.{◌≡◌, [], ◌++◌, Some, codes, map, option_map, OnOk, OnErr, IfErr};
+ghost use Rattle.std.specs.Option.{unwrap_or};
+ghost use Rattle.serde_json.specs.View.{view};
+ghost use Rattle.exec_graph.specs.Options.{each};
+ghost use Rattle.exec_doc.specs.Forms.{text, list_of, declared};
+ghost use Rattle.exec_graph.specs.Entity.{if_there};
+ghost use Rattle.exec_doc.specs.Reading.{Gives, Fails, IsAppended};
+
+use crate::forms::fields::list;
+use crate::forms::owned::{into_array, into_field, into_text};
+use crate::refused::Refused;
+use exec_graph::{GraphBuilder, NodeDraft};
+use exec_msg::Memory;
+use serde_json::Value;
+use std::alloc::Global;
+
+/// What a document declares. The names of its topics, of which there may be a million, are taken out of it.
+pub fn declared(alloc: Global, document: Value) -> Result<GraphBuilder, Refused>
+    ensures { Gives (λ found. found) result (declared (view document)) }
+{
+    let mut graph = GraphBuilder::new(alloc);
+    declare_nodes(list(alloc, &document, "nodes")?, &mut graph)?;
+    declare_topics(into_field(document, "topics"), &mut graph)?;
+    Ok(graph)
+}
+
+fn declare_nodes(nodes: Vec<NodeDraft>, graph: &mut GraphBuilder) -> Result<(), Memory>
+    ensures { OnOk result (graph.new ≡ record graph.old { nodes = graph.old.nodes ++ nodes.items }) }
+{
+    for node in nodes {
+        graph.node(node)?;
+    }
+    Ok(())
+}
+
+#[tactic(auto, using(crate::proofs::Lists::any_list))]
+fn declare_topics(field: Option<Value>, graph: &mut GraphBuilder) -> Result<(), Refused>
+    ensures ok { OnOk result (IsAppended (option_map (λ found. unwrap_or found []) (if_there (list_of text) (option_map view field))) graph.old.topics graph.new.topics) }
+    ensures nodes { graph.new.nodes ≡ graph.old.nodes }
+    ensures err { IfErr result (λ code. Fails code (option_map (λ found. unwrap_or found []) (if_there (list_of text) (option_map view field)))) }
+{
+    match field {
+        Some(value) => declare_each(into_array(value).ok_or(Refused::Shape)?, graph),
+        None => Ok(()),
+    }
+}
+
+fn declare_each(names: Vec<Value>, graph: &mut GraphBuilder) -> Result<(), Refused>
+    ensures ok { OnOk result (IsAppended (each text (map view names.items)) graph.old.topics graph.new.topics) }
+    ensures nodes { graph.new.nodes ≡ graph.old.nodes }
+    ensures err { IfErr result (λ code. Fails code (each text (map view names.items))) }
+{
+    for name in names {
+        graph.topic(into_text(name).ok_or(Refused::Shape)?)?;
+    }
+    Ok(())
+}

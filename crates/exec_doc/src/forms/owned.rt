@@ -1,0 +1,36 @@
+//! What a JSON value has, taken out of it.
+ghost use Rattle.std.specs.Prelude.{◌≡◌, map, option_map, string_bytes};
+ghost use Rattle.serde_json.specs.Find.{as_array, as_str, get};
+ghost use Rattle.serde_json.specs.View.{items_of, view};
+
+use serde_json::Value;
+
+/// The field of a name, where the value is an object that has it.
+pub fn into_field(value: Value, name: &str) -> Option<Value>
+    ensures { option_map view result ≡ get name.now (view value) }
+{
+    match value {
+        Value::Object(mut fields) => fields.remove(name),
+        _ => None,
+    }
+}
+
+/// The values of the list that a value is.
+pub fn into_array(value: Value) -> Option<Vec<Value>>
+    ensures { option_map (λ values. items_of (map view values.items)) result ≡ as_array (view value) }
+{
+    match value {
+        Value::Array(values) => Some(values),
+        _ => None,
+    }
+}
+
+/// The text that a value is.
+pub fn into_text(value: Value) -> Option<String>
+    ensures { option_map string_bytes result ≡ as_str (view value) }
+{
+    match value {
+        Value::String(text) => Some(text),
+        _ => None,
+    }
+}
