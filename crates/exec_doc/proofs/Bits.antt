@@ -7,7 +7,8 @@ use Rattle.serde_json.specs.Data.{Data}
 use Rattle.serde_json.specs.Find.{as_array, get}
 use Rattle.exec_doc.specs.Document.{fed_in, entry_in}
 use Rattle.exec_doc.specs.Draft.{DocumentDraft}
-use Rattle.exec_doc.specs.Forms.{id_of, text, count, integer, identifier, values_of, list_of, list, required, defaulted, if_there, message_form, goal_form, cancel_form, form_by, fed, entry, declared, draft_of}
+use Rattle.exec_doc.specs.Forms.{id_of, text, count, integer, identifier, values_of, list_of, list, required, defaulted, message_form, goal_form, cancel_form, form_by, fed, entry, node, declared, draft_of}
+use Rattle.exec_graph.specs.Entity.{if_there}
 use Rattle.exec_doc.specs.declared.draft.EntryDraft.{EntryDraft}
 use Rattle.exec_doc.specs.declared.draft.FedDraft.{FedDraft}
 use Rattle.exec_doc.specs.declared.draft.FedDraft.TheVariants as draft

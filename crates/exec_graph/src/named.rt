@@ -1,9 +1,9 @@
 use crate::assembling::graph_of;
 use crate::directory::Directory;
 use crate::draft::NodeDraft;
+use crate::entity::{EntityKind, Referent};
 use crate::fault::GraphFault;
 use crate::graph::Graph;
-use crate::entity::EntityKind;
 use std::alloc::Global;
 use std::marker::Model;
 
@@ -40,14 +40,16 @@ impl<'a> NamedGraph<'a> {
     pub fn topic_named(&self, name: &str) -> bool
         ensures { result ≡ is_some (topic_named self.now name.now) }
     {
-        self.directory.topic(name).is_some()
+        self.directory.number(Referent::Topic, name).is_some()
     }
 
     /// Whether an action, that is its server, of this name is declared in whatever node.
     pub fn action_named(&self, name: &str) -> bool
         ensures { result ≡ is_some (server_named self.now name.now) }
     {
-        self.directory.entity(EntityKind::Server, name).is_some()
+        self.directory
+            .number(Referent::Entity(EntityKind::Server), name)
+            .is_some()
     }
 
     /// The graph of what is declared.

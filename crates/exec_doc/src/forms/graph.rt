@@ -2,7 +2,8 @@ ghost use Rattle.std.specs.Prelude.{◌≡◌, [], ◌++◌, Some, codes, map, o
 ghost use Rattle.std.specs.Option.{unwrap_or};
 ghost use Rattle.serde_json.specs.View.{view};
 ghost use Rattle.exec_graph.specs.Options.{each};
-ghost use Rattle.exec_doc.specs.Forms.{text, list_of, if_there, declared};
+ghost use Rattle.exec_doc.specs.Forms.{text, list_of, declared};
+ghost use Rattle.exec_graph.specs.Entity.{if_there};
 ghost use Rattle.exec_doc.specs.Reading.{Gives, Fails, IsAppended};
 
 use crate::forms::fields::list;

@@ -3,8 +3,8 @@ use Rattle.std.specs.List.{list_any}
 use Rattle.exec_graph.specs.Draft.{GraphDraft}
 use Rattle.exec_graph.specs.Entity.{is_of}
 use Rattle.exec_graph.specs.Numbers.{server_named}
-use Rattle.exec_graph.specs.declared.entity.EntityKind.TheVariants as kind
 use Rattle.exec_graph.specs.declared.draft.NodeDraft.{NodeDraft}
+use Rattle.exec_graph.specs.declared.entity.EntityKind.TheVariants as kind
 use Rattle.exec_graph.proofs.Declarations.{action_any}
 use Rattle.exec_graph.proofs.builder.GraphBuilder.action_named.Goals as goal
 
