@@ -12,6 +12,7 @@ mod lines;
 mod memory;
 mod names;
 mod numbers;
+mod place;
 #[cfg(test)]
 mod tests;
 mod text;
