@@ -1,4 +1,6 @@
 pub mod Fields
+pub mod Lengths
+pub mod Places
 pub mod Queues
 pub mod Walks
 pub mod NextCall

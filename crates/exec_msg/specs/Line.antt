@@ -1,5 +1,5 @@
 -- The text of a transcript, line by line.
-use Rattle.std.specs.Prelude.{ℕ, ◌<◌, List, [], ◌∷◌, ◌++◌, length, codes, decimal, Option, None, Some, slice_index_or}
+use Rattle.std.specs.Prelude.{◌≡◌, ℕ, ◌<◌, List, [], ◌∷◌, ◌++◌, length, codes, decimal, Option, None, Some, slice_index_or, Result, OnOk, OnErr}
 use Rattle.std.specs.Int.{to_be_bytes, w128}
 use Rattle.std.specs.Fmt.{signed_decimal}
 use Rattle.std.specs.List.{flat_map}
@@ -8,6 +8,7 @@ use Rattle.exec_msg.specs.Goal.{status_number, code_number}
 use Rattle.exec_msg.specs.declared.kind.Kind.{Kind}
 use Rattle.exec_msg.specs.declared.kind.Kind.TheVariants as kind
 use Rattle.exec_msg.specs.declared.line.Line.{Line}
+use Rattle.exec_msg.specs.declared.memory.Memory.{Memory}
 use Rattle.exec_msg.specs.declared.line.Line.TheVariants as line
 
 -- the word of a kind of callback
@@ -75,6 +76,11 @@ line_text names line = joined (fields_of names line) ++ 10 ∷ []
 -- the text of a transcript
 abbrev pub transcript_text : List (List ℕ) → List Line → List ℕ
 transcript_text names lines = flat_map (line_text names) lines
+
+-- what a line's writer does: on success the text stands behind the bytes, and else they are as they were
+pub record IsAppended (result : Result (Unit {0}) Memory) (before after text : List ℕ) : Type 0 where
+  pub ok : OnOk result (after ≡ before ++ text)
+  pub err : OnErr result (after ≡ before)
 
 -- what a line names has a name
 abbrev pub IsNamed : List (List ℕ) → Line → Type 0

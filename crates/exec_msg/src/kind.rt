@@ -1,4 +1,4 @@
-ghost use Rattle.std.specs.Prelude.{◌≡◌};
+ghost use Rattle.std.specs.Prelude.{◌≡◌, ◌≤◌, length};
 ghost use Rattle.exec_msg.specs.Line.{word_of};
 
 /// What a callback is for, in the order in which ready callbacks run. All but [`Kind::Timer`] and
@@ -34,7 +34,8 @@ pub enum Kind {
 impl Kind {
     /// The kind's word in a transcript.
     pub fn word(self) -> &'static str
-        ensures { result.now ≡ word_of self }
+        ensures word { result.now ≡ word_of self }
+        ensures bound { length result.now ≤ 8 }
     {
         match self {
             Kind::Timer => "timer",

@@ -13,6 +13,7 @@ mod lines;
 mod memory;
 mod names;
 mod numbers;
+mod place;
 #[cfg(test)]
 mod tests;
 mod text;

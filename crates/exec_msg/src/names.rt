@@ -1,5 +1,6 @@
 ghost use Rattle.std.specs.Prelude.{◌≡◌, ℕ, ◌≤◌, List, map, length, string_bytes};
 ghost use Rattle.exec_msg.specs.Line.{name_at};
+ghost use Rattle.exec_msg.specs.inner.Text.{greatest_length};
 
 use crate::numbers::EntityNo;
 use std::marker::Model;
@@ -8,12 +9,19 @@ use std::marker::Model;
 #[derive(Debug, Drop)]
 pub struct Names {
     texts: Vec<String>,
+    // The length of the longest, in bytes.
+    longest: usize,
 }
 
 impl Model for Names {
+    ghost use Rattle.std.specs.Prelude.{◌≡◌, ℕ, List, map, string_bytes};
+    ghost use Rattle.exec_msg.specs.inner.Text.{greatest_length};
+
     ghost Value = { List (List ℕ) };
 
     ghost view = { λ names. map string_bytes names.texts.items };
+
+    ghost invariant = { λ names. names.longest ≡ greatest_length (map string_bytes names.texts.items) };
 }
 
 impl Names {
@@ -22,7 +30,23 @@ impl Names {
         requires { length texts.items ≤ 65536 }
         ensures { result ≡ map string_bytes texts.items }
     {
-        Names { texts }
+        let longest = length_of_longest(&texts);
+        Names { texts, longest }
+    }
+
+    // The name at a number, and that it is no longer than the longest.
+    pub(crate) fn bounded_name(&self, no: EntityNo) -> &str
+        ensures name { result.now ≡ name_at self.now no }
+        ensures bound { length result.now ≤ greatest_length self.now }
+    {
+        self.name(no)
+    }
+
+    // The length of the longest name.
+    pub(crate) fn longest(&self) -> usize
+        ensures { result ≡ greatest_length self.now }
+    {
+        self.longest
     }
 
     /// The name at a number; behind the last name there is the empty text.
@@ -34,4 +58,14 @@ impl Names {
             None => "",
         }
     }
+}
+
+fn length_of_longest(texts: &[String]) -> usize
+    ensures { result ≡ greatest_length (map string_bytes texts.now) }
+{
+    let mut longest = 0;
+    for text in texts {
+        longest = longest.max(text.len());
+    }
+    longest
 }

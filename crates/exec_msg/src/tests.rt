@@ -1,11 +1,11 @@
-ghost use Rattle.std.specs.Prelude.{◌≡◌, length, IfOk};
-ghost use Rattle.exec_msg.specs.Line.{IsNamed};
+ghost use Rattle.std.specs.Prelude.{◌≡◌};
 
 use crate::{
-    EntityNo, GoalId, GoalStatus, KeepLast, Kind, Line, LineList, Moment, Names, ReturnCode, Timer,
-    write_line,
+    EntityNo, GoalId, GoalStatus, KeepLast, Kind, Line, LineList, Lines, Memory, Moment, Named,
+    Names, ReturnCode, Text, Timer, write_line,
 };
 use std::alloc::{AllocError, Global};
+use std::marker::Brand;
 use std::test::Fail;
 
 const TOPIC: EntityNo = EntityNo(0);
@@ -41,9 +41,7 @@ pending c 3
 end 65536
 ";
 
-fn names(alloc: Global) -> Result<Names, AllocError>
-    ensures { IfOk result (λ names. length names ≡ 6) }
-{
+fn names(alloc: Global) -> Result<Names, AllocError> {
     let texts = vec![in alloc;
         String::from_str(alloc, "x")?,
         String::from_str(alloc, "t")?,
@@ -56,200 +54,172 @@ fn names(alloc: Global) -> Result<Names, AllocError>
 }
 
 // A line is written whole, or is refused and leaves the text as it was.
-fn put(line: Line, names: &Names, text: &mut Vec<u8>) -> Result<(), Fail>
-    requires { IsNamed names.now line }
-{
-    let before = text.len();
-    if write_line(&line, names, text).is_err() {
-        if text.len() != before {
-            return Err(Fail::new("a refused line was left in part"));
+fn written(alloc: Global, names: &Names, lines: &[Line]) -> Result<Vec<u8>, Fail> {
+    let mut text = Vec::new(alloc);
+    for line in lines {
+        let before = text.len();
+        if write_line(line, names, &mut text).is_err() {
+            if text.len() != before {
+                return Err(Fail::new("a refused line was left in part"));
+            }
+            write_line(line, names, &mut text)?;
         }
-        write_line(&line, names, text)?;
     }
-    Ok(())
+    Ok(text)
 }
 
-fn put_round(names: &Names, text: &mut Vec<u8>) -> Result<(), Fail>
-    requires { length names.now ≡ 6 }
+// A line is added whole, or is refused and leaves the text as it was.
+fn added<K: Named>(alloc: Global, names: &Names, lines: &[Line]) -> Result<Vec<u8>, Memory>
+    requires { names.now ≡ K.names }
 {
+    let mut text = Text::<K>::new(alloc, names);
+    for line in lines {
+        if text.add(line).is_err() {
+            text.add(line)?;
+        }
+    }
+    Ok(text.into_bytes())
+}
+
+fn put_round(lines: &mut LineList) -> Result<(), Memory> {
     if let Some(moment) = Moment::new(Moment::MAX) {
-        put(Line::Round { number: 1, moment }, names, text)?;
+        lines.add(&Line::Round { number: 1, moment })?;
     }
-    put(
-        Line::Expire {
-            server: SERVER,
-            id: GoalId::new(u128::MAX),
-        },
-        names,
-        text,
-    )?;
-    put(
-        Line::Run {
-            entity: TIMER,
-            kind: Kind::Timer,
-            input: 4_611_686_018_427_387_904,
-            aux: 0,
-            id: None,
-        },
-        names,
-        text,
-    )?;
-    put(
-        Line::Run {
-            entity: SERVER,
-            kind: Kind::Poll,
-            input: i64::MIN,
-            aux: 1,
-            id: Some(GoalId::new(0x1_0000_0000_0000_0001)),
-        },
-        names,
-        text,
-    )?;
-    put(
-        Line::Drop {
-            entity: SERVICE,
-            kind: Kind::Request,
-            input: -7,
-        },
-        names,
-        text,
-    )
+    lines.add(&Line::Expire {
+        server: SERVER,
+        id: GoalId::new(u128::MAX),
+    })?;
+    lines.add(&Line::Run {
+        entity: TIMER,
+        kind: Kind::Timer,
+        input: 4_611_686_018_427_387_904,
+        aux: 0,
+        id: None,
+    })?;
+    lines.add(&Line::Run {
+        entity: SERVER,
+        kind: Kind::Poll,
+        input: i64::MIN,
+        aux: 1,
+        id: Some(GoalId::new(0x1_0000_0000_0000_0001)),
+    })?;
+    lines.add(&Line::Drop {
+        entity: SERVICE,
+        kind: Kind::Request,
+        input: -7,
+    })
 }
 
-fn put_values(names: &Names, text: &mut Vec<u8>) -> Result<(), Fail>
-    requires { length names.now ≡ 6 }
-{
-    put(
-        Line::Pub {
-            topic: TOPIC,
-            value: i64::MAX,
-        },
-        names,
-        text,
-    )?;
-    put(
-        Line::Call {
-            client: CLIENT,
-            number: 12,
-            value: -1,
-        },
-        names,
-        text,
-    )?;
-    put(
-        Line::Reply {
-            service: SERVICE,
-            value: 0,
-        },
-        names,
-        text,
-    )?;
-    put(
-        Line::Goal {
-            client: ACTION_CLIENT,
-            id: GoalId::new(0x1_0000_0000_0000_000a),
-            value: 5,
-        },
-        names,
-        text,
-    )?;
-    put(
-        Line::Cancel {
-            client: ACTION_CLIENT,
-            id: GoalId::new(0),
-            stamp: u64::MAX,
-        },
-        names,
-        text,
-    )?;
-    put(
-        Line::Log {
-            entity: TIMER,
-            value: 100,
-        },
-        names,
-        text,
-    )
+fn put_values(lines: &mut LineList) -> Result<(), Memory> {
+    lines.add(&Line::Pub {
+        topic: TOPIC,
+        value: i64::MAX,
+    })?;
+    lines.add(&Line::Call {
+        client: CLIENT,
+        number: 12,
+        value: -1,
+    })?;
+    lines.add(&Line::Reply {
+        service: SERVICE,
+        value: 0,
+    })?;
+    lines.add(&Line::Goal {
+        client: ACTION_CLIENT,
+        id: GoalId::new(0x1_0000_0000_0000_000a),
+        value: 5,
+    })?;
+    lines.add(&Line::Cancel {
+        client: ACTION_CLIENT,
+        id: GoalId::new(0),
+        stamp: u64::MAX,
+    })?;
+    lines.add(&Line::Log {
+        entity: TIMER,
+        value: 100,
+    })
 }
 
-fn put_goal(names: &Names, text: &mut Vec<u8>, id: GoalId) -> Result<(), Fail>
-    requires { length names.now ≡ 6 }
-{
-    put(
-        Line::Feedback {
-            server: SERVER,
-            id,
-            value: 99,
-        },
-        names,
-        text,
-    )?;
-    put(
-        Line::Decide {
-            server: SERVER,
-            id,
-            decision: 3,
-        },
-        names,
-        text,
-    )?;
-    put(
-        Line::State {
-            server: SERVER,
-            id,
-            status: GoalStatus::Canceled,
-        },
-        names,
-        text,
-    )?;
-    put(
-        Line::Code {
-            server: SERVER,
-            code: ReturnCode::GoalTerminated,
-            moved: 0,
-        },
-        names,
-        text,
-    )?;
-    put(
-        Line::Ask {
-            client: ACTION_CLIENT,
-            id,
-        },
-        names,
-        text,
-    )?;
-    put(
-        Line::Result {
-            server: SERVER,
-            id,
-            status: GoalStatus::Aborted,
-            value: -10,
-        },
-        names,
-        text,
-    )
+fn put_goal(lines: &mut LineList, id: GoalId) -> Result<(), Memory> {
+    lines.add(&Line::Feedback {
+        server: SERVER,
+        id,
+        value: 99,
+    })?;
+    lines.add(&Line::Decide {
+        server: SERVER,
+        id,
+        decision: 3,
+    })?;
+    lines.add(&Line::State {
+        server: SERVER,
+        id,
+        status: GoalStatus::Canceled,
+    })?;
+    lines.add(&Line::Code {
+        server: SERVER,
+        code: ReturnCode::GoalTerminated,
+        moved: 0,
+    })?;
+    lines.add(&Line::Ask {
+        client: ACTION_CLIENT,
+        id,
+    })?;
+    lines.add(&Line::Result {
+        server: SERVER,
+        id,
+        status: GoalStatus::Aborted,
+        value: -10,
+    })
+}
+
+fn each_line(alloc: Global) -> Result<LineList, Memory> {
+    let mut lines = LineList::new(alloc);
+    let id = GoalId::new(0x0123_4567_89ab_cdef_fedc_ba98_7654_3210);
+    put_round(&mut lines)?;
+    put_values(&mut lines)?;
+    put_goal(&mut lines, id)?;
+    lines.add(&Line::Pending {
+        client: CLIENT,
+        calls: 3,
+    })?;
+    lines.add(&Line::End { rounds: 65_536 })?;
+    Ok(lines)
 }
 
 #[test]
 fn writes_each_line(rt: HostRuntime) -> Result<(), Fail> {
     let names = names(rt.alloc())?;
-    let id = GoalId::new(0x0123_4567_89ab_cdef_fedc_ba98_7654_3210);
-    let mut text = Vec::new(rt.alloc());
-    put_round(&names, &mut text)?;
-    put_values(&names, &mut text)?;
-    put_goal(&names, &mut text, id)?;
-    let pending = Line::Pending {
-        client: CLIENT,
-        calls: 3,
-    };
-    put(pending, &names, &mut text)?;
-    put(Line::End { rounds: 65_536 }, &names, &mut text)?;
-    assert!(rt;
-        text.as_slice() == TRANSCRIPT.as_bytes(),
-        "{:?}",
-        str::from_utf8(text.as_slice())
-    );
+    let lines = each_line(rt.alloc())?;
+    let text = written(rt.alloc(), &names, lines.as_slice())?;
+    let found = str::from_utf8(text.as_slice());
+    assert!(rt; text.as_slice() == TRANSCRIPT.as_bytes(), "{found:?}");
+    Ok(())
+}
+
+#[test]
+fn adds_each_line(rt: HostRuntime) -> Result<(), Fail> {
+    let names = names(rt.alloc())?;
+    let lines = each_line(rt.alloc())?;
+    let text = added::<Brand>(rt.alloc(), &names, lines.as_slice())?;
+    let found = str::from_utf8(text.as_slice());
+    assert!(rt; text.as_slice() == TRANSCRIPT.as_bytes(), "{found:?}");
+    Ok(())
+}
+
+// Numbers of each length, at both its ends.
+#[test]
+fn writes_numbers_of_each_length(rt: HostRuntime) -> Result<(), Fail> {
+    let names = names(rt.alloc())?;
+    let mut power: u64 = 1;
+    for _ in 0..19 {
+        power = power.wrapping_mul(10);
+        for rounds in [power.wrapping_sub(1), power, power.wrapping_add(1)] {
+            let text = written(rt.alloc(), &names, &[Line::End { rounds }])?;
+            let wanted = format!(in rt.alloc(); "end {rounds}\n")?;
+            assert_eq!(rt; text.as_slice(), wanted.as_bytes());
+        }
+    }
     Ok(())
 }
 
@@ -258,6 +228,7 @@ fn reads_names_at_their_numbers(rt: HostRuntime) -> Result<(), Fail> {
     let names = names(rt.alloc())?;
     assert_eq!(rt; names.name(TOPIC), "x");
     assert_eq!(rt; names.name(ACTION_CLIENT), "n/ac_1");
+    assert_eq!(rt; names.name(EntityNo(6)), "");
     Ok(())
 }
 

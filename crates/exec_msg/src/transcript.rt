@@ -1,4 +1,4 @@
-ghost use Rattle.std.specs.Prelude.{◌≡◌, ℕ, List, []};
+ghost use Rattle.std.specs.Prelude.{◌≡◌, ℕ, ◌≤◌, List, [], take, vec_len, OnOk};
 ghost use Rattle.exec_msg.specs.Line.{transcript_text};
 
 use crate::history::History;
@@ -6,7 +6,7 @@ use crate::line::Line;
 use crate::lines::Lines;
 use crate::memory::Memory;
 use crate::names::Names;
-use crate::text::write_line;
+use crate::text::{place_line, room_behind};
 use std::alloc::Global;
 use std::marker::{Brand, Model, PhantomData};
 
@@ -24,6 +24,8 @@ impl Named for Brand {
 pub struct Text<'a, K: Named> {
     names: &'a Names,
     bytes: Vec<u8>,
+    // Where the text ends. What stands behind is room for the next line.
+    end: usize,
     lines: History<Line>,
     of: PhantomData<K>,
 }
@@ -37,7 +39,7 @@ impl<'a, K: Named> Model for Text<'a, K> {
 
     ghost view = { λ text. text.lines.items };
 
-    ghost invariant = { λ text. IsTextOf K.names text.names.now text.bytes.items text.lines.items };
+    ghost invariant = { λ text. IsTextOf K.names text.names.now text.bytes.items text.end text.lines.items };
 }
 
 impl<'a, K: Named> Text<'a, K> {
@@ -49,6 +51,7 @@ impl<'a, K: Named> Text<'a, K> {
         Text {
             names,
             bytes: Vec::new(alloc),
+            end: 0,
             lines: History::new(),
             of: PhantomData,
         }
@@ -58,7 +61,8 @@ impl<'a, K: Named> Text<'a, K> {
     pub fn into_bytes(self) -> Vec<u8>
         ensures { result.items ≡ transcript_text K.names self.entry }
     {
-        let Text { bytes, .. } = self;
+        let Text { mut bytes, end, .. } = self;
+        bytes.truncate(end);
         bytes
     }
 }
@@ -67,8 +71,28 @@ impl<'a, K: Named> Lines for Text<'a, K> {
     ghost lines = { λ lines. lines };
 
     fn add(&mut self, line: &Line) -> Result<(), Memory> {
-        write_line(line, self.names, &mut self.bytes)?;
+        let room = room_behind(self.end, self.names)?;
+        if self.bytes.len() < room {
+            lengthen(&mut self.bytes, room)?;
+        }
+        self.end = place_line(line, self.names, self.bytes.as_mut_slice(), self.end);
         self.lines = self.lines.and(line);
         Ok(())
     }
+}
+
+// Bytes are made longer by so many more than asked.
+const MORE: usize = 65_536;
+
+// Makes bytes at least so long, with zeros behind them. Where memory is refused, they stay as they were.
+#[cold]
+#[inline(never)]
+fn lengthen(bytes: &mut Vec<u8>, length: usize) -> Result<(), Memory>
+    requires { vec_len bytes.old ≤ length }
+    ensures ok { OnOk result (length ≤ vec_len bytes.new) }
+    ensures front { take (vec_len bytes.old) bytes.new.items ≡ bytes.old.items }
+    ensures kept { vec_len bytes.old ≤ vec_len bytes.new }
+{
+    bytes.resize(length.saturating_add(MORE), 0)?;
+    Ok(())
 }
