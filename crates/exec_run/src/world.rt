@@ -9,7 +9,7 @@ ghost use Rattle.exec_script.specs.Zeros.{zeros};
 ghost use Rattle.exec_world.specs.Ready.{timer_taken};
 ghost use Rattle.exec_world.specs.Transcript.{new_timer, timer_in, first_world};
 
-use exec_graph::{Declared, EntityOf, Graph, GroupNo, Plan};
+use exec_graph::{Declared, EntityOf, Graph, GroupNo, Plan, Script};
 use exec_msg::{EntityNo, Kind, Line, Lines, Memory, Moment, Timer};
 use exec_script::{Bank, Effect, EffectList, Input, Instr, Role, run_call_into};
 use std::alloc::Global;
