@@ -1,5 +1,5 @@
 -- The text of a transcript, line by line.
-use Rattle.std.specs.Prelude.{◌≡◌, ℕ, ◌<◌, List, [], ◌∷◌, ◌++◌, length, codes, decimal, Option, None, Some, slice_index_or, Result, OnOk, OnErr}
+use Rattle.std.specs.Prelude.{◌≡◌, ℕ, List, [], ◌∷◌, ◌++◌, codes, decimal, Option, None, Some, slice_index_or, Result, OnOk, OnErr}
 use Rattle.std.specs.Int.{to_be_bytes, w128}
 use Rattle.std.specs.Fmt.{signed_decimal}
 use Rattle.std.specs.List.{flat_map}
@@ -81,24 +81,3 @@ transcript_text names lines = flat_map (line_text names) lines
 pub record IsAppended (result : Result (Unit {0}) Memory) (before after text : List ℕ) : Type 0 where
   pub ok : OnOk result (after ≡ before ++ text)
   pub err : OnErr result (after ≡ before)
-
--- what a line names has a name
-abbrev pub IsNamed : List (List ℕ) → Line → Type 0
-IsNamed names (line.Round number moment) = Unit {0}
-IsNamed names (line.Expire server id) = server < length names
-IsNamed names (line.Run entity kind input aux id) = entity < length names
-IsNamed names (line.Drop entity kind input) = entity < length names
-IsNamed names (line.Pub topic value) = topic < length names
-IsNamed names (line.Call client number value) = client < length names
-IsNamed names (line.Reply service value) = service < length names
-IsNamed names (line.Goal client id value) = client < length names
-IsNamed names (line.Cancel client id stamp) = client < length names
-IsNamed names (line.Log entity value) = entity < length names
-IsNamed names (line.Feedback server id value) = server < length names
-IsNamed names (line.Decide server id decision) = server < length names
-IsNamed names (line.State server id status) = server < length names
-IsNamed names (line.Code server code moved) = server < length names
-IsNamed names (line.Ask client id) = client < length names
-IsNamed names (line.Result server id status value) = server < length names
-IsNamed names (line.Pending client calls) = client < length names
-IsNamed names (line.End rounds) = Unit {0}

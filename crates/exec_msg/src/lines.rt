@@ -52,14 +52,6 @@ impl LineList {
         LineList { items }
     }
 
-    /// Adds a line at the end. Where memory is refused, the list stays as it was.
-    pub fn push(&mut self, line: Line) -> Result<(), Memory>
-        ensures ok { OnOk result (self.new ≡ self.old ++ line ∷ []) }
-        ensures err { OnErr result (self.new ≡ self.old) }
-    {
-        push_copy(&mut self.items, &line)
-    }
-
     /// The lines in their order.
     pub fn as_slice(&self) -> &[Line]
         ensures { result.now ≡ self.now }

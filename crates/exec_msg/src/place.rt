@@ -8,6 +8,7 @@ ghost use Rattle.exec_msg.specs.Line.{spaced, joined, word_of, id_text, id_field
 use crate::kind::Kind;
 use crate::numbers::GoalId;
 use itoa::write_digits;
+use std::simd::Simd;
 use uuid::Uuid;
 
 #[inline(always)]
@@ -21,6 +22,52 @@ pub fn place(bytes: &mut [u8], at: usize, text: &str) -> usize
     end
 }
 
+// The first bytes of a text, so many: one load and one store.
+#[inline(always)]
+fn place_front<const N: usize>(bytes: &mut [u8], at: usize, text: &[u8]) -> usize
+    requires { (N ≤ length text.now) × (at + N ≤ length bytes.old) }
+    ensures text { take result bytes.new ≡ take at bytes.old ++ take N text.now }
+    ensures end { result ≡ at + N }
+{
+    Simd::<u8, N>::from_slice(text).copy_to_slice(&mut bytes[at..]);
+    at + N
+}
+
+// Two copies of a fixed length, which overlap.
+#[inline(always)]
+fn place_ends<const N: usize>(bytes: &mut [u8], at: usize, text: &[u8]) -> usize
+    requires fits { at + length text.now ≤ length bytes.old }
+    requires covers { (N ≤ length text.now) × (length text.now ≤ N + N) }
+    ensures text { take result bytes.new ≡ take at bytes.old ++ text.now }
+    ensures end { result ≡ at + length text.now }
+{
+    let last = text.len() - N;
+    place_front::<N>(bytes, at, text);
+    place_front::<N>(bytes, at + last, &text[last..])
+}
+
+// A text whose length isn't known beforehand, most likely a short one: for that no call is made.
+#[inline(always)]
+fn place_short(bytes: &mut [u8], at: usize, text: &str) -> usize
+    requires { at + length text.now ≤ length bytes.old }
+    ensures text { take result bytes.new ≡ take at bytes.old ++ text.now }
+    ensures end { result ≡ at + length text.now }
+{
+    let length = text.len();
+    if length > 32 || length < 2 {
+        return place(bytes, at, text);
+    }
+    if length >= 16 {
+        place_ends::<16>(bytes, at, text.as_bytes())
+    } else if length >= 8 {
+        place_ends::<8>(bytes, at, text.as_bytes())
+    } else if length >= 4 {
+        place_ends::<4>(bytes, at, text.as_bytes())
+    } else {
+        place_ends::<2>(bytes, at, text.as_bytes())
+    }
+}
+
 // A field with a space before it.
 #[inline(always)]
 fn place_field(bytes: &mut [u8], at: usize, text: &str) -> usize
@@ -29,7 +76,7 @@ fn place_field(bytes: &mut [u8], at: usize, text: &str) -> usize
     ensures end { result ≡ at + length text.now + 1 }
 {
     bytes[at] = b' ';
-    place(bytes, at + 1, text)
+    place_short(bytes, at + 1, text)
 }
 
 // A line's word, and the name of what it speaks of.

@@ -236,9 +236,9 @@ fn reads_names_at_their_numbers(rt: HostRuntime) -> Result<(), Fail> {
 fn lists_lines(rt: HostRuntime) -> Result<(), Fail> {
     let mut lines = LineList::new(rt.alloc());
     for rounds in 0..10 {
-        if lines.push(Line::End { rounds }).is_err() {
+        if lines.add(&Line::End { rounds }).is_err() {
             assert_eq!(rt; lines.as_slice().len() as u64, rounds);
-            lines.push(Line::End { rounds })?;
+            lines.add(&Line::End { rounds })?;
         }
     }
     for (rounds, line) in lines.as_slice().iter().enumerate() {

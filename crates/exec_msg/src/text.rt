@@ -26,7 +26,7 @@ pub fn write_line(line: &Line, names: &Names, out: &mut Vec<u8>) -> Result<(), M
     Ok(())
 }
 
-// A line takes so much room beside a name: at most 93 bytes, as a poll's does that runs.
+// More than a line takes beside a name.
 const ROOM: usize = 128;
 
 /// How long the bytes are to be where a line is to stand at a place.

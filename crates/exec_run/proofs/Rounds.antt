@@ -28,10 +28,6 @@ use Rattle.exec_world.specs.World.{WorldState, ServerEntry, ClientEntry, ActionC
 pub timers_of : (plan : PlanData) → IsOfTimers plan → AreTimers plan.graph.entities
 timers_of plan of = are_timers plan.graph of.lawful.graph of.timers
 
--- as many names as entities
-pub as_many_names : (graph : GraphData) → length (names_of graph) ≡ length graph.entities
-as_many_names graph = length-map graph.entities (λ entity. entity.name)
-
 -- ---- a timer's callback
 
 pub of_timers_at : (plan : PlanData) → IsOfTimers plan → (moment entity : ℕ) (world : WorldState) → entity < length plan.graph.entities → AreOfTimers (call_at plan.graph moment entity world).given
