@@ -103,16 +103,16 @@ one_more all front after rest next distinct are appends =
     ap (λ (es : List EntityData). es ++ rest) (appends none) ∙ append_assoc front (next ∷ []) rest ∙ are
 
 -- the topics so far gain the next
-pub next_topic : (topics : List (String Global)) (i : ℕ) (topic : String Global) (front after : List EntityData) (text : List ℕ) → i < length topics → topic ≡ get_or topics i topic → text ≡ string_bytes topic →
+pub next_topic : (topics : List (List ℕ)) (i : ℕ) (topic : List ℕ) (front after : List EntityData) (text : List ℕ) → i < length topics → topic ≡ get_or topics i topic → text ≡ topic →
     (list_any (is_name text) (map title front) ≡ false → after ≡ front ++ topic_in text ∷ []) →
-    (are_distinct (map string_bytes topics) ≡ true → front ++ map topic_in (map string_bytes (drop i topics)) ≡ map topic_in (map string_bytes topics)) →
-    are_distinct (map string_bytes topics) ≡ true → after ++ map topic_in (map string_bytes (drop (i + 1) topics)) ≡ map topic_in (map string_bytes topics)
+    (are_distinct topics ≡ true → front ++ map topic_in (drop i topics) ≡ map topic_in topics) →
+    are_distinct topics ≡ true → after ++ map topic_in (drop (i + 1) topics) ≡ map topic_in topics
 next_topic topics i topic front after text within there same appends holds distinct =
     let here : drop i topics ≡ topic ∷ drop (i + 1) topics = from_place topics i topic within there in
-    one_more (map topic_in (map string_bytes topics)) front after (map topic_in (map string_bytes (drop (i + 1) topics))) (topic_in text)
-    (ap are_distinct (topic_names (map string_bytes topics)) ∙ distinct)
-    (ap (λ (name : List ℕ). front ++ topic_in name ∷ map topic_in (map string_bytes (drop (i + 1) topics))) same
-    ∙ ap (λ (ts : List (String Global)). front ++ map topic_in (map string_bytes ts)) (sym here) ∙ holds distinct)
+    one_more (map topic_in topics) front after (map topic_in (drop (i + 1) topics)) (topic_in text)
+    (ap are_distinct (topic_names topics) ∙ distinct)
+    (ap (λ (name : List ℕ). front ++ topic_in name ∷ map topic_in (drop (i + 1) topics)) same
+    ∙ ap (λ (ts : List (List ℕ)). front ++ map topic_in ts) (sym here) ∙ holds distinct)
     appends
 
 -- ---- entities

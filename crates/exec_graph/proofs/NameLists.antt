@@ -46,6 +46,11 @@ module _ {X : Type 0} (see : X → List ℕ) (xs : List X) (i : ℕ) (x : X) (na
       ap (names_from names) (at_place see xs i x within there ∙ ap (λ (t : List ℕ). t ∷ map see (drop (i + 1) xs)) (sym seen))
       ∙ none_by b (is_new names text) (names_from (names ++ text ∷ []) (map see (drop (i + 1) xs))) is new
 
+-- texts are seen as they are
+pub as_they_are : (texts : List (List ℕ)) → map (λ text. text) texts ≡ texts
+as_they_are [] = refl
+as_they_are (text ∷ texts) = ap (λ (ts : List (List ℕ)). text ∷ ts) (as_they_are texts)
+
 -- none is left
 pub no_more : {X : Type 0} (see : X → List ℕ) (xs : List X) (i : ℕ) (names : List (List ℕ)) → length xs ≤ i → names_from names (map see (drop i xs)) ≡ Some names
 no_more {X} see xs i names all = ap (λ (rest : List X). names_from names (map see rest)) (drop_all i xs all)

@@ -107,10 +107,6 @@ number_in directory (referent.Entity kind) = entity_in directory (λ placed. is_
 abbrev pub resolves : DirectoryData → Placed → Bool
 resolves directory placed = has_group directory placed.node placed.entity.group && refers (λ to name. is_some (number_in directory to name)) placed.entity.is
 
--- the draft of these topics and nodes
-abbrev pub draft_of : List (List ℕ) → List NodeDraft → GraphDraft
-draft_of topics nodes = record { topics = topics; nodes = nodes }
-
 -- the names that the scripts of a node may use
 abbrev pub scope_in : DirectoryData → ℕ → ScopeNames
 scope_in directory node = record {

@@ -3,7 +3,7 @@ ghost use Rattle.std.specs.Prelude.{◌≡◌, ◌⊎◌, ◌++◌, ◌≤◌, l
 ghost use Rattle.std.specs.List.{list_any};
 ghost use Rattle.std.specs.Option.{option_map};
 ghost use Rattle.std.specs.Str.{bytes_eq};
-ghost use Rattle.exec_graph.specs.Directory.{directory_of, draft_of, titled, where_so};
+ghost use Rattle.exec_graph.specs.Directory.{directory_of, titled, where_so};
 ghost use Rattle.exec_graph.specs.Draft.{GraphDraft};
 ghost use Rattle.exec_graph.specs.Entries.{entities_of as entries_of};
 ghost use Rattle.exec_graph.specs.Faults.{is_well_named};
@@ -18,7 +18,7 @@ ghost use Rattle.exec_graph.specs.declared.fault.GraphFault.TheVariants as graph
 
 use crate::declaring::{Unread, resolved};
 use crate::directory::{Directory, has_node_names};
-use crate::draft::NodeDraft;
+use crate::draft::{GraphDraft, NodeDraft};
 use crate::entity::{CallbackGroup, Declared, GraphEntity};
 use crate::fault::GraphFault;
 use crate::graph::Graph;
@@ -28,27 +28,27 @@ use crate::numbering::PlacedEntity;
 use crate::scope::NodeScope;
 use crate::scripts::{is_any_faulty, script_faults};
 use exec_msg::{Memory, Names};
+use exec_script::WordText;
 use indexmap::IndexMap;
 use std::alloc::Global;
 
-// The graph of topics and nodes that are well named, or the least fault of what they declare.
+// The graph of a draft that is well named, or the least fault of what it declares.
 pub(crate) fn graph_of(
     alloc: Global,
-    topics: &[String],
-    nodes: &[NodeDraft],
+    draft: &GraphDraft,
     directory: &Directory<'_>,
 ) -> Result<Graph, GraphFault>
-    requires { Some directory.now ≡ where_so (is_well_named (draft_of (map string_bytes topics.now) nodes.now)) (directory_of (draft_of (map string_bytes topics.now) nodes.now)) }
-    ensures graph { IfOk result (λ graph. (fault_in (draft_of (map string_bytes topics.now) nodes.now) ≡ None)
-        × (graph_in (draft_of (map string_bytes topics.now) nodes.now) ≡ Some graph)) }
-    ensures fault { IfErr result (λ fault. (fault ≡ graph_fault.Memory) ⊎ (fault_in (draft_of (map string_bytes topics.now) nodes.now) ≡ Some fault)) }
+    requires { Some directory.now ≡ where_so (is_well_named draft.now) (directory_of draft.now) }
+    ensures graph { IfOk result (λ graph. (fault_in draft.now ≡ None)
+        × (graph_in draft.now ≡ Some graph)) }
+    ensures fault { IfErr result (λ fault. (fault ≡ graph_fault.Memory) ⊎ (fault_in draft.now ≡ Some fault)) }
 {
-    let small = is_small(alloc, topics, nodes, directory.entities())?;
+    let small = is_small(alloc, draft, directory.entities())?;
     if !small {
         return Err(GraphFault::Limit);
     }
-    let groups = callback_groups(alloc, nodes)?;
-    let Some(entities) = entities_of(alloc, topics, directory, &groups)? else {
+    let groups = callback_groups(alloc, draft.nodes.as_slice())?;
+    let Some(entities) = entities_of(alloc, draft.topics.as_slice(), directory, &groups)? else {
         return Err(GraphFault::Script);
     };
     let faults = script_faults(alloc, &entities, &groups)?;
@@ -58,8 +58,8 @@ pub(crate) fn graph_of(
     if !faults.is_empty() {
         return Err(GraphFault::GroupVariable);
     }
-    let names = names_of(alloc, topics, directory.entities())?;
-    let nodes = node_names(alloc, nodes)?;
+    let names = names_of(alloc, draft.topics.as_slice(), directory.entities())?;
+    let nodes = node_names(alloc, draft.nodes.as_slice())?;
     Ok(Graph {
         nodes: Names::of(nodes),
         groups,
@@ -68,18 +68,17 @@ pub(crate) fn graph_of(
     })
 }
 
-// What topics and nodes declare, where all of it is well named.
+// What a draft declares, where all of it is well named.
 pub(crate) fn well_named<'a>(
     alloc: Global,
-    topics: &'a [String],
-    nodes: &'a [NodeDraft],
+    draft: &'a GraphDraft,
 ) -> Result<Option<Directory<'a>>, Memory>
-    ensures { IfOk result (λ found. found ≡ where_so (is_well_named (draft_of (map string_bytes topics.now) nodes.now)) (directory_of (draft_of (map string_bytes topics.now) nodes.now))) }
+    ensures { IfOk result (λ found. found ≡ where_so (is_well_named draft.now) (directory_of draft.now)) }
 {
-    if !has_node_names(alloc, nodes)? {
+    if !has_node_names(alloc, draft.nodes.as_slice())? {
         return Ok(None);
     }
-    let Some(directory) = Directory::of(alloc, topics, nodes)? else {
+    let Some(directory) = Directory::of(alloc, draft)? else {
         return Ok(None);
     };
     if !directory.is_resolved() {
@@ -91,13 +90,13 @@ pub(crate) fn well_named<'a>(
 // The topics and entities at their numbers, where what they refer to is declared and their scripts are spelt well.
 fn entities_of(
     alloc: Global,
-    topics: &[String],
+    topics: &[WordText],
     directory: &Directory<'_>,
     groups: &[CallbackGroup],
 ) -> Result<Option<IndexMap<String, Declared>>, Memory>
     requires names { length directory.now.names ≤ 65536 }
     requires groups { length groups.now ≤ 65536 }
-    ensures { IfOk result (λ found. (source : GraphDraft) → are_distinct (faults.names_of source) ≡ true → map string_bytes topics.now ≡ source.topics → directory.now ≡ directory_of source → groups.now ≡ groups_of source →
+    ensures { IfOk result (λ found. (source : GraphDraft) → are_distinct (faults.names_of source) ≡ true → topics.now ≡ source.topics → directory.now ≡ directory_of source → groups.now ≡ groups_of source →
         option_map (λ others. map topic_in source.topics ++ others) (each (entity_in source) (numbers.entities_of source)) ≡ option_map (λ entities. entries_of entities.entries) found) }
 {
     let mut entities = topics_of(alloc, topics)?;
@@ -111,8 +110,8 @@ fn entities_of(
 }
 
 // The topics at their numbers.
-fn topics_of(alloc: Global, topics: &[String]) -> Result<IndexMap<String, Declared>, Memory>
-    ensures { IfOk result (λ entities. are_distinct (map string_bytes topics.now) ≡ true → entries_of entities.entries ≡ map topic_in (map string_bytes topics.now)) }
+fn topics_of(alloc: Global, topics: &[WordText]) -> Result<IndexMap<String, Declared>, Memory>
+    ensures { IfOk result (λ entities. are_distinct topics.now ≡ true → entries_of entities.entries ≡ map topic_in topics.now) }
 {
     let mut entities = IndexMap::new(alloc);
     for topic in topics {
@@ -161,10 +160,10 @@ fn declared(
 // The names of topics and entities at their numbers.
 fn names_of(
     alloc: Global,
-    topics: &[String],
+    topics: &[WordText],
     entities: &[PlacedEntity<'_>],
 ) -> Result<Vec<String>, Memory>
-    ensures { IfOk result (λ names. map string_bytes names.items ≡ map string_bytes topics.now ++ map (λ placed. placed.entity.name) entities.now) }
+    ensures { IfOk result (λ names. map string_bytes names.items ≡ topics.now ++ map (λ placed. placed.entity.name) entities.now) }
 {
     let mut names = Vec::new(alloc);
     for topic in topics {

@@ -1,16 +1,17 @@
-ghost use Rattle.std.specs.Prelude.{◌≡◌, ◌&&◌, string_bytes};
+ghost use Rattle.std.specs.Prelude.{◌≡◌, ◌&&◌};
 ghost use Rattle.std.specs.List.{list_any};
 ghost use Rattle.std.specs.Str.{bytes_eq};
 ghost use Rattle.exec_graph.specs.Entity.{is_of};
 ghost use Rattle.exec_graph.specs.declared.entity.EntityKind.TheVariants as kind;
 
 use crate::assembling::well_named;
-use crate::draft::{EntityDraft, NodeDraft};
+use crate::draft::{EntityDraft, GraphDraft, NodeDraft};
 use crate::entity::EntityKind;
 use crate::fault::GraphFault;
 use crate::graph::Graph;
 use crate::named::NamedGraph;
-use exec_msg::Memory;
+use exec_msg::{Items, Memory};
+use exec_script::WordText;
 use std::alloc::Global;
 use std::marker::Model;
 
@@ -18,17 +19,15 @@ use std::marker::Model;
 #[derive(Drop)]
 pub struct GraphBuilder {
     alloc: Global,
-    topics: Vec<String>,
-    nodes: Vec<NodeDraft>,
+    draft: GraphDraft,
 }
 
 impl Model for GraphBuilder {
-    ghost use Rattle.std.specs.Prelude.{map, string_bytes};
     ghost use Rattle.exec_graph.specs.Draft.{GraphDraft};
 
     ghost Value = { GraphDraft };
 
-    ghost view = { λ builder. record { topics = map string_bytes builder.topics.items; nodes = builder.nodes.items } };
+    ghost view = { λ builder. builder.draft };
 }
 
 impl GraphBuilder {
@@ -44,8 +43,10 @@ impl GraphBuilder {
     {
         GraphBuilder {
             alloc,
-            topics: Vec::new(alloc),
-            nodes: Vec::new(alloc),
+            draft: GraphDraft {
+                topics: Items::new(alloc),
+                nodes: Items::new(alloc),
+            },
         }
     }
 
@@ -57,7 +58,7 @@ impl GraphBuilder {
         ensures ok { OnOk result (self.new ≡ record self.old { topics = self.old.topics ++ string_bytes name ∷ [] }) }
         ensures err { OnErr result (self.new ≡ self.old) }
     {
-        self.topics.push(name)?;
+        self.draft.topics.push(WordText::of(name))?;
         Ok(())
     }
 
@@ -69,7 +70,7 @@ impl GraphBuilder {
         ensures ok { OnOk result (self.new ≡ record self.old { nodes = self.old.nodes ++ node ∷ [] }) }
         ensures err { OnErr result (self.new ≡ self.old) }
     {
-        self.nodes.push(node)?;
+        self.draft.nodes.push(node)?;
         Ok(())
     }
 
@@ -77,7 +78,7 @@ impl GraphBuilder {
     pub fn topic_named(&self, name: &str) -> bool
         ensures { result ≡ is_some (topic_named self.now name.now) }
     {
-        has_topic(&self.topics, name)
+        has_topic(self.draft.topics.as_slice(), name)
     }
 
     /// Whether an action, that is its server, of this name is declared in whatever node. It looks at all entities:
@@ -85,7 +86,7 @@ impl GraphBuilder {
     pub fn action_named(&self, name: &str) -> bool
         ensures { result ≡ is_some (server_named self.now name.now) }
     {
-        have_action(&self.nodes, name)
+        have_action(self.draft.nodes.as_slice(), name)
     }
 
     /// What is declared, where all of it is well named.
@@ -96,11 +97,10 @@ impl GraphBuilder {
         ensures named { IfOk result (λ named. (named ≡ self.now) × (is_well_named self.now ≡ true)) }
         ensures fault { IfErr result (λ fault. (fault ≡ GraphFault.Memory) ⊎ ((fault ≡ GraphFault.Name) × (is_well_named self.now ≡ false))) }
     {
-        match well_named(self.alloc, &self.topics, &self.nodes)? {
+        match well_named(self.alloc, &self.draft)? {
             Some(directory) => Ok(NamedGraph {
                 alloc: self.alloc,
-                topics: &self.topics,
-                nodes: &self.nodes,
+                draft: &self.draft,
                 directory,
             }),
             None => Err(GraphFault::Name),
@@ -120,8 +120,8 @@ impl GraphBuilder {
     }
 }
 
-fn has_topic(topics: &[String], name: &str) -> bool
-    ensures { result ≡ list_any (λ topic. bytes_eq (string_bytes topic) name.now) topics.now }
+fn has_topic(topics: &[WordText], name: &str) -> bool
+    ensures { result ≡ list_any (λ topic. bytes_eq topic name.now) topics.now }
 {
     topics.iter().any(|topic| topic.as_str() == name)
 }
@@ -137,7 +137,6 @@ fn have_action(nodes: &[NodeDraft], name: &str) -> bool
 fn has_action(entities: &[EntityDraft], name: &str) -> bool
     ensures { result ≡ list_any (λ entity. is_of kind.Server entity.is && bytes_eq entity.name name.now) entities.now }
 {
-    entities
-        .iter()
-        .any(|entity| entity.is.is_of(EntityKind::Server) && entity.name.as_str() == name)
+    entities.iter().any(|entity| entity.is.is_of(EntityKind::Server)
+        && entity.name.as_str() == name)
 }

@@ -1,12 +1,12 @@
 //! What a graph declares, by name.
-ghost use Rattle.std.specs.Prelude.{◌≡◌, ◌&&◌, ◌==◌, length, map, string_bytes, if◌then◌else◌, Some, None, is_some, ◌<◌, IfOk, IfSome};
+ghost use Rattle.std.specs.Prelude.{◌≡◌, ◌&&◌, ◌==◌, length, map, if◌then◌else◌, Some, None, is_some, ◌<◌, IfOk, IfSome};
 ghost use Rattle.std.specs.List.{list_all};
 ghost use Rattle.std.specs.Option.{option_map};
-ghost use Rattle.exec_graph.specs.Directory.{names_from, group_names, where_so, topic_in, find, entity_in, number_in, has_in, has_group, resolves, draft_of, directory_of};
+ghost use Rattle.exec_graph.specs.Directory.{names_from, group_names, where_so, topic_in, find, entity_in, number_in, has_in, has_group, resolves, directory_of};
 ghost use Rattle.exec_graph.specs.Entity.{is_of, refers};
 ghost use Rattle.exec_graph.specs.Faults.{are_names, has_named_groups, names_of};
 
-use crate::draft::{Drafted, EntityDraft, GroupDraft, NodeDraft};
+use crate::draft::{Drafted, EntityDraft, GraphDraft, GroupDraft, NodeDraft};
 use crate::entity::{EntityKind, Referent};
 use crate::naming::add_name;
 use crate::numbering::{PlacedEntity, numbered};
@@ -35,30 +35,26 @@ impl<'a> Model for Directory<'a> {
 }
 
 impl<'a> Directory<'a> {
-    // What topics and nodes declare, where the names of each node's groups, and those of topics and entities together,
+    // What a draft declares, where the names of each node's groups, and those of topics and entities together,
     // are names and differ.
-    pub(crate) fn of(
-        alloc: Global,
-        topics: &'a [String],
-        nodes: &'a [NodeDraft],
-    ) -> Result<Option<Directory<'a>>, Memory>
+    pub(crate) fn of(alloc: Global, draft: &'a GraphDraft) -> Result<Option<Directory<'a>>, Memory>
         ensures { IfOk result (λ found. found ≡ where_so
-            (list_all has_named_groups nodes.now && are_names (names_of (draft_of (map string_bytes topics.now) nodes.now)))
-            (directory_of (draft_of (map string_bytes topics.now) nodes.now))) }
+            (list_all has_named_groups draft.now.nodes && are_names (names_of draft.now))
+            (directory_of draft.now)) }
     {
-        let Some(groups) = group_names(alloc, nodes)? else {
+        let Some(groups) = group_names(alloc, draft.nodes.as_slice())? else {
             return Ok(None);
         };
-        let entities = numbered(alloc, nodes)?;
+        let entities = numbered(alloc, draft.nodes.as_slice())?;
         let mut names = TextSet::new(alloc);
-        if !add_topics(&mut names, topics)? {
+        if !add_topics(&mut names, draft.topics.as_slice())? {
             return Ok(None);
         }
         if !add_entities(&mut names, &entities)? {
             return Ok(None);
         }
         Ok(Some(Directory {
-            topics: topics.len(),
+            topics: draft.topics.len(),
             names,
             groups,
             entities,
@@ -223,8 +219,8 @@ fn names_of_groups<'a>(
     Ok(Some(names))
 }
 
-fn add_topics<'a>(names: &mut TextSet<'a>, topics: &'a [String]) -> Result<bool, Memory>
-    ensures { IfOk result (λ added. names_from names.old (map string_bytes topics.now) ≡ where_so added names.new) }
+fn add_topics<'a>(names: &mut TextSet<'a>, topics: &'a [WordText]) -> Result<bool, Memory>
+    ensures { IfOk result (λ added. names_from names.old topics.now ≡ where_so added names.new) }
 {
     for topic in topics {
         if !add_name(names, topic.as_str())? {

@@ -36,3 +36,12 @@ pub struct NodeDraft {
     /// Its entities of all kinds. Those of one kind are numbered in this order.
     pub entities: Items<EntityDraft>,
 }
+
+/// What a graph declares.
+#[derive(Debug, Drop)]
+pub struct GraphDraft {
+    /// The names of its topics, in the order of their numbers.
+    pub topics: Items<WordText>,
+    /// Its nodes, in the order of their numbers.
+    pub nodes: Items<NodeDraft>,
+}

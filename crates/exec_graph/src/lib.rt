@@ -26,7 +26,7 @@ mod tests;
 mod texts;
 
 pub use builder::GraphBuilder;
-pub use draft::{Drafted, EntityDraft, GroupDraft, NodeDraft};
+pub use draft::{Drafted, EntityDraft, GraphDraft, GroupDraft, NodeDraft};
 pub use entity::{
     ActionClientEntity, CallbackGroup, ClientEntity, Declared, EntityKind, EntityOf, GraphEntity,
     GroupNo, ServerEntity, ServiceEntity, SubscriptionEntity, TimerEntity,

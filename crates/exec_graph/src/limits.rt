@@ -1,12 +1,11 @@
 //! The limits of a graph.
-ghost use Rattle.std.specs.Prelude.{◌≡◌, ◌&&◌, length, nat_le, map, string_bytes, IfOk};
+ghost use Rattle.std.specs.Prelude.{◌≡◌, ◌&&◌, length, nat_le, IfOk};
 ghost use Rattle.std.specs.List.{list_all, sum_by};
-ghost use Rattle.exec_graph.specs.Directory.{draft_of};
 ghost use Rattle.exec_graph.specs.Entity.{is_within};
 ghost use Rattle.exec_graph.specs.Faults.{has_short_scripts, is_small};
-ghost use Rattle.exec_graph.specs.Numbers.{numbered};
+ghost use Rattle.exec_graph.specs.Numbers.{entities_of};
 
-use crate::draft::{Drafted, NodeDraft};
+use crate::draft::{Drafted, GraphDraft, NodeDraft};
 use crate::entity::RoleScript;
 use crate::numbering::PlacedEntity;
 use crate::script::Spelled;
@@ -18,17 +17,16 @@ use std::alloc::Global;
 // their numbers.
 pub(crate) fn is_small(
     alloc: Global,
-    topics: &[String],
-    nodes: &[NodeDraft],
+    draft: &GraphDraft,
     entities: &[PlacedEntity<'_>],
 ) -> Result<bool, Memory>
-    requires { entities.now ≡ numbered nodes.now }
-    ensures { IfOk result (λ small. small ≡ is_small (draft_of (map string_bytes topics.now) nodes.now)) }
+    requires { entities.now ≡ entities_of draft.now }
+    ensures { IfOk result (λ small. small ≡ is_small draft.now) }
 {
     Ok(
-        nodes.len() <= NODES
-            && has_few_groups(nodes)
-            && topics.len() <= TOPICS
+        draft.nodes.len() <= NODES
+            && has_few_groups(draft.nodes.as_slice())
+            && draft.topics.len() <= TOPICS
             && entities.len() <= ENTITIES
             && are_small(alloc, entities)?,
     )

@@ -1,6 +1,6 @@
 use crate::assembling::graph_of;
 use crate::directory::Directory;
-use crate::draft::NodeDraft;
+use crate::draft::GraphDraft;
 use crate::entity::{EntityKind, Referent};
 use crate::fault::GraphFault;
 use crate::graph::Graph;
@@ -11,23 +11,21 @@ use std::marker::Model;
 #[derive(Drop)]
 pub struct NamedGraph<'a> {
     pub(crate) alloc: Global,
-    pub(crate) topics: &'a [String],
-    pub(crate) nodes: &'a [NodeDraft],
+    pub(crate) draft: &'a GraphDraft,
     pub(crate) directory: Directory<'a>,
 }
 
 impl<'a> Model for NamedGraph<'a> {
-    ghost use Rattle.std.specs.Prelude.{◌≡◌, Some, map, string_bytes};
-    ghost use Rattle.exec_graph.specs.Directory.{directory_of, draft_of, where_so};
+    ghost use Rattle.std.specs.Prelude.{◌≡◌, Some};
+    ghost use Rattle.exec_graph.specs.Directory.{directory_of, where_so};
     ghost use Rattle.exec_graph.specs.Draft.{GraphDraft};
     ghost use Rattle.exec_graph.specs.Faults.{is_well_named};
 
     ghost Value = { GraphDraft };
 
-    ghost view = { λ named. draft_of (map string_bytes named.topics.now) named.nodes.now };
+    ghost view = { λ named. named.draft.now };
 
-    ghost invariant = { λ named. Some named.directory
-        ≡ where_so (is_well_named (draft_of (map string_bytes named.topics.now) named.nodes.now)) (directory_of (draft_of (map string_bytes named.topics.now) named.nodes.now)) };
+    ghost invariant = { λ named. Some named.directory ≡ where_so (is_well_named named.draft.now) (directory_of named.draft.now) };
 }
 
 impl<'a> NamedGraph<'a> {
@@ -60,6 +58,6 @@ impl<'a> NamedGraph<'a> {
         ensures graph { IfOk result (λ graph. (fault_in self.now ≡ None) × (graph_in self.now ≡ Some graph)) }
         ensures fault { IfErr result (λ fault. (fault ≡ GraphFault.Memory) ⊎ (fault_in self.now ≡ Some fault)) }
     {
-        graph_of(self.alloc, self.topics, self.nodes, &self.directory)
+        graph_of(self.alloc, self.draft, &self.directory)
     }
 }

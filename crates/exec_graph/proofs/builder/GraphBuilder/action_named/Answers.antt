@@ -1,4 +1,4 @@
-use Rattle.std.proofs.Common.{◌∙◌, ◌&&◌, ap, sym, is_some, map, string_bytes, bytes_eq, List}
+use Rattle.std.proofs.Common.{◌≡◌, ◌∙◌, ◌&&◌, ap, sym, is_some, bytes_eq, List}
 use Rattle.std.specs.List.{list_any}
 use Rattle.exec_graph.specs.Draft.{GraphDraft}
 use Rattle.exec_graph.specs.Entity.{is_of}
@@ -10,8 +10,7 @@ use Rattle.exec_graph.proofs.builder.GraphBuilder.action_named.Goals as goal
 
 pub returns : goal.returns
 returns c =
-    let draft : GraphDraft = record { topics = map string_bytes c.self.inside.topics.items; nodes = c.self.inside.nodes.items } in
     c.have_action.ensures
-    ∙ ap (λ (nodes : List NodeDraft). list_any (λ node. list_any (λ entity. is_of kind.Server entity.is && bytes_eq entity.name c.args.name.now) node.entities) nodes) c.deref.ensures.value
-    ∙ sym (action_any draft c.args.name.now)
+    ∙ ap (λ (nodes : List NodeDraft). list_any (λ node. list_any (λ entity. is_of kind.Server entity.is && bytes_eq entity.name c.args.name.now) node.entities) nodes) c.as_slice.ensures
+    ∙ sym (action_any c.self.inside.draft c.args.name.now)
     ∙ ap (λ (draft : GraphDraft). is_some (server_named draft c.args.name.now)) c.self.view_is

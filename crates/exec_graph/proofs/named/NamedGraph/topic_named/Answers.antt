@@ -1,5 +1,5 @@
-use Rattle.std.proofs.Common.{◌∙◌, ap, is_some, map, string_bytes}
-use Rattle.exec_graph.specs.Directory.{DirectoryData, draft_of, number_in}
+use Rattle.std.proofs.Common.{◌∙◌, ap, is_some}
+use Rattle.exec_graph.specs.Directory.{DirectoryData, number_in}
 use Rattle.exec_graph.specs.Draft.{GraphDraft}
 use Rattle.exec_graph.specs.Numbers.{topic_named}
 use Rattle.exec_graph.specs.declared.entity.Referent.TheVariants as referent
@@ -9,7 +9,7 @@ use Rattle.exec_graph.proofs.named.NamedGraph.topic_named.Goals as goal
 
 pub returns : goal.returns
 returns c =
-    let draft : GraphDraft = draft_of (map string_bytes c.self.inside.topics.now) c.self.inside.nodes.now in
+    let draft : GraphDraft = c.self.inside.draft.now in
     c.is_some.ensures
     ∙ ap is_some (c.number.ensures.number
     ∙ ap (λ (directory : DirectoryData). number_in directory referent.Topic c.args.name.now) (directory_is draft c.self.inside.directory c.self.invariant)
