@@ -23,8 +23,8 @@ use Rattle.exec_run.specs.declared.program.streams.ReadFault.TheVariants as read
 use Rattle.exec_world.specs.Transcript.{text_of}
 
 -- words that are text, and two numbers in their ranges
-abbrev pub AreLawful : Result (Vec (String Global)) WordsFault → Type 0
-AreLawful given = IsOkAnd given (λ words. AreSettings (map string_bytes words.items))
+abbrev pub AreGoodWords : Result (Vec (String Global)) WordsFault → Type 0
+AreGoodWords given = IsOkAnd given (λ words. AreSettings (map string_bytes words.items))
 
 -- the number of a document that isn't run: that of its code, or 11
 abbrev pub fault_number : AloneFault → ℕ
@@ -43,19 +43,19 @@ failure_line failure.WriteFailed = codes "write failed" ++ 10 ∷ []
 failure_line failure.ReadFailed = codes "read failed" ++ 10 ∷ []
 
 -- the exit status that a status is
-abbrev pub status_number : Status → ℕ
-status_number status.Written = 0
-status_number status.Refused = 1
-status_number status.Usage = 2
-status_number status.WriteFailed = 3
-status_number status.ReadFailed = 4
+abbrev pub exit_number : Status → ℕ
+exit_number status.Written = 0
+exit_number status.Refused = 1
+exit_number status.Usage = 2
+exit_number status.WriteFailed = 3
+exit_number status.ReadFailed = 4
 
 -- the status of a failure
-abbrev pub status_of : Failure → Status
-status_of (failure.Refused _) = status.Refused
-status_of failure.Usage = status.Usage
-status_of failure.WriteFailed = status.WriteFailed
-status_of failure.ReadFailed = status.ReadFailed
+abbrev pub failure_status : Failure → Status
+failure_status (failure.Refused _) = status.Refused
+failure_status failure.Usage = status.Usage
+failure_status failure.WriteFailed = status.WriteFailed
+failure_status failure.ReadFailed = status.ReadFailed
 
 -- a growth that was refused while the words were read refuses the document; words that aren't text are wrong
 abbrev pub failure_of_words : WordsFault → Failure
@@ -71,7 +71,7 @@ failure_of_read reading.TooLong = failure.ReadFailed
 -- the status of a run that gave nothing where the transcript is written, and else a failure
 abbrev pub outcome_status : {Value : Type 0} → Result Value Failure → Status
 outcome_status (Ok _) = status.Written
-outcome_status (Err told) = status_of told
+outcome_status (Err told) = failure_status told
 
 -- what a run did to a stream: its bytes before and after, where the stream tells them, and whether it has failed
 pub record StreamRun : Type 0 where
@@ -95,17 +95,17 @@ Left stream = Keeps stream.before stream.after
 -- and what it came to
 pub record HasRun {Value : Type 0} (words : Result (Vec (String Global)) WordsFault) (input output : StreamRun) (flushed : Bool) (outcome : Result Value Failure) : Type 0 where
   -- wrong words and nothing else are told as such, and nothing is read then
-  pub usage : (outcome ≡ Err failure.Usage) ↔ (¬ AreLawful words × words ≢ Err words_fault.Memory)
+  pub usage : (outcome ≡ Err failure.Usage) ↔ (¬ AreGoodWords words × words ≢ Err words_fault.Memory)
   pub no_memory_for_words : words ≡ Err words_fault.Memory → outcome ≡ Err (failure.Refused (fault.Refused refused.Memory))
-  pub words_first : ¬ AreLawful words → Left input
+  pub words_first : ¬ AreGoodWords words → Left input
   -- how much is read, and when that fails
   pub taken : (bytes : List ℕ) × Took input bytes × (length bytes ≤ DOCUMENT + 1)
-  pub too_long : AreLawful words → IfSome input.before (λ bytes. DOCUMENT < length bytes
+  pub too_long : AreGoodWords words → IfSome input.before (λ bytes. DOCUMENT < length bytes
       → (outcome ≡ Err failure.ReadFailed) ⊎ (outcome ≡ Err (failure.Refused (fault.Refused refused.Memory))))
   pub read_failed : outcome ≡ Err failure.ReadFailed → (input.failed ≡ true) ⊎ ((bytes : List ℕ) × Took input bytes × (DOCUMENT < length bytes))
   -- a refusal has the code of the document, or is one of memory
   pub refused : (told : AloneFault) → outcome ≡ Err (failure.Refused told) → told ≢ fault.Refused refused.Memory
-      → AreLawful words × IfSome input.before (λ document. IsFaultOf document told)
+      → AreGoodWords words × IfSome input.before (λ document. IsFaultOf document told)
   -- what is written: the whole text of the whole document, flushed; a front of it where the output failed; else nothing
   pub whole_document : OnOk outcome (IsAtEnd input.after)
   pub written : OnOk outcome (IfSome input.before (λ document. (plan : PlanData) × SaysTimers document plan × Gave output (text_of plan)))

@@ -4,7 +4,7 @@ mod tests;
 mod words;
 
 ghost use Rattle.std.specs.Prelude.{◌≡◌, Result};
-ghost use Rattle.exec_run.specs.Program.{HasRun, IsTold, failure_line, status_of, status_number, failure_of_words, failure_of_read, outcome_status};
+ghost use Rattle.exec_run.specs.Program.{HasRun, IsTold, failure_line, failure_status, exit_number, failure_of_words, failure_of_read, outcome_status};
 ghost use Rattle.exec_run.specs.declared.program.Failure.{Failure};
 ghost use Rattle.exec_run.specs.declared.program.Failure.TheVariants.{Refused, WriteFailed};
 
@@ -34,7 +34,7 @@ pub enum Status {
 impl Status {
     /// The exit status.
     pub fn number(self) -> u8
-        ensures { result ≡ status_number self }
+        ensures { result ≡ exit_number self }
     {
         self as u8
     }
@@ -68,7 +68,7 @@ impl Failure {
 
     /// The status that the program ends with.
     pub fn status(self) -> Status
-        ensures { result ≡ status_of self }
+        ensures { result ≡ failure_status self }
     {
         match self {
             Failure::Refused(_) => Status::Refused,
