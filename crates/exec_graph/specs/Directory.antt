@@ -12,7 +12,7 @@ use Rattle.exec_graph.specs.declared.entity.Referent.{Referent}
 use Rattle.exec_graph.specs.declared.entity.Referent.TheVariants as referent
 use Rattle.exec_script.specs.declared.fault.ScriptFault.{ScriptFault}
 use Rattle.std.specs.Str.{bytes_eq}
-use Rattle.exec_graph.specs.Draft.{GraphDraft}
+use Rattle.exec_graph.specs.declared.draft.GraphDraft.{GraphDraft}
 use Rattle.exec_graph.specs.Entity.{Drafted, Script, Resolved, RoleScriptData, is_of, refers, scripts_of, read_by}
 use Rattle.exec_graph.specs.Graph.{EntityData, GroupNo}
 use Rattle.exec_graph.specs.declared.draft.NodeDraft.{NodeDraft}

@@ -1,5 +1,4 @@
 pub mod Directory
-pub mod Draft
 pub mod Entity
 pub mod Entries
 pub mod Faults

@@ -2,7 +2,7 @@
 use Rattle.std.specs.Prelude.{ℕ, suc, List, [], ◌∷◌, ◌++◌, length, map, Bool, true, false, ◌&&◌, ◌==◌, Option, None, Some}
 use Rattle.std.specs.List.{filter, flat_map, position_from}
 use Rattle.std.specs.Str.{bytes_eq}
-use Rattle.exec_graph.specs.Draft.{GraphDraft}
+use Rattle.exec_graph.specs.declared.draft.GraphDraft.{GraphDraft}
 use Rattle.exec_graph.specs.Entity.{EntityNo, kinds, is_of}
 use Rattle.exec_graph.specs.declared.draft.GroupDraft.{GroupDraft}
 use Rattle.exec_graph.specs.declared.draft.NodeDraft.{NodeDraft}
