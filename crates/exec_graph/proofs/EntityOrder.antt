@@ -2,7 +2,7 @@
 use Rattle.std.proofs.Common.{◌≡◌, ℕ, suc, ◌+◌, ◌<◌, length, get_or, drop, add-one, List, ◌∷◌, ◌++◌, flat_map, filter_map, Option, None, Some, slice_get, refl, sym, ap, ◌∙◌, append_assoc}
 use Rattle.std.proofs.Math.Seq.{drop-cons}
 use Rattle.std.proofs.lemmas.Option.{get_or_from_slice_get, slice_get_within}
-use Rattle.exec_graph.specs.Directory.{listed}
+use Rattle.exec_graph.specs.inner.Directory.{listed}
 
 -- what is gathered so far gains what the next gives
 pub next_gathered : {A B : Type 0} (f : A → List B) (xs : List A) (i : ℕ) (d : A) (front : List B) → i < length xs →

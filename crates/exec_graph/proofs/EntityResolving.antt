@@ -1,7 +1,7 @@
 -- What an entity is, where its directory and its groups are those of a draft.
 use Rattle.std.proofs.Common.{◌≡◌, ℕ, true, List, Option, None, Some, option_and_then, sym, ap, ◌∙◌}
 use Rattle.std.specs.List.{position_from}
-use Rattle.exec_graph.specs.Directory.{DirectoryData, NodeData, directory_of, resolved_by, titled}
+use Rattle.exec_graph.specs.inner.Directory.{DirectoryData, NodeData, directory_of, resolved_by, titled}
 use Rattle.exec_graph.specs.declared.draft.GraphDraft.{GraphDraft}
 use Rattle.exec_graph.specs.Entity.{Resolved, read_by}
 use Rattle.exec_graph.specs.Faults.{names_of}

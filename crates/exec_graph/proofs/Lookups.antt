@@ -7,7 +7,7 @@ use Rattle.std.proofs.lemmas.Bool.{lt-ltb, le-ltb}
 use Rattle.std.proofs.lemmas.List.{length-append}
 use Rattle.std.proofs.lemmas.List.Folds.{list_any-append}
 use Rattle.std.proofs.lemmas.Slice.Eq.{bytes_eq-Decides}
-use Rattle.exec_graph.specs.Directory.{where_so, passing, topic_in, entity_in, number_in, scope_in, resolved_by, directory_of}
+use Rattle.exec_graph.specs.inner.Directory.{where_so, passing, topic_in, entity_in, number_in, scope_in, resolved_by, directory_of}
 use Rattle.exec_graph.specs.declared.draft.GraphDraft.{GraphDraft}
 use Rattle.exec_graph.specs.Entity.{Drafted, is_of, read_by}
 use Rattle.exec_graph.specs.Faults.{names_of}

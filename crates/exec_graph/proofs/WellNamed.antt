@@ -4,7 +4,7 @@ use Rattle.std.specs.List.{list_any, list_all}
 use Rattle.std.specs.Str.{bytes_eq}
 use Rattle.std.proofs.lemmas.Bool.{eqb-true, eq-eqb}
 use Rattle.std.proofs.lemmas.List.Folds.{list_any-append}
-use Rattle.exec_graph.specs.Directory.{DirectoryData, where_so, group_names, has_in, has_group, resolves, directory_of}
+use Rattle.exec_graph.specs.inner.Directory.{DirectoryData, where_so, group_names, has_in, has_group, resolves, directory_of}
 use Rattle.exec_graph.specs.declared.draft.GraphDraft.{GraphDraft}
 use Rattle.exec_graph.specs.Entity.{refers}
 use Rattle.exec_graph.specs.Faults.{are_names, has_named_groups, names_of, is_resolved, is_well_named}

@@ -2,7 +2,7 @@
 ghost use Rattle.std.specs.Prelude.{◌≡◌, ◌&&◌, ◌==◌, length, map, if◌then◌else◌, Some, None, is_some, ◌<◌, IfOk, IfSome};
 ghost use Rattle.std.specs.List.{list_all};
 ghost use Rattle.std.specs.Option.{option_map};
-ghost use Rattle.exec_graph.specs.Directory.{names_from, group_names, where_so, topic_in, find, entity_in, number_in, has_in, has_group, resolves, directory_of};
+ghost use Rattle.exec_graph.specs.inner.Directory.{names_from, group_names, where_so, topic_in, find, entity_in, number_in, has_in, has_group, resolves, directory_of};
 ghost use Rattle.exec_graph.specs.Entity.{is_of, refers};
 ghost use Rattle.exec_graph.specs.Faults.{are_names, has_named_groups, names_of};
 
@@ -27,7 +27,7 @@ pub(crate) struct Directory<'a> {
 }
 
 impl<'a> Model for Directory<'a> {
-    ghost use Rattle.exec_graph.specs.Directory.{DirectoryData};
+    ghost use Rattle.exec_graph.specs.inner.Directory.{DirectoryData};
 
     ghost Value = { DirectoryData };
 

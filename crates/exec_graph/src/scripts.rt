@@ -2,7 +2,7 @@
 ghost use Rattle.std.specs.Prelude.{◌≡◌, [], ◌++◌, not, IfOk, OnOk};
 ghost use Rattle.std.specs.List.{filter_map, flat_map, list_any};
 ghost use Rattle.std.specs.Map.{values_of};
-ghost use Rattle.exec_graph.specs.Directory.{fault_at, faults_at, faults_of, is_reentrant_at, listed};
+ghost use Rattle.exec_graph.specs.inner.Directory.{fault_at, faults_at, faults_of, is_reentrant_at, listed};
 ghost use Rattle.exec_graph.specs.Entity.{scripts_of};
 ghost use Rattle.exec_graph.specs.Faults.{is_of_variable};
 

@@ -1,6 +1,6 @@
 use Rattle.std.proofs.Common.{◌≡◌, ◌++◌, map, drop}
 use Rattle.std.specs.List.{list_all}
-use Rattle.exec_graph.specs.Directory.{where_so, group_names}
+use Rattle.exec_graph.specs.inner.Directory.{where_so, group_names}
 use Rattle.exec_graph.specs.Faults.{has_named_groups}
 use Rattle.exec_graph.proofs.directory.group_names.Given as goal
 

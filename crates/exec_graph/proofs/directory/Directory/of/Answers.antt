@@ -1,6 +1,6 @@
 use Rattle.std.proofs.Common.{◌∙◌, sym, ap, map, List}
 use Rattle.std.specs.List.{list_all}
-use Rattle.exec_graph.specs.Directory.{names_from, where_so, group_names}
+use Rattle.exec_graph.specs.inner.Directory.{names_from, where_so, group_names}
 use Rattle.exec_graph.specs.Faults.{has_named_groups}
 use Rattle.exec_graph.specs.Numbers.{Placed, numbered}
 use Rattle.exec_graph.specs.declared.draft.NodeDraft.{NodeDraft}
