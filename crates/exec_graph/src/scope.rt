@@ -1,6 +1,6 @@
 //! The names that the scripts of a node may use.
 ghost use Rattle.std.specs.Prelude.{◌≡◌, ◌&&◌, ◌==◌, ◌≤◌, length};
-ghost use Rattle.exec_graph.specs.inner.Directory.{entity_in, number_in};
+ghost use Rattle.exec_graph.specs.inner.Directory.{entity_number, number_in};
 ghost use Rattle.exec_graph.specs.Entity.{is_of};
 
 use crate::directory::Directory;
@@ -45,7 +45,7 @@ impl<'d, 'a> NodeScope<'d, 'a> {
     }
 
     fn entity(&self, kind: EntityKind, name: &str) -> Option<EntityNo>
-        ensures { result ≡ entity_in self.now.directory (λ placed. is_of kind placed.entity.is && (placed.node == self.now.node)) name.now }
+        ensures { result ≡ entity_number self.now.directory (λ placed. is_of kind placed.entity.is && (placed.node == self.now.node)) name.now }
     {
         let number = self.directory.entity_of_node(self.node, kind, name)?;
         Some(EntityNo(number as u16))
