@@ -12,7 +12,7 @@ use Rattle.exec_graph.specs.Entity.{if_there}
 use Rattle.exec_doc.specs.declared.draft.EntryDraft.{EntryDraft}
 use Rattle.exec_doc.specs.declared.draft.FedDraft.{FedDraft}
 use Rattle.exec_doc.specs.declared.draft.FedDraft.TheVariants as draft
-use Rattle.exec_graph.specs.Draft.{GraphDraft}
+use Rattle.exec_graph.specs.declared.draft.GraphDraft.{GraphDraft}
 use Rattle.exec_graph.specs.Feeding.{has_128_bits}
 use Rattle.exec_graph.specs.Numbers.{topic_named, server_named}
 use Rattle.exec_graph.specs.declared.plan.Fed.{Fed}

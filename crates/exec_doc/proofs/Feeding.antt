@@ -8,7 +8,7 @@ use Rattle.exec_doc.specs.declared.draft.EntryDraft.{EntryDraft}
 use Rattle.exec_doc.specs.Draft.{DocumentDraft}
 use Rattle.exec_doc.specs.declared.draft.FedDraft.TheVariants as draft
 use Rattle.exec_doc.specs.Refusals as refusals
-use Rattle.exec_graph.specs.Draft.{GraphDraft}
+use Rattle.exec_graph.specs.declared.draft.GraphDraft.{GraphDraft}
 use Rattle.exec_graph.specs.Feeding.{goes_somewhere}
 use Rattle.exec_graph.specs.Graph.{GraphData, is_topic, is_server}
 use Rattle.exec_graph.specs.Lawful.{is_at}

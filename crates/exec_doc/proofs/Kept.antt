@@ -6,7 +6,7 @@ use Rattle.exec_doc.specs.Draft.{DocumentDraft}
 use Rattle.exec_doc.specs.Refusals.{feeds, is_identified, is_within, has_declared_names, is_clocked, has_fault, codes_in_order}
 use Rattle.exec_doc.specs.declared.refused.Refused.{Refused}
 use Rattle.exec_doc.specs.declared.refused.Refused.TheVariants as refused
-use Rattle.exec_graph.specs.Draft.{GraphDraft}
+use Rattle.exec_graph.specs.declared.draft.GraphDraft.{GraphDraft}
 use Rattle.exec_graph.specs.Faults.{has_faulty_script, shares_variables, is_well_named, is_small}
 use Rattle.exec_graph.specs.Refusals.{fault_in}
 use Rattle.exec_graph.proofs.Bools.{and_left, and_right, or_left, or_right, not_false}

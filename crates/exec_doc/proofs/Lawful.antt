@@ -7,7 +7,7 @@ use Rattle.exec_doc.specs.Draft.{DocumentDraft}
 use Rattle.exec_doc.specs.Forms.{draft_of}
 use Rattle.exec_doc.specs.Refusals.{codes_in_order, refusal_in}
 use Rattle.exec_doc.specs.declared.refused.Refused.{Refused}
-use Rattle.exec_graph.specs.Draft.{GraphDraft}
+use Rattle.exec_graph.specs.declared.draft.GraphDraft.{GraphDraft}
 use Rattle.exec_graph.specs.Feeding.{goes_somewhere, has_128_bits}
 use Rattle.exec_graph.specs.Graph.{GraphData, is_topic, is_server}
 use Rattle.exec_graph.specs.Lawful.{IsLawful, IsLawfulPlan, is_at}

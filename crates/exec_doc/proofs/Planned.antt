@@ -11,7 +11,7 @@ use Rattle.exec_doc.specs.Draft.{DocumentDraft}
 use Rattle.exec_doc.specs.Forms.{draft_of}
 use Rattle.exec_doc.specs.Refusals.{feeds, is_identified, codes_in_order, refusal_in}
 use Rattle.exec_doc.specs.declared.refused.Refused.{Refused}
-use Rattle.exec_graph.specs.Draft.{GraphDraft}
+use Rattle.exec_graph.specs.declared.draft.GraphDraft.{GraphDraft}
 use Rattle.exec_graph.specs.Numbers.{topic_named, server_named}
 use Rattle.exec_graph.specs.Options.{◌>>=◌, each}
 use Rattle.exec_graph.specs.Refusals.{fault_in}

@@ -12,7 +12,7 @@ use Rattle.exec_doc.specs.Draft.{DocumentDraft}
 use Rattle.exec_graph.specs.declared.draft.GroupDraft.{GroupDraft}
 use Rattle.exec_graph.specs.declared.draft.NodeDraft.{NodeDraft}
 use Rattle.exec_graph.specs.declared.draft.EntityDraft.{EntityDraft}
-use Rattle.exec_graph.specs.Draft.{GraphDraft}
+use Rattle.exec_graph.specs.declared.draft.GraphDraft.{GraphDraft}
 use Rattle.exec_graph.specs.Entity.{Drafted, Spelled, if_there}
 use Rattle.exec_graph.specs.Options.{◌>>=◌, each}
 use Rattle.exec_graph.specs.declared.entity.EntityOf.TheVariants.{Timer, Subscription, Service, Client, Server, ActionClient}

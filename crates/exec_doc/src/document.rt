@@ -4,7 +4,7 @@ ghost use Rattle.exec_doc.specs.Answering.{Answers, IsReady, draft_refusal, grap
 ghost use Rattle.exec_doc.specs.Draft.{DocumentDraft};
 ghost use Rattle.exec_doc.specs.Document.{plan_of, document_of};
 ghost use Rattle.exec_doc.specs.Refusals.{value_of, refusal_of};
-ghost use Rattle.exec_graph.specs.Draft.{GraphDraft};
+ghost use Rattle.exec_graph.specs.declared.draft.GraphDraft.{GraphDraft};
 ghost use Rattle.exec_graph.specs.Refusals.{fault_in};
 
 use crate::draft::{DocumentDraft, EntryDraft};

@@ -6,10 +6,10 @@ use Rattle.std.specs.Str.{bytes_eq}
 use Rattle.std.proofs.lemmas.List.{map-append}
 use Rattle.std.proofs.lemmas.List.Folds.{list_any-append}
 use Rattle.indexmap.specs.IndexMap.{insert_entry}
-use Rattle.exec_graph.specs.Directory.{DirectoryData, directory_of}
-use Rattle.exec_graph.specs.Draft.{GraphDraft}
-use Rattle.exec_graph.specs.Entries.{entity_of}
-use Rattle.exec_graph.specs.Entries.{entities_of as entries_of}
+use Rattle.exec_graph.specs.inner.Directory.{DirectoryData, directory_of}
+use Rattle.exec_graph.specs.declared.draft.GraphDraft.{GraphDraft}
+use Rattle.exec_graph.specs.inner.Entries.{entity_of}
+use Rattle.exec_graph.specs.inner.Entries.{entities_of as entries_of}
 use Rattle.exec_graph.specs.Faults.{names_of}
 use Rattle.exec_graph.specs.Graph.{EntityData}
 use Rattle.exec_graph.specs.Names.{are_distinct}

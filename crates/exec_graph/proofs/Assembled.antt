@@ -6,10 +6,10 @@ use Rattle.std.specs.Option.{option_map_or}
 use Rattle.std.proofs.lemmas.Bool.{leb-true, eqb-true}
 use Rattle.std.proofs.lemmas.List.Sums.{sum_by-cons}
 use Rattle.std.proofs.lemmas.List.{length-map}
-use Rattle.exec_graph.specs.Directory.{DirectoryData, directory_of, where_so, is_reentrant_at, fault_at, faults_of}
-use Rattle.exec_graph.specs.Draft.{GraphDraft}
+use Rattle.exec_graph.specs.inner.Directory.{DirectoryData, directory_of, where_so, is_reentrant_at, fault_at, faults_of}
+use Rattle.exec_graph.specs.declared.draft.GraphDraft.{GraphDraft}
 use Rattle.exec_graph.specs.Entity.{scripts_of}
-use Rattle.exec_graph.specs.Entries.{entities_of as entries_of}
+use Rattle.exec_graph.specs.inner.Entries.{entities_of as entries_of}
 use Rattle.exec_graph.specs.Faults.{names_of, is_of_variable, is_well_named, is_small, has_faulty_script, shares_variables}
 use Rattle.exec_graph.specs.Graph as graph
 use Rattle.exec_graph.specs.Graph.{EntityData, GraphData}

@@ -3,7 +3,7 @@ use Rattle.std.proofs.Common.{◌≡◌, ℕ, ◌≤◌, Bool, true, false, cond
 use Rattle.std.specs.List.{filter, flat_map}
 use Rattle.std.proofs.lemmas.Bool.{leb-true, le-leb, eqb-true}
 use Rattle.std.proofs.lemmas.List.{map-append}
-use Rattle.exec_graph.specs.Entity.{kinds, rank_of, kind_of, is_of}
+use Rattle.exec_graph.specs.Entity.{entity_kinds, rank_of, kind_of, is_of}
 use Rattle.exec_graph.specs.Lawful.{is_ascending_from}
 use Rattle.exec_graph.specs.Numbers.{Placed, entities_from, numbered}
 use Rattle.exec_graph.specs.declared.draft.NodeDraft.{NodeDraft}
@@ -49,16 +49,16 @@ all_of kind (p ∷ placed) = by (is_of kind p.entity.is) refl (all_of kind place
   by false is others = others
 
 -- those of kinds whose ranks ascend
-kinds_ascend : (kinds : List EntityKind) (least : ℕ) (placed : List Placed) → is_ascending_from least (map rank_of kinds) ≡ true → is_ascending_from least (map rank_at (flat_map (of_kind placed) kinds)) ≡ true
+kinds_ascend : (entity_kinds : List EntityKind) (least : ℕ) (placed : List Placed) → is_ascending_from least (map rank_of entity_kinds) ≡ true → is_ascending_from least (map rank_at (flat_map (of_kind placed) entity_kinds)) ≡ true
 kinds_ascend [] least placed ascends = refl
-kinds_ascend (kind ∷ kinds) least placed ascends =
-    let later = is_ascending_from (rank_of kind) (map rank_of kinds) in
-    ap (is_ascending_from least) (map-append rank_at (of_kind placed kind) (flat_map (of_kind placed) kinds))
-    ∙ block_before least (rank_of kind) (map rank_at (of_kind placed kind)) (map rank_at (flat_map (of_kind placed) kinds))
+kinds_ascend (kind ∷ entity_kinds) least placed ascends =
+    let later = is_ascending_from (rank_of kind) (map rank_of entity_kinds) in
+    ap (is_ascending_from least) (map-append rank_at (of_kind placed kind) (flat_map (of_kind placed) entity_kinds))
+    ∙ block_before least (rank_of kind) (map rank_at (of_kind placed kind)) (map rank_at (flat_map (of_kind placed) entity_kinds))
     (leb-true least (rank_of kind) (and_left (nat_le least (rank_of kind)) later ascends))
     (all_of kind placed)
-    (kinds_ascend kinds (rank_of kind) placed (and_right (nat_le least (rank_of kind)) later ascends))
+    (kinds_ascend entity_kinds (rank_of kind) placed (and_right (nat_le least (rank_of kind)) later ascends))
 
 -- entities ascend in the order of their kinds
 pub entities_ascend : (nodes : List NodeDraft) → is_ascending_from 1 (map rank_at (numbered nodes)) ≡ true
-entities_ascend nodes = kinds_ascend kinds 1 (entities_from 0 nodes) refl
+entities_ascend nodes = kinds_ascend entity_kinds 1 (entities_from 0 nodes) refl

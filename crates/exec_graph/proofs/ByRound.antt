@@ -5,7 +5,7 @@ use Rattle.std.proofs.lemmas.Bool.{leb-true, eqb-true, eq-eqb}
 use Rattle.std.proofs.lemmas.List.{get_or-map, length-map, append-nil, append_assoc}
 use Rattle.std.proofs.lemmas.List.Elements.{filter-append}
 use Rattle.exec_graph.specs.Feeding.{fed_in, feeds_from, feeds_by_round}
-use Rattle.exec_graph.specs.Lawful.{is_from_1}
+use Rattle.exec_graph.specs.Entity.{is_from_1}
 use Rattle.exec_graph.specs.Plan.{PlanData}
 use Rattle.exec_graph.specs.declared.plan.Feed.{Feed}
 use Rattle.exec_graph.proofs.Bools.{and_left, and_right}

@@ -2,7 +2,7 @@
 use Rattle.std.proofs.Common.{◌≡◌, true, false, ◌||◌, is_some, List, [], ◌∷◌, None, flat_map, refl, ap, sym, ◌∙◌}
 use Rattle.std.specs.List.{list_all, list_any}
 use Rattle.std.proofs.lemmas.List.Folds.{list_any-append}
-use Rattle.exec_graph.specs.Draft.{GraphDraft}
+use Rattle.exec_graph.specs.declared.draft.GraphDraft.{GraphDraft}
 use Rattle.exec_graph.specs.Entity.{refers, scripts_of, read_by}
 use Rattle.exec_graph.specs.Faults.{is_resolved, has_faulty_script}
 use Rattle.exec_graph.specs.Numbers.{Placed, entities_of, named, group_named, scope_of}

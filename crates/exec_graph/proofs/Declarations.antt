@@ -4,8 +4,9 @@ use Rattle.std.specs.List.{filter, flat_map, list_any}
 use Rattle.std.proofs.lemmas.List.{append-nil, append_assoc, map-append}
 use Rattle.std.proofs.lemmas.List.Elements.{filter-append}
 use Rattle.std.proofs.lemmas.List.Folds.{list_any-append}
-use Rattle.exec_graph.specs.Draft.{GraphDraft}
-use Rattle.exec_graph.specs.Entity.{Drafted, kinds, is_of}
+use Rattle.std.proofs.lemmas.Slice.Eq.{bytes_eq-Decides}
+use Rattle.exec_graph.specs.declared.draft.GraphDraft.{GraphDraft}
+use Rattle.exec_graph.specs.Entity.{Drafted, entity_kinds, is_of}
 use Rattle.exec_graph.specs.Numbers.{Placed, placed_in, entities_from, numbered, entities_of, server_named}
 use Rattle.exec_graph.specs.declared.draft.EntityDraft.{EntityDraft}
 use Rattle.exec_graph.specs.declared.draft.NodeDraft.{NodeDraft}
@@ -61,17 +62,17 @@ none_so (x ∷ xs) = none_so xs
 
 -- whether a placed entity is of one of these kinds
 abbrev is_one_of : List EntityKind → Placed → Bool
-is_one_of kinds placed = list_any (λ kind. is_of kind placed.entity.is) kinds
+is_one_of entity_kinds placed = list_any (λ kind. is_of kind placed.entity.is) entity_kinds
 
-any_of_kinds : (test : Placed → Bool) (all : List Placed) (kinds : List EntityKind) → list_any test (flat_map (λ kind. filter (λ placed. is_of kind placed.entity.is) all) kinds) ≡ list_any (λ placed. is_one_of kinds placed && test placed) all
+any_of_kinds : (test : Placed → Bool) (all : List Placed) (entity_kinds : List EntityKind) → list_any test (flat_map (λ kind. filter (λ placed. is_of kind placed.entity.is) all) entity_kinds) ≡ list_any (λ placed. is_one_of entity_kinds placed && test placed) all
 any_of_kinds test all [] = none_so all
-any_of_kinds test all (kind ∷ kinds) =
-    list_any-append test (filter (λ placed. is_of kind placed.entity.is) all) (flat_map (λ kind. filter (λ placed. is_of kind placed.entity.is) all) kinds)
-    ∙ ap₂ (λ (a b : Bool). a || b) (any_kept (λ placed. is_of kind placed.entity.is) test all) (any_of_kinds test all kinds)
-    ∙ any_either (λ placed. is_of kind placed.entity.is) (is_one_of kinds) test all
+any_of_kinds test all (kind ∷ entity_kinds) =
+    list_any-append test (filter (λ placed. is_of kind placed.entity.is) all) (flat_map (λ kind. filter (λ placed. is_of kind placed.entity.is) all) entity_kinds)
+    ∙ ap₂ (λ (a b : Bool). a || b) (any_kept (λ placed. is_of kind placed.entity.is) test all) (any_of_kinds test all entity_kinds)
+    ∙ any_either (λ placed. is_of kind placed.entity.is) (is_one_of entity_kinds) test all
 
 -- each entity is of one of all kinds
-has_kind : (entity : Drafted) → list_any (λ kind. is_of kind entity) kinds ≡ true
+has_kind : (entity : Drafted) → list_any (λ kind. is_of kind entity) entity_kinds ≡ true
 has_kind (Timer entity) = refl
 has_kind (Subscription entity) = refl
 has_kind (Service entity) = refl
@@ -82,7 +83,7 @@ has_kind (ActionClient entity) = refl
 -- in the order of numbers there are as many as among all
 ordered : (test : Placed → Bool) (nodes : List NodeDraft) → list_any test (numbered nodes) ≡ list_any test (entities_from 0 nodes)
 ordered test nodes =
-    any_of_kinds test (entities_from 0 nodes) kinds
+    any_of_kinds test (entities_from 0 nodes) entity_kinds
     ∙ (λ i. list_any (λ placed. has_kind placed.entity.is i && test placed) (entities_from 0 nodes))
 
 -- ---- the servers of nodes

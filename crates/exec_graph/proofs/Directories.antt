@@ -1,6 +1,6 @@
 -- How a directory is made of names that are added one after another.
 use Rattle.std.proofs.Common.{◌≡◌, ℕ, Bool, true, false, ◌&&◌, if◌then◌else◌, List, [], ◌∷◌, ◌++◌, Option, None, Some, option_and_then, refl, sym, ap, ◌∙◌}
-use Rattle.exec_graph.specs.Directory.{DirectoryData, names_from, where_so}
+use Rattle.exec_graph.specs.inner.Directory.{DirectoryData, names_from, where_so}
 use Rattle.exec_graph.specs.Faults.{are_names}
 use Rattle.exec_graph.specs.Numbers.{Placed}
 use Rattle.exec_graph.proofs.NameLists.{is_new, added_to_none}

@@ -2,7 +2,7 @@
 use Rattle.std.proofs.Common.{◌≡◌, ℕ, suc, ◌+◌, ◌<◌, length, get_or, drop, add-one, List, ◌∷◌, ◌++◌, flat_map, filter_map, Option, None, Some, slice_get, refl, sym, ap, ◌∙◌, append_assoc}
 use Rattle.std.proofs.Math.Seq.{drop-cons}
 use Rattle.std.proofs.lemmas.Option.{get_or_from_slice_get, slice_get_within}
-use Rattle.exec_graph.specs.Directory.{listed}
+use Rattle.std.specs.Option.{option_to_list}
 
 -- what is gathered so far gains what the next gives
 pub next_gathered : {A B : Type 0} (f : A → List B) (xs : List A) (i : ℕ) (d : A) (front : List B) → i < length xs →
@@ -22,16 +22,16 @@ next_given {A} {B} f xs i x front more given within there is gives =
     ∙ append_assoc front (f x) (flat_map f (drop (i + 1) xs))
     ∙ ap (λ (rest : List A). front ++ flat_map f rest) (sym (from_place xs i x within there))
 
-kept_by : {A B : Type 0} (f : A → Option B) (x : A) (xs : List A) (found : Option B) → f x ≡ found → listed found ++ filter_map f xs ≡ filter_map f (x ∷ xs)
+kept_by : {A B : Type 0} (f : A → Option B) (x : A) (xs : List A) (found : Option B) → f x ≡ found → option_to_list found ++ filter_map f xs ≡ filter_map f (x ∷ xs)
 kept_by f x xs None is = rw is refl
 kept_by f x xs (Some found) is = rw is refl
 
 -- what there is of the next is added
-pub next_listed : {A B : Type 0} (f : A → Option B) (xs : List A) (i : ℕ) (x : A) (front more : List B) (found : Option B) → i < length xs → x ≡ get_or xs i x → more ≡ front ++ listed found → found ≡ f x →
+pub next_listed : {A B : Type 0} (f : A → Option B) (xs : List A) (i : ℕ) (x : A) (front more : List B) (found : Option B) → i < length xs → x ≡ get_or xs i x → more ≡ front ++ option_to_list found → found ≡ f x →
     more ++ filter_map f (drop (i + 1) xs) ≡ front ++ filter_map f (drop i xs)
 next_listed {A} {B} f xs i x front more found within there is gives =
     ap (λ (all : List B). all ++ filter_map f (drop (i + 1) xs)) is
-    ∙ append_assoc front (listed found) (filter_map f (drop (i + 1) xs))
+    ∙ append_assoc front (option_to_list found) (filter_map f (drop (i + 1) xs))
     ∙ ap (λ (all : List B). front ++ all) (kept_by f x (drop (i + 1) xs) found (sym gives) ∙ ap (filter_map f) (sym (from_place xs i x within there)))
 
 -- the same where the next is the one at a place

@@ -1,8 +1,8 @@
 -- What an entity is, where its directory and its groups are those of a draft.
 use Rattle.std.proofs.Common.{◌≡◌, ℕ, true, List, Option, None, Some, option_and_then, sym, ap, ◌∙◌}
 use Rattle.std.specs.List.{position_from}
-use Rattle.exec_graph.specs.Directory.{DirectoryData, NodeData, directory_of, resolved_by, titled}
-use Rattle.exec_graph.specs.Draft.{GraphDraft}
+use Rattle.exec_graph.specs.inner.Directory.{DirectoryData, NodeData, directory_of, resolved_by, titled}
+use Rattle.exec_graph.specs.declared.draft.GraphDraft.{GraphDraft}
 use Rattle.exec_graph.specs.Entity.{Resolved, read_by}
 use Rattle.exec_graph.specs.Faults.{names_of}
 use Rattle.exec_graph.specs.Graph.{in_group}

@@ -2,7 +2,7 @@
 use Rattle.std.proofs.Common.{◌≡◌, Bool, true, false, not, is_some, List, [], ◌∷◌, ◌++◌, Option, None, Some, Result, Ok, Err, filter_map, option_map, refl, ap, sym, ◌∙◌}
 use Rattle.std.specs.List.{cons_option, list_all, list_any}
 use Rattle.std.specs.Result.{result_ok, result_err}
-use Rattle.exec_graph.specs.Directory.{fault_at}
+use Rattle.exec_graph.specs.inner.Directory.{fault_at}
 use Rattle.exec_graph.specs.Entity.{Spelled, Script, RoleScriptData}
 use Rattle.exec_graph.specs.Faults.{is_of_variable}
 use Rattle.exec_graph.specs.Resolved.{script_in}

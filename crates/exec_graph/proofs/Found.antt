@@ -2,7 +2,7 @@
 use Rattle.std.proofs.Common.{◌≡◌, ℕ, ◌+◌, Bool, true, false, cond, ◌&&◌, length, map, List, [], ◌∷◌, ◌++◌, Option, None, Some, bytes_eq, slice_get, refl, ap, ap₂, ◌∙◌, subst, arith, zero-add}
 use Rattle.std.specs.List.{position_from}
 use Rattle.std.specs.Option.{option_map_or}
-use Rattle.exec_graph.specs.Draft.{GraphDraft}
+use Rattle.exec_graph.specs.declared.draft.GraphDraft.{GraphDraft}
 use Rattle.exec_graph.specs.Graph.{EntityData, GraphData, is_topic, is_server}
 use Rattle.exec_graph.specs.Entity.{is_of}
 use Rattle.exec_graph.specs.Numbers.{Placed, entities_of, topic_named, server_named}

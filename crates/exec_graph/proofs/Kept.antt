@@ -1,7 +1,7 @@
 -- What a graph's draft keeps that has no fault.
 use Rattle.std.proofs.Common.{◌≡◌, Bool, true, false, cond, not, ◌&&◌, ◌||◌, length, map, nat_le, sum_by, List, [], ◌∷◌, Option, None, Some, find, refl}
 use Rattle.std.specs.List.{list_all, list_any}
-use Rattle.exec_graph.specs.Draft.{GraphDraft}
+use Rattle.exec_graph.specs.declared.draft.GraphDraft.{GraphDraft}
 use Rattle.exec_graph.specs.Entity.{is_within}
 use Rattle.exec_graph.specs.Numbers.{entities_of}
 use Rattle.exec_graph.specs.Faults.{are_names, has_named_groups, names_of, is_resolved, has_short_scripts, is_of_variable, has_faulty_script, shares_variables, is_well_named, is_small}

@@ -5,7 +5,7 @@ use Rattle.std.proofs.lemmas.Bool.{leb-true}
 use Rattle.std.proofs.lemmas.List.{length-map, map-append}
 use Rattle.std.proofs.lemmas.List.Elements.{filter-append}
 use Rattle.exec_graph.specs.Resolved.{entity_in, topic_in, graph_in}
-use Rattle.exec_graph.specs.Draft.{GraphDraft}
+use Rattle.exec_graph.specs.declared.draft.GraphDraft.{GraphDraft}
 use Rattle.exec_graph.specs.Numbers.{Placed, entities_of, groups_of}
 use Rattle.exec_graph.specs.Options.{each}
 use Rattle.exec_graph.specs.Faults.{has_named_groups, names_of}

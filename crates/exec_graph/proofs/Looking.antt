@@ -6,7 +6,7 @@ use Rattle.std.specs.Map.{keys_of, values_of}
 use Rattle.std.proofs.lemmas.Bool.Decides.{same_from_decides}
 use Rattle.std.proofs.lemmas.Iterator.Adapters.{position_from-zero}
 use Rattle.std.proofs.lemmas.Slice.Eq.{bytes_eq-Decides}
-use Rattle.exec_graph.specs.Entries.{entity_of, entities_of}
+use Rattle.exec_graph.specs.inner.Entries.{entity_of, entities_of}
 use Rattle.exec_graph.specs.Graph.{EntityData}
 use Rattle.exec_graph.specs.Names.{are_distinct}
 use Rattle.exec_graph.specs.declared.entity.Declared.{Declared}

@@ -7,8 +7,8 @@ use Rattle.std.proofs.lemmas.Bool.{lt-ltb, le-ltb}
 use Rattle.std.proofs.lemmas.List.{length-append}
 use Rattle.std.proofs.lemmas.List.Folds.{list_any-append}
 use Rattle.std.proofs.lemmas.Slice.Eq.{bytes_eq-Decides}
-use Rattle.exec_graph.specs.Directory.{where_so, passing, topic_in, entity_in, number_in, scope_in, resolved_by, directory_of}
-use Rattle.exec_graph.specs.Draft.{GraphDraft}
+use Rattle.exec_graph.specs.inner.Directory.{where_so, passing, topic_number, entity_number, number_in, scope_in, resolved_by, directory_of}
+use Rattle.exec_graph.specs.declared.draft.GraphDraft.{GraphDraft}
 use Rattle.exec_graph.specs.Entity.{Drafted, is_of, read_by}
 use Rattle.exec_graph.specs.Faults.{names_of}
 use Rattle.exec_graph.specs.Names.{are_distinct}
@@ -128,7 +128,7 @@ module _ (test : Placed → Bool) (name : List ℕ) (topics : ℕ) where
       (behind texts entities (first + 1) (omega (arith, is)) (and_right (not (list_any (is_name text) (texts ++ map name_of entities))) (are_distinct (texts ++ map name_of entities)) distinct))
 
 -- an entity is found by its name
-pub entity_found : (draft : GraphDraft) (test : Placed → Bool) (name : List ℕ) → are_distinct (names_of draft) ≡ true → entity_in (directory_of draft) test name ≡ entity_named draft test name
+pub entity_found : (draft : GraphDraft) (test : Placed → Bool) (name : List ℕ) → are_distinct (names_of draft) ≡ true → entity_number (directory_of draft) test name ≡ entity_named draft test name
 entity_found draft test name distinct = behind test name (length draft.topics) draft.topics (entities_of draft) 0 (omega arith) distinct
 
 -- ---- topics
@@ -155,7 +155,7 @@ topic_among name topics first (text ∷ texts) others is =
     (topic_among name topics (first + 1) texts others (omega (arith, is)))
 
 -- a topic is found by its name
-pub topic_found : (draft : GraphDraft) (name : List ℕ) → topic_in (directory_of draft) name ≡ topic_named draft name
+pub topic_found : (draft : GraphDraft) (name : List ℕ) → topic_number (directory_of draft) name ≡ topic_named draft name
 topic_found draft name = topic_among name (length draft.topics) 0 draft.topics (map name_of (entities_of draft)) (omega arith)
 
 -- ---- what names and scripts find

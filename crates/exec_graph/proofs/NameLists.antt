@@ -5,7 +5,7 @@ use Rattle.std.specs.Str.{bytes_eq}
 use Rattle.std.proofs.Math.Seq.{drop-cons}
 use Rattle.std.proofs.lemmas.List.{drop_all}
 use Rattle.std.proofs.lemmas.List.Folds.{list_any-append}
-use Rattle.exec_graph.specs.Directory.{names_from, where_so}
+use Rattle.exec_graph.specs.inner.Directory.{names_from, where_so}
 use Rattle.exec_graph.specs.Faults.{are_names}
 use Rattle.exec_graph.specs.Names.{is_name, are_distinct}
 use Rattle.exec_graph.proofs.SameTexts.{bytes_sym}

@@ -3,7 +3,7 @@ use Rattle.std.proofs.Common.{◌≡◌, ℕ, ◌+◌, Bool, true, false, not, �
 use Rattle.std.specs.Option.{option_map_or}
 use Rattle.std.proofs.lemmas.Bool.{eqb-true}
 use Rattle.std.proofs.lemmas.List.{length-map}
-use Rattle.exec_graph.specs.Draft.{GraphDraft}
+use Rattle.exec_graph.specs.declared.draft.GraphDraft.{GraphDraft}
 use Rattle.exec_graph.specs.Entity.{Resolved, kind_of, rank_of, is_of, read_by}
 use Rattle.exec_graph.specs.Graph.{EntityData, GraphData, in_group, is_topic, is_a, is_server, group_of}
 use Rattle.exec_graph.specs.Lawful.{is_at, is_of_node, is_at_node, is_declared, block_of}

@@ -6,7 +6,8 @@ use Rattle.std.proofs.lemmas.Bool.{leb-true, le-leb}
 use Rattle.std.proofs.lemmas.List.Elements.{All-nil, All-cons}
 use Rattle.exec_graph.specs.Feeding.{goes_somewhere, has_128_bits}
 use Rattle.exec_graph.specs.Graph.{GraphData, is_server}
-use Rattle.exec_graph.specs.Lawful.{IsLawful, IsLawfulPlan, is_at, is_from_1, is_ascending_from, is_fed_well}
+use Rattle.exec_graph.specs.Entity.{is_from_1}
+use Rattle.exec_graph.specs.Lawful.{IsLawful, IsLawfulPlan, is_at, is_ascending_from, is_fed_well}
 use Rattle.exec_graph.specs.Schedule.{schedule_fits, greatest, stamp_of, is_in_order, is_identified, has_plan_fault, plan_faults_in_order, plan_fault_in}
 use Rattle.exec_graph.specs.declared.plan.Fed.{Fed}
 use Rattle.exec_graph.specs.declared.plan.Fed.TheVariants.{Message, Goal, Cancel}

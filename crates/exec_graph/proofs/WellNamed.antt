@@ -4,8 +4,8 @@ use Rattle.std.specs.List.{list_any, list_all}
 use Rattle.std.specs.Str.{bytes_eq}
 use Rattle.std.proofs.lemmas.Bool.{eqb-true, eq-eqb}
 use Rattle.std.proofs.lemmas.List.Folds.{list_any-append}
-use Rattle.exec_graph.specs.Directory.{DirectoryData, where_so, group_names, has_in, has_group, resolves, directory_of}
-use Rattle.exec_graph.specs.Draft.{GraphDraft}
+use Rattle.exec_graph.specs.inner.Directory.{DirectoryData, where_so, names_of_groups, has_in, has_group, resolves, directory_of}
+use Rattle.exec_graph.specs.declared.draft.GraphDraft.{GraphDraft}
 use Rattle.exec_graph.specs.Entity.{refers}
 use Rattle.exec_graph.specs.Faults.{are_names, has_named_groups, names_of, is_resolved, is_well_named}
 use Rattle.exec_graph.specs.Names.{is_name, are_distinct}
@@ -61,13 +61,13 @@ none_later node number name (draft ∷ nodes) below =
     (λ i. (apart i && same_name None name) || list_any-append (is_group node name) (map (named_group number) draft.groups) (groups_from (suc number) nodes) i)
     ∙ (λ i. any_of_node node number name draft.groups false apart i || none_later node (suc number) name nodes (omega (arith, below)) i)
 
-last : (name : Option (List ℕ)) (draft : NodeDraft) → (same_name None name || (list_any (λ group. same_name (Some group.name) name) draft.groups || false)) ≡ has_in (Some (group_names draft)) name
+last : (name : Option (List ℕ)) (draft : NodeDraft) → (same_name None name || (list_any (λ group. same_name (Some group.name) name) draft.groups || false)) ≡ has_in (Some (names_of_groups draft)) name
 last None draft = refl
 last (Some name) draft =
     or_false (list_any (λ group. bytes_eq group.name name) draft.groups)
-    ∙ sym (found_any (λ other. bytes_eq other name) 0 (group_names draft) ∙ any_mapped (λ other. bytes_eq other name) (λ (group : GroupDraft). group.name) draft.groups)
+    ∙ sym (found_any (λ other. bytes_eq other name) 0 (names_of_groups draft) ∙ any_mapped (λ other. bytes_eq other name) (λ (group : GroupDraft). group.name) draft.groups)
 
-in_node : (k number : ℕ) (name : Option (List ℕ)) (nodes : List NodeDraft) → list_any (is_group (number + k) name) (groups_from number nodes) ≡ has_in (slice_get (map group_names nodes) k) name
+in_node : (k number : ℕ) (name : Option (List ℕ)) (nodes : List NodeDraft) → list_any (is_group (number + k) name) (groups_from number nodes) ≡ has_in (slice_get (map names_of_groups nodes) k) name
 in_node k number name [] = refl
 in_node zero number name (draft ∷ nodes) =
     let same : number == number + 0 ≡ true = eq-eqb number (number + 0) (omega arith) in

@@ -40,8 +40,8 @@ Resolved = EntityOf EntityNo Script
 -- ---- kinds
 
 -- the kinds in the order of numbers
-abbrev pub kinds : List EntityKind
-kinds = kind.Timer ∷ kind.Subscription ∷ kind.Service ∷ kind.Client ∷ kind.Server ∷ kind.ActionClient ∷ []
+abbrev pub entity_kinds : List EntityKind
+entity_kinds = kind.Timer ∷ kind.Subscription ∷ kind.Service ∷ kind.Client ∷ kind.Server ∷ kind.ActionClient ∷ []
 
 -- the place of a kind in that order, from 1
 abbrev pub rank_of : EntityKind → ℕ

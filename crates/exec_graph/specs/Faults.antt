@@ -1,7 +1,7 @@
 -- What is refused of a graph: names, limits and scripts, each read where what stands before it here is kept.
 use Rattle.std.specs.List.{list_all, list_any, sum_by}
 use Rattle.std.specs.Prelude.{ℕ, List, ◌++◌, length, map, Bool, true, false, not, ◌&&◌, nat_le, is_some}
-use Rattle.exec_graph.specs.Draft.{GraphDraft}
+use Rattle.exec_graph.specs.declared.draft.GraphDraft.{GraphDraft}
 use Rattle.exec_graph.specs.Entity.{Drafted, refers, is_within, scripts_of}
 use Rattle.exec_graph.specs.declared.draft.NodeDraft.{NodeDraft}
 use Rattle.exec_graph.specs.Numbers.{Placed, entities_of, named, group_named}

@@ -2,8 +2,7 @@
 use Rattle.std.specs.Prelude.{◌≡◌, ℕ, ◌<◌, ◌≤◌, ◌^◌, List, [], ◌∷◌, length, map, Bool, true, false, not, is_some, is_none, ◌&&◌, ◌==◌, nat_le, IsTrue, Some, slice_get, Ok, ◌-◌}
 use Rattle.std.specs.List.{All, filter, filter_map, list_all}
 use Rattle.std.specs.Option.{option_map_or}
-use Rattle.exec_graph.specs.Entity.{EntityNo, Script, RoleScriptData, rank_of, kind_of, refers, is_within, scripts_of}
-pub use Rattle.exec_graph.specs.Entity.{is_from_1}
+use Rattle.exec_graph.specs.Entity.{EntityNo, Script, RoleScriptData, rank_of, kind_of, refers, is_from_1, is_within, scripts_of}
 use Rattle.exec_graph.specs.Graph.{GraphData, GroupNo, of_entity, is_topic, is_a, is_client, is_server, is_action_client, group_of, names_of}
 use Rattle.exec_graph.specs.declared.entity.CallbackGroup.{CallbackGroup}
 use Rattle.exec_graph.specs.declared.entity.Declared.{Declared}

@@ -2,8 +2,8 @@
 use Rattle.std.specs.Prelude.{ℕ, suc, List, [], ◌∷◌, ◌++◌, length, map, Bool, true, false, ◌&&◌, ◌==◌, Option, None, Some}
 use Rattle.std.specs.List.{filter, flat_map, position_from}
 use Rattle.std.specs.Str.{bytes_eq}
-use Rattle.exec_graph.specs.Draft.{GraphDraft}
-use Rattle.exec_graph.specs.Entity.{EntityNo, kinds, is_of}
+use Rattle.exec_graph.specs.declared.draft.GraphDraft.{GraphDraft}
+use Rattle.exec_graph.specs.Entity.{EntityNo, entity_kinds, is_of}
 use Rattle.exec_graph.specs.declared.draft.GroupDraft.{GroupDraft}
 use Rattle.exec_graph.specs.declared.draft.NodeDraft.{NodeDraft}
 use Rattle.exec_graph.specs.declared.draft.EntityDraft.{EntityDraft}
@@ -32,7 +32,7 @@ entities_from number (node ∷ nodes) = map (placed_in number) node.entities ++ 
 
 -- the entities of nodes in the order of their numbers: by kind, and within a kind in the order of declaration
 abbrev pub numbered : List NodeDraft → List Placed
-numbered nodes = flat_map (λ kind. filter (λ placed. is_of kind placed.entity.is) (entities_from 0 nodes)) kinds
+numbered nodes = flat_map (λ kind. filter (λ placed. is_of kind placed.entity.is) (entities_from 0 nodes)) entity_kinds
 
 -- the entities of a graph in the order of their numbers
 abbrev pub entities_of : GraphDraft → List Placed

@@ -1,6 +1,6 @@
 -- Why a graph is refused: the predicate of each fault, and the least fault whose predicate holds.
 use Rattle.std.specs.Prelude.{ℕ, List, [], ◌∷◌, Bool, false, not, Option, find}
-use Rattle.exec_graph.specs.Draft.{GraphDraft}
+use Rattle.exec_graph.specs.declared.draft.GraphDraft.{GraphDraft}
 use Rattle.exec_graph.specs.Faults.{is_well_named, is_small, has_faulty_script, shares_variables}
 use Rattle.exec_graph.specs.declared.fault.GraphFault.{GraphFault}
 use Rattle.exec_graph.specs.declared.fault.GraphFault.TheVariants.{Name, Limit, Script, GroupVariable, Memory}

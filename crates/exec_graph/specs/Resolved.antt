@@ -1,7 +1,7 @@
 -- Which draft gives which graph.
 use Rattle.std.specs.Prelude.{ℕ, List, ◌++◌, map, Option, Some}
 use Rattle.std.specs.Result.{result_ok}
-use Rattle.exec_graph.specs.Draft.{GraphDraft}
+use Rattle.exec_graph.specs.declared.draft.GraphDraft.{GraphDraft}
 use Rattle.exec_graph.specs.Entity.{Spelled, Script, read_by}
 use Rattle.exec_graph.specs.Graph.{EntityData, GraphData}
 use Rattle.exec_graph.specs.Numbers.{Placed, entities_of, named, group_named, groups_of, scope_of}

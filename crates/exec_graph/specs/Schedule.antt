@@ -1,7 +1,8 @@
 -- Schedules: the moments of a plan and what is fed at them, and why they are refused.
 use Rattle.std.specs.Prelude.{ℕ, List, [], ◌∷◌, length, map, Bool, true, not, ◌&&◌, nat_le, max, Option, find}
 use Rattle.std.specs.List.{list_all}
-use Rattle.exec_graph.specs.Lawful.{is_from_1, is_ascending_from}
+use Rattle.exec_graph.specs.Entity.{is_from_1}
+use Rattle.exec_graph.specs.Lawful.{is_ascending_from}
 use Rattle.exec_graph.specs.declared.fault.PlanFault.{PlanFault}
 use Rattle.exec_graph.specs.declared.fault.PlanFault.TheVariants.{Limit, Clock, Id}
 use Rattle.exec_graph.specs.declared.plan.Fed.{Fed}

@@ -3,9 +3,9 @@ ghost use Rattle.std.specs.Prelude.{◌≡◌, ◌⊎◌, ◌++◌, ◌≤◌, l
 ghost use Rattle.std.specs.List.{list_any};
 ghost use Rattle.std.specs.Option.{option_map};
 ghost use Rattle.std.specs.Str.{bytes_eq};
-ghost use Rattle.exec_graph.specs.Directory.{directory_of, titled, where_so};
-ghost use Rattle.exec_graph.specs.Draft.{GraphDraft};
-ghost use Rattle.exec_graph.specs.Entries.{entities_of as entries_of};
+ghost use Rattle.exec_graph.specs.inner.Directory.{directory_of, titled, where_so};
+ghost use Rattle.exec_graph.specs.declared.draft.GraphDraft.{GraphDraft};
+ghost use Rattle.exec_graph.specs.inner.Entries.{entities_of as entries_of};
 ghost use Rattle.exec_graph.specs.Faults.{is_well_named};
 ghost use Rattle.exec_graph.specs.Faults as faults;
 ghost use Rattle.exec_graph.specs.Names.{are_distinct};

@@ -23,7 +23,7 @@ pub struct GraphBuilder {
 }
 
 impl Model for GraphBuilder {
-    ghost use Rattle.exec_graph.specs.Draft.{GraphDraft};
+    ghost use Rattle.exec_graph.specs.declared.draft.GraphDraft.{GraphDraft};
 
     ghost Value = { GraphDraft };
 

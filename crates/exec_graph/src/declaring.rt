@@ -1,8 +1,8 @@
 //! Entities of a graph, their references resolved and their scripts decoded.
 ghost use Rattle.std.specs.Prelude.{◌≡◌};
-ghost use Rattle.exec_graph.specs.Directory.{number_in, scope_in, resolved_by};
+ghost use Rattle.exec_graph.specs.inner.Directory.{number_in, scope_in, resolved_by};
 ghost use Rattle.exec_graph.specs.Entity.{if_there};
-ghost use Rattle.exec_graph.specs.Gives.{Gives};
+ghost use Rattle.exec_graph.specs.inner.Gives.{Gives};
 ghost use Rattle.exec_graph.specs.Resolved.{script_in};
 ghost use Rattle.exec_graph.specs.declared.declaring.Unread.TheVariants as unread;
 ghost use Rattle.exec_graph.specs.declared.entity.EntityOf.TheVariants as variant;

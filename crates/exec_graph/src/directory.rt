@@ -2,7 +2,7 @@
 ghost use Rattle.std.specs.Prelude.{◌≡◌, ◌&&◌, ◌==◌, length, map, if◌then◌else◌, Some, None, is_some, ◌<◌, IfOk, IfSome};
 ghost use Rattle.std.specs.List.{list_all};
 ghost use Rattle.std.specs.Option.{option_map};
-ghost use Rattle.exec_graph.specs.Directory.{names_from, group_names, where_so, topic_in, find, entity_in, number_in, has_in, has_group, resolves, directory_of};
+ghost use Rattle.exec_graph.specs.inner.Directory.{names_from, names_of_groups, where_so, topic_number, placed_named, entity_number, number_in, has_in, has_group, resolves, directory_of};
 ghost use Rattle.exec_graph.specs.Entity.{is_of, refers};
 ghost use Rattle.exec_graph.specs.Faults.{are_names, has_named_groups, names_of};
 
@@ -27,7 +27,7 @@ pub(crate) struct Directory<'a> {
 }
 
 impl<'a> Model for Directory<'a> {
-    ghost use Rattle.exec_graph.specs.Directory.{DirectoryData};
+    ghost use Rattle.exec_graph.specs.inner.Directory.{DirectoryData};
 
     ghost Value = { DirectoryData };
 
@@ -117,7 +117,7 @@ impl<'a> Directory<'a> {
 
     // The number of the topic of a name.
     pub(crate) fn topic(&self, name: &str) -> Option<usize>
-        ensures number { result ≡ topic_in self.now name.now }
+        ensures number { result ≡ topic_number self.now name.now }
         ensures within { IfSome result (λ number. number < length self.now.names) }
     {
         let number = self.names.position(name)?;
@@ -129,8 +129,8 @@ impl<'a> Directory<'a> {
     }
 
     // The number of the entity of a kind and a name, in whatever node.
-    pub(crate) fn entity(&self, kind: EntityKind, name: &str) -> Option<usize>
-        ensures number { result ≡ entity_in self.now (λ placed. is_of kind placed.entity.is) name.now }
+    fn entity(&self, kind: EntityKind, name: &str) -> Option<usize>
+        ensures number { result ≡ entity_number self.now (λ placed. is_of kind placed.entity.is) name.now }
         ensures within { IfSome result (λ number. number < length self.now.names) }
     {
         let (number, placed) = self.find(name)?;
@@ -143,7 +143,7 @@ impl<'a> Directory<'a> {
 
     // The number of a node's entity of a kind and a name.
     pub(crate) fn entity_of_node(&self, node: usize, kind: EntityKind, name: &str) -> Option<usize>
-        ensures number { result ≡ entity_in self.now (λ placed. is_of kind placed.entity.is && (placed.node == node)) name.now }
+        ensures number { result ≡ entity_number self.now (λ placed. is_of kind placed.entity.is && (placed.node == node)) name.now }
         ensures within { IfSome result (λ number. number < length self.now.names) }
     {
         let (number, placed) = self.find(name)?;
@@ -155,7 +155,7 @@ impl<'a> Directory<'a> {
     }
 
     fn find(&self, name: &str) -> Option<(usize, &PlacedEntity<'a>)>
-        ensures entity { option_map (λ found. (found.0, found.1.now)) result ≡ find self.now name.now }
+        ensures entity { option_map (λ found. (found.0, found.1.now)) result ≡ placed_named self.now name.now }
         ensures within { IfSome result (λ found. found.0 < length self.now.names) }
     {
         let number = self.names.position(name)?;
@@ -192,7 +192,7 @@ fn group_names<'a>(
     alloc: Global,
     nodes: &'a [NodeDraft],
 ) -> Result<Option<Vec<TextSet<'a>>>, Memory>
-    ensures { IfOk result (λ found. option_map (λ groups. groups.items) found ≡ where_so (list_all has_named_groups nodes.now) (map group_names nodes.now)) }
+    ensures { IfOk result (λ found. option_map (λ groups. groups.items) found ≡ where_so (list_all has_named_groups nodes.now) (map names_of_groups nodes.now)) }
 {
     let mut groups = Vec::new(alloc);
     for node in nodes {

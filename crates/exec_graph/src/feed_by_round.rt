@@ -2,7 +2,7 @@
 ghost use Rattle.std.specs.Prelude.{◌≡◌, ◌<◌, [], ◌∷◌, ◌++◌, map, length, slice_index_or, slice_set, IsTrue, OnOk, IfOk};
 ghost use Rattle.std.specs.List.{All};
 ghost use Rattle.exec_graph.specs.Feeding.{feeds_from};
-ghost use Rattle.exec_graph.specs.Lawful.{is_from_1};
+ghost use Rattle.exec_graph.specs.Entity.{is_from_1};
 
 use crate::plan::{Feed, Plan};
 use exec_msg::{Memory, Moment};
@@ -28,7 +28,7 @@ impl Model for FeedByRound {
 impl FeedByRound {
     ghost use Rattle.std.specs.Prelude.{◌≡◌, length, IsTrue, IfOk};
     ghost use Rattle.exec_graph.specs.Feeding.{fed_in, feeds_by_round};
-    ghost use Rattle.exec_graph.specs.Lawful.{is_from_1};
+    ghost use Rattle.exec_graph.specs.Entity.{is_from_1};
     ghost use Rattle.exec_graph.specs.Plan.{PlanData};
 
     /// What a plan feeds.

@@ -17,7 +17,7 @@ pub struct Graph {
 
 impl Model for Graph {
     ghost use Rattle.std.specs.Prelude.{◌≡◌};
-    ghost use Rattle.exec_graph.specs.Entries.{entities_of};
+    ghost use Rattle.exec_graph.specs.inner.Entries.{entities_of};
     ghost use Rattle.exec_graph.specs.Graph.{GraphData, names_of};
     ghost use Rattle.exec_graph.specs.Lawful.{IsLawful};
 

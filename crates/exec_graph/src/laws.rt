@@ -3,7 +3,7 @@ ghost use Rattle.std.specs.Prelude.{◌≡◌, ℕ, ◌<◌, ◌≤◌, ◌==◌
 ghost use Rattle.std.specs.List.{filter, list_all, position_from};
 ghost use Rattle.std.specs.Ordering.{nat_cmp};
 ghost use Rattle.std.specs.Str.{bytes_eq};
-ghost use Rattle.exec_graph.specs.Draft.{GraphDraft};
+ghost use Rattle.exec_graph.specs.declared.draft.GraphDraft.{GraphDraft};
 ghost use Rattle.exec_graph.specs.declared.entity.EntityKind.{EntityKind};
 ghost use Rattle.exec_graph.specs.Feeding.{goes_somewhere, has_128_bits};
 ghost use Rattle.exec_graph.specs.Graph.{GraphData, declared_at, entities_where, is_topic, is_server};

@@ -17,8 +17,8 @@ pub struct NamedGraph<'a> {
 
 impl<'a> Model for NamedGraph<'a> {
     ghost use Rattle.std.specs.Prelude.{◌≡◌, Some};
-    ghost use Rattle.exec_graph.specs.Directory.{directory_of, where_so};
-    ghost use Rattle.exec_graph.specs.Draft.{GraphDraft};
+    ghost use Rattle.exec_graph.specs.inner.Directory.{directory_of, where_so};
+    ghost use Rattle.exec_graph.specs.declared.draft.GraphDraft.{GraphDraft};
     ghost use Rattle.exec_graph.specs.Faults.{is_well_named};
 
     ghost Value = { GraphDraft };

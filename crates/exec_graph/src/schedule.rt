@@ -2,7 +2,8 @@
 ghost use Rattle.std.specs.Prelude.{◌≡◌, true, None, map, nat_le};
 ghost use Rattle.std.specs.List.{list_all};
 ghost use Rattle.exec_graph.specs.Feeding.{has_128_bits};
-ghost use Rattle.exec_graph.specs.Lawful.{is_from_1, is_ascending_from};
+ghost use Rattle.exec_graph.specs.Entity.{is_from_1};
+ghost use Rattle.exec_graph.specs.Lawful.{is_ascending_from};
 ghost use Rattle.exec_graph.specs.Schedule.{schedule_fits, greatest, stamp_of, is_in_order, is_identified, plan_fault_in};
 ghost use Rattle.exec_msg.specs.declared.limits.TheConstants.{TICKS};
 

@@ -1,6 +1,6 @@
 //! The names that the scripts of a node may use.
 ghost use Rattle.std.specs.Prelude.{◌≡◌, ◌&&◌, ◌==◌, ◌≤◌, length};
-ghost use Rattle.exec_graph.specs.Directory.{entity_in, number_in};
+ghost use Rattle.exec_graph.specs.inner.Directory.{entity_number, number_in};
 ghost use Rattle.exec_graph.specs.Entity.{is_of};
 
 use crate::directory::Directory;
@@ -18,7 +18,7 @@ pub(crate) struct NodeScope<'d, 'a> {
 
 impl<'d, 'a> Model for NodeScope<'d, 'a> {
     ghost use Rattle.std.specs.Prelude.{◌≤◌, length};
-    ghost use Rattle.exec_graph.specs.Directory.{NodeData};
+    ghost use Rattle.exec_graph.specs.inner.Directory.{NodeData};
 
     ghost Value = { NodeData };
 
@@ -45,7 +45,7 @@ impl<'d, 'a> NodeScope<'d, 'a> {
     }
 
     fn entity(&self, kind: EntityKind, name: &str) -> Option<EntityNo>
-        ensures { result ≡ entity_in self.now.directory (λ placed. is_of kind placed.entity.is && (placed.node == self.now.node)) name.now }
+        ensures { result ≡ entity_number self.now.directory (λ placed. is_of kind placed.entity.is && (placed.node == self.now.node)) name.now }
     {
         let number = self.directory.entity_of_node(self.node, kind, name)?;
         Some(EntityNo(number as u16))
@@ -53,7 +53,7 @@ impl<'d, 'a> NodeScope<'d, 'a> {
 }
 
 impl<'d, 'a> Scope for NodeScope<'d, 'a> {
-    ghost use Rattle.exec_graph.specs.Directory.{scope_in};
+    ghost use Rattle.exec_graph.specs.inner.Directory.{scope_in};
 
     ghost names = { λ scope. scope_in scope.directory scope.node };
 

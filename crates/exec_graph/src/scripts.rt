@@ -1,8 +1,9 @@
 //! The faults of a graph's scripts, which are decoded, in their places.
+ghost use Rattle.std.specs.Option.{option_to_list};
 ghost use Rattle.std.specs.Prelude.{◌≡◌, [], ◌++◌, not, IfOk, OnOk};
 ghost use Rattle.std.specs.List.{filter_map, flat_map, list_any};
 ghost use Rattle.std.specs.Map.{values_of};
-ghost use Rattle.exec_graph.specs.Directory.{fault_at, faults_at, faults_of, is_reentrant_at, listed};
+ghost use Rattle.exec_graph.specs.inner.Directory.{fault_at, faults_at, faults_of, is_reentrant_at};
 ghost use Rattle.exec_graph.specs.Entity.{scripts_of};
 ghost use Rattle.exec_graph.specs.Faults.{is_of_variable};
 
@@ -58,7 +59,7 @@ fn append_faults(
 }
 
 fn append_fault(faults: &mut Vec<ScriptFault>, fault: Option<ScriptFault>) -> Result<(), Memory>
-    ensures { OnOk result (faults.new.items ≡ faults.old.items ++ listed fault) }
+    ensures { OnOk result (faults.new.items ≡ faults.old.items ++ option_to_list fault) }
 {
     if let Some(fault) = fault {
         faults.push(fault)?;

@@ -15,7 +15,7 @@ pub(crate) struct TextSet<'a> {
 
 impl<'a> Model for TextSet<'a> {
     ghost use Rattle.std.specs.Prelude.{ℕ, List, map};
-    ghost use Rattle.exec_graph.specs.Places.{FindsPlaces};
+    ghost use Rattle.exec_graph.specs.inner.Places.{FindsPlaces};
 
     ghost Value = { List (List ℕ) };
 

@@ -1,6 +1,6 @@
 use Rattle.std.proofs.Common.{drop, ap, ◌∙◌}
 use Rattle.std.proofs.Math.ListN.{drop_of_length-le}
-use Rattle.exec_graph.specs.Entries.{entities_of as entries_of}
+use Rattle.exec_graph.specs.inner.Entries.{entities_of as entries_of}
 use Rattle.exec_graph.specs.Numbers.{Placed}
 use Rattle.exec_graph.proofs.Appended.{starts, next_stands, all_stand}
 use Rattle.exec_graph.proofs.assembling.entities_of.Goals as goal

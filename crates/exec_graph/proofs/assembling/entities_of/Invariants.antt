@@ -1,5 +1,5 @@
 use Rattle.std.proofs.Common.{drop}
-use Rattle.exec_graph.specs.Entries.{entities_of as entries_of}
+use Rattle.exec_graph.specs.inner.Entries.{entities_of as entries_of}
 use Rattle.exec_graph.proofs.Appended.{Stands}
 use Rattle.exec_graph.proofs.assembling.entities_of.Given as goal
 

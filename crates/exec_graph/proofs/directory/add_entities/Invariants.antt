@@ -1,5 +1,5 @@
 use Rattle.std.proofs.Common.{◌≡◌, map, drop}
-use Rattle.exec_graph.specs.Directory.{names_from}
+use Rattle.exec_graph.specs.inner.Directory.{names_from}
 use Rattle.exec_graph.proofs.directory.add_entities.Given as goal
 
 -- what is added so far, and then what is left, is all

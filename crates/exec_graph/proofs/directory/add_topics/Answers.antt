@@ -1,5 +1,5 @@
 use Rattle.std.proofs.Common.{◌∙◌, ap, sym}
-use Rattle.exec_graph.specs.Directory.{names_from}
+use Rattle.exec_graph.specs.inner.Directory.{names_from}
 use Rattle.exec_graph.proofs.NameLists.{next_name, no_name, as_they_are}
 use Rattle.exec_graph.proofs.directory.add_topics.Goals as goal
 

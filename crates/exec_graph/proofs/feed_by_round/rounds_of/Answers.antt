@@ -2,7 +2,7 @@ use Rattle.std.proofs.Common.{◌≡◌, ◌∙◌, ◌-◌, ◌+◌, Vec, List,
 use Rattle.std.specs.declared.alloc.Global.{Global}
 use Rattle.std.proofs.lemmas.List.{length-map, take_more}
 use Rattle.exec_graph.specs.Feeding.{feeds_from}
-use Rattle.exec_graph.specs.Lawful.{is_from_1}
+use Rattle.exec_graph.specs.Entity.{is_from_1}
 use Rattle.exec_graph.specs.declared.plan.Feed.{Feed}
 use Rattle.exec_graph.proofs.ByRound.{as_many_rounds, is_round, put_in}
 use Rattle.exec_graph.proofs.feed_by_round.rounds_of.Goals as goal

@@ -1,5 +1,5 @@
 use Rattle.std.proofs.Common.{◌∙◌}
-use Rattle.exec_graph.specs.Directory.{fault_at}
+use Rattle.exec_graph.specs.inner.Directory.{fault_at}
 use Rattle.exec_graph.proofs.EntityOrder.{next_listed}
 use Rattle.exec_graph.proofs.scripts.append_faults.Goals as goal
 

@@ -1,5 +1,5 @@
 use Rattle.std.proofs.Common.{◌≡◌, ◌++◌, drop, filter_map}
-use Rattle.exec_graph.specs.Directory.{fault_at, faults_at}
+use Rattle.exec_graph.specs.inner.Directory.{fault_at, faults_at}
 use Rattle.exec_graph.proofs.scripts.append_faults.Given as goal
 
 -- the faults so far, and then those of the scripts that are left, are those before and those of all

@@ -1,6 +1,6 @@
 use Rattle.std.proofs.Common.{◌∙◌}
 use Rattle.std.specs.Map.{values_of}
-use Rattle.exec_graph.specs.Directory.{faults_of}
+use Rattle.exec_graph.specs.inner.Directory.{faults_of}
 use Rattle.exec_graph.proofs.EntityOrder.{next_at}
 use Rattle.exec_graph.proofs.scripts.script_faults.Goals as goal
 

@@ -1,6 +1,6 @@
 use Rattle.std.proofs.Common.{◌≡◌, ◌++◌, drop, flat_map}
 use Rattle.std.specs.Map.{values_of}
-use Rattle.exec_graph.specs.Directory.{faults_of}
+use Rattle.exec_graph.specs.inner.Directory.{faults_of}
 use Rattle.exec_graph.proofs.scripts.script_faults.Given as goal
 
 -- the faults so far, and then those of the numbers that are left, are those of all

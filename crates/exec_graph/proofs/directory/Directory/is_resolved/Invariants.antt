@@ -1,6 +1,6 @@
 use Rattle.std.proofs.Common.{◌≡◌, drop}
 use Rattle.std.specs.List.{list_all}
-use Rattle.exec_graph.specs.Directory.{resolves}
+use Rattle.exec_graph.specs.inner.Directory.{resolves}
 use Rattle.exec_graph.proofs.directory.Directory.is_resolved.Given as goal
 
 -- all are resolved where those that are left are

@@ -1,7 +1,7 @@
 use Rattle.std.proofs.Common.{◌≡◌, ◌∙◌, List, Vec, ap, sym, map, length, true}
 use Rattle.std.specs.declared.alloc.Global.{Global}
 use Rattle.exec_graph.specs.Feeding.{feeds_by_round}
-use Rattle.exec_graph.specs.Lawful.{is_from_1}
+use Rattle.exec_graph.specs.Entity.{is_from_1}
 use Rattle.exec_graph.specs.declared.plan.Feed.{Feed}
 use Rattle.exec_graph.proofs.ByRound.{entries_at}
 use Rattle.exec_graph.proofs.feed_by_round.FeedByRound.fed_in.Goals as goal

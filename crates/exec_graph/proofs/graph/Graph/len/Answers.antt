@@ -2,7 +2,7 @@ use Rattle.std.proofs.Common.{◌≡◌, ◌≤◌, length, not, refl, sym, ap, 
 use Rattle.std.proofs.lemmas.List.Filters.{length-filter_both}
 use Rattle.exec_graph.specs.Graph.{GraphData, is_topic}
 use Rattle.std.proofs.lemmas.List.{length-map}
-use Rattle.exec_graph.specs.Entries.{entity_of}
+use Rattle.exec_graph.specs.inner.Entries.{entity_of}
 use Rattle.exec_graph.specs.Lawful.{IsLawful}
 use Rattle.exec_graph.proofs.graph.Graph.len.Goals as goal
 

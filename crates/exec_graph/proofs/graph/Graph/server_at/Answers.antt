@@ -1,7 +1,7 @@
 use Rattle.std.proofs.Common.{◌<◌, String, ap, sym, ◌∙◌, true, false, rules}
 use Rattle.std.specs.Global.{Global}
 use Rattle.std.specs.List.{position_from}
-use Rattle.exec_graph.specs.Entries.{entity_of, entities_of}
+use Rattle.exec_graph.specs.inner.Entries.{entity_of, entities_of}
 use Rattle.exec_graph.specs.Graph.{GraphData, is_server}
 use Rattle.exec_graph.specs.declared.entity.Declared.{Declared}
 use Rattle.exec_graph.proofs.Counting.{number_below}

@@ -6,7 +6,7 @@ use Rattle.std.specs.List.{list_any}
 use Rattle.std.specs.Map.{update}
 use Rattle.std.proofs.lemmas.List.{map-append}
 use Rattle.std.proofs.lemmas.Map.Text.{btree_map_updates_str}
-use Rattle.exec_graph.specs.Places.{FindsPlaces}
+use Rattle.exec_graph.specs.inner.Places.{FindsPlaces}
 use Rattle.exec_graph.proofs.TextPlaces.{finds_more}
 use Rattle.exec_graph.proofs.texts.TextSet.append.Goals as goal
 

@@ -12,7 +12,7 @@ use Rattle.exec_graph.specs.declared.entity.Referent.{Referent}
 use Rattle.exec_graph.specs.declared.entity.Referent.TheVariants as referent
 use Rattle.exec_script.specs.declared.fault.ScriptFault.{ScriptFault}
 use Rattle.std.specs.Str.{bytes_eq}
-use Rattle.exec_graph.specs.Draft.{GraphDraft}
+use Rattle.exec_graph.specs.declared.draft.GraphDraft.{GraphDraft}
 use Rattle.exec_graph.specs.Entity.{Drafted, Script, Resolved, RoleScriptData, is_of, refers, scripts_of, read_by}
 use Rattle.exec_graph.specs.Graph.{EntityData, GroupNo}
 use Rattle.exec_graph.specs.declared.draft.NodeDraft.{NodeDraft}
@@ -37,8 +37,8 @@ names_from names (text ∷ texts) =
     if is_name text && not (list_any (λ other. bytes_eq other text) names) then names_from (names ++ text ∷ []) texts else None
 
 -- the names of a node's groups
-abbrev pub group_names : NodeDraft → List (List ℕ)
-group_names node = map (λ group. group.name) node.groups
+abbrev pub names_of_groups : NodeDraft → List (List ℕ)
+names_of_groups node = map (λ group. group.name) node.groups
 
 -- ---- the directory
 
@@ -55,21 +55,21 @@ abbrev pub directory_of : GraphDraft → DirectoryData
 directory_of draft = record {
   topics = length draft.topics;
   names = names_of draft;
-  groups = map group_names draft.nodes;
+  groups = map names_of_groups draft.nodes;
   entities = entities_of draft;
 }
 
 -- the number of a name
-abbrev pub number_of : DirectoryData → List ℕ → Option ℕ
-number_of directory name = position_from (λ other. bytes_eq other name) 0 directory.names
+abbrev pub position_of : DirectoryData → List ℕ → Option ℕ
+position_of directory name = position_from (λ other. bytes_eq other name) 0 directory.names
 
 -- a number that is a topic's
-abbrev pub topic_at : DirectoryData → ℕ → Option ℕ
-topic_at directory number = where_so (nat_lt number directory.topics) number
+abbrev pub topic_numbered : DirectoryData → ℕ → Option ℕ
+topic_numbered directory number = where_so (nat_lt number directory.topics) number
 
 -- the number of the topic of a name
-abbrev pub topic_in : DirectoryData → List ℕ → Option ℕ
-topic_in directory name = option_and_then (topic_at directory) (number_of directory name)
+abbrev pub topic_number : DirectoryData → List ℕ → Option ℕ
+topic_number directory name = option_and_then (topic_numbered directory) (position_of directory name)
 
 -- the entity at a number, with the number
 abbrev pub placed_at : DirectoryData → ℕ → Option (ℕ × Placed)
@@ -77,16 +77,16 @@ placed_at directory number =
     if nat_lt number directory.topics then None else option_map (λ placed. (number, placed)) (slice_get directory.entities (number - directory.topics))
 
 -- the entity of a name, with its number
-abbrev pub find : DirectoryData → List ℕ → Option (ℕ × Placed)
-find directory name = option_and_then (placed_at directory) (number_of directory name)
+abbrev pub placed_named : DirectoryData → List ℕ → Option (ℕ × Placed)
+placed_named directory name = option_and_then (placed_at directory) (position_of directory name)
 
 -- the number of an entity that passes a test
 abbrev pub passing : (Placed → Bool) → ℕ × Placed → Option ℕ
 passing test found = where_so (test found.1) found.0
 
 -- the number of the entity of a name that passes a test
-abbrev pub entity_in : DirectoryData → (Placed → Bool) → List ℕ → Option ℕ
-entity_in directory test name = option_and_then (passing test) (find directory name)
+abbrev pub entity_number : DirectoryData → (Placed → Bool) → List ℕ → Option ℕ
+entity_number directory test name = option_and_then (passing test) (placed_named directory name)
 
 -- whether these names, which are those of a node's groups, have one; the default group has none
 abbrev pub has_in : Option (List (List ℕ)) → Option (List ℕ) → Bool
@@ -100,8 +100,8 @@ has_group directory node name = has_in (slice_get directory.groups node) name
 
 -- the number of what a name must be declared as
 abbrev pub number_in : DirectoryData → Referent → List ℕ → Option ℕ
-number_in directory referent.Topic = topic_in directory
-number_in directory (referent.Entity kind) = entity_in directory (λ placed. is_of kind placed.entity.is)
+number_in directory referent.Topic = topic_number directory
+number_in directory (referent.Entity kind) = entity_number directory (λ placed. is_of kind placed.entity.is)
 
 -- whether the group of an entity and what it refers to are declared
 abbrev pub resolves : DirectoryData → Placed → Bool
@@ -110,10 +110,10 @@ resolves directory placed = has_group directory placed.node placed.entity.group 
 -- the names that the scripts of a node may use
 abbrev pub scope_in : DirectoryData → ℕ → ScopeNames
 scope_in directory node = record {
-  topic = topic_in directory;
-  client = entity_in directory (λ placed. is_of kind.Client placed.entity.is && (placed.node == node));
-  action_client = entity_in directory (λ placed. is_of kind.ActionClient placed.entity.is && (placed.node == node));
-  server = entity_in directory (λ placed. is_of kind.Server placed.entity.is && (placed.node == node));
+  topic = topic_number directory;
+  client = entity_number directory (λ placed. is_of kind.Client placed.entity.is && (placed.node == node));
+  action_client = entity_number directory (λ placed. is_of kind.ActionClient placed.entity.is && (placed.node == node));
+  server = entity_number directory (λ placed. is_of kind.Server placed.entity.is && (placed.node == node));
 }
 
 -- a node of a directory
@@ -145,8 +145,3 @@ faults_at groups entity = filter_map (fault_at (is_reentrant_at groups entity.gr
 abbrev pub faults_of : List CallbackGroup → Declared → List ScriptFault
 faults_of groups Topic = []
 faults_of groups (Entity entity) = faults_at groups entity
-
--- what there is, as a list
-abbrev pub listed : {A : Type 0} → Option A → List A
-listed None = []
-listed (Some value) = value ∷ []

@@ -1,0 +1,4 @@
+pub mod Directory
+pub mod Entries
+pub mod Gives
+pub mod Places
