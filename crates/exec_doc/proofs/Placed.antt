@@ -7,7 +7,7 @@ use Rattle.exec_doc.specs.Document.{fed_in, entry_in}
 use Rattle.exec_doc.specs.declared.draft.FedDraft.{FedDraft}
 use Rattle.exec_doc.specs.declared.draft.FedDraft.TheVariants as draft
 use Rattle.exec_doc.specs.declared.draft.EntryDraft.{EntryDraft}
-use Rattle.exec_doc.specs.Placing.{topic_at, server_at, fed_by, entry_by}
+use Rattle.exec_doc.specs.inner.Placing.{topic_at, server_at, fed_by, entry_by}
 use Rattle.exec_doc.specs.Refusals as refusals
 use Rattle.exec_doc.specs.Refusals.{feeds}
 use Rattle.exec_graph.specs.declared.draft.GraphDraft.{GraphDraft}

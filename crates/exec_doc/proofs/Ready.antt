@@ -1,11 +1,11 @@
 -- What is answered of a document whose graph has no fault.
 use Rattle.std.proofs.Common.{◌≡◌, ℕ, ◌⊎◌, inl, inr, Bool, true, false, ◌&&◌, nat_le, length, map, List, Option, None, Some, Err, refl, ap, ap₂, sym, ◌∙◌, subst}
 use Rattle.std.specs.List.{list_all}
-use Rattle.exec_doc.specs.Answering.{Answers, IsReady, draft_refusal, graph_refusal, code_of}
+use Rattle.exec_doc.specs.inner.Answering.{Answers, IsReady, draft_refusal, graph_refusal, code_of}
 use Rattle.exec_doc.specs.Document.{entry_in, plan_of}
 use Rattle.exec_doc.specs.Draft.{DocumentDraft}
 use Rattle.exec_doc.specs.declared.draft.EntryDraft.{EntryDraft}
-use Rattle.exec_doc.specs.Placing.{entry_by}
+use Rattle.exec_doc.specs.inner.Placing.{entry_by}
 use Rattle.exec_doc.specs.Refusals as refusals
 use Rattle.exec_doc.specs.Refusals.{feeds, is_within, is_clocked}
 use Rattle.exec_doc.specs.declared.refused.Refused.{Refused}

@@ -1,7 +1,7 @@
 -- The refusal of a document by what was found of it so far.
 use Rattle.std.proofs.Common.{◌≡◌, Bool, true, false, cond, not, ◌&&◌, ◌==◌, Option, None, Some, is_some, option_map, refl, ap, subst}
 use Rattle.std.specs.List.{list_all}
-use Rattle.exec_doc.specs.Answering.{draft_refusal, graph_refusal, only_if, code_of}
+use Rattle.exec_doc.specs.inner.Answering.{draft_refusal, graph_refusal, only_if, code_of}
 use Rattle.exec_doc.specs.Draft.{DocumentDraft}
 use Rattle.exec_doc.specs.Refusals.{feeds, is_identified, is_within, is_clocked}
 use Rattle.exec_doc.specs.declared.refused.Refused.{Refused}

@@ -6,7 +6,7 @@ use Rattle.std.proofs.lemmas.List.{drop_all}
 use Rattle.exec_doc.proofs.Each.{at_place}
 use Rattle.exec_graph.specs.Schedule.{greatest}
 use Rattle.exec_graph.specs.Options.{◌>>=◌, each}
-use Rattle.exec_doc.specs.Answering.{only_if}
+use Rattle.exec_doc.specs.inner.Answering.{only_if}
 
 -- each passes a test where all do
 pub each_only : {A : Type 0} (test : A → Bool) (xs : List A) → each (λ x. only_if (test x) x) xs ≡ only_if (list_all test xs) xs

@@ -1,10 +1,7 @@
-pub mod Answering
 pub mod Document
 pub mod Draft
 pub mod Examples
 pub mod Forms
-pub mod Kinds
-pub mod Placing
-pub mod Reading
 pub mod Refusals
 pub mod Words
+pub mod inner

@@ -9,7 +9,7 @@ mod scripts;
 
 ghost use Rattle.serde_json.specs.View.{view};
 ghost use Rattle.exec_doc.specs.Forms.{draft_of};
-ghost use Rattle.exec_doc.specs.Reading.{Gives};
+ghost use Rattle.exec_doc.specs.inner.Reading.{Gives};
 
 use crate::draft::DocumentDraft;
 use crate::refused::Refused;

@@ -76,7 +76,7 @@ impl<T: Drop> From<AllocFailed<T>> for Refused {
 }
 
 impl From<GraphFault> for Refused {
-    ghost use Rattle.exec_doc.specs.Answering.{graph_code_of};
+    ghost use Rattle.exec_doc.specs.inner.Answering.{graph_code_of};
 
     ghost from_gives = { λ fault refused. refused ≡ graph_code_of fault };
 
@@ -92,7 +92,7 @@ impl From<GraphFault> for Refused {
 }
 
 impl From<PlanFault> for Refused {
-    ghost use Rattle.exec_doc.specs.Answering.{code_of};
+    ghost use Rattle.exec_doc.specs.inner.Answering.{code_of};
 
     ghost from_gives = { λ fault refused. refused ≡ code_of fault };
 

@@ -1,7 +1,7 @@
 ghost use Rattle.std.specs.Prelude.{◌≡◌, length, map, nat_le, IfOk, OnErr};
 ghost use Rattle.std.specs.List.{list_all};
 ghost use Rattle.std.specs.Option.{option_map};
-ghost use Rattle.exec_doc.specs.Answering.{only_if};
+ghost use Rattle.exec_doc.specs.inner.Answering.{only_if};
 ghost use Rattle.exec_doc.specs.Refusals.{stamp_of};
 ghost use Rattle.exec_graph.specs.Schedule.{schedule_fits, greatest};
 ghost use Rattle.exec_msg.specs.declared.limits.TheConstants.{TICKS};

@@ -15,7 +15,7 @@ use Rattle.exec_msg.specs.Timer.{is_due}
 use Rattle.exec_msg.specs.declared.kind.Kind.{Kind}
 use Rattle.exec_msg.specs.declared.kind.Kind.TheVariants as kind
 use Rattle.exec_run.proofs.OnTimers.{AreTimers}
-use Rattle.exec_run.specs.Timers.{due_entity, timer_ready}
+use Rattle.exec_run.specs.inner.Timers.{due_entity, timer_ready}
 use Rattle.exec_world.specs.Ready.{Ready, due_ready, ready_list, ready_of}
 use Rattle.exec_world.specs.Transcript.{has_queue}
 use Rattle.exec_world.specs.World.{TimerEntry, WorldState}

@@ -17,7 +17,7 @@ use Rattle.exec_graph.specs.declared.plan.Fed.{Fed}
 use Rattle.exec_graph.specs.declared.plan.Fed.TheVariants.{Message, Goal, Cancel}
 use Rattle.exec_graph.specs.declared.plan.Feed.{Feed}
 use Rattle.exec_run.specs.Alone.{is_later, is_of_timers}
-use Rattle.exec_run.specs.Timers.{IsOfTimers}
+use Rattle.exec_run.specs.inner.Timers.{IsOfTimers}
 
 or_false : (a b : Bool) → (a || b) ≡ false → (a ≡ false) × (b ≡ false)
 or_false true b h = absurd (true≢false h)

@@ -17,7 +17,7 @@ use Rattle.exec_msg.specs.declared.line.Line.TheVariants as line
 use Rattle.exec_run.proofs.Listing.{up, timers_listed, no_servers, no_clients, no_action_clients, no_queues, ready_timers, due_within}
 use Rattle.exec_run.proofs.OnTimers.{AreTimers, are_timers, declared_timer, lawful_at, none_later, nothing_fed}
 use Rattle.exec_run.proofs.Running.{AreOfTimers, call_at, run_keeps_alone, timer_names_nothing}
-use Rattle.exec_run.specs.Timers.{IsOfTimers, HasTimersAlone, due_entity, timer_ready}
+use Rattle.exec_run.specs.inner.Timers.{IsOfTimers, HasTimersAlone, due_entity, timer_ready}
 use Rattle.exec_script.specs.Zeros.{zeros}
 use Rattle.exec_world.specs.Ready.{Ready, call_input, due, take_inputs, timer_taken, queue_taken, client_taken}
 use Rattle.exec_world.specs.Run.{run}

@@ -14,7 +14,7 @@ use Rattle.exec_graph.specs.declared.entity.EntityOf.TheVariants.{Timer, Subscri
 use Rattle.exec_msg.specs.declared.kind.Kind.TheVariants as kind
 use Rattle.exec_msg.specs.declared.line.Line.TheVariants as line
 use Rattle.exec_run.proofs.OnTimers.{HaveNone, no_topic, no_client_at, no_action_client_at, no_server_at}
-use Rattle.exec_run.specs.Timers.{HasTimersAlone, names_nothing, timer_caller, timer_ready}
+use Rattle.exec_run.specs.inner.Timers.{HasTimersAlone, names_nothing, timer_caller, timer_ready}
 use Rattle.exec_script.specs.Script.{ScriptState, CallInput, follow, listed, step_of, passed_by, after_step, call_of}
 use Rattle.exec_script.specs.Zeros.{zeros}
 use Rattle.exec_script.specs.declared.effects.Effect.{Effect}

@@ -1,5 +1,5 @@
 pub mod Alone
 pub mod Examples
 pub mod Program
-pub mod Timers
 pub mod Words
+pub mod inner

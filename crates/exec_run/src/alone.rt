@@ -1,7 +1,7 @@
 ghost use Rattle.std.specs.Prelude.{◌≡◌, IfOk, IfErr};
 ghost use Rattle.exec_graph.specs.Graph.{names_of};
 ghost use Rattle.exec_graph.specs.Plan.{PlanData};
-ghost use Rattle.exec_run.specs.Timers.{IsOfTimers};
+ghost use Rattle.exec_run.specs.inner.Timers.{IsOfTimers};
 ghost use Rattle.exec_run.specs.Alone.{SaysTimers, IsFaultOf, is_later, is_of_timers};
 ghost use Rattle.exec_world.specs.Transcript.{text_of};
 

@@ -4,7 +4,7 @@ ghost use Rattle.std.specs.List.{filter_map};
 ghost use Rattle.exec_graph.specs.Entity.{is_within};
 ghost use Rattle.exec_graph.specs.Graph.{of_entity, callback_script, script_for};
 ghost use Rattle.exec_msg.specs.declared.kind.Kind.TheVariants as kind;
-ghost use Rattle.exec_run.specs.Timers.{due_entity};
+ghost use Rattle.exec_run.specs.inner.Timers.{due_entity};
 ghost use Rattle.exec_script.specs.Zeros.{zeros};
 ghost use Rattle.exec_world.specs.Ready.{timer_taken};
 ghost use Rattle.exec_world.specs.Transcript.{new_timer, timer_in, first_world};
@@ -36,7 +36,7 @@ impl Model for EntityTimer {
 
 impl EntityTimer {
     ghost use Rattle.std.specs.Prelude.{◌≡◌};
-    ghost use Rattle.exec_run.specs.Timers.{due_entity};
+    ghost use Rattle.exec_run.specs.inner.Timers.{due_entity};
     ghost use Rattle.exec_world.specs.Ready.{timer_taken};
 
     // Makes the timer's call where it is due, and then gives its entity.
@@ -82,7 +82,7 @@ impl<L: Lines> World<L> {
     ghost use Rattle.std.specs.Prelude.{◌≡◌, ◌<◌, [], length, true, OnOk, IfOk};
     ghost use Rattle.std.specs.List.{All, filter_map, fold};
     ghost use Rattle.exec_graph.specs.Graph.{GraphData};
-    ghost use Rattle.exec_run.specs.Timers.{IsOfTimers, HasTimersAlone, due_entity, timer_ready, timer_caller, names_nothing};
+    ghost use Rattle.exec_run.specs.inner.Timers.{IsOfTimers, HasTimersAlone, due_entity, timer_ready, timer_caller, names_nothing};
     ghost use Rattle.exec_script.specs.Script.{call_of};
     ghost use Rattle.exec_world.specs.Give.{give};
     ghost use Rattle.exec_world.specs.Ready.{take_inputs};

@@ -2,8 +2,8 @@ ghost use Rattle.std.specs.Prelude.{◌≡◌, ◌++◌, OnOk, IfErr, map};
 ghost use Rattle.serde_json.specs.View.{view};
 ghost use Rattle.exec_doc.specs.Forms.{depth_field, timer_form, subscription_form, service_form, client_form, server_form, action_client_form, entity, list};
 ghost use Rattle.exec_graph.specs.Options.{each};
-ghost use Rattle.exec_doc.specs.Kinds.{form_of};
-ghost use Rattle.exec_doc.specs.Reading.{Gives, Fails, IsAppended};
+ghost use Rattle.exec_doc.specs.inner.Kinds.{form_of};
+ghost use Rattle.exec_doc.specs.inner.Reading.{Gives, Fails, IsAppended};
 
 use crate::forms::fields::{optional, required};
 use crate::forms::scripts::script_field;

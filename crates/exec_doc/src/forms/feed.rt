@@ -1,7 +1,7 @@
 ghost use Rattle.std.specs.Prelude.{◌≡◌, codes};
 ghost use Rattle.serde_json.specs.View.{view};
 ghost use Rattle.exec_doc.specs.Forms.{id_of, identifier, has, message_form, goal_form, cancel_form, fed, entry};
-ghost use Rattle.exec_doc.specs.Reading.{Gives};
+ghost use Rattle.exec_doc.specs.inner.Reading.{Gives};
 
 use crate::draft::{EntryDraft, FedDraft};
 use crate::forms::fields::{Form, optional, required};

@@ -2,7 +2,7 @@ ghost use Rattle.std.specs.Prelude.{Option, map};
 ghost use Rattle.serde_json.specs.Data.{Data};
 ghost use Rattle.serde_json.specs.View.{view};
 ghost use Rattle.exec_doc.specs.Forms.{text, count, integer, list_of, required, optional, defaulted, list};
-ghost use Rattle.exec_doc.specs.Reading.{Gives};
+ghost use Rattle.exec_doc.specs.inner.Reading.{Gives};
 ghost use Rattle.exec_graph.specs.Options.{each};
 
 use crate::refused::Refused;

@@ -4,7 +4,7 @@ ghost use Rattle.serde_json.specs.View.{view};
 ghost use Rattle.exec_graph.specs.Options.{each};
 ghost use Rattle.exec_doc.specs.Forms.{text, list_of, declared};
 ghost use Rattle.exec_graph.specs.Entity.{if_there};
-ghost use Rattle.exec_doc.specs.Reading.{Gives, Fails, IsAppended};
+ghost use Rattle.exec_doc.specs.inner.Reading.{Gives, Fails, IsAppended};
 
 use crate::forms::fields::list;
 use crate::forms::owned::{into_array, into_field, into_text};

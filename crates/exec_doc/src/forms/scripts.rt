@@ -2,7 +2,7 @@ ghost use Rattle.std.specs.Prelude.{map};
 ghost use Rattle.serde_json.specs.View.{view};
 ghost use Rattle.exec_graph.specs.Options.{each};
 ghost use Rattle.exec_doc.specs.Forms.{list_of, word, script, script_field};
-ghost use Rattle.exec_doc.specs.Reading.{Gives};
+ghost use Rattle.exec_doc.specs.inner.Reading.{Gives};
 
 use crate::forms::fields::{self, Form};
 use crate::refused::Refused;

@@ -1,6 +1,6 @@
 use Rattle.std.proofs.Common.{List, ap, sym, ◌∙◌, ◌++◌, Some}
 use Rattle.std.proofs.lemmas.List.{drop_all, append-nil}
-use Rattle.exec_doc.specs.Placing.{entry_by}
+use Rattle.exec_doc.specs.inner.Placing.{entry_by}
 use Rattle.exec_doc.specs.declared.draft.EntryDraft.{EntryDraft}
 use Rattle.exec_graph.specs.Options.{◌>>=◌, each}
 use Rattle.exec_graph.specs.declared.plan.Feed.{Feed}

@@ -1,6 +1,6 @@
 use Rattle.std.proofs.Common.{◌≡◌, ◌++◌, drop, Some}
 use Rattle.exec_graph.specs.Options.{◌>>=◌, each}
-use Rattle.exec_doc.specs.Placing.{entry_by}
+use Rattle.exec_doc.specs.inner.Placing.{entry_by}
 use Rattle.exec_doc.proofs.fed.feed_of.Given as goal
 
 -- the entries so far, and then those of what is left, are the entries of all

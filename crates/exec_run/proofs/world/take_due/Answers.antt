@@ -1,6 +1,6 @@
 use Rattle.std.proofs.Common.{◌≡◌, ◌<◌, slice_set, None, Some, length, ap, sym, ◌∙◌, arith}
 use Rattle.std.proofs.lemmas.List.Edits.{map_over_more}
-use Rattle.exec_run.specs.Timers.{due_entity}
+use Rattle.exec_run.specs.inner.Timers.{due_entity}
 use Rattle.exec_world.specs.Ready.{timer_taken}
 use Rattle.exec_world.specs.World.{TimerEntry}
 use Rattle.exec_run.proofs.Taking.{next_is, one_given, none_given}

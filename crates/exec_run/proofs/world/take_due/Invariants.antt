@@ -1,6 +1,6 @@
 use Rattle.std.proofs.Common.{◌≡◌, ◌++◌, map, take, drop}
 use Rattle.std.specs.List.{filter_map}
-use Rattle.exec_run.specs.Timers.{due_entity}
+use Rattle.exec_run.specs.inner.Timers.{due_entity}
 use Rattle.exec_world.specs.Ready.{timer_taken}
 use Rattle.exec_run.proofs.world.take_due.Given as goal
 

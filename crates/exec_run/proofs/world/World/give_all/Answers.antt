@@ -2,7 +2,7 @@ use Rattle.std.proofs.Common.{take, ap, sym, ◌∙◌}
 use Rattle.std.specs.List.{fold}
 use Rattle.std.proofs.lemmas.List.{take_all}
 use Rattle.std.proofs.lemmas.List.Sums.{fold_more}
-use Rattle.exec_run.specs.Timers.{timer_caller}
+use Rattle.exec_run.specs.inner.Timers.{timer_caller}
 use Rattle.exec_script.specs.declared.effects.Effect.{Effect}
 use Rattle.exec_world.specs.Give.{give}
 use Rattle.exec_world.specs.World.{WorldState}

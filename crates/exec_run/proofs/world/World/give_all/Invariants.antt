@@ -1,7 +1,7 @@
 use Rattle.std.proofs.Common.{◌≡◌, take}
 use Rattle.std.specs.List.{fold}
 use Rattle.exec_graph.specs.Graph.{GraphData}
-use Rattle.exec_run.specs.Timers.{timer_caller}
+use Rattle.exec_run.specs.inner.Timers.{timer_caller}
 use Rattle.exec_world.specs.Give.{give}
 use Rattle.exec_run.proofs.world.World.give_all.Given as goal
 

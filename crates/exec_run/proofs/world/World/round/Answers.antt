@@ -4,7 +4,7 @@ use Rattle.std.proofs.lemmas.List.{take_all}
 use Rattle.std.proofs.lemmas.List.Elements.{All-same, All-get_or}
 use Rattle.std.proofs.lemmas.List.Sums.{fold_more}
 use Rattle.exec_msg.specs.declared.line.Line.TheVariants as line
-use Rattle.exec_run.specs.Timers.{HasTimersAlone, due_entity, timer_ready}
+use Rattle.exec_run.specs.inner.Timers.{HasTimersAlone, due_entity, timer_ready}
 use Rattle.exec_run.proofs.Listing.{due_within}
 use Rattle.exec_run.proofs.Rounds.{alone_line, alone_run, alone_taken, round_by_timers, run_timers, timers_of}
 use Rattle.exec_world.specs.Ready.{take_inputs}

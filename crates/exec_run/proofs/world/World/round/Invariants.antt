@@ -1,6 +1,6 @@
 use Rattle.std.proofs.Common.{◌≡◌, take}
 use Rattle.std.specs.List.{fold}
-use Rattle.exec_run.specs.Timers.{HasTimersAlone, timer_ready}
+use Rattle.exec_run.specs.inner.Timers.{HasTimersAlone, timer_ready}
 use Rattle.exec_world.specs.Run.{run}
 use Rattle.exec_run.proofs.world.World.round.Given as goal
 

@@ -1,5 +1,5 @@
 use Rattle.std.proofs.Common.{ℕ, ◌+◌, List, drop, refl, ap, sym, subst, ◌∙◌, arith}
-use Rattle.exec_run.specs.Timers.{HasTimersAlone}
+use Rattle.exec_run.specs.inner.Timers.{HasTimersAlone}
 use Rattle.exec_run.proofs.Rounds.{alone_first, alone_round, round_next, timers_of}
 use Rattle.exec_world.specs.Transcript.{rounds}
 use Rattle.exec_world.specs.World.{WorldState}

@@ -1,5 +1,5 @@
 use Rattle.std.proofs.Common.{◌≡◌, ◌+◌, drop}
-use Rattle.exec_run.specs.Timers.{HasTimersAlone}
+use Rattle.exec_run.specs.inner.Timers.{HasTimersAlone}
 use Rattle.exec_world.specs.Transcript.{rounds}
 use Rattle.exec_run.proofs.world.World.run.Given as goal
 

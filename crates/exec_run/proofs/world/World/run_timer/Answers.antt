@@ -10,7 +10,7 @@ use Rattle.exec_graph.specs.declared.entity.Declared.{Declared}
 use Rattle.exec_msg.specs.declared.kind.Kind.TheVariants as kind
 use Rattle.exec_script.specs.Script.{CallInput, ScriptState}
 use Rattle.exec_script.specs.declared.effects.Effect.{Effect}
-use Rattle.exec_run.specs.Timers.{names_nothing}
+use Rattle.exec_run.specs.inner.Timers.{names_nothing}
 use Rattle.exec_run.proofs.OnTimers.{group_within, is_no_topic}
 use Rattle.exec_run.proofs.Rounds.{of_timers_at, timers_of}
 use Rattle.exec_run.proofs.Running.{call_is, call_at, script_of, timer_runs}

@@ -1,0 +1,4 @@
+pub mod Answering
+pub mod Kinds
+pub mod Placing
+pub mod Reading
