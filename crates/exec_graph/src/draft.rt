@@ -1,3 +1,16 @@
+pub(crate) mod assemble;
+pub(crate) mod builder;
+pub(crate) mod directory;
+pub(crate) mod faults;
+pub(crate) mod groups;
+pub(crate) mod limits;
+pub(crate) mod named;
+pub(crate) mod naming;
+pub(crate) mod numbers;
+pub(crate) mod resolve;
+pub(crate) mod scope;
+pub(crate) mod texts;
+
 use crate::entity::EntityOf;
 use crate::script::Spelled;
 use exec_msg::Items;

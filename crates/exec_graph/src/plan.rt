@@ -1,6 +1,9 @@
+pub(crate) mod feed_by_round;
+pub(crate) mod schedule;
+
 use crate::fault::PlanFault;
 use crate::graph::Graph;
-use crate::schedule::fault_of;
+use crate::plan::schedule::fault_of;
 use exec_msg::{EntityNo, GoalId, Moment};
 use std::marker::Model;
 

@@ -1,7 +1,7 @@
 -- What is answered of what a definition says.
 use Rattle.std.specs.Prelude.{◌≡◌, Option, None, Some, Result, Ok, Err}
-use Rattle.exec_graph.specs.declared.declaring.Unread.{Unread}
-use Rattle.exec_graph.specs.declared.declaring.Unread.TheVariants.{Memory, Wrong}
+use Rattle.exec_graph.specs.declared.draft.resolve.Unread.{Unread}
+use Rattle.exec_graph.specs.declared.draft.resolve.Unread.TheVariants.{Memory, Wrong}
 
 -- it fails only where there is nothing, unless memory was refused
 abbrev pub Fails : {A : Type 0} → Unread → Option A → Type 0

@@ -1,9 +1,0 @@
-use Rattle.std.proofs.Common.{◌≡◌, ◌++◌, map, drop, true}
-use Rattle.exec_graph.specs.inner.Entries.{entities_of as entries_of}
-use Rattle.exec_graph.specs.Names.{are_distinct}
-use Rattle.exec_graph.specs.Resolved.{topic_in}
-use Rattle.exec_graph.proofs.assembling.topics_of.Given as goal
-
--- the topics so far, and then those that are left, are all
-abbrev pub invariant-loop-topic : goal.invariant-loop-topic
-invariant-loop-topic l = are_distinct l.topics ≡ true → entries_of l.entities.entries ++ map topic_in (drop l.topic-index l.topics) ≡ map topic_in l.topics

@@ -1,0 +1,142 @@
+ghost use Rattle.std.specs.Prelude.{◌≡◌, ◌&&◌};
+ghost use Rattle.std.specs.List.{list_any};
+ghost use Rattle.std.specs.Str.{bytes_eq};
+ghost use Rattle.exec_graph.specs.Entity.{is_of};
+ghost use Rattle.exec_graph.specs.declared.entity.EntityKind.TheVariants as kind;
+
+use crate::draft::assemble::well_named;
+use crate::draft::named::NamedGraph;
+use crate::draft::{EntityDraft, GraphDraft, NodeDraft};
+use crate::entity::EntityKind;
+use crate::fault::GraphFault;
+use crate::graph::Graph;
+use exec_msg::{Items, Memory};
+use exec_script::WordText;
+use std::alloc::Global;
+use std::marker::Model;
+
+/// A graph as it is declared, piece by piece.
+#[derive(Drop)]
+pub struct GraphBuilder {
+    alloc: Global,
+    draft: GraphDraft,
+}
+
+impl Model for GraphBuilder {
+    ghost use Rattle.exec_graph.specs.declared.draft.GraphDraft.{GraphDraft};
+
+    ghost Value = { GraphDraft };
+
+    ghost view = { λ builder. builder.draft };
+}
+
+impl GraphBuilder {
+    ghost use Rattle.std.specs.Prelude.{◌≡◌, ◌⊎◌, [], ◌∷◌, ◌++◌, true, false, None, Some, is_some, string_bytes, OnOk, OnErr, IfOk, IfErr};
+    ghost use Rattle.exec_graph.specs.Faults.{is_well_named};
+    ghost use Rattle.exec_graph.specs.Numbers.{topic_named, server_named};
+    ghost use Rattle.exec_graph.specs.Refusals.{fault_in};
+    ghost use Rattle.exec_graph.specs.Resolved.{graph_in};
+
+    /// A graph in which nothing is declared yet. It takes no memory.
+    pub fn new(alloc: Global) -> GraphBuilder
+        ensures { result ≡ record { topics = []; nodes = [] } }
+    {
+        GraphBuilder {
+            alloc,
+            draft: GraphDraft {
+                topics: Items::new(alloc),
+                nodes: Items::new(alloc),
+            },
+        }
+    }
+
+    /// Declares a topic.
+    ///
+    /// # Errors
+    /// [`Memory`] where a growth was refused. All stays as it was then.
+    pub fn topic(&mut self, name: String) -> Result<(), Memory>
+        ensures ok { OnOk result (self.new ≡ record self.old { topics = self.old.topics ++ string_bytes name ∷ [] }) }
+        ensures err { OnErr result (self.new ≡ self.old) }
+    {
+        self.draft.topics.push(WordText::of(name))?;
+        Ok(())
+    }
+
+    /// Declares a node with all that is its.
+    ///
+    /// # Errors
+    /// [`Memory`] where a growth was refused. All stays as it was then.
+    pub fn node(&mut self, node: NodeDraft) -> Result<(), Memory>
+        ensures ok { OnOk result (self.new ≡ record self.old { nodes = self.old.nodes ++ node ∷ [] }) }
+        ensures err { OnErr result (self.new ≡ self.old) }
+    {
+        self.draft.nodes.push(node)?;
+        Ok(())
+    }
+
+    /// Whether a topic of this name is declared. It looks at all topics: [`NamedGraph`] finds one among many.
+    pub fn topic_named(&self, name: &str) -> bool
+        ensures { result ≡ is_some (topic_named self.now name.now) }
+    {
+        has_topic(self.draft.topics.as_slice(), name)
+    }
+
+    /// Whether an action, that is its server, of this name is declared in whatever node. It looks at all entities:
+    /// [`NamedGraph`] finds one among many.
+    pub fn action_named(&self, name: &str) -> bool
+        ensures { result ≡ is_some (server_named self.now name.now) }
+    {
+        have_action(self.draft.nodes.as_slice(), name)
+    }
+
+    /// What is declared, where all of it is well named.
+    ///
+    /// # Errors
+    /// [`GraphFault::Name`], or [`GraphFault::Memory`] where a growth was refused.
+    pub fn named(&self) -> Result<NamedGraph<'_>, GraphFault>
+        ensures named { IfOk result (λ named. (named ≡ self.now) × (is_well_named self.now ≡ true)) }
+        ensures fault { IfErr result (λ fault. (fault ≡ GraphFault.Memory) ⊎ ((fault ≡ GraphFault.Name) × (is_well_named self.now ≡ false))) }
+    {
+        match well_named(self.alloc, &self.draft)? {
+            Some(directory) => Ok(NamedGraph {
+                alloc: self.alloc,
+                draft: &self.draft,
+                directory,
+            }),
+            None => Err(GraphFault::Name),
+        }
+    }
+
+    /// The graph of what was declared. The builder is given up on a fault.
+    ///
+    /// # Errors
+    /// The least fault of what was declared, or [`GraphFault::Memory`] where a growth was refused.
+    pub fn finish(self) -> Result<Graph, GraphFault>
+        ensures graph { IfOk result (λ graph. (fault_in self ≡ None) × (graph_in self ≡ Some graph)) }
+        ensures fault { IfErr result (λ fault. (fault ≡ GraphFault.Memory) ⊎ (fault_in self ≡ Some fault)) }
+    {
+        let named = self.named()?;
+        named.graph()
+    }
+}
+
+fn has_topic(topics: &[WordText], name: &str) -> bool
+    ensures { result ≡ list_any (λ topic. bytes_eq topic name.now) topics.now }
+{
+    topics.iter().any(|topic| topic.as_str() == name)
+}
+
+fn have_action(nodes: &[NodeDraft], name: &str) -> bool
+    ensures { result ≡ list_any (λ node. list_any (λ entity. is_of kind.Server entity.is && bytes_eq entity.name name.now) node.entities) nodes.now }
+{
+    nodes
+        .iter()
+        .any(|node| has_action(node.entities.as_slice(), name))
+}
+
+fn has_action(entities: &[EntityDraft], name: &str) -> bool
+    ensures { result ≡ list_any (λ entity. is_of kind.Server entity.is && bytes_eq entity.name name.now) entities.now }
+{
+    entities.iter().any(|entity| entity.is.is_of(EntityKind::Server)
+        && entity.name.as_str() == name)
+}

@@ -1,0 +1,63 @@
+use crate::draft::GraphDraft;
+use crate::draft::assemble::graph_of;
+use crate::draft::directory::Directory;
+use crate::entity::{EntityKind, Referent};
+use crate::fault::GraphFault;
+use crate::graph::Graph;
+use std::alloc::Global;
+use std::marker::Model;
+
+/// What a builder declares, all of it well named, which its names find.
+#[derive(Drop)]
+pub struct NamedGraph<'a> {
+    pub(crate) alloc: Global,
+    pub(crate) draft: &'a GraphDraft,
+    pub(crate) directory: Directory<'a>,
+}
+
+impl<'a> Model for NamedGraph<'a> {
+    ghost use Rattle.std.specs.Prelude.{◌≡◌, Some};
+    ghost use Rattle.exec_graph.specs.inner.Directory.{directory_of, where_so};
+    ghost use Rattle.exec_graph.specs.declared.draft.GraphDraft.{GraphDraft};
+    ghost use Rattle.exec_graph.specs.Faults.{is_well_named};
+
+    ghost Value = { GraphDraft };
+
+    ghost view = { λ named. named.draft.now };
+
+    ghost invariant = { λ named. Some named.directory ≡ where_so (is_well_named named.draft.now) (directory_of named.draft.now) };
+}
+
+impl<'a> NamedGraph<'a> {
+    ghost use Rattle.std.specs.Prelude.{◌≡◌, ◌⊎◌, None, Some, is_some, IfOk, IfErr};
+    ghost use Rattle.exec_graph.specs.Numbers.{topic_named, server_named};
+    ghost use Rattle.exec_graph.specs.Refusals.{fault_in};
+    ghost use Rattle.exec_graph.specs.Resolved.{graph_in};
+
+    /// Whether a topic of this name is declared.
+    pub fn topic_named(&self, name: &str) -> bool
+        ensures { result ≡ is_some (topic_named self.now name.now) }
+    {
+        self.directory.number(Referent::Topic, name).is_some()
+    }
+
+    /// Whether an action, that is its server, of this name is declared in whatever node.
+    pub fn action_named(&self, name: &str) -> bool
+        ensures { result ≡ is_some (server_named self.now name.now) }
+    {
+        self.directory
+            .number(Referent::Entity(EntityKind::Server), name)
+            .is_some()
+    }
+
+    /// The graph of what is declared.
+    ///
+    /// # Errors
+    /// The least fault of what is declared, which is beyond its names, or [`GraphFault::Memory`] where a growth was refused.
+    pub fn graph(&self) -> Result<Graph, GraphFault>
+        ensures graph { IfOk result (λ graph. (fault_in self.now ≡ None) × (graph_in self.now ≡ Some graph)) }
+        ensures fault { IfErr result (λ fault. (fault ≡ GraphFault.Memory) ⊎ (fault_in self.now ≡ Some fault)) }
+    {
+        graph_of(self.alloc, self.draft, &self.directory)
+    }
+}
