@@ -1,11 +1,11 @@
 -- A round of a world of timers alone runs the callbacks of those that are due, and leaves such a world.
 use Rattle.std.proofs.Common.{◌≡◌, ◌==◌, ℕ, zero, suc, ◌+◌, ◌<◌, ◌≤◌, add-one, ℤ, replicate, Bool, true, false, List, [], ◌∷◌, ◌++◌, length, get_or, drop, map, refl, sym, ap, subst, ◌∙◌, arith}
 use Rattle.std.specs.List.{All, filter, filter_map, flat_map, fold}
-use Rattle.std.proofs.lemmas.List.{append-nil, drop_more, length-map, length-replicate}
+use Rattle.std.proofs.lemmas.List.{append-nil, drop_more, length-replicate}
 use Rattle.std.proofs.lemmas.List.Elements.{All-head, All-tail}
 use Rattle.std.proofs.lemmas.List.Folds.{fold-map}
 use Rattle.exec_graph.specs.Entity.{Resolved}
-use Rattle.exec_graph.specs.Graph.{in_group, GraphData, declared_at, is_timer, names_of}
+use Rattle.exec_graph.specs.Graph.{in_group, GraphData, declared_at, is_timer}
 use Rattle.exec_graph.specs.Plan.{PlanData}
 use Rattle.exec_graph.specs.declared.entity.Declared.{Declared}
 use Rattle.exec_graph.specs.declared.entity.Declared.TheVariants.{Topic, Entity}

@@ -1,6 +1,5 @@
 -- The identifier's text is the library's own.
-use Rattle.std.proofs.Common.{◌≡◌, ℕ, List, length, ap, ◌∙◌, arith}
-use Rattle.uuid.specs.Text.{hyphenated_text, lower}
+use Rattle.std.proofs.Common.{◌≡◌, length, ap, ◌∙◌, arith}
 use Rattle.exec_msg.specs.Line.{id_text}
 use Rattle.exec_msg.proofs.Lengths.{hyphenated_length}
 use Rattle.exec_msg.proofs.place.place_id.Goals as goal
