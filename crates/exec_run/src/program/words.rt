@@ -71,7 +71,9 @@ fn number_to(most: u16, word: &str) -> Option<u16>
 /// the arguments is [`words_behind_the_name`]'s.
 pub fn read_words<R: Env + AllocGlobal>(rt: &R) -> Result<Vec<String>, WordsFault> {
     let arguments = env::args(rt).map_err(|fault| words_fault(&fault))?;
-    let arguments = arguments.collect(rt.alloc()).map_err(|_| WordsFault::Memory)?;
+    let arguments = arguments
+        .collect(rt.alloc())
+        .map_err(|_| WordsFault::Memory)?;
     Ok(words_behind_the_name(arguments))
 }
 
