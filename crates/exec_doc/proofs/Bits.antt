@@ -5,7 +5,7 @@ use Rattle.std.specs.Option.{unwrap_or}
 use Rattle.std.proofs.lemmas.Bool.{le-leb}
 use Rattle.serde_json.specs.Data.{Data}
 use Rattle.serde_json.specs.Find.{as_array, get}
-use Rattle.exec_doc.specs.Document.{fed_in, entry_in}
+use Rattle.exec_doc.specs.Document.{resolved_fed, entry_in}
 use Rattle.exec_doc.specs.Draft.{DocumentDraft}
 use Rattle.exec_doc.specs.Forms.{id_of, text, count, integer, identifier, values_of, list_of, list, required, defaulted, message_form, goal_form, cancel_form, form_by, fed, entry, node, declared, draft_of}
 use Rattle.exec_graph.specs.Entity.{if_there}
@@ -111,7 +111,7 @@ draft_small value document e =
 
 -- ---- what is fed
 
-fed_small : (source : GraphDraft) (drafted : FedDraft) (given : Fed) → has_bits drafted ≡ true → fed_in source drafted ≡ Some given → has_128_bits given ≡ true
+fed_small : (source : GraphDraft) (drafted : FedDraft) (given : Fed) → has_bits drafted ≡ true → resolved_fed source drafted ≡ Some given → has_128_bits given ≡ true
 fed_small source (draft.Message name value) given small e =
     then_read _ (topic_named source name) _ given e (λ topic found e1.
     subst (λ (fed : Fed). has_128_bits fed ≡ true) (some_is (Message topic value) given e1) refl)
@@ -131,6 +131,6 @@ feed_small source [] (entry ∷ feed) small reads = absurd reads
 feed_small source (d ∷ drafted) [] small reads = absurd reads
 feed_small source (d ∷ drafted) (entry ∷ feed) small reads =
     both_true (has_128_bits entry.fed) (list_all (λ entry. has_128_bits entry.fed) feed)
-    (then_read _ (fed_in source d.fed) _ entry reads.0 (λ given is e.
+    (then_read _ (resolved_fed source d.fed) _ entry reads.0 (λ given is e.
     subst (λ (entry : Feed). has_128_bits entry.fed ≡ true) (some_is (record { round = d.round; fed = given }) entry e) (fed_small source d.fed given (and_left (has_bits d.fed) (list_all (λ entry. has_bits entry.fed) drafted) small) is)))
     (feed_small source drafted feed (and_right (has_bits d.fed) (list_all (λ entry. has_bits entry.fed) drafted) small) reads.1)

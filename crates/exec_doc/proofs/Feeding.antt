@@ -2,7 +2,7 @@
 use Rattle.std.proofs.Common.{◌≡◌, ℕ, Bool, true, false, ◌&&◌, nat_le, length, map, List, [], ◌∷◌, Option, None, Some, is_some, refl, ap, ap₂, sym, ◌∙◌, subst}
 use Rattle.std.specs.List.{list_all}
 use Rattle.std.specs.Option.{option_map_or}
-use Rattle.exec_doc.specs.Document.{fed_in, entry_in}
+use Rattle.exec_doc.specs.Document.{resolved_fed, entry_in}
 use Rattle.exec_doc.specs.declared.draft.FedDraft.{FedDraft}
 use Rattle.exec_doc.specs.declared.draft.EntryDraft.{EntryDraft}
 use Rattle.exec_doc.specs.Draft.{DocumentDraft}
@@ -62,7 +62,7 @@ all_read f test (x ∷ xs) (y ∷ ys) passes reads = both_true (test y) (list_al
 module _ (source : GraphDraft) (made : GraphData)
     (topic_there : (name : List ℕ) (number : ℕ) → topic_named source name ≡ Some number → is_at is_topic made number ≡ true)
     (server_there : (name : List ℕ) (number : ℕ) → server_named source name ≡ Some number → is_at is_server made number ≡ true) where
-  fed_of : (drafted : FedDraft) (fed : Fed) → fed_in source drafted ≡ Some fed → IsFed made drafted fed
+  fed_of : (drafted : FedDraft) (fed : Fed) → resolved_fed source drafted ≡ Some fed → IsFed made drafted fed
   fed_of (draft.Message name value) fed e =
       then_read _ (topic_named source name) _ fed e (λ topic found e1.
       subst (IsFed made (draft.Message name value)) (some_is (Message topic value) fed e1)
@@ -80,7 +80,7 @@ module _ (source : GraphDraft) (made : GraphData)
 
   entry_of : (drafted : EntryDraft) (entry : Feed) → entry_in source drafted ≡ Some entry → IsEntry made drafted entry
   entry_of drafted entry e =
-      then_read _ (fed_in source drafted.fed) _ entry e (λ fed read e1.
+      then_read _ (resolved_fed source drafted.fed) _ entry e (λ fed read e1.
       subst (IsEntry made drafted) (some_is (record { round = drafted.round; fed = fed }) entry e1) (record { round = refl; fed = fed_of drafted.fed fed read }))
 
   -- what is read of a feed has the schedule of its draft, and goes to what is there

@@ -3,7 +3,7 @@ use Rattle.std.proofs.Common.{◌≡◌, Bool, true, false, not, ◌&&◌, ◌||
 use Rattle.std.specs.List.{list_all}
 use Rattle.std.specs.Option.{option_map_or}
 use Rattle.exec_doc.specs.Draft.{DocumentDraft}
-use Rattle.exec_doc.specs.Refusals.{feeds, is_identified, is_within, has_declared_names, is_clocked, has_fault, codes_in_order}
+use Rattle.exec_doc.specs.Refusals.{feeds, is_identified, has_small_schedule, has_declared_names, is_clocked, has_fault, codes_in_order}
 use Rattle.exec_doc.specs.declared.refused.Refused.{Refused}
 use Rattle.exec_doc.specs.declared.refused.Refused.TheVariants as refused
 use Rattle.exec_graph.specs.declared.draft.GraphDraft.{GraphDraft}
@@ -16,7 +16,7 @@ use Rattle.exec_graph.proofs.Kept.{none_passes}
 pub record IsKept (document : DocumentDraft) : Type 0 where
   pub graph : fault_in document.graph ≡ None
   pub feeding : list_all (λ entry. feeds document.graph entry.fed) document.feed ≡ true
-  pub within : is_within document ≡ true
+  pub within : has_small_schedule document ≡ true
   pub clock : is_clocked document ≡ true
   pub identified : list_all (λ entry. is_identified entry.fed) document.feed ≡ true
 
@@ -35,7 +35,7 @@ pub kept : (document : DocumentDraft) → find (holds_of (Some document)) codes_
 kept document found =
     let ids = list_all (λ entry. is_identified entry.fed) document.feed in
     let feeding = list_all (λ entry. feeds document.graph entry.fed) document.feed in
-    let limits = is_small document.graph && is_within document in
+    let limits = is_small document.graph && has_small_schedule document in
     let last = not ids || false in
     let seventh = not (is_clocked document) || last in
     let sixth = shares_variables document.graph || seventh in
@@ -51,10 +51,10 @@ kept document found =
     let named = not_false (has_declared_names document) (or_left (not (has_declared_names document)) fourth past_version) in
     let limited = not_false limits (or_left (not limits) fifth past_names) in
     record {
-      graph = without_fault document.graph (and_left (is_well_named document.graph) feeding named) (and_left (is_small document.graph) (is_within document) limited)
+      graph = without_fault document.graph (and_left (is_well_named document.graph) feeding named) (and_left (is_small document.graph) (has_small_schedule document) limited)
           (or_left (has_faulty_script document.graph) sixth past_limits) (or_left (shares_variables document.graph) seventh past_scripts);
       feeding = and_right (is_well_named document.graph) feeding named;
-      within = and_right (is_small document.graph) (is_within document) limited;
+      within = and_right (is_small document.graph) (has_small_schedule document) limited;
       clock = not_false (is_clocked document) (or_left (not (is_clocked document)) last past_variables);
       identified = not_false ids (or_left (not ids) false past_clock);
     }

@@ -3,7 +3,7 @@ use Rattle.std.proofs.Common.{◌≡◌, ℕ, true, false, length, map, IsTrue, 
 use Rattle.std.specs.List.{list_all}
 use Rattle.std.specs.Option.{option_map_or}
 use Rattle.std.proofs.lemmas.List.Elements.{All-nil, All-cons}
-use Rattle.exec_doc.specs.Document.{fed_in, entry_in}
+use Rattle.exec_doc.specs.Document.{resolved_fed, entry_in}
 use Rattle.exec_doc.specs.declared.draft.FedDraft.{FedDraft}
 use Rattle.exec_doc.specs.declared.draft.FedDraft.TheVariants as draft
 use Rattle.exec_doc.specs.declared.draft.EntryDraft.{EntryDraft}
@@ -152,7 +152,7 @@ are_declared source made drafted feed e read = each_feeds source made (finds sou
 
 -- what is fed to a graph is what its draft says, where that is identified, and goals have identifiers
 record IsSaid (source : GraphDraft) (drafted : FedDraft) (fed : Fed) : Type 0 where
-  pub said : fed_in source drafted ≡ Some fed
+  pub said : resolved_fed source drafted ≡ Some fed
   pub identified : is_identified fed ≡ true
 
 fed_said : (source : GraphDraft) (made : GraphData) → Finds source made → (drafted : FedDraft) (fed : Fed) → fed_by made drafted ≡ Some fed → refusals.is_identified drafted ≡ true → IsSaid source drafted fed
@@ -180,7 +180,7 @@ pub record AreSaid (source : GraphDraft) (drafted : List EntryDraft) (feed : Lis
   pub said : each (entry_in source) drafted ≡ Some feed
   pub identified : list_all (λ entry. is_identified entry.fed) feed ≡ true
 
-entry_said : (source : GraphDraft) (d : EntryDraft) (entry : Feed) → entry.round ≡ d.round → fed_in source d.fed ≡ Some entry.fed → entry_in source d ≡ Some entry
+entry_said : (source : GraphDraft) (d : EntryDraft) (entry : Feed) → entry.round ≡ d.round → resolved_fed source d.fed ≡ Some entry.fed → entry_in source d ≡ Some entry
 entry_said source d entry round said = rw said (rw (← round) refl)
 
 each_said : (source : GraphDraft) (made : GraphData) → Finds source made → (drafted : List EntryDraft) (feed : List Feed) → AreRead (entry_by made) drafted feed → list_all (λ entry. refusals.is_identified entry.fed) drafted ≡ true → AreSaid source drafted feed

@@ -3,7 +3,7 @@ use Rattle.std.proofs.Common.{◌≡◌, ℕ, Bool, true, false, is_some, List, 
 use Rattle.std.specs.List.{list_all}
 use Rattle.std.specs.Option.{option_map_or}
 use Rattle.serde_json.specs.Data.{Data}
-use Rattle.exec_doc.specs.Document.{fed_in, entry_in, plan_of, unless_refused, plan_in}
+use Rattle.exec_doc.specs.Document.{resolved_fed, entry_in, plan_of, unless_refused, plan_in}
 use Rattle.exec_doc.specs.declared.draft.FedDraft.{FedDraft}
 use Rattle.exec_doc.specs.declared.draft.FedDraft.TheVariants.{Message, Goal, Cancel}
 use Rattle.exec_doc.specs.declared.draft.EntryDraft.{EntryDraft}
@@ -26,7 +26,7 @@ identified : (id : Option ℕ) (test : ℕ → Bool) → option_map_or test id f
 identified None test e = e
 identified (Some id) test e = refl
 
-is_fed : (source : GraphDraft) (fed : FedDraft) → feeds source fed ≡ true → is_identified fed ≡ true → is_some (fed_in source fed) ≡ true
+is_fed : (source : GraphDraft) (fed : FedDraft) → feeds source fed ≡ true → is_identified fed ≡ true → is_some (resolved_fed source fed) ≡ true
 is_fed source (Message name value) feeding has_id = then_some (topic_named source name) _ feeding (λ topic. refl)
 is_fed source (Goal name id value) feeding has_id =
     then_some (server_named source name) _ feeding (λ server. then_some id _ (identified id _ has_id) (λ id. refl))
@@ -37,7 +37,7 @@ are_fed : (source : GraphDraft) (feed : List EntryDraft) → list_all (λ entry.
 are_fed source [] feeding has_ids = refl
 are_fed source (entry ∷ others) feeding has_ids =
     both_true (is_some (entry_in source entry)) (list_all (λ entry. is_some (entry_in source entry)) others)
-    (then_some (fed_in source entry.fed) _
+    (then_some (resolved_fed source entry.fed) _
     (is_fed source entry.fed (and_left (feeds source entry.fed) (list_all (λ entry. feeds source entry.fed) others) feeding) (and_left (is_identified entry.fed) (list_all (λ entry. is_identified entry.fed) others) has_ids))
     (λ fed. refl))
     (are_fed source others (and_right (feeds source entry.fed) (list_all (λ entry. feeds source entry.fed) others) feeding) (and_right (is_identified entry.fed) (list_all (λ entry. is_identified entry.fed) others) has_ids))

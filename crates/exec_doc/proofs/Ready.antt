@@ -7,7 +7,7 @@ use Rattle.exec_doc.specs.Draft.{DocumentDraft}
 use Rattle.exec_doc.specs.declared.draft.EntryDraft.{EntryDraft}
 use Rattle.exec_doc.specs.inner.Placing.{entry_by}
 use Rattle.exec_doc.specs.Refusals as refusals
-use Rattle.exec_doc.specs.Refusals.{feeds, is_within, is_clocked}
+use Rattle.exec_doc.specs.Refusals.{feeds, has_small_schedule, is_clocked}
 use Rattle.exec_doc.specs.declared.refused.Refused.{Refused}
 use Rattle.exec_doc.specs.declared.refused.Refused.TheVariants as refused
 use Rattle.exec_graph.specs.declared.draft.GraphDraft.{GraphDraft}
@@ -38,7 +38,7 @@ ready_there document graph moments entries ready none = by (list_all (λ entry. 
 
 -- what is fed to its graph, with the tests of a plan
 record IsFed (document : DocumentDraft) (moments : List ℕ) (feed : List Feed) : Type 0 where
-  pub within : schedule_fits moments (length feed) (greatest (map (λ entry. stamp_of entry.fed) feed)) ≡ is_within document
+  pub within : schedule_fits moments (length feed) (greatest (map (λ entry. stamp_of entry.fed) feed)) ≡ has_small_schedule document
   pub clocked : is_in_order moments (map (λ entry. entry.round) feed) ≡ is_clocked document
   pub said : list_all (λ entry. refusals.is_identified entry.fed) document.feed ≡ true → each (entry_in document.graph) document.feed ≡ Some feed
   pub identified : list_all (λ entry. refusals.is_identified entry.fed) document.feed ≡ true → list_all (λ entry. is_identified entry.fed) feed ≡ true
@@ -57,7 +57,7 @@ fed_ready document graph moments entries feed ready read =
 
 -- its refusal by the schedule and identifiers
 ready_refusal : (document : DocumentDraft) (graph : GraphData) (moments : List ℕ) (entries : List EntryDraft) (feed : List Feed) → IsReady document graph moments entries → each (entry_by graph) entries ≡ Some feed
-    → draft_refusal document ≡ scheduled (is_within document) (is_clocked document) (list_all (λ entry. refusals.is_identified entry.fed) document.feed)
+    → draft_refusal document ≡ scheduled (has_small_schedule document) (is_clocked document) (list_all (λ entry. refusals.is_identified entry.fed) document.feed)
 ready_refusal document graph moments entries feed ready read =
     by_schedule document ready.version
     (ap (λ (es : List EntryDraft). list_all (λ entry. feeds document.graph entry.fed) es) ready.entries ∙ are_declared document.graph graph entries feed ready.made read)
@@ -78,7 +78,7 @@ ready_limit document graph moments entries feed ready read late_moment =
     let few = nat_le (length document.moments) MOMENTS in
     let fed = nat_le (length document.feed) FEED in
     let stamped = nat_le (greatest (map (λ entry. refusals.stamp_of entry.fed) document.feed)) TICKS in
-    let within : is_within document ≡ false = ap (λ (b : Bool). few && b && fed && stamped) late ∙ beyond few fed stamped in
+    let within : has_small_schedule document ≡ false = ap (λ (b : Bool). few && b && fed && stamped) late ∙ beyond few fed stamped in
     ready_refusal document graph moments entries feed ready read
     ∙ ap (λ (b : Bool). scheduled b (is_clocked document) (list_all (λ entry. refusals.is_identified entry.fed) document.feed)) within
 
@@ -89,14 +89,14 @@ ready_fault document graph moments entries feed fault ready read found =
     let fed = fed_ready document graph moments entries feed ready read in
     let these = list_all (λ entry. is_identified entry.fed) feed in
     let ids = list_all (λ entry. refusals.is_identified entry.fed) document.feed in
-    let by : plan_by (is_within document) (is_clocked document) these ≡ Some fault =
+    let by : plan_by (has_small_schedule document) (is_clocked document) these ≡ Some fault =
     subst (λ (a : Bool). plan_by a (is_clocked document) these ≡ Some fault) fed.within
     (subst (λ (b : Bool). plan_by (schedule_fits moments (length feed) (greatest (map (λ entry. stamp_of entry.fed) feed))) b these ≡ Some fault) fed.clocked found) in
     ready_refusal document graph moments entries feed ready read
-    ∙ plan_tests (is_within document) (is_clocked document) these ids fault fed.identified by
+    ∙ plan_tests (has_small_schedule document) (is_clocked document) these ids fault fed.identified by
 
 ready_scheduled : (document : DocumentDraft) (graph : GraphData) (moments : List ℕ) (entries : List EntryDraft) (feed : List Feed) → IsReady document graph moments entries → each (entry_by graph) entries ≡ Some feed
-    → plan_fault_in moments feed ≡ None → IsScheduled (is_within document) (is_clocked document)
+    → plan_fault_in moments feed ≡ None → IsScheduled (has_small_schedule document) (is_clocked document)
 ready_scheduled document graph moments entries feed ready read none =
     let fed = fed_ready document graph moments entries feed ready read in
     let scheduled = is_scheduled (schedule_fits moments (length feed) (greatest (map (λ entry. stamp_of entry.fed) feed))) (is_in_order moments (map (λ entry. entry.round) feed)) (list_all (λ entry. is_identified entry.fed) feed) none in
@@ -114,7 +114,7 @@ ready_plan document graph moments entries feed plan ready read none is ids =
     let fed = fed_ready document graph moments entries feed ready read in
     let keeps = ready_scheduled document graph moments entries feed ready read none in
     let all : list_all (λ entry. refusals.is_identified entry.fed) document.feed ≡ true = ap (λ (es : List EntryDraft). list_all (λ entry. refusals.is_identified entry.fed) es) ready.entries ∙ ids in (
-      ready_refusal document graph moments entries feed ready read ∙ scheduled_by (is_within document) (is_clocked document) _ true true true keeps.fits keeps.ordered all,
+      ready_refusal document graph moments entries feed ready read ∙ scheduled_by (has_small_schedule document) (is_clocked document) _ true true true keeps.fits keeps.ordered all,
       plan_is document graph moments feed ready.made (fed.said all) ready.ticks ∙ ap (λ (p : PlanData). Some p) (sym is),
     )
 
@@ -124,7 +124,7 @@ pub ready_id : (document : DocumentDraft) (graph : GraphData) (moments : List �
 ready_id document graph moments entries feed ready read none ids =
     let keeps = ready_scheduled document graph moments entries feed ready read none in
     let some : list_all (λ entry. refusals.is_identified entry.fed) document.feed ≡ false = ap (λ (es : List EntryDraft). list_all (λ entry. refusals.is_identified entry.fed) es) ready.entries ∙ ids in
-    ready_refusal document graph moments entries feed ready read ∙ scheduled_by (is_within document) (is_clocked document) _ true true false keeps.fits keeps.ordered some
+    ready_refusal document graph moments entries feed ready read ∙ scheduled_by (has_small_schedule document) (is_clocked document) _ true true false keeps.fits keeps.ordered some
 
 -- ---- what is answered
 
@@ -140,12 +140,12 @@ declared_is document builder feed answer b same entries is e =
     ap₂ (λ (g : GraphDraft) (es : List EntryDraft). list_all (λ entry. feeds g entry.fed) es) (sym same) (sym entries) ∙ sym is ∙ e
 
 pub within_is : (document : DocumentDraft) (moments : List ℕ) (feed : List EntryDraft) → moments ≡ document.moments → feed ≡ document.feed
-    → schedule_fits moments (length feed) (greatest (map (λ entry. refusals.stamp_of entry.fed) feed)) ≡ is_within document
+    → schedule_fits moments (length feed) (greatest (map (λ entry. refusals.stamp_of entry.fed) feed)) ≡ has_small_schedule document
 within_is document moments feed ticks entries =
     ap₂ (λ (ms : List ℕ) (es : List EntryDraft). schedule_fits ms (length es) (greatest (map (λ entry. refusals.stamp_of entry.fed) es))) ticks entries
 
 -- the code of a graph's fault
-pub by_graph : (document : DocumentDraft) (within : Bool) (fault : GraphFault) (code : Refused) → document.version ≡ 1 → list_all (λ entry. feeds document.graph entry.fed) document.feed ≡ true → within ≡ is_within document
+pub by_graph : (document : DocumentDraft) (within : Bool) (fault : GraphFault) (code : Refused) → document.version ≡ 1 → list_all (λ entry. feeds document.graph entry.fed) document.feed ≡ true → within ≡ has_small_schedule document
     → (fault ≡ graph_fault.Memory → code ≡ refused.Memory) → ((graph : GraphDraft) → fault_in graph ≡ Some fault → graph_refusal graph within ≡ Some code)
     → (fault ≡ graph_fault.Memory) ⊎ (fault_in document.graph ≡ Some fault) → (code ≡ refused.Memory) ⊎ (draft_refusal document ≡ Some code)
 by_graph document within fault code version fed same memory coded (inl is) = inl (memory is)

@@ -3,7 +3,7 @@ use Rattle.std.proofs.Common.{◌≡◌, Bool, true, false, cond, not, ◌&&◌,
 use Rattle.std.specs.List.{list_all}
 use Rattle.exec_doc.specs.inner.Answering.{draft_refusal, graph_refusal, only_if, code_of}
 use Rattle.exec_doc.specs.Draft.{DocumentDraft}
-use Rattle.exec_doc.specs.Refusals.{feeds, is_identified, is_within, is_clocked}
+use Rattle.exec_doc.specs.Refusals.{feeds, is_identified, has_small_schedule, is_clocked}
 use Rattle.exec_doc.specs.declared.refused.Refused.{Refused}
 use Rattle.exec_doc.specs.declared.refused.Refused.TheVariants as refused
 use Rattle.exec_graph.specs.Faults.{has_faulty_script, shares_variables, is_small, is_well_named}
@@ -62,7 +62,7 @@ version_1 document version = ap (λ n. n == 1) version
 -- something is fed to what isn't declared
 pub undeclared : (document : DocumentDraft) → document.version ≡ 1 → list_all (λ entry. feeds document.graph entry.fed) document.feed ≡ false → draft_refusal document ≡ Some refused.Name
 undeclared document version missing = names_by
-    (document.version == 1) (is_well_named document.graph) (list_all (λ entry. feeds document.graph entry.fed) document.feed) (is_small document.graph) (is_within document) (has_faulty_script document.graph) (shares_variables document.graph) (is_clocked document) (list_all (λ entry. is_identified entry.fed) document.feed)
+    (document.version == 1) (is_well_named document.graph) (list_all (λ entry. feeds document.graph entry.fed) document.feed) (is_small document.graph) (has_small_schedule document) (has_faulty_script document.graph) (shares_variables document.graph) (is_clocked document) (list_all (λ entry. is_identified entry.fed) document.feed)
     (version_1 document version) missing
 
 misnamed_by : (v w f s h c g o i : Bool) → v ≡ true → w ≡ false → by_tests v w f s h c g o i ≡ Some refused.Name
@@ -73,7 +73,7 @@ misnamed_by false w f s h c g o i version misnamed = absurd cc
 -- the graph isn't well named
 pub misnamed : (document : DocumentDraft) → document.version ≡ 1 → is_well_named document.graph ≡ false → draft_refusal document ≡ Some refused.Name
 misnamed document version wrong = misnamed_by
-    (document.version == 1) (is_well_named document.graph) (list_all (λ entry. feeds document.graph entry.fed) document.feed) (is_small document.graph) (is_within document) (has_faulty_script document.graph) (shares_variables document.graph) (is_clocked document) (list_all (λ entry. is_identified entry.fed) document.feed)
+    (document.version == 1) (is_well_named document.graph) (list_all (λ entry. feeds document.graph entry.fed) document.feed) (is_small document.graph) (has_small_schedule document) (has_faulty_script document.graph) (shares_variables document.graph) (is_clocked document) (list_all (λ entry. is_identified entry.fed) document.feed)
     (version_1 document version) wrong
 
 -- ---- the graph
@@ -91,10 +91,10 @@ graph_tests true true true s h c g o i code version fed found = limits (s && h) 
 
 -- a code up to that of group variables holds
 pub of_graph : (document : DocumentDraft) (within : Bool) (code : Refused) → document.version ≡ 1 → list_all (λ entry. feeds document.graph entry.fed) document.feed ≡ true
-    → within ≡ is_within document → graph_refusal document.graph within ≡ Some code → draft_refusal document ≡ Some code
+    → within ≡ has_small_schedule document → graph_refusal document.graph within ≡ Some code → draft_refusal document ≡ Some code
 of_graph document within code version fed same found =
     graph_tests
-    (document.version == 1) (is_well_named document.graph) (list_all (λ entry. feeds document.graph entry.fed) document.feed) (is_small document.graph) (is_within document) (has_faulty_script document.graph) (shares_variables document.graph) (is_clocked document) (list_all (λ entry. is_identified entry.fed) document.feed)
+    (document.version == 1) (is_well_named document.graph) (list_all (λ entry. feeds document.graph entry.fed) document.feed) (is_small document.graph) (has_small_schedule document) (has_faulty_script document.graph) (shares_variables document.graph) (is_clocked document) (list_all (λ entry. is_identified entry.fed) document.feed)
     code (version_1 document version) fed (subst (λ (b : Bool). graph_refusal document.graph b ≡ Some code) same found)
 
 -- ---- the schedule and identifiers
@@ -115,9 +115,9 @@ schedule_tests true true true true false false false o i version fed none = refl
 
 -- the graph has no fault, and what is fed goes to what is declared
 pub by_schedule : (document : DocumentDraft) → document.version ≡ 1 → list_all (λ entry. feeds document.graph entry.fed) document.feed ≡ true
-    → fault_in document.graph ≡ None → draft_refusal document ≡ scheduled (is_within document) (is_clocked document) (list_all (λ entry. is_identified entry.fed) document.feed)
+    → fault_in document.graph ≡ None → draft_refusal document ≡ scheduled (has_small_schedule document) (is_clocked document) (list_all (λ entry. is_identified entry.fed) document.feed)
 by_schedule document version fed none = schedule_tests
-    (document.version == 1) (is_well_named document.graph) (list_all (λ entry. feeds document.graph entry.fed) document.feed) (is_small document.graph) (is_within document) (has_faulty_script document.graph) (shares_variables document.graph) (is_clocked document) (list_all (λ entry. is_identified entry.fed) document.feed)
+    (document.version == 1) (is_well_named document.graph) (list_all (λ entry. feeds document.graph entry.fed) document.feed) (is_small document.graph) (has_small_schedule document) (has_faulty_script document.graph) (shares_variables document.graph) (is_clocked document) (list_all (λ entry. is_identified entry.fed) document.feed)
     (version_1 document version) fed none
 
 -- a plan's fault is the refusal, where its goals are identified where the document's are

@@ -20,15 +20,15 @@ use Rattle.exec_graph.specs.declared.plan.Fed.TheVariants.{Message, Goal, Cancel
 -- ---- the feed
 
 -- what is fed
-abbrev pub fed_in : GraphDraft → FedDraft → Option Fed
-fed_in drafted (draft.Message name value) = do
+abbrev pub resolved_fed : GraphDraft → FedDraft → Option Fed
+resolved_fed drafted (draft.Message name value) = do
   topic ← topic_named drafted name
   Some (Message topic value)
-fed_in drafted (draft.Goal name said value) = do
+resolved_fed drafted (draft.Goal name said value) = do
   server ← server_named drafted name
   id ← said
   Some (Goal server id value)
-fed_in drafted (draft.Cancel name said stamp) = do
+resolved_fed drafted (draft.Cancel name said stamp) = do
   server ← server_named drafted name
   id ← said
   Some (Cancel server id stamp)
@@ -36,7 +36,7 @@ fed_in drafted (draft.Cancel name said stamp) = do
 -- an entry of the feed
 abbrev pub entry_in : GraphDraft → EntryDraft → Option Feed
 entry_in drafted entry = do
-  fed ← fed_in drafted entry.fed
+  fed ← resolved_fed drafted entry.fed
   Some (record { round = entry.round; fed = fed })
 
 -- ---- the plan

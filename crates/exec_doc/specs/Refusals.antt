@@ -44,8 +44,8 @@ stamp_of (Goal name id value) = 0
 stamp_of (Cancel name id stamp) = stamp
 
 -- no moment, no stamp, and no number of moments or entries is beyond its limit
-abbrev pub is_within : DocumentDraft → Bool
-is_within document = schedule_fits document.moments (length document.feed) (greatest (map (λ entry. stamp_of entry.fed) document.feed))
+abbrev pub has_small_schedule : DocumentDraft → Bool
+has_small_schedule document = schedule_fits document.moments (length document.feed) (greatest (map (λ entry. stamp_of entry.fed) document.feed))
 
 -- ---- 8: the clock
 
@@ -80,7 +80,7 @@ number_of refused.Memory = 10
 abbrev pub has_fault : Refused → DocumentDraft → Bool
 has_fault refused.Version document = not (document.version == 1)
 has_fault refused.Name document = not (has_declared_names document)
-has_fault refused.Limit document = not (is_small document.graph && is_within document)
+has_fault refused.Limit document = not (is_small document.graph && has_small_schedule document)
 has_fault refused.Script document = has_faulty_script document.graph
 has_fault refused.GroupVariable document = shares_variables document.graph
 has_fault refused.Clock document = not (is_clocked document)

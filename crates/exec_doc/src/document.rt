@@ -94,7 +94,7 @@ fn code_of(fault: GraphFault, fits: bool) -> Refused
     }
 }
 
-// The plan of a graph, where no code up to that of group variables holds but of names that are fed and of the schedule.
+// The plan of a graph without a fault. What may still be refused: a name that is fed, the schedule, an identifier.
 fn planned(
     alloc: Global,
     graph: Graph,

@@ -1,7 +1,6 @@
 //! Callback groups and their numbers.
-ghost use Rattle.std.specs.Prelude.{◌≡◌, ◌++◌, ◌≤◌, length, map, false, find, not, IfOk, OnOk};
+ghost use Rattle.std.specs.Prelude.{◌≡◌, ◌++◌, ◌≤◌, length, map, IfOk, OnOk};
 ghost use Rattle.std.specs.List.{position_from};
-ghost use Rattle.std.specs.Option.{option_map_or};
 ghost use Rattle.exec_graph.specs.Numbers.{groups_from, named_group, is_group, same_name};
 
 use crate::draft::{GroupDraft, NodeDraft};
@@ -63,18 +62,6 @@ pub(crate) fn group_named(
         }
     }
     None
-}
-
-// Whether a node's group of a name is reentrant.
-pub(crate) fn is_reentrant(groups: &[CallbackGroup], node: usize, name: &Option<WordText>) -> bool
-    ensures { result ≡ option_map_or (λ group. not group.exclusive) (find (is_group node name.now) groups.now) false }
-{
-    for group in groups {
-        if is_group(node, name, group) {
-            return !group.exclusive;
-        }
-    }
-    false
 }
 
 fn is_group(node: usize, name: &Option<WordText>, group: &CallbackGroup) -> bool

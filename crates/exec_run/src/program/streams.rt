@@ -27,8 +27,8 @@ pub struct WriteFault;
 pub struct InputStream<R> {
     /// The reader.
     pub reader: R,
-    /// Whether a read has failed.
-    pub failed: bool,
+    // Whether a read has failed.
+    failed: bool,
 }
 
 impl<R: Read> InputStream<R> {
@@ -69,10 +69,10 @@ impl<R: Read> InputStream<R> {
 pub struct OutputStream<W> {
     /// The writer.
     pub writer: W,
-    /// Whether a write or a flush has failed, or a write took nothing.
-    pub failed: bool,
-    /// Whether a flush stands behind the last write.
-    pub flushed: bool,
+    // Whether a write or a flush has failed, or a write took nothing.
+    failed: bool,
+    // Whether a flush stands behind the last write.
+    flushed: bool,
 }
 
 impl<W: Write> OutputStream<W> {
