@@ -2,4 +2,9 @@
 #![tactic(auto)]
 
 pub mod examples;
-pub mod laws;
+mod item;
+// LAWS pub mod laws;
+mod ready;
+
+pub use item::Item;
+pub use ready::{Cause, Ready};
