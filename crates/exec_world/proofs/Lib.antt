@@ -2,16 +2,10 @@ pub mod Ended
 pub mod Endings
 pub mod Growing
 pub mod Handling
-pub mod Identifiers
 pub mod Keeping
 pub mod Lawful
-pub mod Lives
 pub mod OfKinds
 pub mod Pairs
-pub mod Requests
 pub mod Running
 pub mod Shapes
-pub mod Statuses
-pub mod Turning
-pub mod Views
 pub mod Within

@@ -1,5 +1,5 @@
 -- What a callback does, wherever its effects go: into the world at once, or into a list that is given to the world later.
-use Rattle.std.specs.Prelude.{ℕ, ℤ, pos, List, [], ◌∷◌, ◌++◌, Bool, Option, None, Some}
+use Rattle.std.specs.Prelude.{ℕ, ℤ, pos, List, [], ◌∷◌, ◌++◌, Bool, true, false, Option, None, Some}
 use Rattle.std.specs.List.{fold}
 use Rattle.std.specs.Option.{unwrap_or}
 use Rattle.exec_goal.specs.Cancel.{Decided}
@@ -13,7 +13,8 @@ use Rattle.exec_script.specs.declared.effects.Close.TheVariants as close
 use Rattle.exec_script.specs.declared.effects.Effect.{Effect}
 use Rattle.exec_script.specs.declared.place.Role.{Role}
 use Rattle.exec_script.specs.declared.place.Role.TheVariants as role
-use Rattle.exec_task.specs.Task.{TaskState, Answer, ready, pending, Polled, polled, answer_of}
+use Rattle.exec_task.specs.Task.{TaskState, Answer, ready, pending, Polled, polled, is_awake, answer_of}
+use Rattle.exec_task.specs.declared.wait.Turn.{Turn}
 use Rattle.exec_world.specs.Ready.{turn_at, input_of}
 use Rattle.exec_world.specs.World.{Moment, Variables, GoalWork}
 use Rattle.exec_world.specs.declared.item.Item.{Item}
@@ -98,11 +99,19 @@ close_of_answer (pending waits) = close.Pending
 abbrev pub after_poll : {S : Type 0} → Polled S → Outcome S
 after_poll poll = record { variables = poll.variables; given = poll.given; close = close_of_answer (answer_of poll.task); task = Some poll.task }
 
--- a goal is polled that does this work; one that isn't there does nothing
-abbrev pub poll : {S : Type 0} → (Effect → S → S) → Moment → Bool → Option GoalWork → Variables → S → Outcome S
-poll give moment canceling None variables given = record { variables = variables; given = given; close = close.Pending; task = None }
-poll give moment canceling (Some work) variables given =
-    after_poll (polled give work.script work.value (turn_at moment canceling) work.task variables given)
+-- nothing is done, and the goal pends
+abbrev pub unpolled : {S : Type 0} → Variables → S → Outcome S
+unpolled variables given = record { variables = variables; given = given; close = close.Pending; task = None }
+
+-- a goal that does this work is polled where it is awake
+abbrev pub poll_where : {S : Type 0} → Bool → (Effect → S → S) → Turn → GoalWork → Variables → S → Outcome S
+poll_where true give turn work variables given = after_poll (polled give work.script work.value turn work.task variables given)
+poll_where false give turn work variables given = unpolled variables given
+
+-- a goal that does this work is polled; one that isn't there isn't
+abbrev pub poll : {S : Type 0} → (Effect → S → S) → Turn → Option GoalWork → Variables → S → Outcome S
+poll give turn None variables given = unpolled variables given
+poll give turn (Some work) variables given = poll_where (is_awake work.task turn) give turn work variables given
 
 -- ---- callbacks
 
@@ -115,7 +124,7 @@ take_item taken give one variables given = call_in (role_of taken) give one vari
 abbrev pub act : {S : Type 0} → Cause → (Effect → S → S) → Ready → Option GoalWork → Variables → S → Outcome S
 act cause.Due give one work variables given = call_in role.Callback give one variables given
 act (cause.Took taken) give one work variables given = take_item taken give one variables given
-act (cause.Woke id value canceling) give one work variables given = poll give one.moment canceling work variables given
+act (cause.Woke id value canceling) give one work variables given = poll give (turn_at one.moment canceling) work variables given
 
 -- a ready callback runs, where a goal that it polls does this work
 abbrev pub callback : {S : Type 0} → (Effect → S → S) → Ready → Option GoalWork → Variables → S → Outcome S

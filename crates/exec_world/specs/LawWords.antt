@@ -1,5 +1,5 @@
 -- Words for the laws of rounds.
-use Rattle.std.specs.Prelude.{◌≡◌, ◌⊎◌, ℕ, Bool, ◌&&◌, ◌==◌, List, [], ◌∷◌, length, map, Option, None, Some, if◌then◌else◌}
+use Rattle.std.specs.Prelude.{◌≡◌, ◌⊎◌, ℕ, Bool, ◌&&◌, ◌==◌, List, [], ◌∷◌, length, map, replicate, Option, None, Some, if◌then◌else◌}
 use Rattle.std.specs.List.{flat_map}
 use Rattle.exec_goal.specs.Cancel.{Decided}
 use Rattle.exec_goal.specs.State.{Transition, status_of}
@@ -12,9 +12,10 @@ use Rattle.exec_msg.specs.declared.goal.GoalStatus.TheVariants as status
 use Rattle.exec_msg.specs.declared.line.Line.{Line}
 use Rattle.exec_msg.specs.declared.line.Line.TheVariants as line
 use Rattle.exec_msg.specs.Kind.{ready_number}
+use Rattle.exec_script.specs.Zeros.{zeros}
 use Rattle.exec_world.specs.Item.{GoalId}
 use Rattle.exec_world.specs.Ready.{kind_of}
-use Rattle.exec_world.specs.World.{WorldState}
+use Rattle.exec_world.specs.World.{WorldState, TimerEntry, Queue, ServerEntry, ClientEntry, ActionClientEntry}
 use Rattle.exec_world.specs.declared.ready.Ready.{Ready}
 
 -- a cancel handler's decision: 1 rejects, and 2 accepts
@@ -25,26 +26,33 @@ IsDecision decided = (decided.1 ≡ 1) ⊎ (decided.1 ≡ 2)
 abbrev pub is_callback_of : EntityNo → Kind → Ready → Bool
 is_callback_of entity kind one = (one.entity == entity) && (ready_number (kind_of one.cause) == ready_number kind)
 
--- what a world has of its graph: the entities of its timers, queues (with the kind of callback that takes from each),
--- servers, service clients and action clients (with the place of each among the action clients), in their order, and the
--- number of its callback groups
-pub record WorldShape : Type 0 where
-  pub timers : List EntityNo
-  pub queues : List (EntityNo × Kind)
-  pub servers : List EntityNo
-  pub clients : List EntityNo
-  pub action_clients : List (EntityNo × ℕ)
-  pub groups : ℕ
+-- an entry without what a run changes of it
+abbrev pub timer_shape : TimerEntry → TimerEntry
+timer_shape entry = record entry { timer = record entry.timer { next = 0 } }
 
--- the shape of a world
-abbrev pub shape_of : WorldState → WorldShape
+abbrev pub queue_shape : Queue → Queue
+queue_shape queue = record queue { items = [] }
+
+abbrev pub server_shape : ServerEntry → ServerEntry
+server_shape entry = record entry { goals = []; held = [] }
+
+abbrev pub client_shape : ClientEntry → ClientEntry
+client_shape entry = record entry { calls = 0; pending = [] }
+
+abbrev pub action_client_shape : ActionClientEntry → ActionClientEntry
+action_client_shape entry = record entry { goals = 0 }
+
+-- what a world has of its graph: all that a run changes is taken away
+abbrev pub shape_of : WorldState → WorldState
 shape_of world = record {
-  timers = map (λ entry. entry.entity) world.timers;
-  queues = map (λ queue. (queue.entity, queue.kind)) world.queues;
-  servers = map (λ entry. entry.entity) world.servers;
-  clients = map (λ entry. entry.entity) world.clients;
-  action_clients = map (λ entry. (entry.entity, entry.place)) world.action_clients;
-  groups = length world.variables;
+  topics = world.topics;
+  timers = map timer_shape world.timers;
+  queues = map queue_shape world.queues;
+  servers = map server_shape world.servers;
+  clients = map client_shape world.clients;
+  action_clients = map action_client_shape world.action_clients;
+  variables = replicate (length world.variables) zeros;
+  lines = [];
 }
 
 -- ---- the statuses of a goal

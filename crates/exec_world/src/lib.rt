@@ -3,7 +3,7 @@
 
 pub mod examples;
 mod item;
-// LAWS pub mod laws;
+pub mod laws;
 mod ready;
 
 pub use item::Item;

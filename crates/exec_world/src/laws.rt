@@ -1,0 +1,66 @@
+//! Laws of rounds on one thread: each function's contract says one, and its body is empty or calls the laws that it
+//! rests on.
+ghost use Rattle.std.specs.Prelude.{◌≡◌, ◌≢◌, ℕ, ◌+◌, ◌≤◌, List, ◌∷◌, [], ◌++◌, ◌==◌, length, map, take, drop, None, Some};
+ghost use Rattle.std.specs.List.{All, IsDistinct, filter, fold};
+ghost use Rattle.exec_goal.specs.declared.info.GoalInfo.{GoalInfo};
+ghost use Rattle.exec_graph.specs.Graph.{depth_of, declared_at};
+ghost use Rattle.exec_graph.specs.Plan.{PlanData};
+ghost use Rattle.exec_msg.specs.declared.goal.GoalStatus.{GoalStatus};
+ghost use Rattle.exec_msg.specs.declared.goal.GoalStatus.TheVariants as status;
+ghost use Rattle.exec_msg.specs.declared.kind.Kind.{Kind};
+ghost use Rattle.exec_msg.specs.declared.kind.Kind.TheVariants as kind;
+ghost use Rattle.exec_msg.specs.declared.line.Line.TheVariants as line;
+ghost use Rattle.exec_script.specs.declared.effects.Effect.{Effect};
+ghost use Rattle.exec_world.specs.Callback.{Handling, handle};
+ghost use Rattle.exec_world.specs.Item.{taker_of};
+ghost use Rattle.exec_world.specs.LawWords.{AreLawful, IsDecision, is_callback_of, shape_of, statuses_of, IsFinal, MayCome};
+ghost use Rattle.exec_world.specs.Ready.{ready_list};
+ghost use Rattle.exec_world.specs.Transcript.{at_snapshot, first_world, lines_of, round, rounds};
+ghost use Rattle.exec_world.specs.World.{WorldState, goals_of};
+ghost use Rattle.exec_world.specs.declared.ready.Ready.{Ready};
+
+/// Where a cancel handler ran for candidates, the decisions are those before, followed by one for each candidate, with
+/// its identifier, in order, and each of these is 1 or 2. `S` is whatever the handler's effects go into.
+pub fn decisions_are_of_the_candidates<S>()
+    ensures before { (give : Effect → S → S) (ready : Ready) (handling : Handling S) (candidates : List GoalInfo) →
+        take (length handling.decisions) (fold (handle give ready) handling candidates).decisions ≡ handling.decisions }
+    ensures identifiers { (give : Effect → S → S) (ready : Ready) (handling : Handling S) (candidates : List GoalInfo) →
+        map (λ decided. decided.0) (drop (length handling.decisions) (fold (handle give ready) handling candidates).decisions) ≡ map (λ candidate. candidate.id) candidates }
+    ensures each { (give : Effect → S → S) (ready : Ready) (handling : Handling S) (candidates : List GoalInfo) →
+        All IsDecision (drop (length handling.decisions) (fold (handle give ready) handling candidates).decisions) }
+{}
+
+/// A round keeps all lines, and the first that it adds is its own; rounds keep all lines.
+pub fn lines_only_grow()
+    ensures round { (plan : PlanData) (number moment : ℕ) (world : WorldState) →
+        take (length world.lines + 1) (round plan number moment world).lines ≡ world.lines ++ line.Round number moment ∷ [] }
+    ensures rounds { (plan : PlanData) (number : ℕ) (moments : List ℕ) (world : WorldState) →
+        take (length world.lines) (rounds plan number moments world).lines ≡ world.lines }
+{}
+
+/// Each queue holds at most its entity's depth, after any rounds of a plan.
+pub fn queues_stay_within_their_depths()
+    ensures { (plan : PlanData) (number : ℕ) (moments : List ℕ) →
+        All (λ queue. length queue.items ≤ depth_of (declared_at plan.graph queue.handler.entity)) (rounds plan number moments (first_world plan.graph)).queues }
+{}
+
+/// Each queue holds items of its kind alone, after any rounds of a plan.
+pub fn queues_hold_items_of_their_kinds()
+    ensures { (plan : PlanData) (number : ℕ) (moments : List ℕ) →
+        All (λ queue. All (λ one. taker_of one ≡ queue.kind) queue.items) (rounds plan number moments (first_world plan.graph)).queues }
+{}
+
+/// Rounds change no shape: which topics, timers, queues, servers, clients and callback groups there are, and what they
+/// have of the graph, stays as it is.
+pub fn the_shape_never_changes()
+    ensures { (plan : PlanData) (number : ℕ) (moments : List ℕ) (world : WorldState) →
+        shape_of (rounds plan number moments world) ≡ shape_of world }
+{}
+
+/// Behind a terminal status of a goal only the acceptance of the next one comes: so a goal has one terminal status at most.
+pub fn goals_end_once()
+    ensures { (before after : GoalStatus) → IsFinal before → MayCome (Some before) after → after ≡ status.Accepted }
+{
+    exec_goal::laws::goals_move_by_the_table();
+    exec_goal::laws::ended_goals_stay();
+}
