@@ -1,38 +1,37 @@
 -- What every basic change of a world keeps, a callback that runs keeps, and so do rounds.
-use Rattle.std.proofs.Common.{◌≡◌, ℕ, suc, ℤ, pos, Bool, true, false, is_some, List, [], ◌∷◌, Option, None, Some, refl, sym, ap, ◌∙◌, true≢false, ◌≢◌, arith}
-use Rattle.std.specs.Option.{unwrap_or}
+use Rattle.std.proofs.Common.{◌≡◌, ℕ, suc, ℤ, Bool, true, false, if◌then◌else◌, List, [], ◌∷◌, Option, None, Some, refl, sym, ap, ◌∙◌, true≢false}
 use Rattle.exec_goal.specs.Table.{asked_for, has_id, is_accepting, after_end}
-use Rattle.exec_graph.specs.Entity.{EntityNo, Script}
+use Rattle.exec_graph.specs.Entity.{EntityNo}
 use Rattle.exec_graph.specs.Feeding.{fed_in}
 use Rattle.exec_graph.specs.Plan.{PlanData}
 use Rattle.exec_msg.specs.declared.goal.Event.{Event}
 use Rattle.exec_msg.specs.declared.line.Line.TheVariants as line
-use Rattle.exec_script.specs.Script.{called, decision_within}
 use Rattle.exec_script.specs.declared.effects.Close.{Close}
 use Rattle.exec_script.specs.declared.effects.Close.TheVariants as close
 use Rattle.exec_script.specs.declared.effects.Effect.{Effect}
 use Rattle.exec_task.specs.Task.{TaskState}
 use Rattle.exec_world.proofs.Endings.{EndsBy, poll_closes}
 use Rattle.exec_world.proofs.Keeping.{Kept, Moves, moves_kept, ids_changed, state_said, fold_keeps, callback_keeps, give_keeps, push_keeps, push_any_keeps, cancel_keeps, answer_ask_keeps, respond_keeps, tell_end_keeps, feed_keeps}
-use Rattle.exec_world.specs.Callback.{Outcome, call_in, act, callback, instructions_of}
-use Rattle.exec_world.specs.Close.{GoalRequest, reply_in, decision_in, decisions_in, accept, accept_where, with_ended, goal_at, close_item, close_cause, close_poll, close_callback}
+use Rattle.exec_world.specs.Callback.{Outcome, act, callback}
+use Rattle.exec_world.specs.Close.{GoalRequest, reply_in, decision_in, decisions_in, accept, accept_where, decide, with_ended, goal_at, close_item, close_cause, close_poll, close_callback}
 use Rattle.exec_world.specs.Give.{give}
 use Rattle.exec_world.specs.Item.{GoalId}
-use Rattle.exec_world.specs.Ready.{run_line, input_of, turn_at, ready_list, take_inputs}
+use Rattle.exec_world.specs.Ready.{run_line, turn_at, ready_list, take_inputs}
 use Rattle.exec_world.specs.Run.{work_for, with_polled, after_callback, run}
 use Rattle.exec_world.specs.Transcript.{expire, feed, at_snapshot, run_all, round, rounds}
-use Rattle.exec_world.specs.World.{WorldState, Moment, GoalWork, Variables, add_line, goals_of, variables_of, with_variables, action_client_at}
+use Rattle.exec_world.specs.World.{WorldState, Moment, GoalWork, Variables, add_line, goals_of, has_room_for, variables_of, with_variables, action_client_at}
 use Rattle.exec_world.specs.declared.item.Item.{Item}
 use Rattle.exec_world.specs.declared.item.Item.TheVariants as item
 use Rattle.exec_world.specs.declared.ready.Cause.{Cause}
 use Rattle.exec_world.specs.declared.ready.Cause.TheVariants as cause
 use Rattle.exec_world.specs.declared.ready.Ready.{Ready}
 
--- what an acceptance makes of a property: it happens only where the callback took a goal request and has a script
+-- what an acceptance makes of a property: it happens only where the callback took a goal request, and its server has room
+-- for the goal
 abbrev pub Accepts : Ready → (WorldState → Type 0) → (WorldState → Type 0) → Type 0
 Accepts one P Q =
     (request : GoalRequest) (decision : ℕ) (world : WorldState) →
-    one.cause ≡ cause.Took (item.Goal request.id request.client request.value) → is_some one.script ≡ true → P world → Q (accept one.entity one.moment decision request world)
+    one.cause ≡ cause.Took (item.Goal request.id request.client request.value) → has_room_for request.id (goals_of one.entity world) ≡ true → P world → Q (accept one.entity one.moment decision request world)
 
 -- the world in which a goal ended by an event, with the line of its state
 abbrev pub ended : EntityNo → GoalId → Event → ℤ → Moment → WorldState → WorldState
@@ -44,81 +43,49 @@ Ends one P Q =
     (id : GoalId) (value : ℤ) (canceling : Bool) (by : Event) (result : ℤ) (world : WorldState) →
     one.cause ≡ cause.Woke id value canceling → EndsBy canceling by → P world → Q (ended one.entity id by result one.moment world)
 
--- what a closing of a callback may be: only one with a script accepts, and a poll ends its goal in one of these ways
-record Closes (one : Ready) (why : Cause) (closing : Close) : Type 0 where
-  accepts : (id : GoalId) (client : Option EntityNo) (value : ℤ) → why ≡ cause.Took (item.Goal id client value) → is_accepting (decision_in closing) ≡ true → is_some one.script ≡ true
-  ends : (id : GoalId) (value : ℤ) (canceling : Bool) (by : Event) (result : ℤ) → why ≡ cause.Woke id value canceling → closing ≡ close.Ended by result → EndsBy canceling by
+-- what closes a callback that polled: its goal ends in one of these ways, if it does
+abbrev Closes : Cause → Close → Type 0
+Closes why closing = (id : GoalId) (value : ℤ) (canceling : Bool) (by : Event) (result : ℤ) → why ≡ cause.Woke id value canceling → closing ≡ close.Ended by result → EndsBy canceling by
 
--- a callback without a script answers nothing
-silent : {S : Type 0} (put : Effect → S → S) (one : Ready) (variables : Variables) (given : S) → one.script ≡ None → (called put (instructions_of one.script) variables (input_of one) given).answer ≡ None
-silent put one variables given e = rw e refl
-
--- so only one with a script accepts
-scripted : {S : Type 0} (put : Effect → S → S) (one : Ready) (variables : Variables) (given : S) → is_accepting (decision_within 3 (unwrap_or (called put (instructions_of one.script) variables (input_of one) given).answer (pos 1))) ≡ true → is_some one.script ≡ true
-scripted put one variables given accepting = by one.script refl
-  where
-    by : (script : Option Script) → one.script ≡ script → is_some script ≡ true
-    by None e = absurd (true≢false (sym accepting ∙ ap (λ (answer : Option ℤ). is_accepting (decision_within 3 (unwrap_or answer (pos 1)))) (silent put one variables given e)))
-    by (Some script) e = refl
-
--- a word that tells causes apart
-abbrev kind_in : Cause → ℕ
-kind_in cause.Due = 0
-kind_in (cause.Took (item.Goal id client value)) = 1
-kind_in (cause.Took taken) = 2
-kind_in (cause.Woke id value canceling) = 3
+-- whether a callback polls
+abbrev is_poll : Cause → Bool
+is_poll (cause.Woke id value canceling) = true
+is_poll _ = false
 
 -- whether the goal of a poll is being canceled
 abbrev canceling_in : Cause → Bool
 canceling_in (cause.Woke id value canceling) = canceling
 canceling_in _ = false
 
-apart : (request poll : ℕ) → request ≡ 1 → poll ≡ 3 → request ≡ poll → ⊥
-apart request poll one three same = omega (arith, one, three, same)
-
-module _ {S : Type 0} (put : Effect → S → S) where
-  -- a callback that neither takes a goal request nor polls
-  plain : (one : Ready) (why : Cause) (closing : Close) → kind_in why ≢ 1 → kind_in why ≢ 3 → Closes one why closing
-  plain one why closing no_request no_poll = record {
-    accepts = λ id client value same accepting. absurd (no_request (ap (λ (c : Cause). kind_in c) same));
-    ends = λ id value canceling by result same is. absurd (no_poll (ap (λ (c : Cause). kind_in c) same));
-  }
-
-  closes_by : (why : Cause) (one : Ready) (work : Option GoalWork) (variables : Variables) (given : S) → Closes one why (act why put one work variables given).close
-  closes_by cause.Due one work variables given = plain one cause.Due _ (λ e. absurd cc) (λ e. absurd cc)
-  closes_by (cause.Took (item.Message value)) one work variables given = plain one _ _ (λ e. absurd cc) (λ e. absurd cc)
-  closes_by (cause.Took (item.Request client number value)) one work variables given = plain one _ _ (λ e. absurd cc) (λ e. absurd cc)
-  closes_by (cause.Took (item.Reply number value)) one work variables given = plain one _ _ (λ e. absurd cc) (λ e. absurd cc)
-  closes_by (cause.Took (item.Goal id client value)) one work variables given = record {
-    accepts = λ i c v same accepting. scripted put one variables given accepting;
-    ends = λ i v canceling by result same is. absurd (apart _ _ refl refl (ap (λ (c : Cause). kind_in c) same));
-  }
-  closes_by (cause.Took (item.Cancel request client)) one work variables given = plain one _ _ (λ e. absurd cc) (λ e. absurd cc)
-  closes_by (cause.Took (item.Ask id client)) one work variables given = plain one _ _ (λ e. absurd cc) (λ e. absurd cc)
-  closes_by (cause.Took (item.Response id accepted)) one work variables given = plain one _ _ (λ e. absurd cc) (λ e. absurd cc)
-  closes_by (cause.Took (item.Code returned moved)) one work variables given = plain one _ _ (λ e. absurd cc) (λ e. absurd cc)
-  closes_by (cause.Took (item.Feedback id value)) one work variables given = plain one _ _ (λ e. absurd cc) (λ e. absurd cc)
-  closes_by (cause.Took (item.Result id status value)) one work variables given = plain one _ _ (λ e. absurd cc) (λ e. absurd cc)
-  closes_by (cause.Woke id value canceling) one work variables given = record {
-    accepts = λ i c v same accepting. absurd (apart _ _ refl refl (sym (ap (λ (w : Cause). kind_in w) same)));
-    ends = λ i v now_canceling by result same is. rw (sym (ap (λ (w : Cause). canceling_in w) same)) (poll_closes put (turn_at one.moment canceling) work variables given by result is);
-  }
+closes_by : {S : Type 0} (put : Effect → S → S) (why : Cause) (one : Ready) (work : Option GoalWork) (variables : Variables) (given : S) → Closes why (act why put one work variables given).close
+closes_by put cause.Due one work variables given id value canceling by result same is = absurd (true≢false (sym (ap (λ (c : Cause). is_poll c) same)))
+closes_by put (cause.Took taken) one work variables given id value canceling by result same is = absurd (true≢false (sym (ap (λ (c : Cause). is_poll c) same)))
+closes_by put (cause.Woke goal given_value now_canceling) one work variables given id value canceling by result same is =
+    rw (sym (ap (λ (c : Cause). canceling_in c) same)) (poll_closes put (turn_at one.moment now_canceling) work variables given by result is)
 
 module _ {P Q : WorldState → Type 0} (k : Moves P) (l : Moves Q) (weaken : (world : WorldState) → P world → Q world) where
-  accept_keeps : (b : Bool) (one : Ready) → Accepts one P Q → (request : GoalRequest) (decision : ℕ) (world : WorldState) → one.cause ≡ cause.Took (item.Goal request.id request.client request.value) → (b ≡ true → is_some one.script ≡ true) → P world → Q (accept_where b one.entity one.moment decision request world)
-  accept_keeps true one accepts request decision world same has p = accepts request decision world same (has refl) p
-  accept_keeps false one accepts request decision world same has p = weaken world p
+  accept_keeps : (b : Bool) (one : Ready) → Accepts one P Q → (request : GoalRequest) (decision : ℕ) (world : WorldState) → one.cause ≡ cause.Took (item.Goal request.id request.client request.value) → (b ≡ true → has_room_for request.id (goals_of one.entity world) ≡ true) → P world → Q (accept_where b one.entity one.moment decision request world)
+  accept_keeps true one accepts request decision world same room p = accepts request decision world same (room refl) p
+  accept_keeps false one accepts request decision world same room p = weaken world p
 
-  took_keeps : (one : Ready) → Accepts one P Q → (taken : Item) (closing : Close) (world : WorldState) → Closes one one.cause closing → one.cause ≡ cause.Took taken → P world → Q (close_item one.entity one.moment taken closing world)
+  -- a decision that accepts is one for which there is room
+  roomy : (b : Bool) (decision : ℕ) → is_accepting (if b then decision else 1) ≡ true → b ≡ true
+  roomy true decision e = refl
+  roomy false decision e = absurd (true≢false (sym e))
+
+  decide_keeps : (one : Ready) → Accepts one P Q → (request : GoalRequest) (decision : ℕ) (world : WorldState) → one.cause ≡ cause.Took (item.Goal request.id request.client request.value) → (is_accepting decision ≡ true → has_room_for request.id (goals_of one.entity world) ≡ true) → P world → Q (decide one.entity one.moment decision request world)
+  decide_keeps one accepts request decision world same room p =
+      push_any_keeps l request.client (item.Response request.id (is_accepting decision)) _
+      (accept_keeps (is_accepting decision) one accepts request decision _ same room (k.lines_kept (line.Decide one.entity request.id decision ∷ []) _ (λ at goal. refl) p))
+
+  took_keeps : (one : Ready) → Accepts one P Q → (taken : Item) (closing : Close) (world : WorldState) → Closes one.cause closing → one.cause ≡ cause.Took taken → P world → Q (close_item one.entity one.moment taken closing world)
   took_keeps one accepts (item.Message value) closing world closes same p = weaken _ p
   took_keeps one accepts (item.Request client number value) closing world closes same p =
       push_keeps l client (item.Reply number (reply_in closing)) _ (l.lines_kept (line.Reply one.entity (reply_in closing) ∷ []) _ (λ at goal. refl) (weaken _ p))
   took_keeps one accepts (item.Reply number value) closing world closes same p = weaken _ p
   took_keeps one accepts (item.Goal id client value) closing world closes same p =
-      push_any_keeps l client (item.Response id (is_accepting (decision_in closing))) _
-      (accept_keeps (is_accepting (decision_in closing)) one accepts (record { id = id; client = client; value = value }) (decision_in closing) _ same
-      (closes.accepts id client value same)
-      (k.lines_kept (line.Decide one.entity id (decision_in closing) ∷ []) _ (λ at goal. refl) p))
+      decide_keeps one accepts (record { id = id; client = client; value = value }) (if has_room_for id (goals_of one.entity world) then decision_in closing else 1) world same
+      (roomy (has_room_for id (goals_of one.entity world)) (decision_in closing)) p
   took_keeps one accepts (item.Cancel request client) closing world closes same p = weaken _ (cancel_keeps k one.entity request client (decisions_in closing) world p)
   took_keeps one accepts (item.Ask id client) closing world closes same p = answer_ask_keeps l one.entity id client (asked_for id (goals_of one.entity world)) _ (weaken _ p)
   took_keeps one accepts (item.Response id accepted) closing world closes same p = respond_keeps l (action_client_at one.entity world) id accepted _ (weaken _ p)
@@ -126,7 +93,7 @@ module _ {P Q : WorldState → Type 0} (k : Moves P) (l : Moves Q) (weaken : (wo
   took_keeps one accepts (item.Feedback id value) closing world closes same p = weaken _ p
   took_keeps one accepts (item.Result id status value) closing world closes same p = weaken _ p
 
-  poll_keeps : (one : Ready) → Ends one P Q → (id : GoalId) (value : ℤ) (canceling : Bool) (closing : Close) (world : WorldState) → Closes one one.cause closing → one.cause ≡ cause.Woke id value canceling → P world → Q (close_poll one.entity id one.moment closing world)
+  poll_keeps : (one : Ready) → Ends one P Q → (id : GoalId) (value : ℤ) (canceling : Bool) (closing : Close) (world : WorldState) → Closes one.cause closing → one.cause ≡ cause.Woke id value canceling → P world → Q (close_poll one.entity id one.moment closing world)
   poll_keeps one ending id value canceling close.Nothing world closes same p = weaken _ p
   poll_keeps one ending id value canceling (close.Reply reply) world closes same p = weaken _ p
   poll_keeps one ending id value canceling (close.Decide decision) world closes same p = weaken _ p
@@ -134,9 +101,9 @@ module _ {P Q : WorldState → Type 0} (k : Moves P) (l : Moves Q) (weaken : (wo
   poll_keeps one ending id value canceling close.Pending world closes same p = weaken _ p
   poll_keeps one ending id value canceling (close.Ended by result) world closes same p =
       tell_end_keeps l one.entity (goal_at one.entity id (with_ended one.entity id by result one.moment world)) _
-      (ending id value canceling by result world same (closes.ends id value canceling by result same refl) p)
+      (ending id value canceling by result world same (closes id value canceling by result same refl) p)
 
-  closing_keeps : (one : Ready) → Accepts one P Q → Ends one P Q → (why : Cause) (closing : Close) (world : WorldState) → Closes one one.cause closing → one.cause ≡ why → P world → Q (close_cause one.entity one.moment why closing world)
+  closing_keeps : (one : Ready) → Accepts one P Q → Ends one P Q → (why : Cause) (closing : Close) (world : WorldState) → Closes one.cause closing → one.cause ≡ why → P world → Q (close_cause one.entity one.moment why closing world)
   closing_keeps one accepts ending cause.Due closing world closes same p = weaken _ p
   closing_keeps one accepts ending (cause.Took taken) closing world closes same p = took_keeps one accepts taken closing world closes same p
   closing_keeps one accepts ending (cause.Woke id value canceling) closing world closes same p = poll_keeps one ending id value canceling closing world closes same p
@@ -179,7 +146,7 @@ module _ {P : WorldState → Type 0} (k : KeptByRounds P) where
   pub one_keeps : (one : Ready) (world : WorldState) → P world → P (run one world)
   one_keeps one world p =
       run_keeps (moves_kept k.basic) (moves_kept k.basic) (λ before q. q) one
-      (λ request decision before same has q. k.accepts_kept one.entity one.moment decision request before q)
+      (λ request decision before same room q. k.accepts_kept one.entity one.moment decision request before q)
       (λ id value canceling by result before same how q. end_kept k.basic one.entity id by result one.moment before q) world p
 
   run_all_keeps : (list : List Ready) (world : WorldState) → P world → P (run_all list world)

@@ -15,7 +15,7 @@ use Rattle.exec_script.specs.declared.effects.Close.{Close}
 use Rattle.exec_script.specs.declared.effects.Close.TheVariants as close
 use Rattle.exec_task.specs.Task.{new_task}
 use Rattle.exec_world.specs.Item.{GoalId}
-use Rattle.exec_world.specs.World.{WorldState, Moment, HeldGoal, ServerEntry, ActionClientEntry, change_first, add_line, add_lines, push, push_any, goals_of, change_server, change_goals, action_client_at}
+use Rattle.exec_world.specs.World.{WorldState, Moment, HeldGoal, ServerEntry, ActionClientEntry, change_first, add_line, add_lines, push, push_any, goals_of, change_server, change_goals, has_room_for, action_client_at}
 use Rattle.exec_world.specs.declared.item.Item.{Item}
 use Rattle.exec_world.specs.declared.item.Item.TheVariants as item
 use Rattle.exec_world.specs.declared.ready.Cause.{Cause}
@@ -78,11 +78,16 @@ abbrev pub accept_where : Bool → EntityNo → Moment → ℕ → GoalRequest �
 accept_where true server moment decision request world = accept server moment decision request world
 accept_where false server moment decision request world = world
 
--- a server decides on a goal request, and answers the client that sent it
+-- a server decides so on a goal request, and answers the client that sent it
 abbrev pub decide : EntityNo → Moment → ℕ → GoalRequest → WorldState → WorldState
 decide server moment decision request world =
     push_any request.client (item.Response request.id (is_accepting decision))
     (accept_where (is_accepting decision) server moment decision request (add_line (line.Decide server request.id decision) world))
+
+-- a server decides on a goal request: it rejects one whose identifier it holds, or for which it has no room
+abbrev pub answer_goal : EntityNo → Moment → ℕ → GoalRequest → WorldState → WorldState
+answer_goal server moment decision request world =
+    decide server moment (if has_room_for request.id (goals_of server world) then decision else 1) request world
 
 -- ---- cancel requests
 
@@ -163,7 +168,7 @@ close_poll server id moment _ world = world
 abbrev pub close_item : EntityNo → Moment → Item → Close → WorldState → WorldState
 close_item entity moment (item.Request client number value) closing world = reply_to entity client number (reply_in closing) world
 close_item entity moment (item.Goal id client value) closing world =
-    decide entity moment (decision_in closing) (record { id = id; client = client; value = value }) world
+    answer_goal entity moment (decision_in closing) (record { id = id; client = client; value = value }) world
 close_item entity moment (item.Cancel request client) closing world = cancel entity request client (decisions_in closing) world
 close_item entity moment (item.Ask id client) closing world = ask entity id client world
 close_item entity moment (item.Response id accepted) closing world =

@@ -1,10 +1,10 @@
 -- The callbacks that are ready at a snapshot, and what the snapshot takes.
-use Rattle.std.specs.Prelude.{ℕ, suc, pos, List, [], ◌∷◌, ◌++◌, length, map, drop, nat_le, Bool, false, not, ◌&&◌, ◌||◌, ◌==◌, if◌then◌else◌, Option, None, Some}
+use Rattle.std.specs.Prelude.{ℕ, suc, pos, List, [], ◌∷◌, ◌++◌, length, map, drop, nat_le, Bool, false, not, ◌&&◌, ◌==◌, if◌then◌else◌, Option, None, Some}
 use Rattle.std.specs.List.{filter, find, flat_map}
 use Rattle.exec_goal.specs.Cancel.{candidates}
 use Rattle.exec_goal.specs.Info.{info_of}
 use Rattle.exec_goal.specs.State.{is_canceling, is_worked_on}
-use Rattle.exec_goal.specs.Table.{GoalRecord, holds, is_full}
+use Rattle.exec_goal.specs.Table.{GoalRecord}
 use Rattle.exec_goal.specs.declared.info.GoalInfo.{GoalInfo}
 use Rattle.exec_graph.specs.Entity.{EntityNo, Script}
 use Rattle.exec_msg.specs.Kind.{ready_number}
@@ -17,7 +17,7 @@ use Rattle.exec_script.specs.Script.{CallInput}
 use Rattle.exec_task.specs.Task.{is_awake, poll_input}
 use Rattle.exec_task.specs.declared.wait.Turn.{Turn}
 use Rattle.exec_world.specs.Item.{GoalId, taker_of, first_of, aux_of, id_of}
-use Rattle.exec_world.specs.World.{WorldState, Moment, Handler, TimerEntry, Queue, ServerEntry, ClientEntry, HeldGoal, items_in, goals_of, is_for}
+use Rattle.exec_world.specs.World.{WorldState, Moment, Handler, TimerEntry, Queue, ServerEntry, ClientEntry, HeldGoal, items_in, goals_of, has_room_for, is_for}
 use Rattle.exec_world.specs.declared.item.Item.{Item}
 use Rattle.exec_world.specs.declared.item.Item.TheVariants as item
 use Rattle.exec_world.specs.declared.ready.Cause.{Cause}
@@ -87,7 +87,7 @@ candidates_for _ goals = []
 -- the script that runs for an item that is taken, where these are the server's goals: none for an ask, and none for a goal
 -- request whose identifier is held or that finds no room
 abbrev pub script_for : Item → List GoalRecord → Script → Option Script
-script_for (item.Goal id client value) goals script = if holds id goals || is_full goals then None else Some script
+script_for (item.Goal id client value) goals script = if has_room_for id goals then Some script else None
 script_for (item.Ask id client) goals script = None
 script_for _ goals script = Some script
 
