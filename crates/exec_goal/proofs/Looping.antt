@@ -2,7 +2,8 @@
 use Rattle.std.proofs.Common.{◌≡◌, ◌≢◌, ℕ, zero, suc, ◌+◌, ◌<◌, ◌≤◌, ◌==◌, List, [], ◌∷◌, ◌++◌, map, length, drop, get_or, Bool, true, false, not, cond, if◌then◌else◌, Some, slice_get, slice_set, refl, ap, sym, ◌∙◌, arith, append_assoc, add-one, drop-cons, remove}
 use Rattle.std.specs.List.{filter, list_any}
 use Rattle.std.proofs.lemmas.Bool.{eqb-true}
-use Rattle.exec_goal.specs.Calls.{drop_first, IsFirst}
+use Rattle.exec_goal.specs.Calls.{IsFirst}
+use Rattle.exec_msg.specs.Lists.{drop_first}
 use Rattle.exec_goal.specs.Held.{record_of, records_of}
 use Rattle.exec_goal.specs.Info.{info_of}
 use Rattle.exec_goal.specs.Table.{GoalRecord}

@@ -1,7 +1,7 @@
 use Rattle.std.proofs.Common.{◌∙◌, ◌≡◌, sym, ap, refl, rules, None, Some, w64, to_z, of_z, to_z-of_z}
 use Rattle.std.specs.Option.{unwrap_or}
 use mir.Val.{SFits}
-use Rattle.exec_goal.proofs.Entries.{ids_decide, key_test, next-in, changed-in, with_changed-same, terminal-reached}
+use Rattle.exec_goal.proofs.Entries.{ids_decide, key_test, next-in, changed-in, change_first-same, terminal-reached}
 use Rattle.exec_goal.specs.Calls.{where_terminal}
 use Rattle.exec_goal.specs.Held.{record_of}
 use Rattle.exec_goal.specs.State.{after}
@@ -21,7 +21,7 @@ pub returns-in_default-end-clause-refused : goal.returns-in_default-end-clause-r
 returns-in_default-end-clause-refused c =
     changed-in _ c.args.id (key_test _ (λ a b. ids_decide a b) c.args.id) (λ (goal : GoalRecord). goal) c.in-Some.goal.now c.in-Some.goal.now refl
     c.self.inside.held.entries (c.get_mut.follows.lender c.in-Some.goal.now).entries c.args.self.now c.self.view_is c.in-Some.ensures.value (c.get_mut.follows.holds c.in-Some.goal.now).0
-    ∙ with_changed-same c.args.id c.args.self.now
+    ∙ change_first-same c.args.id c.args.self.now
 
 pub returns-clause-state : goal.returns-clause-state
 returns-clause-state c =
