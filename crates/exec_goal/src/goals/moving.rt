@@ -25,7 +25,9 @@ impl Goals {
         let Some(next) = goal.state.after(event) else {
             return Err(Illegal);
         };
+        let before = goal.state;
         goal.state = next;
+        self.tally.count_move(before, next, goal.ended);
         Ok(next)
     }
 
@@ -50,9 +52,11 @@ impl Goals {
         let Some(next) = goal.state.end(event) else {
             return Err(Illegal);
         };
+        let before = goal.state;
         goal.state = next;
         goal.result = value;
         goal.ended = moment;
+        self.tally.count_move(before, next, moment);
         Ok(next)
     }
 }

@@ -6,6 +6,7 @@ use Rattle.exec_goal.specs.Held.{record_of, records_of}
 use Rattle.exec_goal.specs.Info.{answer_of}
 use Rattle.exec_goal.specs.Table.{GoalRecord, Asked, asked_by}
 use Rattle.exec_goal.specs.declared.asked.Asked.TheVariants as answer
+use Rattle.exec_goal.proofs.Tallying.{unmoved, tallied-in, tallied-kept}
 use Rattle.exec_goal.proofs.goals.Goals.ask_result.Goals as goal
 
 pub returns-in_default-clause-told : goal.returns-in_default-clause-told
@@ -54,3 +55,16 @@ returns-in_err-push-clause-refused c =
     c.self.inside.held.entries (c.get_mut.follows.lender _).entries c.args.self.now c.self.view_is c.in-Some.ensures.value (c.get_mut.follows.holds _).0
     ∙ change_first-same c.args.id c.args.self.now in
     on_err c.from_residual.result kept
+
+pub invariant_of-self-then-is_terminal : goal.invariant_of-self-then-is_terminal
+invariant_of-self-then-is_terminal c = tallied-kept _ c.args.id (key_test _ (λ a b. ids_decide a b) c.args.id) c.in-Some.goal.now c.self.inside.held.entries c.in-Some.ensures.value (c.get_mut.follows.lender c.in-Some.goal.now).entries c.self.inside.tally (c.get_mut.follows.holds c.in-Some.goal.now).0 c.self.invariant
+
+pub invariant_of-self-in_err-push : goal.invariant_of-self-in_err-push
+invariant_of-self-in_err-push c =
+    tallied-in _ c.args.id (key_test _ (λ a b. ids_decide a b) c.args.id) c.in-Some.goal.now c.self.inside.held.entries c.in-Some.ensures.value _ (c.get_mut.follows.lender _).entries c.self.inside.tally c.self.inside.tally (c.get_mut.follows.holds _).0
+    (unmoved c.in-Some.goal.now.state c.in-Some.goal.now.ended c.self.inside.tally (sym c.is_terminal.ensures ∙ c.if-is_terminal.false)) c.self.invariant
+
+pub invariant_of-self-2 : goal.invariant_of-self-2
+invariant_of-self-2 c =
+    tallied-in _ c.args.id (key_test _ (λ a b. ids_decide a b) c.args.id) c.in-Some.goal.now c.self.inside.held.entries c.in-Some.ensures.value _ (c.get_mut.follows.lender _).entries c.self.inside.tally c.self.inside.tally (c.get_mut.follows.holds _).0
+    (unmoved c.in-Some.goal.now.state c.in-Some.goal.now.ended c.self.inside.tally (sym c.is_terminal.ensures ∙ c.if-is_terminal.false)) c.self.invariant
