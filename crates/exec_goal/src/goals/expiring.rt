@@ -5,7 +5,7 @@ use exec_msg::{GoalId, Moment};
 
 impl Goals {
     ghost use Rattle.std.specs.Prelude.{◌≡◌, ◌<◌, Some, [], length, drop, slice_get, slice_index_or, IfSome, IfNone};
-    ghost use Rattle.std.specs.List.{AllByRecursion};
+    ghost use Rattle.std.specs.List.{find, AllByRecursion};
     ghost use Rattle.std.specs.Option.{option_map};
     ghost use Rattle.exec_goal.specs.Calls.{after_expiry, IsFirst};
     ghost use Rattle.exec_goal.specs.Table.{GoalRecord, is_expired, expired, unexpired};
@@ -16,6 +16,7 @@ impl Goals {
     /// keep their order.
     pub fn expire(&mut self, moment: Moment, timeout: u64) -> Option<GoalId>
         ensures first { result ≡ option_map (λ goal. goal.id) (slice_get (expired moment (Some timeout) self.old) 0) }
+        ensures found { result ≡ option_map (λ goal. goal.id) (find (is_expired moment (Some timeout)) self.old) }
         ensures table { self.new ≡ after_expiry moment (Some timeout) self.old }
         ensures left { expired moment (Some timeout) self.new ≡ drop 1 (expired moment (Some timeout) self.old) }
         ensures kept { unexpired moment (Some timeout) self.new ≡ unexpired moment (Some timeout) self.old }

@@ -1,7 +1,7 @@
 use Rattle.std.proofs.Common.{◌∙◌, sym, ap, subst, List, Some, not, remove, filter, slice_get}
 use Rattle.std.specs.Option.{option_map}
 use Rattle.std.proofs.lemmas.Option.{slice_get-map}
-use Rattle.exec_goal.proofs.Looping.{removed-first, found-first, filter-drop_first, others-drop_first, drop_first-none, records-remove}
+use Rattle.exec_goal.proofs.Looping.{removed-first, found-first, find-filter, filter-drop_first, others-drop_first, drop_first-none, records-remove}
 use Rattle.exec_goal.proofs.Tallying.{tallied-removed}
 use Rattle.exec_goal.specs.Calls.{IsFirst}
 use Rattle.exec_goal.specs.Held.{record_of, records_of}
@@ -51,3 +51,13 @@ invariant_of-self c =
     subst (λ (goals : List GoalRecord). IsFirst (is_expired c.args.moment (Some c.args.timeout)) goals c.in_ok-index.index) (sym (c.self.view_is ∙ c.next_expired.ensures.same)) c.in_ok-index.ensures.found in
     subst (λ (goals : List GoalRecord). IsTallied c.self.inside.tally goals) (sym (ap records_of c.shift_remove_index.ensures.entries ∙ records-remove c.self.inside.held.entries c.in_ok-index.index))
     (tallied-removed c.args.moment c.args.timeout c.self.inside.tally goals c.in_ok-index.index found c.self.invariant)
+
+pub returns-in_err-index-clause-found : goal.returns-in_err-index-clause-found
+returns-in_err-index-clause-found c =
+    let test = is_expired c.args.moment (Some c.args.timeout) in
+    c.from_residual.ensures ∙ ap (option_map (λ (goal : GoalRecord). goal.id)) (sym (find-filter test c.args.self.now ∙ ap (λ (goals : List GoalRecord). slice_get goals 0) c.in_err-index.ensures.none))
+
+pub returns-clause-found : goal.returns-clause-found
+returns-clause-found c =
+    let test = is_expired c.args.moment (Some c.args.timeout) in
+    returns-clause-first c ∙ ap (option_map (λ (goal : GoalRecord). goal.id)) (sym (find-filter test c.args.self.now))
