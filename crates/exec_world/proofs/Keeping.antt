@@ -14,6 +14,7 @@ use Rattle.exec_msg.specs.declared.goal.ReturnCode.{ReturnCode}
 use Rattle.exec_msg.specs.declared.goal.GoalStatus.{GoalStatus}
 use Rattle.exec_msg.specs.declared.line.Line.{Line}
 use Rattle.exec_msg.specs.declared.line.Line.TheVariants as line
+use Rattle.exec_msg.specs.Lists.{change_first}
 use Rattle.exec_script.specs.Script.{ScriptState, CallInput, step_of, passed_by, after_step, follow, resumed, called}
 use Rattle.exec_script.specs.Zeros.{zeros}
 use Rattle.exec_script.specs.declared.effects.Effect.{Effect}
@@ -33,7 +34,7 @@ use Rattle.exec_world.specs.Item.{GoalId, goal_id}
 use Rattle.exec_world.specs.LawWords.{statuses_of}
 use Rattle.exec_world.specs.Ready.{turn_at, input_of}
 use Rattle.exec_world.specs.Transcript.{feed_one, feed}
-use Rattle.exec_world.specs.World.{WorldState, GoalWork, ClientEntry, ActionClientEntry, Variables, change_first, add_line, add_lines, drop_line, lost_by, queued, push, push_any, subscribers_of, goals_of, change_goals, with_task, client_at, with_call, action_client_at, with_goal_sent, with_variables}
+use Rattle.exec_world.specs.World.{WorldState, GoalWork, ClientEntry, ActionClientEntry, Variables, add_line, add_lines, drop_line, lost_by, queued, push, push_any, subscribers_of, goals_of, change_goals, with_task, client_at, with_call, action_client_at, with_goal_sent, with_variables}
 use Rattle.exec_world.specs.declared.item.Item.{Item}
 use Rattle.exec_world.specs.declared.item.Item.TheVariants as item
 use Rattle.exec_world.specs.declared.ready.Cause.{Cause}

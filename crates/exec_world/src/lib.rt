@@ -2,6 +2,7 @@
 #![tactic(auto)]
 
 pub mod examples;
+mod handler;
 mod item;
 pub mod laws;
 mod ready;
