@@ -45,8 +45,7 @@ pub(crate) fn graph_of(
         × (graph_in draft.now ≡ Some graph)) }
     ensures fault { IfErr result (λ fault. (fault ≡ graph_fault.Memory) ⊎ (fault_in draft.now ≡ Some fault)) }
 {
-    let small = is_small(alloc, draft, directory.entities())?;
-    if !small {
+    if !is_small(draft, directory.entities()) {
         return Err(GraphFault::Limit);
     }
     let groups = callback_groups(alloc, draft.nodes.as_slice())?;
