@@ -3,6 +3,7 @@ pub mod Growing
 pub mod Handling
 pub mod Keeping
 pub mod Lawful
+pub mod Numbered
 pub mod OfKinds
 pub mod Pairs
 pub mod Running
