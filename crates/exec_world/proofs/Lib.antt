@@ -1,5 +1,4 @@
 pub mod Ended
-pub mod Endings
 pub mod Growing
 pub mod Handling
 pub mod Keeping

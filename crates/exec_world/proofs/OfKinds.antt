@@ -14,7 +14,7 @@ use Rattle.exec_world.proofs.Running.{KeptByRounds, rounds_keep}
 use Rattle.exec_world.specs.Item.{taker_of}
 use Rattle.exec_world.specs.Ready.{queue_taken}
 use Rattle.exec_world.specs.Transcript.{takes_from_queue, new_queue, first_world, rounds}
-use Rattle.exec_world.specs.World.{WorldState, Moment, Queue, change_first, is_queue, queue_after, items_in}
+use Rattle.exec_world.specs.World.{change_first, WorldState, Moment, Queue, is_queue, queue_after, items_in}
 use Rattle.exec_world.specs.declared.item.Item.{Item}
 
 kind_back : (one : Kind) → get_or kinds (ready_number one - 1) kind.Timer ≡ one
@@ -72,7 +72,7 @@ kinds_kept = record {
     sending_kept = λ client world p. p;
     variables_kept = λ group variables world p. p;
   };
-  accepts_kept = λ server moment decision request world p. p;
+  accepts_kept = λ server moment decision request world room p. p;
   expiry_kept = λ moment world p. p;
   snapshot_kept = λ moment world p. kinds_taken world.queues p;
 }
