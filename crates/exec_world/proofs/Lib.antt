@@ -1,6 +1,7 @@
 pub mod Ended
 pub mod Growing
 pub mod Handling
+pub mod Identifiers
 pub mod Keeping
 pub mod Lawful
 pub mod OfKinds

@@ -57,6 +57,12 @@ pub fn the_shape_never_changes()
         shape_of (rounds plan number moments world) ≡ shape_of world }
 {}
 
+/// No two goals of one server have one identifier, after any rounds of a plan.
+pub fn identifiers_differ()
+    ensures { (plan : PlanData) (number : ℕ) (moments : List ℕ) (server : ℕ) →
+        IsDistinct (λ one other. one == other) (map (λ goal. goal.id) (goals_of server (rounds plan number moments (first_world plan.graph)))) }
+{}
+
 /// Behind a terminal status of a goal only the acceptance of the next one comes: so a goal has one terminal status at most.
 pub fn goals_end_once()
     ensures { (before after : GoalStatus) → IsFinal before → MayCome (Some before) after → after ≡ status.Accepted }
