@@ -54,7 +54,7 @@ filter_distinct test (goal ∷ goals) p = by (test goal) refl (filter_distinct t
     by true e rest = rw e (filter_all (λ other. goal.id == other ≡ false) test goals p.0, rest)
     by false e rest = rw e rest
 
-not_true : (b : Bool) → not b ≡ true → b ≡ false
+pub not_true : (b : Bool) → not b ≡ true → b ≡ false
 not_true true e = absurd (true≢false (sym e))
 not_true false e = refl
 

@@ -6,6 +6,8 @@ pub mod Keeping
 pub mod Lawful
 pub mod OfKinds
 pub mod Pairs
+pub mod ReadyLists
 pub mod Running
 pub mod Shapes
+pub mod Wiring
 pub mod Within

@@ -57,6 +57,12 @@ pub fn the_shape_never_changes()
         shape_of (rounds plan number moments world) ≡ shape_of world }
 {}
 
+/// In each ready list an entity has at most one callback of each kind but poll.
+pub fn an_entity_has_one_callback_of_a_kind()
+    ensures { (plan : PlanData) (number : ℕ) (moments : List ℕ) (next moment entity : ℕ) (of : Kind) → of ≢ kind.Poll →
+        length (filter (is_callback_of entity of) (ready_list moment (at_snapshot plan next moment (rounds plan number moments (first_world plan.graph))))) ≤ 1 }
+{}
+
 /// No two goals of one server have one identifier, after any rounds of a plan.
 pub fn identifiers_differ()
     ensures { (plan : PlanData) (number : ℕ) (moments : List ℕ) (server : ℕ) →
