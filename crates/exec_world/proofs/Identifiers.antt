@@ -25,7 +25,7 @@ all_more : (P : GoalId → Type 0) (goals : List GoalRecord) (new : GoalRecord) 
 all_more P [] new p q = (q, tt)
 all_more P (goal ∷ goals) new p q = (p.0, all_more P goals new p.1 q)
 
-or_false : (a b : Bool) → a || b ≡ false → (a ≡ false) × (b ≡ false)
+pub or_false : (a b : Bool) → a || b ≡ false → (a ≡ false) × (b ≡ false)
 or_false true b e = absurd (true≢false e)
 or_false false b e = (refl, e)
 

@@ -4,10 +4,13 @@ pub mod Handling
 pub mod Identifiers
 pub mod Keeping
 pub mod Lawful
+pub mod Lives
 pub mod OfKinds
 pub mod Pairs
 pub mod ReadyLists
 pub mod Running
 pub mod Shapes
+pub mod Statuses
+pub mod Views
 pub mod Wiring
 pub mod Within

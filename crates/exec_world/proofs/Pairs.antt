@@ -79,11 +79,6 @@ pub all_flat_where : {A B : Type 0} (Q : A → Type 0) (P : B → Type 0) (f : A
 all_flat_where Q P f each [] q = tt
 all_flat_where Q P f each (one ∷ all) q = all_append P (f one) (flat_map f all) (each one q.0) (all_flat_where Q P f each all q.1)
 
-pub pairs_flat_where : {A B : Type 0} (Q : A → Type 0) (S : A → A → Type 0) (R : B → B → Type 0) (f : A → List B) → ((one : A) → Q one → Pairs R (f one)) → ((one other : A) → S one other → AllByRecursion (λ x. AllByRecursion (R x) (f other)) (f one)) → (all : List A) → AllByRecursion Q all → Pairs S all → Pairs R (flat_map f all)
-pairs_flat_where Q S R f within between [] q s = tt
-pairs_flat_where Q S R f within between (one ∷ all) q s =
-    pairs_append R (f one) (flat_map f all) (within one q.0) (pairs_flat_where Q S R f within between all q.1 s.1) (across S R f between one all s.0)
-
 -- a property of all, put beside a relation of each two
 pub pairs_with : {A : Type 0} (P : A → Type 0) (R : A → A → Type 0) (all : List A) → AllByRecursion P all → Pairs R all → Pairs (λ one other. P one × (P other × R one other)) all
 pairs_with P R [] p r = tt
@@ -93,10 +88,6 @@ pairs_with P R (one ∷ all) p r = (all_both P (R one) (λ other. P one × (P ot
 pub pairs_all : {A : Type 0} (Q : A → Type 0) (R : A → A → Type 0) → ((one other : A) → Q one → Q other → R one other) → (all : List A) → AllByRecursion Q all → Pairs R all
 pairs_all Q R related [] q = tt
 pairs_all Q R related (one ∷ all) q = (all_weaker Q (R one) (λ other p. related one other q.0 p) all q.1, pairs_all Q R related all q.1)
-
-pub pairs_weaker : {A : Type 0} (R S : A → A → Type 0) → ((one other : A) → R one other → S one other) → (all : List A) → Pairs R all → Pairs S all
-pairs_weaker R S weaker [] p = tt
-pairs_weaker R S weaker (one ∷ all) p = (all_weaker (R one) (S one) (weaker one) all p.0, pairs_weaker R S weaker all p.1)
 
 -- ---- what a test leaves
 

@@ -4,7 +4,7 @@ use Rattle.std.specs.List.{AllByRecursion, filter, flat_map}
 use Rattle.std.proofs.lemmas.Bool.{eqb-true, eq-eqb, and_parts}
 use Rattle.std.proofs.lemmas.List.Elements.{recursion_from_All}
 use Rattle.exec_graph.specs.Entity.{EntityNo}
-use Rattle.exec_graph.specs.Graph.{GraphData, wait_set}
+use Rattle.exec_graph.specs.Graph.{GraphData, wait_set, entities_where, is_server}
 use Rattle.exec_graph.specs.Plan.{PlanData}
 use Rattle.exec_msg.specs.Kind.{ready_number}
 use Rattle.exec_msg.specs.Timer.{is_due}
@@ -15,7 +15,7 @@ use Rattle.exec_world.proofs.OfKinds.{IsOfItsKind, AreOfTheirKinds, kinds_kept, 
 use Rattle.exec_world.proofs.Pairs.{all_append, all_both, all_filter, all_flat, all_flat_where, all_map, all_passed, all_weaker, Pairs, pairs_all, pairs_append, pairs_filter, pairs_flat, pairs_with}
 use Rattle.exec_world.proofs.Running.{snapshot_keeps, rounds_keep}
 use Rattle.exec_world.proofs.Shapes.{shape_kept}
-use Rattle.exec_world.proofs.Wiring.{NumbersApart, QueuesApart, IsWired, wired}
+use Rattle.exec_world.proofs.Wiring.{NumbersApart, QueuesApart, TakesGoals, TakesListed, IsWired, is_listed, wired}
 use Rattle.exec_world.specs.Item.{taker_of}
 use Rattle.exec_world.specs.LawWords.{is_callback_of, shape_of}
 use Rattle.exec_world.specs.Ready.{kind_of, due_ready, item_ready, queue_ready, poll_ready, is_before_polls, placed_from, ready_list}
@@ -179,6 +179,37 @@ list_apart of other graph moment world wires p =
     (all_append _ (timers ++ before) polls
     (all_append _ timers before (apart_by_part of timers behind 0 3 refl are_timers in_behind) (apart_by_part of before behind 1 3 refl in_before in_behind))
     (apart_by_part of polls behind 2 3 refl in_polls in_behind)))
+
+-- what takes a goal request is a server's
+abbrev pub IsListed : GraphData → Ready → Type 0
+IsListed graph one = TakesGoals (entities_where is_server graph) (kind_of one.cause) one.entity
+
+queues_listed : (graph : GraphData) (moment : Moment) (world : WorldState) → IsWired graph world → AreOfTheirKinds world → (test : Queue → Bool) → AllByRecursion (IsListed graph) (flat_map (queue_ready moment world) (filter test world.queues))
+queues_listed graph moment world wires p test =
+    all_flat_where (λ queue. TakesListed graph queue × IsOfItsKind queue) (IsListed graph) (queue_ready moment world)
+    (λ queue q. queue_has moment world (IsListed graph) queue (λ one taken same is goal. ap (λ (at : EntityNo). is_listed (entities_where is_server graph) at) is.1 ∙ q.0 (sym same ∙ sym is.0 ∙ goal)) q.1) (filter test world.queues)
+    (all_both (TakesListed graph) IsOfItsKind _ (λ queue takes q. (takes, q)) (filter test world.queues) (all_filter (TakesListed graph) test world.queues wires.takes_goals) (all_filter IsOfItsKind test world.queues p))
+
+pub list_listed : (graph : GraphData) (moment : Moment) (world : WorldState) → IsWired graph world → AreOfTheirKinds world → AllByRecursion (IsListed graph) (ready_list moment world)
+list_listed graph moment world wires p =
+    let timers : List Ready = flat_map (due_ready moment) world.timers in
+    let before : List Ready = flat_map (queue_ready moment world) (filter (λ queue. is_before_polls queue.kind) world.queues) in
+    let polls : List Ready = flat_map (poll_ready moment) world.servers in
+    let behind : List Ready = flat_map (queue_ready moment world) (filter (λ queue. not (is_before_polls queue.kind)) world.queues) in
+    all_placed (IsListed graph) (λ place one q. q) 1 (timers ++ before ++ polls ++ behind)
+    (all_append (IsListed graph) (timers ++ before ++ polls) behind
+    (all_append (IsListed graph) (timers ++ before) polls
+    (all_append (IsListed graph) timers before
+    (all_flat (IsListed graph) (due_ready moment) (λ entry. all_weaker (IsOf entry.handler.entity kind.Timer) (IsListed graph) (λ one is goal. absurd (not_goal_timer (sym is.0 ∙ goal))) _ (due_of moment entry)) world.timers)
+    (queues_listed graph moment world wires p (λ queue. is_before_polls queue.kind)))
+    (all_flat (IsListed graph) (poll_ready moment) (λ entry. all_weaker (IsOf entry.handler.entity kind.Poll) (IsListed graph) (λ one is goal. absurd (not_goal_poll (sym is.0 ∙ goal))) _ (poll_of moment entry)) world.servers))
+    (queues_listed graph moment world wires p (λ queue. not (is_before_polls queue.kind))))
+  where
+    not_goal_timer : kind.Timer ≡ kind.Goal → ⊥
+    not_goal_timer e = absurd cc
+
+    not_goal_poll : kind.Poll ≡ kind.Goal → ⊥
+    not_goal_poll e = absurd cc
 
 -- so at most one passes the test
 is_callback : (entity : EntityNo) (of : Kind) (one : Ready) → is_callback_of entity of one ≡ true → (kind_of one.cause ≡ of) × (one.entity ≡ entity)

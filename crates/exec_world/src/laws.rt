@@ -69,6 +69,15 @@ pub fn identifiers_differ()
         IsDistinct (λ one other. one == other) (map (λ goal. goal.id) (goals_of server (rounds plan number moments (first_world plan.graph)))) }
 {}
 
+/// In the transcript of a plan, the statuses of a server's goals of one identifier begin with the acceptance of the
+/// first, each further one follows by a transition or is the acceptance of the next, and that comes only behind a
+/// terminal one.
+pub fn statuses_follow_the_transitions()
+    ensures { (plan : PlanData) (server id : ℕ) → AreLawful None (statuses_of server id (lines_of plan)) }
+{
+    exec_goal::laws::goals_move_by_the_table();
+}
+
 /// Behind a terminal status of a goal only the acceptance of the next one comes: so a goal has one terminal status at most.
 pub fn goals_end_once()
     ensures { (before after : GoalStatus) → IsFinal before → MayCome (Some before) after → after ≡ status.Accepted }
