@@ -1,11 +1,17 @@
 pub mod Ended
 pub mod Growing
 pub mod Handling
+pub mod Identifiers
 pub mod Keeping
 pub mod Lawful
+pub mod Lives
 pub mod Numbered
 pub mod OfKinds
 pub mod Pairs
+pub mod ReadyLists
 pub mod Running
 pub mod Shapes
+pub mod Statuses
+pub mod Views
+pub mod Wiring
 pub mod Within

@@ -1,7 +1,6 @@
 -- Each queue holds items of its kind alone.
-use Rattle.std.proofs.Common.{◌≡◌, ℕ, ◌-◌, Bool, true, false, ◌==◌, List, [], ◌∷◌, ◌++◌, length, map, get_or, refl, sym, ap, subst, ◌∙◌}
-use Rattle.std.specs.List.{All, AllByRecursion, filter, find}
-use Rattle.std.specs.Option.{option_map_or}
+use Rattle.std.proofs.Common.{◌≡◌, ℕ, ◌-◌, Bool, true, false, ◌==◌, List, [], ◌∷◌, ◌++◌, length, map, get_or, refl, sym, ap, ◌∙◌}
+use Rattle.std.specs.List.{All, AllByRecursion, filter}
 use Rattle.std.proofs.lemmas.Bool.{and_parts, eqb-true}
 use Rattle.std.proofs.lemmas.List.Elements.{All-nil, All-push, All-drop, All-from_recursion}
 use Rattle.exec_graph.specs.Entity.{EntityNo}
@@ -15,7 +14,7 @@ use Rattle.exec_world.proofs.Running.{KeptByRounds, rounds_keep}
 use Rattle.exec_world.specs.Item.{taker_of}
 use Rattle.exec_world.specs.Ready.{queue_taken}
 use Rattle.exec_world.specs.Transcript.{takes_from_queue, new_queue, first_world, rounds}
-use Rattle.exec_world.specs.World.{WorldState, Moment, Queue, is_queue, queue_after, items_in}
+use Rattle.exec_world.specs.World.{WorldState, Moment, Queue, is_queue, queue_after}
 use Rattle.exec_world.specs.declared.item.Item.{Item}
 
 kind_back : (one : Kind) → get_or kinds (ready_number one - 1) kind.Timer ≡ one

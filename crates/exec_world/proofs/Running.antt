@@ -2,7 +2,7 @@
 use Rattle.std.proofs.Common.{◌≡◌, ℕ, suc, ℤ, Bool, true, false, if◌then◌else◌, List, [], ◌∷◌, Option, None, Some, refl, sym, true≢false}
 use Rattle.exec_goal.specs.Calls.{end_state}
 use Rattle.exec_goal.specs.declared.state.State.{State}
-use Rattle.exec_goal.specs.Table.{asked_for, has_id, is_accepting, after_end}
+use Rattle.exec_goal.specs.Table.{asked_for, is_accepting, after_end}
 use Rattle.exec_graph.specs.Entity.{EntityNo}
 use Rattle.exec_graph.specs.Feeding.{fed_in}
 use Rattle.exec_graph.specs.Plan.{PlanData}
@@ -13,13 +13,13 @@ use Rattle.exec_script.specs.declared.effects.Close.TheVariants as close
 use Rattle.exec_task.specs.Task.{TaskState}
 use Rattle.exec_world.proofs.Keeping.{Kept, Moves, moves_kept, ids_changed, state_said, fold_keeps, callback_keeps, give_keeps, push_keeps, push_any_keeps, cancel_keeps, answer_ask_keeps, respond_keeps, tell_end_keeps, feed_keeps}
 use Rattle.exec_world.specs.Callback.{Outcome, callback}
-use Rattle.exec_world.specs.Close.{GoalRequest, reply_in, decision_in, decisions_in, accept, accept_where, decide, with_ended, goal_at, end_in, close_item, close_cause, close_poll, close_callback}
+use Rattle.exec_world.specs.Close.{GoalRequest, reply_in, decision_in, decisions_in, accept, accept_where, decide, with_ended, goal_at, end_in, close_item, close_cause, close_poll}
 use Rattle.exec_world.specs.Give.{give}
 use Rattle.exec_world.specs.Item.{GoalId}
 use Rattle.exec_world.specs.Ready.{run_line, ready_list, take_inputs}
-use Rattle.exec_world.specs.Run.{work_for, with_polled, after_callback, run}
-use Rattle.exec_world.specs.Transcript.{expire, feed, at_snapshot, run_all, round, rounds}
-use Rattle.exec_world.specs.World.{WorldState, Moment, GoalWork, Variables, add_line, goals_of, has_room_for, variables_of, with_variables, action_client_at}
+use Rattle.exec_world.specs.Run.{work_for, with_polled, run}
+use Rattle.exec_world.specs.Transcript.{expire, at_snapshot, run_all, round, rounds}
+use Rattle.exec_world.specs.World.{WorldState, Moment, GoalWork, add_line, goals_of, has_room_for, variables_of, action_client_at}
 use Rattle.exec_world.specs.declared.item.Item.{Item}
 use Rattle.exec_world.specs.declared.item.Item.TheVariants as item
 use Rattle.exec_world.specs.declared.ready.Cause.{Cause}

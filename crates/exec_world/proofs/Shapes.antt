@@ -1,5 +1,5 @@
 -- Rounds change no shape.
-use Rattle.std.proofs.Common.{◌≡◌, ℕ, Bool, true, false, List, [], ◌∷◌, length, map, replicate, refl, ap, ◌∙◌}
+use Rattle.std.proofs.Common.{◌≡◌, ℕ, Bool, true, false, List, [], ◌∷◌, length, map, refl, ap, ◌∙◌}
 use Rattle.std.proofs.lemmas.List.{length-set}
 use Rattle.exec_graph.specs.Plan.{PlanData}
 use Rattle.exec_msg.specs.Timer.{is_due}
@@ -42,7 +42,7 @@ same_shape : (before after : WorldState) → after.topics ≡ before.topics →
     length after.variables ≡ length before.variables → shape_of after ≡ shape_of before
 same_shape before after topics timers queues servers clients action_clients groups = rw (topics, timers, queues, servers, clients, action_clients, groups) refl
 
-shape_kept : (of : WorldState) → KeptByRounds (λ world. shape_of world ≡ of)
+pub shape_kept : (of : WorldState) → KeptByRounds (λ world. shape_of world ≡ of)
 shape_kept of = record {
   basic = record {
     lines_kept = λ lines world p. p;
