@@ -8,6 +8,7 @@ pub mod Lives
 pub mod Numbered
 pub mod OfKinds
 pub mod Pairs
+pub mod Pending
 pub mod ReadyLists
 pub mod Running
 pub mod Shapes

@@ -29,8 +29,8 @@ impl Model for Client {
 }
 
 impl Client {
-    ghost use Rattle.std.specs.Prelude.{◌≡◌, ◌+◌, ◌<◌, ◌^◌, [], ◌==◌, not, length, OnOk, OnErr, IfOk};
-    ghost use Rattle.std.specs.List.{filter};
+    ghost use Rattle.std.specs.Prelude.{◌≡◌, ◌+◌, ◌<◌, ◌^◌, [], ◌==◌, length, OnOk, OnErr, IfOk};
+    ghost use Rattle.exec_msg.specs.Lists.{drop_first};
     ghost use Rattle.exec_world.specs.World.{client_called};
 
     // A client of a service that hasn't called yet. It takes no memory.
@@ -67,7 +67,7 @@ impl Client {
 
     // Gives a call its reply, after which it pends no more. A call that doesn't pend stays answered.
     pub(crate) fn complete(&mut self, number: u64, value: i64)
-        ensures { self.new ≡ record self.old { pending = filter (λ call. not (call == number)) self.old.pending } }
+        ensures { self.new ≡ record self.old { pending = drop_first (λ call. call == number) self.old.pending } }
     {
         if let Some(mut call) = self.pending.shift_remove(&number) {
             // The call is new to a reply: it pends.
