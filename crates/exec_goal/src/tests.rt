@@ -5,7 +5,7 @@ ghost use Rattle.std.specs.Prelude.{◌≤◌, ◌^◌};
 
 use crate::{Accepted, Asked, CancelRequest, Goals, Illegal, Reject, State};
 use exec_msg::limits::GOALS;
-use exec_msg::{EntityNo, Event, GoalId, GoalStatus, Moment, ReturnCode};
+use exec_msg::{EntityNo, Event, GoalId, GoalStatus, Memory, Moment, ReturnCode};
 use std::fmt::Debug;
 use std::process::Abort;
 use std::test::Fail;
@@ -59,10 +59,26 @@ fn goals_move_by_the_standard(rt: HostRuntime) {
 }
 
 #[test]
+fn states_tell_what_is_done_with_a_goal(rt: HostRuntime) {
+    same(&rt, State::Accepted.is_accepted(), true);
+    same(&rt, State::Executing.is_accepted(), false);
+    same(&rt, State::Canceling.is_canceling(), true);
+    same(&rt, State::Executing.is_canceling(), false);
+    for state in [State::Executing, State::Canceling] {
+        same(&rt, state.is_worked_on(), true);
+    }
+    same(&rt, State::Accepted.is_worked_on(), false);
+    for state in ENDED {
+        same(&rt, state.is_worked_on(), false);
+    }
+}
+
+#[test]
 fn refusals_have_numbers(rt: HostRuntime) {
     same(&rt, Reject::Held.number(), 1);
     same(&rt, Reject::Full.number(), 2);
     same(&rt, Reject::Memory.number(), 3);
+    same(&rt, Reject::from(Memory), Reject::Memory);
 }
 
 #[test]
@@ -97,6 +113,7 @@ fn accepts_three(rt: &impl Abort, goals: &mut Goals) {
         Ok(Accepted { state: executed }),
     );
     same(rt, goals.accept(id(2), 6, moment(31), 3), Err(Reject::Held));
+    same(rt, goals.working(), 1);
 }
 
 fn cancels_until_20(rt: &impl Abort, goals: &mut Goals) -> Result<(), Fail> {
@@ -110,6 +127,7 @@ fn cancels_until_20(rt: &impl Abort, goals: &mut Goals) -> Result<(), Fail> {
     same(rt, answer.code, ReturnCode::None);
     same(rt, answer.moved.as_slice().first().copied(), Some(id(1)));
     same(rt, answer.moved.as_slice().len(), 1);
+    same(rt, goals.working(), 2);
     Ok(())
 }
 
@@ -132,6 +150,7 @@ fn ends_goal_1(rt: &impl Abort, goals: &mut Goals) -> Result<(), Fail> {
         goals.end(id(1), Event::Canceled, 7, moment(40)),
         Ok(State::Canceled),
     );
+    same(rt, goals.working(), 1);
     let answer = goals.answer(&request(1, 0), &[])?;
     same(rt, answer.code, ReturnCode::GoalTerminated);
     Ok(())
