@@ -1,10 +1,12 @@
 pub mod Ended
 pub mod Growing
 pub mod Handling
+pub mod HeldEntries
 pub mod Keeping
 pub mod Lawful
 pub mod OfKinds
 pub mod Pairs
 pub mod Running
+pub mod Serving
 pub mod Shapes
 pub mod Within

@@ -8,3 +8,4 @@ pub mod Ready
 pub mod Run
 pub mod Transcript
 pub mod World
+pub mod inner

@@ -5,7 +5,9 @@ use exec_msg::{EntityNo, GoalId, GoalStatus, ReturnCode};
 #[derive(Clone, Copy, Debug, PartialEq, Eq)]
 pub enum Item {
     /// A message to a subscription.
-    Message { value: i64 },
+    Message {
+        value: i64,
+    },
     /// A client's call of a service, by its number among the client's calls, from 1.
     Request {
         client: EntityNo,
@@ -13,7 +15,10 @@ pub enum Item {
         value: i64,
     },
     /// A service's reply to the call of a number.
-    Reply { number: u64, value: i64 },
+    Reply {
+        number: u64,
+        value: i64,
+    },
     /// A goal request to an action server, from the action client that sent it, or from none where it was fed.
     Goal {
         id: GoalId,
@@ -26,13 +31,25 @@ pub enum Item {
         client: Option<EntityNo>,
     },
     /// An action client asks an action server for the result of a goal.
-    Ask { id: GoalId, client: EntityNo },
+    Ask {
+        id: GoalId,
+        client: EntityNo,
+    },
     /// Whether a goal request was accepted.
-    Response { id: GoalId, accepted: bool },
+    Response {
+        id: GoalId,
+        accepted: bool,
+    },
     /// The return code of a cancel request, and how many goals moved.
-    Code { code: ReturnCode, moved: u64 },
+    Code {
+        code: ReturnCode,
+        moved: u64,
+    },
     /// A goal's feedback.
-    Feedback { id: GoalId, value: i64 },
+    Feedback {
+        id: GoalId,
+        value: i64,
+    },
     /// A goal's result; the status of a goal that isn't held is `Unknown`.
     Result {
         id: GoalId,

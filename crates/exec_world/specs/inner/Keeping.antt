@@ -1,0 +1,16 @@
+-- That a server keeps work beside each of its goals.
+use Rattle.std.specs.Prelude.{◌≡◌, ℕ, List, [], ◌∷◌, map, false, ⊤}
+use Rattle.exec_goal.specs.Calls.{is_among}
+use Rattle.exec_goal.specs.Table.{GoalRecord}
+use Rattle.exec_world.specs.Item.{GoalId}
+use Rattle.exec_world.specs.World.{HeldGoal}
+
+-- no identifier stands twice
+abbrev pub AreDistinct : List GoalId → Type 0
+AreDistinct [] = ⊤
+AreDistinct (id ∷ ids) = (is_among ids id ≡ false) × AreDistinct ids
+
+-- a server keeps something beside each of its goals, in their order, of which no two have one identifier
+pub record AreKept (goals : List GoalRecord) (held : List HeldGoal) : Type 0 where
+  pub same : map (λ goal. goal.id) goals ≡ map (λ held. held.id) held
+  pub distinct : AreDistinct (map (λ goal. goal.id) goals)
