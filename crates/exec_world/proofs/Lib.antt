@@ -1,4 +1,5 @@
 pub mod Ended
+pub mod Expiring
 pub mod Growing
 pub mod Handling
 pub mod HeldEntries

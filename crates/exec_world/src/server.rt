@@ -2,8 +2,11 @@
 ghost use Rattle.std.specs.Prelude.{◌≡◌, ◌<◌, ◌++◌, ◌∷◌, [], false};
 ghost use Rattle.std.specs.List.{list_any};
 ghost use Rattle.indexmap.specs.IndexMap.{spare};
+ghost use Rattle.exec_msg.specs.Lists.{drop_first};
 ghost use Rattle.exec_world.specs.World.{is_for};
 ghost use Rattle.exec_world.specs.inner.Server.{held_goal_of, held_goals_of};
+
+mod expiring;
 
 use crate::handler::Handler;
 use exec_goal::{Asked, CancelAnswer, CancelRequest, GoalInfo, Goals, State};
@@ -62,15 +65,17 @@ impl Model for Server {
 
 impl Server {
     ghost use Rattle.std.specs.Prelude.{◌⊎◌, true, length, map, None, Some, slice_get, find, IfNone, IfOk, IfSome, OnErr, OnOk};
-    ghost use Rattle.std.specs.Option.{option_map_or};
+    ghost use Rattle.std.specs.Option.{option_map, option_map_or};
     ghost use Rattle.exec_goal.specs.Calls.{after_asking, askers_in, end_state};
     ghost use Rattle.exec_goal.specs.Cancel.{candidates, code_of, moved, table_after};
     ghost use Rattle.exec_goal.specs.Info.{answer_of, info_of};
+    ghost use Rattle.exec_goal.specs.State.{is_accepted};
     ghost use Rattle.exec_goal.specs.Table.{after_end, asked_for, has_id, working};
     ghost use Rattle.exec_msg.specs.Lists.{change_first};
     ghost use Rattle.exec_task.specs.Task.{new_task};
     ghost use Rattle.exec_world.specs.Close.{server_accepting};
     ghost use Rattle.exec_world.specs.World.{has_room_for};
+    ghost use Rattle.exec_world.specs.inner.Keeping.{executed};
 
     // A server without goals. It takes no memory.
     pub(crate) fn new(alloc: Global, handler: Handler, timeout: Option<u64>) -> Server
@@ -202,6 +207,28 @@ impl Server {
         Ok(told)
     }
 
+    // Executes the oldest goal that is accepted and not executed yet, and answers its identifier, or `None` where there is none.
+    pub(crate) fn execute_oldest(&mut self) -> Option<GoalId>
+        ensures found { result ≡ option_map (λ goal. goal.id) (find (λ goal. is_accepted goal.state) self.old.goals) }
+        ensures executed { self.new ≡ record self.old { goals = executed (find (λ goal. is_accepted goal.state) self.old.goals) self.old.goals } }
+    {
+        let id = self.oldest_accepted()?;
+        let _state = self.goals.apply(id, Event::Execute);
+        Some(id)
+    }
+
+    fn oldest_accepted(&self) -> Option<GoalId>
+        ensures { result ≡ option_map (λ goal. goal.id) (find (λ goal. is_accepted goal.state) self.now.goals) }
+    {
+        for index in 0..self.len() {
+            let goal = self.goal_at(index);
+            if goal.state.is_accepted() {
+                return Some(goal.id);
+            }
+        }
+        None
+    }
+
     // Ends a goal by an event at a moment with its result, and answers its terminal state. Where no such goal is held, or the
     // event leads its state to no terminal one, nothing changes and there is no answer.
     pub(crate) fn end(
@@ -229,4 +256,11 @@ fn insert_new(held: &mut IndexMap<GoalId, Held>, id: GoalId, new: Held)
     ensures { held_goals_of held.new.entries ≡ held_goals_of held.old.entries ++ held_goal_of (id, new) ∷ [] }
 {
     let _none = held.insert(id, new).unwrap();
+}
+
+// Drops what is kept under an identifier, if anything is.
+fn remove(held: &mut IndexMap<GoalId, Held>, id: GoalId)
+    ensures { held_goals_of held.new.entries ≡ drop_first (is_for id) (held_goals_of held.old.entries) }
+{
+    let _dropped = held.shift_remove(&id);
 }
