@@ -1,3 +1,4 @@
+pub mod Awake
 pub mod Ended
 pub mod Expiring
 pub mod Growing

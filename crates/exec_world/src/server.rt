@@ -7,6 +7,7 @@ ghost use Rattle.exec_world.specs.World.{is_for};
 ghost use Rattle.exec_world.specs.inner.Server.{held_goal_of, held_goals_of};
 
 mod expiring;
+mod polling;
 
 use crate::handler::Handler;
 use exec_goal::{Asked, CancelAnswer, CancelRequest, GoalInfo, Goals, State};
