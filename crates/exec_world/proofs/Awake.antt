@@ -1,5 +1,5 @@
 -- Which goals of a server are awake, and what a poll of one is.
-use Rattle.std.proofs.Common.{◌≡◌, ℕ, zero, suc, List, [], ◌∷◌, map, length, Bool, true, false, cond, if◌then◌else◌, ◌&&◌, Option, None, Some, slice_get, slice_index_or, refl, ap, sym, ◌∙◌}
+use Rattle.std.proofs.Common.{◌≡◌, ℕ, zero, suc, List, [], ◌∷◌, map, length, Bool, true, false, cond, if◌then◌else◌, Option, None, Some, slice_get, slice_index_or, refl, ap}
 use Rattle.std.specs.List.{find, filter}
 use Rattle.std.specs.Option.{option_map}
 use Rattle.exec_goal.specs.Info.{info_of}
@@ -9,9 +9,8 @@ use Rattle.exec_goal.specs.declared.info.GoalInfo.{GoalInfo}
 use Rattle.exec_msg.specs.Lists.{change_first}
 use Rattle.exec_task.specs.Task.{TaskState}
 use Rattle.exec_task.specs.declared.wait.Turn.{Turn}
-use Rattle.exec_world.specs.Callback.{unpolled}
 use Rattle.exec_world.specs.Ready.{is_goal_awake}
-use Rattle.exec_world.specs.World.{GoalWork, HeldGoal, ServerEntry, Variables, is_for}
+use Rattle.exec_world.specs.World.{HeldGoal, ServerEntry, Variables, is_for}
 use Rattle.exec_world.specs.inner.Polling.{goal_polled, poll_listed, server_polled, work_after}
 
 -- what is told of the goal at a place

@@ -1,8 +1,8 @@
 -- What a server forgets, and what it executes.
-use Rattle.std.proofs.Common.{◌≡◌, ℕ, zero, suc, ◌+◌, ◌<◌, ◌≤◌, ◌==◌, ◌||◌, List, [], ◌∷◌, map, length, drop, get_or, Bool, true, false, not, cond, if◌then◌else◌, Option, None, Some, IfNone, Result, Ok, Err, OnOk, OnErr, slice_get, refl, ap, sym, subst, ◌∙◌, arith, add-one}
-use Rattle.std.specs.List.{find, filter, list_any}
+use Rattle.std.proofs.Common.{◌≡◌, ℕ, zero, suc, ◌≤◌, ◌==◌, ◌||◌, List, [], ◌∷◌, map, length, drop, get_or, Bool, true, false, not, cond, if◌then◌else◌, Option, None, Some, IfNone, Result, Ok, Err, OnOk, OnErr, slice_get, refl, ap, sym, subst, ◌∙◌, arith}
+use Rattle.std.specs.List.{find, filter}
 use Rattle.std.specs.Option.{option_map, unwrap_or}
-use Rattle.std.proofs.lemmas.Bool.{eqb-true, eqb-false, eq-eqb, ne_eqb, or_parts, or_from, or_left, or_right, both_ways}
+use Rattle.std.proofs.lemmas.Bool.{eqb-true, eq-eqb, ne_eqb, or_parts, or_from, or_left, or_right, both_ways}
 use Rattle.exec_goal.specs.Calls.{is_among, next_state, moved_to}
 use Rattle.exec_goal.specs.Info.{info_of}
 use Rattle.exec_goal.specs.State.{after, is_accepted}
@@ -12,8 +12,8 @@ use Rattle.exec_goal.specs.declared.state.State.{State}
 use Rattle.exec_msg.specs.declared.goal.Event.{Event}
 use Rattle.exec_msg.specs.declared.goal.Event.TheVariants as event
 use Rattle.exec_msg.specs.Lists.{change_first, drop_first}
-use Rattle.exec_world.proofs.Serving.{goal_ids, held_ids, kept-changed, among-goals}
-use Rattle.exec_world.specs.Transcript.{keeping, server_expired}
+use Rattle.exec_world.proofs.Serving.{goal_ids, held_ids, among-goals}
+use Rattle.exec_world.specs.Transcript.{server_expired}
 use Rattle.exec_world.specs.World.{HeldGoal, ServerEntry, is_for}
 use Rattle.exec_world.specs.inner.Keeping.{AreDistinct, AreKept, executed}
 

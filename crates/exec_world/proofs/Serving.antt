@@ -1,13 +1,13 @@
 -- That a server keeps work beside each of its goals, whatever its calls change.
-use Rattle.std.proofs.Common.{◌≡◌, ℕ, ◌==◌, ◌||◌, inl, inr, List, [], ◌∷◌, ◌++◌, map, length, Bool, true, false, not, cond, if◌then◌else◌, Option, None, Some, refl, ap, sym, subst, ◌∙◌}
-use Rattle.std.specs.List.{find, filter, list_any}
-use Rattle.std.proofs.lemmas.Bool.{eqb-true, eqb-false, eq-eqb, ne_eqb, or_parts, not-true, or_from, or_right, both_ways}
+use Rattle.std.proofs.Common.{◌≡◌, ℕ, ◌==◌, ◌||◌, List, [], ◌∷◌, ◌++◌, map, Bool, true, false, if◌then◌else◌, refl, ap, sym, subst, ◌∙◌}
+use Rattle.std.specs.List.{list_any}
+use Rattle.std.proofs.lemmas.Bool.{eqb-false, ne_eqb, or_parts, not-true, or_from}
 use Rattle.std.proofs.lemmas.List.{map_push}
 use Rattle.exec_goal.specs.Calls.{is_among, noted, after_asking}
-use Rattle.exec_goal.specs.Cancel.{Decided, is_moved, after_answer, table_after}
+use Rattle.exec_goal.specs.Cancel.{Decided, is_moved, table_after}
 use Rattle.exec_goal.specs.Table.{GoalRecord, Asked, told, later, unknown, has_id, holds, is_full, after_event, asked_for, asked_by}
 use Rattle.exec_msg.specs.declared.goal.Event.TheVariants as event
-use Rattle.exec_msg.specs.Lists.{change_first, drop_first}
+use Rattle.exec_msg.specs.Lists.{change_first}
 use Rattle.exec_world.specs.World.{HeldGoal, has_room_for, is_for}
 use Rattle.exec_world.specs.inner.Keeping.{AreDistinct, AreKept}
 

@@ -1,5 +1,5 @@
 -- That a server keeps work beside each of its goals.
-use Rattle.std.specs.Prelude.{◌≡◌, ℕ, List, [], ◌∷◌, map, false, ⊤, Option, None, Some}
+use Rattle.std.specs.Prelude.{◌≡◌, List, [], ◌∷◌, map, false, ⊤, Option, None, Some}
 use Rattle.exec_goal.specs.Calls.{is_among}
 use Rattle.exec_goal.specs.Table.{GoalRecord, has_id, after_event}
 use Rattle.exec_msg.specs.Lists.{change_first}

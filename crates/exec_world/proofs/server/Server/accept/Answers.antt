@@ -1,10 +1,10 @@
-use Rattle.std.proofs.Common.{◌≡◌, ◌∙◌, ◌++◌, ◌∷◌, [], sym, ap, refl, false}
+use Rattle.std.proofs.Common.{◌≡◌, ◌∙◌, ap, refl, false}
 use Rattle.std.specs.List.{list_any}
-use Rattle.exec_goal.specs.Table.{holds, new_goal}
+use Rattle.exec_goal.specs.Table.{holds}
 use Rattle.exec_world.proofs.Serving.{kept-none, room-none, kept-accepted-in}
 use Rattle.exec_world.specs.World.{has_room_for, is_for}
 use Rattle.exec_world.specs.Close.{GoalRequest}
-use Rattle.exec_world.specs.inner.Server.{held_goal_of, held_goals_of}
+use Rattle.exec_world.specs.inner.Server.{held_goals_of}
 use Rattle.exec_world.proofs.server.Server.accept.Goals as goal
 
 pub insert_new-requires-clause-new : goal.insert_new-requires-clause-new

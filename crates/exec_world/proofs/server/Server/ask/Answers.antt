@@ -1,6 +1,4 @@
-use Rattle.std.proofs.Common.{subst, sym}
 use Rattle.exec_world.proofs.Serving.{kept-asked}
-use Rattle.exec_world.specs.inner.Keeping.{AreKept}
 use Rattle.exec_world.specs.inner.Server.{held_goals_of}
 use Rattle.exec_world.proofs.server.Server.ask.Goals as goal
 

@@ -1,4 +1,4 @@
-use Rattle.std.proofs.Common.{◌≡◌, ap, sym, ◌∙◌, refl, Some}
+use Rattle.std.proofs.Common.{◌≡◌, ap, ◌∙◌, refl}
 use Rattle.std.specs.List.{find}
 use Rattle.exec_goal.specs.State.{is_accepted}
 use Rattle.exec_goal.specs.Table.{GoalRecord, has_id, after_event}

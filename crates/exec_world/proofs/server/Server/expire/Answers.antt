@@ -1,4 +1,4 @@
-use Rattle.std.proofs.Common.{◌≡◌, ℕ, List, None, Some, Option, ap, sym, subst, ◌∙◌, refl, rules, drop, slice_get}
+use Rattle.std.proofs.Common.{◌≡◌, List, None, Some, ap, sym, subst, ◌∙◌, refl, rules, drop, slice_get}
 use Rattle.std.specs.Option.{option_map}
 use Rattle.exec_goal.specs.Table.{GoalRecord, is_expired}
 use Rattle.exec_world.proofs.Expiring.{never-expired, lasting-in, settled, settled-in, on_none, undropped-goals, kept-dropped, expired-dropped-in}

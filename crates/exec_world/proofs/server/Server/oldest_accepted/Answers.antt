@@ -1,9 +1,8 @@
-use Rattle.std.proofs.Common.{ap, sym, ◌∙◌, List, Option, map, length, arith, add-one}
+use Rattle.std.proofs.Common.{ap, sym, ◌∙◌, map, arith, add-one}
 use Rattle.std.specs.Option.{option_map}
 use Rattle.std.proofs.lemmas.List.{length-map}
 use Rattle.exec_goal.specs.Info.{info_of}
 use Rattle.exec_goal.specs.State.{is_accepted}
-use Rattle.exec_goal.specs.Table.{GoalRecord}
 use Rattle.exec_goal.specs.declared.info.GoalInfo.{GoalInfo}
 use Rattle.exec_world.proofs.Expiring.{found_at, passed_at, none_from, oldest-told}
 use Rattle.exec_world.proofs.server.Server.oldest_accepted.Goals as goal

@@ -1,17 +1,14 @@
-use Rattle.std.proofs.Common.{◌≡◌, List, Option, None, Some, pos, ap, sym, subst, ◌∙◌, refl}
+use Rattle.std.proofs.Common.{◌≡◌, List, Option, None, Some, pos, ap, sym, ◌∙◌, refl}
 use Rattle.std.specs.List.{find}
 use Rattle.std.specs.Option.{option_map}
-use Rattle.exec_goal.proofs.Entries.{ids_decide, on_err}
+use Rattle.exec_goal.proofs.Entries.{ids_decide}
 use Rattle.exec_msg.specs.Lists.{change_first}
-use Rattle.exec_script.specs.declared.effects.Effect.{Effect}
-use Rattle.exec_task.specs.Task.{TaskState, new_task}
-use Rattle.exec_world.proofs.Awake.{polled-in, unchanged_first, unchanged-none, after_poll_of, server-polled}
+use Rattle.exec_task.specs.Task.{new_task}
+use Rattle.exec_world.proofs.Awake.{unchanged-none}
 use Rattle.exec_world.proofs.HeldEntries.{key_test, found-in, changed-in}
 use Rattle.exec_world.proofs.Serving.{kept-same, changed-ids, held_ids}
-use Rattle.exec_world.specs.Callback.{Outcome}
 use Rattle.exec_world.specs.World.{GoalWork, HeldGoal, ServerEntry, is_for}
-use Rattle.exec_world.specs.inner.Keeping.{AreKept}
-use Rattle.exec_world.specs.inner.Polling.{poll_listed, server_polled, server_with_work, with_work, work_of}
+use Rattle.exec_world.specs.inner.Polling.{with_work, work_of}
 use Rattle.exec_world.specs.inner.Server.{held_goal_of, held_goals_of}
 use Rattle.exec_world.specs.declared.server.Held.{Held}
 use Rattle.exec_world.proofs.server.Server.take_task.Goals as goal

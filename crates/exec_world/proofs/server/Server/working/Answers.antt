@@ -1,4 +1,4 @@
-use Rattle.std.proofs.Common.{◌≡◌, ap, ◌∙◌, sym}
+use Rattle.std.proofs.Common.{ap, ◌∙◌, sym}
 use Rattle.exec_goal.specs.Table.{working}
 use Rattle.exec_world.proofs.Awake.{none-awake}
 use Rattle.exec_world.specs.World.{ServerEntry}
