@@ -6,6 +6,7 @@ pub mod Handling
 pub mod HeldEntries
 pub mod Keeping
 pub mod Lawful
+pub mod Lending
 pub mod OfKinds
 pub mod Pairs
 pub mod Running
