@@ -1,9 +1,13 @@
+pub mod Awake
 pub mod Ended
+pub mod Expiring
 pub mod Growing
 pub mod Handling
+pub mod HeldEntries
 pub mod Identifiers
 pub mod Keeping
 pub mod Lawful
+pub mod Lending
 pub mod Lives
 pub mod Numbered
 pub mod OfKinds
@@ -11,6 +15,7 @@ pub mod Pairs
 pub mod Pending
 pub mod ReadyLists
 pub mod Running
+pub mod Serving
 pub mod Shapes
 pub mod Statuses
 pub mod Views

@@ -1,1 +1,4 @@
+pub mod Keeping
 pub mod Numbered
+pub mod Polling
+pub mod Server

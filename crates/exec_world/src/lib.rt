@@ -8,6 +8,7 @@ mod handler;
 mod item;
 pub mod laws;
 mod ready;
+mod server;
 
 pub use item::Item;
 pub use ready::{Cause, Ready};

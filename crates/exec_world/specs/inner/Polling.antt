@@ -1,0 +1,43 @@
+-- What a poll makes of a server, and what a task that is taken from it leaves.
+use Rattle.std.specs.Prelude.{List, [], Option, None, Some}
+use Rattle.std.specs.List.{find}
+use Rattle.std.specs.Option.{option_map}
+use Rattle.exec_msg.specs.Lists.{change_first}
+use Rattle.exec_script.specs.Script.{listed}
+use Rattle.exec_script.specs.declared.effects.Effect.{Effect}
+use Rattle.exec_task.specs.Goal.{GoalTaskState}
+use Rattle.exec_task.specs.Task.{TaskState}
+use Rattle.exec_task.specs.declared.wait.Turn.{Turn}
+use Rattle.exec_world.specs.Callback.{Outcome, poll}
+use Rattle.exec_world.specs.Item.{GoalId}
+use Rattle.exec_world.specs.World.{GoalWork, HeldGoal, ServerEntry, Variables, is_for}
+
+-- the work that a task does
+abbrev pub work_of : GoalTaskState → GoalWork
+work_of task = record { script = task.script; value = task.value; task = task.task }
+
+-- a goal's work after a poll that left its task so, if it was polled
+abbrev pub work_after : Option TaskState → GoalWork → GoalWork
+work_after None work = work
+work_after (Some task) work = record work { task = task }
+
+-- what is kept of a goal, with this work
+abbrev pub with_work : GoalWork → HeldGoal → HeldGoal
+with_work work held = record held { work = work }
+
+-- a server whose goal of an identifier does this work
+abbrev pub server_with_work : GoalId → GoalWork → ServerEntry → ServerEntry
+server_with_work id work entry = record entry { held = change_first (is_for id) (with_work work) entry.held }
+
+-- the same where a poll left its task so, if it was polled
+abbrev pub server_polled : GoalId → Option TaskState → ServerEntry → ServerEntry
+server_polled id None entry = entry
+server_polled id (Some task) entry = record entry { held = change_first (is_for id) (λ held. record held { work = record held.work { task = task } }) entry.held }
+
+-- a poll of this work, if there is any, with its effects listed
+abbrev pub poll_listed : Turn → Option GoalWork → Variables → Outcome (List Effect)
+poll_listed turn work variables = poll listed turn work variables []
+
+-- a poll of a server's goal
+abbrev pub goal_polled : Turn → GoalId → ServerEntry → Variables → Outcome (List Effect)
+goal_polled turn id entry variables = poll_listed turn (option_map (λ held. held.work) (find (is_for id) entry.held)) variables

@@ -1,0 +1,170 @@
+//! Polls of a server's goals.
+ghost use Rattle.std.specs.Prelude.{◌≡◌, [], Some, IfOk, OnErr, OnOk};
+ghost use Rattle.exec_script.specs.declared.effects.Close.TheVariants as close;
+ghost use Rattle.exec_task.specs.Goal.{meaning_of};
+ghost use Rattle.exec_world.specs.Callback.{close_of_answer};
+ghost use Rattle.exec_world.specs.inner.Polling.{poll_listed, work_after, work_of};
+
+use super::{Held, Server};
+use exec_goal::GoalInfo;
+use exec_msg::{GoalId, Memory, Moment};
+use exec_script::{Bank, Close, EffectList};
+use exec_task::{Answer, GoalTask, Turn, is_awake, poll_goal};
+use futures::task::Context;
+use std::alloc::Global;
+use std::mem;
+
+// What a poll of a goal gives: its effects, in their order, and what closes it.
+#[derive(Drop)]
+pub(crate) struct Polling {
+    pub(crate) effects: EffectList,
+    pub(crate) close: Close,
+}
+
+impl Server {
+    ghost use Rattle.std.specs.Prelude.{ℕ, ◌<◌, pos, length, filter, find, slice_index_or};
+    ghost use Rattle.std.specs.Option.{option_map};
+    ghost use Rattle.exec_goal.specs.Info.{info_of};
+    ghost use Rattle.exec_goal.specs.State.{is_canceling};
+    ghost use Rattle.exec_goal.specs.Table.{GoalRecord, working};
+    ghost use Rattle.exec_task.specs.Task.{new_task};
+    ghost use Rattle.exec_world.specs.Ready.{is_goal_awake, is_task_awake, turn_at};
+    ghost use Rattle.exec_world.specs.World.{is_for};
+    ghost use Rattle.exec_world.specs.inner.Polling.{goal_polled, server_polled, server_with_work};
+
+    // How many goals the server works on; where there are none, none is awake. It looks at no goal.
+    pub(crate) fn working(&self) -> usize
+        ensures working { result ≡ working self.now.goals }
+        ensures idle { result ≡ 0 → (moment : ℕ) → filter (is_goal_awake moment self.now.held) self.now.goals ≡ [] }
+    {
+        self.goals.working()
+    }
+
+    // Whether the goal at this place, from 0, in the order of acceptance, is awake at a moment.
+    pub(crate) fn is_awake_at(&self, index: usize, moment: Moment) -> bool
+        requires { index < length self.now.goals }
+        ensures { (d : GoalRecord) → result ≡ is_goal_awake moment self.now.held (slice_index_or self.now.goals index d) }
+    {
+        let goal = self.goal_at(index);
+        self.is_goal_awake(&goal, moment)
+    }
+
+    fn is_goal_awake(&self, info: &GoalInfo, moment: Moment) -> bool
+        ensures { (goal : GoalRecord) → info.now ≡ info_of goal → result ≡ is_goal_awake moment self.now.held goal }
+    {
+        info.state.is_worked_on() && self.is_task_awake(info, moment)
+    }
+
+    fn is_task_awake(&self, goal: &GoalInfo, moment: Moment) -> bool
+        ensures { result ≡ is_task_awake (turn_at moment (is_canceling goal.now.state)) (find (is_for goal.now.id) self.now.held) }
+    {
+        match self.held.get(&goal.id) {
+            None => false,
+            Some(held) => is_awake(&held.task, moment, goal.state.is_canceling()),
+        }
+    }
+
+    // Polls a goal in a turn, with the variables of its callback group, in a context that the caller has made. One that isn't
+    // held or isn't awake isn't polled, and pends. Where memory is refused, the server and the bank stay as they were.
+    pub(crate) fn poll(
+        &mut self,
+        alloc: Global,
+        id: GoalId,
+        turn: &Turn,
+        bank: &mut Bank,
+        cx: &mut Context<'_>,
+    ) -> Result<Polling, Memory>
+        ensures effects { IfOk result (λ polling. polling.effects ≡ (goal_polled turn.now id self.old bank.old).given) }
+        ensures close { IfOk result (λ polling. polling.close ≡ (goal_polled turn.now id self.old bank.old).close) }
+        ensures variables { OnOk result (bank.new ≡ (goal_polled turn.now id self.old bank.old).variables) }
+        ensures task { OnOk result (self.new ≡ server_polled id (goal_polled turn.now id self.old bank.old).task self.old) }
+        ensures refused { OnErr result (self.new ≡ self.old) }
+        ensures refused_variables { OnErr result (bank.new ≡ bank.old) }
+    {
+        let Some(held) = self.held.get_mut(&id) else {
+            return Ok(unpolled(alloc));
+        };
+        let polling = poll_task(alloc, &mut held.task, turn, bank, cx)?;
+        Ok(polling)
+    }
+
+    // Takes the task of a goal, if it is held, and leaves one that hasn't begun. Where memory is refused, the server stays as
+    // it was.
+    pub(crate) fn take_task(&mut self, id: GoalId) -> Result<Option<GoalTask>, Memory>
+        ensures taken { IfOk result (λ taken. option_map work_of taken ≡ option_map (λ held. held.work) (find (is_for id) self.old.held)) }
+        ensures others { OnOk result (self.new ≡ server_with_work id (record { script = self.old.handler.script; value = pos 0; task = new_task }) self.old) }
+        ensures refused { OnErr result (self.new ≡ self.old) }
+    {
+        let fresh = self.new_task(0)?;
+        let Some(held) = self.held.get_mut(&id) else {
+            return Ok(None);
+        };
+        let task = replace_task(held, fresh);
+        Ok(Some(task))
+    }
+
+    // Puts a goal's task in its place. Where no such goal is held, nothing changes.
+    pub(crate) fn put_task(&mut self, id: GoalId, task: GoalTask)
+        ensures { self.new ≡ server_with_work id (work_of task) self.old }
+    {
+        let Some(held) = self.held.get_mut(&id) else {
+            return;
+        };
+        let _replaced = replace_task(held, task);
+    }
+}
+
+// Puts a task in the place of a goal's, which it answers.
+fn replace_task(held: &mut Held, task: GoalTask) -> GoalTask
+    ensures taken { result ≡ held.old.task }
+    ensures put { held.new ≡ record held.old { task = task } }
+{
+    mem::replace(&mut held.task, task)
+}
+
+// Nothing is done, and the goal pends.
+fn unpolled(alloc: Global) -> Polling
+    ensures effects { result.effects ≡ [] }
+    ensures close { result.close ≡ close.Pending }
+{
+    Polling {
+        effects: EffectList::new(alloc),
+        close: Close::Pending,
+    }
+}
+
+// What closes a poll that is answered so.
+fn close_of(answer: Answer) -> Close
+    ensures { result ≡ close_of_answer (meaning_of answer) }
+{
+    match answer {
+        Answer::Ready(ending) => Close::Ended(ending.event, ending.value),
+        Answer::Pending(_) => Close::Pending,
+    }
+}
+
+// Polls a task where it is awake.
+fn poll_task(
+    alloc: Global,
+    task: &mut GoalTask,
+    turn: &Turn,
+    bank: &mut Bank,
+    cx: &mut Context<'_>,
+) -> Result<Polling, Memory>
+    ensures effects { IfOk result (λ polling. polling.effects ≡ (poll_listed turn.now (Some (work_of task.old)) bank.old).given) }
+    ensures close { IfOk result (λ polling. polling.close ≡ (poll_listed turn.now (Some (work_of task.old)) bank.old).close) }
+    ensures variables { OnOk result (bank.new ≡ (poll_listed turn.now (Some (work_of task.old)) bank.old).variables) }
+    ensures task { OnOk result (work_of task.new ≡ work_after (poll_listed turn.now (Some (work_of task.old)) bank.old).task (work_of task.old)) }
+    ensures refused { OnErr result (work_of task.new ≡ work_of task.old) }
+    ensures refused_variables { OnErr result (bank.new ≡ bank.old) }
+{
+    if !is_awake(task, turn.moment, turn.canceling) {
+        return Ok(unpolled(alloc));
+    }
+    let polled = poll_goal(alloc, task, bank, turn, cx)?;
+    let close = close_of(polled.answer);
+    Ok(Polling {
+        effects: polled.effects,
+        close,
+    })
+}
