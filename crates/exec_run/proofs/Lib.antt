@@ -2,6 +2,5 @@ mod KnownBytes
 mod Listing
 mod OnTimers
 mod Rounds
-mod Running
 mod Starting
 mod Taking

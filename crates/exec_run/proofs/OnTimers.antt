@@ -1,11 +1,10 @@
 -- Lawful graphs in which nothing isn't run yet: each entity is a timer, and nothing is fed.
-use Rattle.std.proofs.Common.{◌≡◌, ℕ, zero, suc, ◌<◌, Bool, true, false, not, ◌||◌, ◌&&◌, IsTrue, List, [], ◌∷◌, length, get_or, slice_get, refl, sym, ◌∙◌, true≢false, arith}
+use Rattle.std.proofs.Common.{◌≡◌, ℕ, zero, suc, Bool, true, false, not, ◌||◌, ◌&&◌, IsTrue, List, [], ◌∷◌, slice_get, refl, sym, ◌∙◌, true≢false}
 use Rattle.std.specs.List.{All, list_any, list_all}
 use Rattle.std.specs.Option.{option_map_or}
-use Rattle.std.proofs.lemmas.List.Elements.{All-get_or, All-head, All-tail}
-use Rattle.std.proofs.lemmas.Option.{slice_get_within}
+use Rattle.std.proofs.lemmas.List.Elements.{All-head, All-tail}
 use Rattle.exec_graph.specs.Entity.{Resolved, is_of, refers}
-use Rattle.exec_graph.specs.Graph.{EntityData, GraphData, in_group, declared_at, group_of, is_topic, is_a, is_timer, is_client, is_server, is_action_client}
+use Rattle.exec_graph.specs.Graph.{EntityData, GraphData, in_group, is_topic, is_a, is_timer, is_server}
 use Rattle.exec_graph.specs.Lawful.{IsLawful, IsLawfulDeclared, is_at, is_declared, is_fed_well}
 use Rattle.exec_graph.specs.Plan.{PlanData}
 use Rattle.exec_graph.specs.declared.entity.Declared.{Declared}
@@ -59,14 +58,6 @@ kind_later : (kind : EntityKind) → ((group : ℕ) (is : Resolved) → is_of ki
 kind_later kind later Topic b h = absurd (true≢false (sym h))
 kind_later kind later (Entity entity) b h = later entity.group entity.is (and_left (is_of kind entity.is) b h)
 
-client_in : (group : ℕ) (is : Resolved) → is_of kind.Client is ≡ true → is_later (in_group group is) ≡ true
-client_in group (Client entity) h = refl
-client_in group (Timer entity) h = absurd cc
-client_in group (Subscription entity) h = absurd cc
-client_in group (Service entity) h = refl
-client_in group (Server entity) h = refl
-client_in group (ActionClient entity) h = refl
-
 server_in : (group : ℕ) (is : Resolved) → is_of kind.Server is ≡ true → is_later (in_group group is) ≡ true
 server_in group (Server entity) h = refl
 server_in group (Timer entity) h = absurd cc
@@ -74,14 +65,6 @@ server_in group (Subscription entity) h = absurd cc
 server_in group (Service entity) h = refl
 server_in group (Client entity) h = refl
 server_in group (ActionClient entity) h = refl
-
-action_client_in : (group : ℕ) (is : Resolved) → is_of kind.ActionClient is ≡ true → is_later (in_group group is) ≡ true
-action_client_in group (ActionClient entity) h = refl
-action_client_in group (Timer entity) h = absurd cc
-action_client_in group (Subscription entity) h = absurd cc
-action_client_in group (Service entity) h = refl
-action_client_in group (Client entity) h = refl
-action_client_in group (Server entity) h = refl
 
 and_true : (b : Bool) → (b && true) ≡ b
 and_true true = refl
@@ -95,16 +78,6 @@ no_topic graph none number = no_such is_topic topic_later graph.entities none nu
 
 pub no_server : (graph : GraphData) → HaveNone graph.entities → (number : ℕ) → is_at is_server graph number ≡ false
 no_server graph none number = no_such is_server server_later graph.entities none number
-
--- nothing of a node is named by an instruction either
-pub no_client_at : (graph : GraphData) → HaveNone graph.entities → (of : Declared → Bool) (number : ℕ) → is_at (λ declared. is_client declared && of declared) graph number ≡ false
-no_client_at graph none of number = no_such (λ declared. is_client declared && of declared) (λ declared h. kind_later kind.Client client_in declared (of declared) h) graph.entities none number
-
-pub no_action_client_at : (graph : GraphData) → HaveNone graph.entities → (of : Declared → Bool) (number : ℕ) → is_at (λ declared. is_action_client declared && of declared) graph number ≡ false
-no_action_client_at graph none of number = no_such (λ declared. is_action_client declared && of declared) (λ declared h. kind_later kind.ActionClient action_client_in declared (of declared) h) graph.entities none number
-
-pub no_server_at : (graph : GraphData) → HaveNone graph.entities → (of : Declared → Bool) (number : ℕ) → is_at (λ declared. is_server declared && of declared) graph number ≡ false
-no_server_at graph none of number = no_such (λ declared. is_server declared && of declared) (λ declared h. kind_later kind.Server server_in declared (of declared) h) graph.entities none number
 
 -- ---- each entity is a timer
 
@@ -137,50 +110,6 @@ all_timers graph topicless (entity ∷ entities) none lawful =
 
 pub are_timers : (graph : GraphData) → IsLawful graph → is_of_timers graph ≡ true → AreTimers graph.entities
 are_timers graph lawful h = all_timers graph (no_topic graph (none_later graph h)) graph.entities (none_later graph h) lawful.entities
-
-timer_at : (entities : List EntityData) (number : ℕ) → AreTimers entities → number < length entities → is_timer (get_or entities number (record { name = []; is = Topic })).is ≡ true
-timer_at [] number timers within = absurd (omega arith)
-timer_at (entity ∷ entities) zero timers within = and_left (is_timer entity.is) _ timers
-timer_at (entity ∷ entities) (suc number) timers within = timer_at entities number (rest (is_timer entity.is) _ timers) (omega arith)
-  where
-    rest : (a b : Bool) → (a && b) ≡ true → b ≡ true
-    rest true b h = h
-    rest false b h = absurd (true≢false (sym h))
-
--- what stands at a number is one
-pub declared_timer : (graph : GraphData) (number : ℕ) → AreTimers graph.entities → number < length graph.entities → is_timer (declared_at graph number) ≡ true
-declared_timer graph number timers within = timer_at graph.entities number timers within
-
--- ---- a lawful entity
-
--- what stands at a number is lawful
-pub lawful_at : (graph : GraphData) (number : ℕ) → IsLawful graph → number < length graph.entities → IsLawfulDeclared graph (declared_at graph number)
-lawful_at graph number lawful within = All-get_or (λ entity. IsLawfulDeclared graph entity.is) graph.entities number (record { name = []; is = Topic }) within lawful.entities
-
--- the callback group of a timer is one of the graph's
-pub group_within : (graph : GraphData) (number : ℕ) → IsLawful graph → AreTimers graph.entities → number < length graph.entities → group_of (declared_at graph number) < length graph.groups
-group_within graph number lawful timers within = by (declared_at graph number) (declared_timer graph number timers within) (lawful_at graph number lawful within)
-  where
-    by : (declared : Declared) → is_timer declared ≡ true → IsLawfulDeclared graph declared → group_of declared < length graph.groups
-    by Topic h lawful = absurd (true≢false (sym h))
-    by (Entity entity) h lawful = slice_get_within graph.groups entity.group lawful.group lawful.grouped
-
-timer_found : (entities : List EntityData) (number : ℕ) → AreTimers entities → number < length entities → option_map_or (λ entity. not (is_topic entity.is)) (slice_get entities number) false ≡ true
-timer_found [] number timers within = absurd (omega arith)
-timer_found (entity ∷ entities) zero timers within = by entity.is (and_left (is_timer entity.is) _ timers)
-  where
-    by : (declared : Declared) → is_timer declared ≡ true → not (is_topic declared) ≡ true
-    by Topic h = absurd (true≢false (sym h))
-    by (Entity entity) h = refl
-timer_found (entity ∷ entities) (suc number) timers within = timer_found entities number (rest (is_timer entity.is) _ timers) (omega arith)
-  where
-    rest : (a b : Bool) → (a && b) ≡ true → b ≡ true
-    rest true b h = h
-    rest false b h = absurd (true≢false (sym h))
-
--- a timer has a callback group
-pub is_no_topic : (graph : GraphData) (number : ℕ) → AreTimers graph.entities → number < length graph.entities → IsTrue (is_at (λ declared. not (is_topic declared)) graph number)
-is_no_topic graph number timers within = timer_found graph.entities number timers within
 
 -- ---- nothing is fed
 

@@ -1,168 +1,129 @@
--- A round of a world of timers alone runs the callbacks of those that are due, and leaves such a world.
-use Rattle.std.proofs.Common.{◌≡◌, ◌==◌, ℕ, zero, suc, ◌+◌, ◌<◌, ◌≤◌, add-one, ℤ, replicate, Bool, true, false, List, [], ◌∷◌, ◌++◌, length, get_or, drop, map, refl, sym, ap, subst, ◌∙◌, arith}
-use Rattle.std.specs.List.{All, filter, filter_map, flat_map, fold}
-use Rattle.std.proofs.lemmas.List.{append-nil, drop_more, length-replicate}
-use Rattle.std.proofs.lemmas.List.Elements.{All-head, All-tail}
-use Rattle.std.proofs.lemmas.List.Folds.{fold-map}
-use Rattle.exec_graph.specs.Entity.{Resolved}
-use Rattle.exec_graph.specs.Graph.{in_group, GraphData, declared_at, is_timer}
+-- Rounds of a world of timers alone.
+use Rattle.std.proofs.Common.{◌≡◌, ℕ, suc, ◌+◌, ◌<◌, add-one, replicate, Bool, true, false, List, [], ◌∷◌, ◌++◌, length, get_or, drop, map, None, refl, sym, ap, ◌∙◌}
+use Rattle.std.specs.List.{flat_map}
+use Rattle.std.proofs.lemmas.List.{append-nil, drop_more}
+use Rattle.exec_graph.specs.Graph.{GraphData, Waitable}
+use Rattle.exec_graph.specs.Feeding.{fed_in}
 use Rattle.exec_graph.specs.Plan.{PlanData}
-use Rattle.exec_graph.specs.declared.entity.Declared.{Declared}
-use Rattle.exec_graph.specs.declared.entity.Declared.TheVariants.{Topic, Entity}
-use Rattle.exec_graph.specs.declared.entity.EntityOf.TheVariants.{Timer, Subscription, Service, Client, Server, ActionClient}
 use Rattle.exec_graph.specs.declared.plan.Feed.{Feed}
 use Rattle.exec_msg.specs.Timer.{is_due}
 use Rattle.exec_msg.specs.declared.line.Line.{Line}
 use Rattle.exec_msg.specs.declared.line.Line.TheVariants as line
-use Rattle.exec_run.proofs.Listing.{up, timers_listed, no_servers, no_clients, no_action_clients, no_queues, ready_timers, due_within}
-use Rattle.exec_run.proofs.OnTimers.{AreTimers, are_timers, declared_timer, lawful_at, none_later, nothing_fed}
-use Rattle.exec_run.proofs.Running.{AreOfTimers, call_at, run_keeps_alone, timer_names_nothing}
-use Rattle.exec_run.specs.inner.Timers.{IsOfTimers, HasTimersAlone, due_entity, timer_ready}
+use Rattle.exec_run.proofs.Listing.{no_topics, no_queues, no_servers, no_clients, no_action_clients}
+use Rattle.exec_run.proofs.OnTimers.{AreTimers, are_timers, nothing_fed}
+use Rattle.exec_run.specs.inner.Timers.{IsOfTimers, TimerWorld, world_of, timer_ready}
+use Rattle.exec_script.proofs.Lasting.{resumed_later}
+use Rattle.exec_script.specs.Script.{ScriptState, call_of}
 use Rattle.exec_script.specs.Zeros.{zeros}
-use Rattle.exec_world.specs.Ready.{Ready, call_input, due, take_inputs, timer_taken, queue_taken, client_taken}
-use Rattle.exec_world.specs.Run.{run}
-use Rattle.exec_world.specs.Transcript.{expire, expire_lines, server_expired, feed, feed_one, run_all, snapshot_and_run, round, rounds, new_timer, new_action_clients, first_world, finish, pending_by}
-use Rattle.exec_world.specs.World.{WorldState, ServerEntry, ClientEntry, ActionClientEntry, Queue, TimerEntry, add_line}
+use Rattle.exec_script.specs.declared.effects.Effect.{Effect}
+use Rattle.exec_script.specs.declared.effects.Effect.TheVariants as effect
+use Rattle.exec_world.specs.Callback.{callback, instructions_of}
+use Rattle.exec_world.specs.Give.{give, give_all}
+use Rattle.exec_world.specs.Ready.{due_ready, input_of, placed_from, run_line, take_inputs}
+use Rattle.exec_world.specs.Run.{after_callback, run}
+use Rattle.exec_world.specs.Transcript.{expire, feed, first_world, new_action_clients, new_client, new_queue, new_server, new_topic, round, rounds, run_all, snapshot_and_run}
+use Rattle.exec_world.specs.World.{WorldState, Handler, Moment, TimerEntry, Variables, add_line, variables_of, with_variables}
+use Rattle.exec_world.specs.declared.ready.Ready.{Ready}
 
--- a plan's entities are timers
-pub timers_of : (plan : PlanData) → IsOfTimers plan → AreTimers plan.graph.entities
-timers_of plan of = are_timers plan.graph of.lawful.graph of.timers
+-- ---- a callback
 
--- ---- a timer's callback
+-- a timer's callback runs: its line, then its script, whose effects are given, and its group's variables come home
+pub timer_runs : (moment : Moment) (handler : Handler) (world : WorldState) →
+    let one : Ready = timer_ready moment handler in
+    let state : ScriptState (List Effect) = call_of handler.script (variables_of handler.group world) (input_of one) in
+    with_variables handler.group state.variables (give_all one state.given (add_line (run_line one) world)) ≡ run one world
+timer_runs moment handler world =
+    ap (λ (state : ScriptState WorldState). with_variables handler.group state.variables state.given)
+    (sym (resumed_later (give (timer_ready moment handler)) handler.script 0 zeros (variables_of handler.group world) None (input_of (timer_ready moment handler)) [] (add_line (run_line (timer_ready moment handler)) world)))
 
-pub of_timers_at : (plan : PlanData) → IsOfTimers plan → (moment entity : ℕ) (world : WorldState) → entity < length plan.graph.entities → AreOfTimers (call_at plan.graph moment entity world).given
-of_timers_at plan of moment entity world within =
-    timer_names_nothing plan.graph (none_later plan.graph of.timers) (declared_at plan.graph entity)
-    (declared_timer plan.graph entity (timers_of plan of) within)
-    (lawful_at plan.graph entity of.lawful.graph within) _ (call_input moment due)
+-- it has run where its line is told, its script called and each effect given, and its group's variables came home
+pub has_run : (moment : Moment) (handler : Handler) (one : Ready) (world lined given final : WorldState) (bank left : Variables) (effects : List Effect) →
+    one ≡ timer_ready moment handler → lined ≡ add_line (run_line one) world → bank ≡ variables_of handler.group lined →
+    left ≡ (call_of (instructions_of one.script) bank (input_of one)).variables → effects ≡ (call_of (instructions_of one.script) bank (input_of one)).given →
+    given ≡ give_all one effects lined → final ≡ with_variables handler.group left given → final ≡ run one world
+has_run moment handler one world lined given final bank left effects one_is lined_is bank_is left_is effects_is given_is final_is =
+    let state : Ready → ScriptState (List Effect) = λ ready. call_of (instructions_of ready.script) (variables_of handler.group world) (input_of ready) in
+    let same : call_of (instructions_of one.script) bank (input_of one) ≡ state one =
+    ap (λ (b : Variables). call_of (instructions_of one.script) b (input_of one)) (bank_is ∙ ap (variables_of handler.group) lined_is) in
+    final_is
+    ∙ ap (λ (l : Variables). with_variables handler.group l given) (left_is ∙ ap (λ (s : ScriptState (List Effect)). s.variables) same)
+    ∙ ap (with_variables handler.group (state one).variables)
+    (given_is
+    ∙ ap (λ (es : List Effect). give_all one es lined) (effects_is ∙ ap (λ (s : ScriptState (List Effect)). s.given) same)
+    ∙ ap (give_all one (state one).given) lined_is)
+    ∙ ap (λ (ready : Ready). with_variables handler.group (state ready).variables (give_all ready (state ready).given (add_line (run_line ready) world))) one_is
+    ∙ timer_runs moment handler world
+    ∙ ap (λ (ready : Ready). run ready world) (sym one_is)
 
-pub alone_run : (plan : PlanData) → IsOfTimers plan → (moment entity : ℕ) (world : WorldState) → entity < length plan.graph.entities → HasTimersAlone plan.graph world → HasTimersAlone plan.graph (run plan.graph moment (timer_ready plan.graph entity) world)
-alone_run plan of moment entity world within alone =
-    run_keeps_alone plan.graph moment entity world (of_timers_at plan of moment entity world within) alone
+-- ---- places
 
--- callbacks of timers, one after another
-abbrev pub run_timers : GraphData → ℕ → WorldState → List ℕ → WorldState
-run_timers graph moment world entities = fold (λ world entity. run graph moment (timer_ready graph entity) world) world entities
+-- a timer's callback at a place in the ready list
+abbrev placed : ℕ → Moment → Handler → Ready
+placed position moment handler = record (timer_ready moment handler) { position = position }
 
-alone_all : (plan : PlanData) → IsOfTimers plan → (moment : ℕ) (entities : List ℕ) (world : WorldState) → All (λ entity. entity < length plan.graph.entities) entities → HasTimersAlone plan.graph world → HasTimersAlone plan.graph (run_timers plan.graph moment world entities)
-alone_all plan of moment [] world within alone = alone
-alone_all plan of moment (entity ∷ entities) world within alone =
-    alone_all plan of moment entities (run plan.graph moment (timer_ready plan.graph entity) world) (All-tail (λ one. one < length plan.graph.entities) entity entities within)
-    (alone_run plan of moment entity world (All-head (λ one. one < length plan.graph.entities) entity entities within) alone)
+-- whose effects do there what they do
+given_there : (position : ℕ) (moment : Moment) (handler : Handler) (given : Effect) (world : WorldState) → give (placed position moment handler) given world ≡ give (timer_ready moment handler) given world
+given_there position moment handler (effect.Publish topic value) world = refl
+given_there position moment handler (effect.Call client value) world = refl
+given_there position moment handler (effect.SendGoal client value) world = refl
+given_there position moment handler (effect.CancelAll client stamp) world = refl
+given_there position moment handler (effect.CancelGoal client goal stamp) world = refl
+given_there position moment handler (effect.Execute server) world = refl
+given_there position moment handler (effect.Log value) world = refl
+given_there position moment handler (effect.Feedback value) world = refl
 
--- ---- a round
+run_there : (position : ℕ) (moment : Moment) (handler : Handler) (world : WorldState) → run (placed position moment handler) world ≡ run (timer_ready moment handler) world
+run_there position moment handler world =
+    let one : Ready = timer_ready moment handler in
+    ap (λ (giving : Effect → WorldState → WorldState). after_callback one (callback giving one None (variables_of handler.group world) (add_line (run_line one) world)))
+    (λ i given before. given_there position moment handler given before i)
 
-pub alone_line : (graph : GraphData) (added : Line) (world : WorldState) → HasTimersAlone graph world → HasTimersAlone graph (add_line added world)
-alone_line graph added world alone = record {
-  timers = alone.timers;
-  queues = alone.queues;
-  servers = alone.servers;
-  clients = alone.clients;
-  groups = alone.groups;
-}
+-- callbacks of timers do at their places what they do
+run_placed : (position : ℕ) (moment : Moment) (timers : List TimerEntry) (world : WorldState) → run_all (placed_from position (flat_map (due_ready moment) timers)) world ≡ run_all (flat_map (due_ready moment) timers) world
+run_placed position moment [] world = refl
+run_placed position moment (entry ∷ timers) world = by (is_due entry.timer moment) refl (λ next. run_placed next moment timers)
+  where
+    by : (b : Bool) → is_due entry.timer moment ≡ b → ((next : ℕ) (before : WorldState) → run_all (placed_from next (flat_map (due_ready moment) timers)) before ≡ run_all (flat_map (due_ready moment) timers) before) →
+        run_all (placed_from position (flat_map (due_ready moment) (entry ∷ timers))) world ≡ run_all (flat_map (due_ready moment) (entry ∷ timers)) world
+    by true e rest = rw e (rest (suc position) (run (placed position moment entry.handler) world) ∙ ap (run_all (flat_map (due_ready moment) timers)) (run_there position moment entry.handler world))
+    by false e rest = rw e (rest position world)
 
-same_entity : (moment : ℕ) (entry : TimerEntry) (b : Bool) → is_due entry.timer moment ≡ b → (timer_taken moment entry).entity ≡ entry.entity
-same_entity moment entry true e = rw e refl
-same_entity moment entry false e = rw e refl
+-- ---- rounds
 
-same_entities : (moment : ℕ) (timers : List TimerEntry) → map (λ entry. entry.entity) (map (timer_taken moment) timers) ≡ map (λ entry. entry.entity) timers
-same_entities moment [] = refl
-same_entities moment (entry ∷ timers) =
-    ap (λ (entity : ℕ). entity ∷ map (λ other. other.entity) (map (timer_taken moment) timers)) (same_entity moment entry (is_due entry.timer moment) refl)
-    ∙ ap (λ (rest : List ℕ). entry.entity ∷ rest) (same_entities moment timers)
+-- the callbacks of the timers that are due are the ready ones
+pub ready_run : (moment : Moment) (world : TimerWorld) → run_all (flat_map (due_ready moment) world.timers) (take_inputs moment (world_of world)) ≡ snapshot_and_run moment (world_of world)
+ready_run moment world =
+    let due : List Ready = flat_map (due_ready moment) world.timers in
+    sym (ap (λ (list : List Ready). run_all (placed_from 1 list) (take_inputs moment (world_of world))) (append-nil ((due ++ []) ++ []) ∙ append-nil (due ++ []) ∙ append-nil due)
+    ∙ run_placed 1 moment world.timers (take_inputs moment (world_of world)))
 
-pub alone_taken : (graph : GraphData) (moment : ℕ) (world : WorldState) → HasTimersAlone graph world → HasTimersAlone graph (take_inputs moment world)
-alone_taken graph moment world alone = record {
-  timers = same_entities moment world.timers ∙ alone.timers;
-  queues = ap (λ (queues : List Queue). map queue_taken queues) alone.queues;
-  servers = alone.servers;
-  clients = ap (λ (clients : List ClientEntry). map (client_taken world) clients) alone.clients;
-  groups = alone.groups;
-}
-
--- without servers nothing expires
-none_expires : (graph : GraphData) (moment : ℕ) (world : WorldState) → world.servers ≡ [] → expire graph moment world ≡ world
-none_expires graph moment world none =
-    ap (λ (servers : List ServerEntry). record world { lines = world.lines ++ flat_map (expire_lines graph moment) servers; servers = map (server_expired graph moment) servers }) none
-    ∙ ap (λ (lines : List Line). record world { lines = lines; servers = [] }) (append-nil world.lines)
-    ∙ ap (λ (servers : List ServerEntry). record world { servers = servers }) (sym none)
-
-feed_same : (plan : PlanData) (number : ℕ) (world : WorldState) → plan.feed ≡ [] → feed plan number world ≡ world
-feed_same plan number world none =
-    ap (λ (entries : List Feed). fold (λ before entry. feed_one plan.graph entry.fed before) world (filter (λ entry. entry.round == number) entries)) none
-
--- a round runs the timers that are due
-pub round_by_timers : (plan : PlanData) → IsOfTimers plan → (number moment : ℕ) (world : WorldState) → HasTimersAlone plan.graph world →
-    run_timers plan.graph moment (take_inputs moment (add_line (line.Round number moment) world)) (filter_map (due_entity moment) world.timers) ≡ round plan number moment world
-round_by_timers plan of number moment world alone =
-    let lined : WorldState = add_line (line.Round number moment) world in
-    sym (
-    ap (λ (w : WorldState). snapshot_and_run plan.graph moment (feed plan number w)) (none_expires plan.graph moment lined alone.servers)
-    ∙ ap (snapshot_and_run plan.graph moment) (feed_same plan number lined (nothing_fed plan of))
-    ∙ ap (λ (readies : List Ready). run_all plan.graph moment readies (take_inputs moment lined)) (ready_timers plan.graph moment lined (timers_of plan of) alone.timers)
-    ∙ fold-map (λ before one. run plan.graph moment one before) (timer_ready plan.graph) (take_inputs moment lined) (filter_map (due_entity moment) world.timers))
-
-pub alone_round : (plan : PlanData) → IsOfTimers plan → (number moment : ℕ) (world : WorldState) → HasTimersAlone plan.graph world → HasTimersAlone plan.graph (round plan number moment world)
-alone_round plan of number moment world alone =
-    subst (HasTimersAlone plan.graph) (round_by_timers plan of number moment world alone)
-    (alone_all plan of moment (filter_map (due_entity moment) world.timers) (take_inputs moment (add_line (line.Round number moment) world))
-    (due_within plan.graph moment world.timers (timers_of plan of) alone.timers)
-    (alone_taken plan.graph moment (add_line (line.Round number moment) world) (alone_line plan.graph (line.Round number moment) world alone)))
+-- before the snapshot nothing expires, and nothing is fed
+snapshot_is : (plan : PlanData) → IsOfTimers plan → (number : ℕ) (moment : Moment) (world : TimerWorld) → round plan number moment (world_of world) ≡ snapshot_and_run moment (add_line (line.Round number moment) (world_of world))
+snapshot_is plan of number moment world =
+    let lined : WorldState = add_line (line.Round number moment) (world_of world) in
+    ap (λ (entries : List Feed). snapshot_and_run moment (feed (fed_in number entries) (expire moment lined))) (nothing_fed plan of)
+    ∙ ap (λ (lines : List Line). snapshot_and_run moment (record lined { lines = lines })) (append-nil lined.lines)
 
 -- the next round
-pub round_next : (plan : PlanData) (moments : List ℕ) (i number moment : ℕ) (world : WorldState) → i < length moments → moment ≡ get_or moments i moment → rounds plan (number + 1) (drop (i + 1) moments) (round plan number moment world) ≡ rounds plan number (drop i moments) world
-round_next plan moments i number moment world within there =
-    ap (λ (n : ℕ). rounds plan n (drop (i + 1) moments) (round plan number moment world)) (add-one number)
+pub round_next : (plan : PlanData) → IsOfTimers plan → (moments : List ℕ) (i number moment : ℕ) (world : TimerWorld) (after : WorldState) → i < length moments → moment ≡ get_or moments i moment →
+    after ≡ snapshot_and_run moment (add_line (line.Round number moment) (world_of world)) → rounds plan (number + 1) (drop (i + 1) moments) after ≡ rounds plan number (drop i moments) (world_of world)
+round_next plan of moments i number moment world after within there ran =
+    ap (λ (n : ℕ). rounds plan n (drop (i + 1) moments) after) (add-one number)
+    ∙ ap (rounds plan (suc number) (drop (i + 1) moments)) (ran ∙ sym (snapshot_is plan of number moment world))
     ∙ sym (rw (drop_more moments i moment within, ← there) refl)
 
 -- ---- the first world
 
-one_entity : (number : ℕ) (declared : Declared) (rest : List TimerEntry) → is_timer declared ≡ true → map (λ entry. entry.entity) (new_timer number declared ++ rest) ≡ number ∷ map (λ entry. entry.entity) rest
-one_entity number Topic rest h = absurd cc
-one_entity number (Entity entity) rest h = by entity.group entity.is h where
-  by : (group : ℕ) (is : Resolved) → is_timer (in_group group is) ≡ true → map (λ entry. entry.entity) (new_timer number (in_group group is) ++ rest) ≡ number ∷ map (λ entry. entry.entity) rest
-  by group (Timer timer) h = refl
-  by group (Subscription subscription) h = absurd cc
-  by group (Service service) h = absurd cc
-  by group (Client client) h = absurd cc
-  by group (Server server) h = absurd cc
-  by group (ActionClient client) h = absurd cc
-
-new_entities : (graph : GraphData) → AreTimers graph.entities → (k n : ℕ) → k + n ≤ length graph.entities → map (λ entry. entry.entity) (flat_map (λ number. new_timer number (declared_at graph number)) (up k n)) ≡ up k n
-new_entities graph timers k zero within = refl
-new_entities graph timers k (suc n) within =
-    one_entity k (declared_at graph k) (flat_map (λ number. new_timer number (declared_at graph number)) (up (suc k) n)) (declared_timer graph k timers (omega arith))
-    ∙ ap (λ (rest : List ℕ). k ∷ rest) (new_entities graph timers (suc k) n (omega arith))
-
-pub alone_first : (graph : GraphData) → AreTimers graph.entities → HasTimersAlone graph (first_world graph)
-alone_first graph timers = record {
-  timers =
-      ap (λ (numbers : List ℕ). map (λ entry. entry.entity) (flat_map (λ number. new_timer number (declared_at graph number)) numbers)) (timers_listed graph timers)
-      ∙ new_entities graph timers 0 (length graph.entities) (omega arith)
-      ∙ sym (timers_listed graph timers);
-  queues = ap (map (λ waitable. record { entity = waitable.entity; kind = waitable.kind; items = [] })) (no_queues graph timers);
-  servers = ap (map (λ number. record { entity = number; goals = [] })) (no_servers graph timers);
-  clients = ap (map (λ number. record { entity = number; calls = 0; pending = [] })) (no_clients graph timers);
-  groups = length-replicate (length graph.groups) zeros;
-}
-
--- the first world has nothing of other entities
-pub first_is : (graph : GraphData) → AreTimers graph.entities → (timers : List TimerEntry) (variables : List (List ℤ)) (lines : List Line) → timers ≡ (first_world graph).timers → variables ≡ replicate (length graph.groups) zeros → lines ≡ [] →
-    record { timers = timers; queues = []; servers = []; clients = []; action_clients = []; variables = variables; lines = lines } ≡ first_world graph
-first_is graph are timers variables lines timers_are variables_are lines_are =
+pub first_is : (plan : PlanData) → IsOfTimers plan → (world : TimerWorld) → world.timers ≡ (first_world plan.graph).timers → world.variables ≡ replicate (length plan.graph.groups) zeros → world.lines ≡ [] → world_of world ≡ first_world plan.graph
+first_is plan of world timers variables lines =
+    let graph : GraphData = plan.graph in
     let first : WorldState = first_world graph in
-    let alone : HasTimersAlone graph first = alone_first graph are in
-    ap (λ (ts : List TimerEntry). record { timers = ts; queues = []; servers = []; clients = []; action_clients = []; variables = variables; lines = lines }) timers_are
-    ∙ ap (λ (vs : List (List ℤ)). record { timers = first.timers; queues = []; servers = []; clients = []; action_clients = []; variables = vs; lines = lines }) variables_are
-    ∙ ap (λ (ls : List Line). record { timers = first.timers; queues = []; servers = []; clients = []; action_clients = []; variables = first.variables; lines = ls }) lines_are
-    ∙ ap (λ (qs : List Queue). record first { queues = qs; servers = []; clients = []; action_clients = [] }) (sym alone.queues)
-    ∙ ap (λ (ss : List ServerEntry). record first { servers = ss; clients = []; action_clients = [] }) (sym alone.servers)
-    ∙ ap (λ (cs : List ClientEntry). record first { clients = cs; action_clients = [] }) (sym alone.clients)
-    ∙ ap (λ (cs : List ActionClientEntry). record first { action_clients = cs }) (sym (ap (new_action_clients 0) (no_action_clients graph are)))
-
--- ---- the last world
-
--- without service clients the end is the one closing line
-pub ends : (number : ℕ) (world : WorldState) → world.clients ≡ [] → add_line (line.End number) world ≡ finish number world
-ends number world none =
-    sym (ap (λ (clients : List ClientEntry). record world { lines = world.lines ++ (flat_map (λ entry. pending_by entry.entity (length entry.pending)) clients ++ line.End number ∷ []) }) none)
+    let are : AreTimers graph.entities = are_timers graph of.lawful.graph of.timers in
+    ap (λ (ts : List TimerEntry). record (world_of world) { timers = ts }) timers
+    ∙ ap (λ (vs : List Variables). record (world_of world) { timers = first.timers; variables = vs }) variables
+    ∙ ap (λ (ls : List Line). record (world_of world) { timers = first.timers; variables = first.variables; lines = ls }) lines
+    ∙ sym (ap (λ (ts : List ℕ). record first { topics = map (new_topic graph) ts }) (no_topics graph are)
+    ∙ ap (λ (qs : List Waitable). record first { topics = []; queues = map (new_queue graph) qs }) (no_queues graph are)
+    ∙ ap (λ (ss : List ℕ). record first { topics = []; queues = []; servers = map (new_server graph) ss }) (no_servers graph are)
+    ∙ ap (λ (cs : List ℕ). record first { topics = []; queues = []; servers = []; clients = map (new_client graph) cs }) (no_clients graph are)
+    ∙ ap (λ (cs : List ℕ). record first { topics = []; queues = []; servers = []; clients = []; action_clients = new_action_clients graph 0 cs }) (no_action_clients graph are))

@@ -1,26 +1,112 @@
-ghost use Rattle.std.specs.Prelude.{◌≡◌, ◌++◌, [], true, map, replicate, IsTrue, OnOk, IfOk};
-ghost use Rattle.std.specs.Option.{unwrap_or};
-ghost use Rattle.std.specs.List.{filter_map};
+ghost use Rattle.std.specs.Prelude.{◌≡◌, ◌++◌, true, map, replicate, IsTrue, OnOk, IfOk};
+ghost use Rattle.std.specs.List.{flat_map};
 ghost use Rattle.exec_graph.specs.Entity.{is_within};
-ghost use Rattle.exec_graph.specs.Graph.{of_entity, callback_script, script_for};
-ghost use Rattle.exec_msg.specs.declared.kind.Kind.TheVariants as kind;
-ghost use Rattle.exec_run.specs.inner.Timers.{due_entity};
+ghost use Rattle.exec_graph.specs.Graph.{in_group, of_entity};
+ghost use Rattle.exec_run.specs.inner.Timers.{timer_in};
 ghost use Rattle.exec_script.specs.Zeros.{zeros};
-ghost use Rattle.exec_world.specs.Ready.{timer_taken};
-ghost use Rattle.exec_world.specs.Transcript.{new_timer, timer_in, first_world};
+ghost use Rattle.exec_world.specs.Ready.{due_ready, timer_taken};
+ghost use Rattle.exec_world.specs.Transcript.{first_world};
 
-use exec_graph::{Declared, EntityOf, Graph, GroupNo, Plan, Script};
+use exec_graph::{Declared, EntityOf, Graph, GraphEntity, GroupNo, Plan, Script};
 use exec_msg::{EntityNo, Kind, Line, Lines, Memory, Moment, Timer};
-use exec_script::{Bank, Effect, EffectList, Input, Instr, Role, run_call_into};
+use exec_script::{Bank, Effect, EffectList, Input, Role, run_call_into};
 use std::alloc::Global;
 use std::marker::Model;
 
-type Resolved = EntityOf<EntityNo, Script>;
-
-/// A timer of a graph.
-#[derive(Clone, Copy, Debug, PartialEq, Eq)]
-struct EntityTimer {
+// Whose callback it is: a timer's, of a callback group that is mutually exclusive or not, and with which script.
+#[derive(Drop)]
+struct Handler {
     entity: EntityNo,
+    group: GroupNo,
+    exclusive: bool,
+    script: Script,
+}
+
+impl Model for Handler {
+    ghost use Rattle.exec_world.specs.World.{Handler as Data};
+
+    ghost Value = { Data };
+
+    ghost view = { λ handler. record { entity = handler.entity; group = handler.group; exclusive = handler.exclusive; script = handler.script } };
+}
+
+impl Handler {
+    ghost use Rattle.std.specs.Prelude.{◌≡◌, IfOk};
+
+    // The same callback, whose script is shared.
+    fn share(&self) -> Result<Handler, Memory>
+        ensures { IfOk result (λ shared. shared ≡ self.now) }
+    {
+        Ok(Handler {
+            entity: self.entity,
+            group: self.group,
+            exclusive: self.exclusive,
+            script: Script::of(self.script.shared().clone()?),
+        })
+    }
+}
+
+// A timer's callback that is due at a moment.
+#[derive(Drop)]
+struct Due {
+    moment: Moment,
+    handler: Handler,
+}
+
+impl Model for Due {
+    ghost use Rattle.exec_run.specs.inner.Timers.{timer_ready};
+    ghost use Rattle.exec_world.specs.declared.ready.Ready.{Ready};
+
+    ghost Value = { Ready };
+
+    ghost view = { λ due. timer_ready due.moment due.handler };
+}
+
+impl Due {
+    ghost use Rattle.std.specs.Prelude.{◌≡◌, OnOk};
+    ghost use Rattle.exec_script.specs.Script.{call_of};
+    ghost use Rattle.exec_world.specs.Callback.{instructions_of};
+    ghost use Rattle.exec_world.specs.Ready.{input_of, run_line};
+
+    // Calls its script; the list then has the effects of this call alone.
+    fn call(&self, bank: &mut Bank, effects: &mut EffectList) -> Result<(), Memory>
+        ensures bank { OnOk result (bank.new ≡ (call_of (instructions_of self.now.script) bank.old (input_of self.now)).variables) }
+        ensures effects { OnOk result (effects.new ≡ (call_of (instructions_of self.now.script) bank.old (input_of self.now)).given) }
+    {
+        let script = self.handler.script.as_slice();
+        effects.clear();
+        let _nothing = run_call_into(script, Role::Callback, bank, &self.input(), effects)?;
+        Ok(())
+    }
+
+    fn input(&self) -> Input
+        ensures { result ≡ input_of self.now }
+    {
+        Input {
+            first: self.moment.ticks() as i64,
+            aux: 0,
+            moment: self.moment,
+        }
+    }
+
+    fn line(&self) -> Line
+        ensures { result ≡ run_line self.now }
+    {
+        let input = self.input();
+        Line::Run {
+            entity: self.handler.entity,
+            kind: Kind::Timer,
+            input: input.first,
+            aux: input.aux,
+            id: None,
+        }
+    }
+}
+
+// A timer of a graph, with its callback.
+#[derive(Drop)]
+struct EntityTimer {
+    handler: Handler,
     timer: Timer,
 }
 
@@ -29,27 +115,26 @@ impl Model for EntityTimer {
 
     ghost Value = { TimerEntry };
 
-    ghost view = { λ entry. record { entity = entry.entity; timer = entry.timer } };
-
-    ghost inverse = { λ entry. record { entity = entry.entity; timer = entry.timer } };
+    ghost view = { λ entry. record { handler = entry.handler; timer = entry.timer } };
 }
 
 impl EntityTimer {
-    ghost use Rattle.std.specs.Prelude.{◌≡◌};
-    ghost use Rattle.exec_run.specs.inner.Timers.{due_entity};
-    ghost use Rattle.exec_world.specs.Ready.{timer_taken};
+    ghost use Rattle.std.specs.Prelude.{◌≡◌, ◌++◌, OnOk};
+    ghost use Rattle.exec_world.specs.Ready.{due_ready, timer_taken};
 
-    // Makes the timer's call where it is due, and then gives its entity.
-    fn take(&mut self, now: Moment) -> Option<EntityNo>
-        ensures timer { self.new ≡ timer_taken now self.old }
-        ensures due { result ≡ due_entity now self.old }
+    // Makes the timer's call where it is due, and then lists its callback.
+    fn take_into(&mut self, now: Moment, due: &mut Vec<Due>) -> Result<(), Memory>
+        ensures timer { OnOk result (self.new ≡ timer_taken now self.old) }
+        ensures due { OnOk result (due.new.items ≡ due.old.items ++ due_ready now self.old) }
     {
         if self.timer.due(now) {
             self.timer.call(now);
-            Some(self.entity)
-        } else {
-            None
+            due.push(Due {
+                moment: now,
+                handler: self.handler.share()?,
+            })?;
         }
+        Ok(())
     }
 }
 
@@ -62,39 +147,29 @@ pub struct World<L: Lines> {
 }
 
 impl<L: Lines> Model for World<L> {
-    ghost use Rattle.std.specs.Prelude.{[]};
-    ghost use Rattle.exec_world.specs.World.{WorldState};
+    ghost use Rattle.exec_run.specs.inner.Timers.{TimerWorld};
 
-    ghost Value = { WorldState };
+    ghost Value = { TimerWorld };
 
-    ghost view = { λ world. record {
-      timers = world.timers.items;
-      queues = [];
-      servers = [];
-      clients = [];
-      action_clients = [];
-      variables = world.banks.items;
-      lines = L.lines world.lines;
-    } };
+    ghost view = { λ world. record { timers = world.timers.items; variables = world.banks.items; lines = L.lines world.lines } };
 }
 
 impl<L: Lines> World<L> {
-    ghost use Rattle.std.specs.Prelude.{◌≡◌, ◌<◌, [], length, true, OnOk, IfOk};
-    ghost use Rattle.std.specs.List.{All, filter_map, fold};
-    ghost use Rattle.exec_graph.specs.Graph.{GraphData};
-    ghost use Rattle.exec_run.specs.inner.Timers.{IsOfTimers, HasTimersAlone, due_entity, timer_ready, timer_caller, names_nothing};
-    ghost use Rattle.exec_script.specs.Script.{call_of};
-    ghost use Rattle.exec_world.specs.Give.{give};
-    ghost use Rattle.exec_world.specs.Ready.{take_inputs};
+    ghost use Rattle.std.specs.Prelude.{◌≡◌, [], OnOk, IfOk};
+    ghost use Rattle.std.specs.List.{flat_map};
+    ghost use Rattle.exec_msg.specs.declared.line.Line.TheVariants as line;
+    ghost use Rattle.exec_run.specs.inner.Timers.{IsOfTimers, world_of};
+    ghost use Rattle.exec_world.specs.Give.{give, give_all};
+    ghost use Rattle.exec_world.specs.Ready.{due_ready, take_inputs};
     ghost use Rattle.exec_world.specs.Run.{run};
-    ghost use Rattle.exec_world.specs.Transcript.{round, first_world, last_world};
+    ghost use Rattle.exec_world.specs.Transcript.{snapshot_and_run, first_world, last_world};
     ghost use Rattle.exec_world.specs.World.{add_line, variables_of, with_variables};
 
     /// The world of a plan of timers alone before its first round, with no lines yet.
     pub fn new(alloc: Global, plan: &Plan, lines: L) -> Result<World<L>, Memory>
         requires plan { IsOfTimers plan.now }
         requires lines { L.lines lines ≡ [] }
-        ensures { IfOk result (λ world. world ≡ first_world plan.now.graph) }
+        ensures { IfOk result (λ world. world_of world ≡ first_world plan.now.graph) }
     {
         let graph = plan.graph();
         Ok(World {
@@ -114,14 +189,14 @@ impl<L: Lines> World<L> {
     /// Runs all rounds of the plan, and closes the transcript.
     pub fn run(&mut self, alloc: Global, plan: &Plan) -> Result<(), Memory>
         requires plan { IsOfTimers plan.now }
-        requires first { self.old ≡ first_world plan.now.graph }
-        ensures { OnOk result (self.new ≡ last_world plan.now) }
+        requires first { world_of self.old ≡ first_world plan.now.graph }
+        ensures { OnOk result (world_of self.new ≡ last_world plan.now) }
     {
         let mut effects = EffectList::new(alloc);
         let mut number = 0;
         for moment in plan.moments() {
             number += 1;
-            self.round(alloc, plan, number, *moment, &mut effects)?;
+            self.round(alloc, number, *moment, &mut effects)?;
         }
         self.add_line(Line::End { rounds: number })
     }
@@ -130,125 +205,87 @@ impl<L: Lines> World<L> {
     fn round(
         &mut self,
         alloc: Global,
-        plan: &Plan,
         number: u64,
         now: Moment,
         effects: &mut EffectList,
     ) -> Result<(), Memory>
-        requires plan { IsOfTimers plan.now }
-        requires timers { HasTimersAlone plan.now.graph self.old }
-        ensures { OnOk result (self.new ≡ round plan.now number now self.old) }
+        ensures { OnOk result (world_of self.new ≡ snapshot_and_run now (add_line (line.Round number now) (world_of self.old))) }
     {
         self.add_line(Line::Round {
             number,
             moment: now,
         })?;
         let due = self.take_due(alloc, now)?;
-        for entity in &due {
-            self.run_timer(plan, *entity, now, effects)?;
+        for one in &due {
+            self.run_timer(one, effects)?;
         }
         Ok(())
     }
 
-    fn take_due(&mut self, alloc: Global, now: Moment) -> Result<Vec<EntityNo>, Memory>
-        ensures world { OnOk result (self.new ≡ take_inputs now self.old) }
-        ensures due { IfOk result (λ due. due.items ≡ filter_map (due_entity now) self.old.timers) }
+    fn take_due(&mut self, alloc: Global, now: Moment) -> Result<Vec<Due>, Memory>
+        ensures world { OnOk result (world_of self.new ≡ take_inputs now (world_of self.old)) }
+        ensures due { IfOk result (λ due. due.items ≡ flat_map (due_ready now) self.old.timers) }
     {
         take_due(alloc, &mut self.timers, now)
     }
 
-    fn run_timer(
-        &mut self,
-        plan: &Plan,
-        entity: EntityNo,
-        now: Moment,
-        effects: &mut EffectList,
-    ) -> Result<(), Memory>
-        requires plan { IsOfTimers plan.now }
-        requires entity { entity < length plan.now.graph.entities }
-        requires timers { HasTimersAlone plan.now.graph self.old }
-        ensures { OnOk result (self.new ≡ run plan.now.graph now (timer_ready plan.now.graph entity) self.old) }
+    fn run_timer(&mut self, one: &Due, effects: &mut EffectList) -> Result<(), Memory>
+        ensures { OnOk result (world_of self.new ≡ run one.now (world_of self.old)) }
     {
-        let graph = plan.graph();
-        let input = Input {
-            first: now.ticks() as i64,
-            aux: 0,
-            moment: now,
-        };
-        self.add_line(Line::Run {
-            entity,
-            kind: Kind::Timer,
-            input: input.first,
-            aux: input.aux,
-            id: None,
-        })?;
-        let script = timer_script(graph.declared(entity));
-        self.call(graph.group_of(entity), script, &input, effects)?;
-        self.give_all(entity, effects.as_slice())
-    }
-
-    fn call(
-        &mut self,
-        group: GroupNo,
-        script: &[Instr],
-        input: &Input,
-        effects: &mut EffectList,
-    ) -> Result<(), Memory>
-        requires { group < length self.old.variables }
-        ensures world { OnOk result (self.new ≡ with_variables group
-            (call_of script.now (variables_of group self.old) input.now).variables self.old) }
-        ensures effects { OnOk result (effects.new ≡ (call_of script.now (variables_of group self.old) input.now).given) }
-    {
-        effects.clear();
-        let bank = &mut self.banks[group.0 as usize];
-        let _nothing = run_call_into(script, Role::Callback, bank, input, effects)?;
+        self.add_line(one.line())?;
+        let group = one.handler.group;
+        let mut bank = self.bank(group);
+        one.call(&mut bank, effects)?;
+        self.give_all(one, effects.as_slice())?;
+        self.set_bank(group, bank);
         Ok(())
     }
 
-    fn give_all(&mut self, entity: EntityNo, effects: &[Effect]) -> Result<(), Memory>
-        requires { All (λ effect. names_nothing effect ≡ true) effects.now }
-        ensures { (graph : GraphData) → OnOk result (self.new ≡ fold (λ world effect. give graph (timer_caller entity) effect world) self.old effects.now) }
+    // The variables of a group; no group but the graph's has any.
+    fn bank(&self, group: GroupNo) -> Bank
+        ensures { result ≡ variables_of group (world_of self.now) }
+    {
+        match self.banks.get(group.0 as usize) {
+            Some(bank) => *bank,
+            None => Bank::new(),
+        }
+    }
+
+    fn set_bank(&mut self, group: GroupNo, bank: Bank)
+        ensures { world_of self.new ≡ with_variables group bank (world_of self.old) }
+    {
+        if let Some(place) = self.banks.get_mut(group.0 as usize) {
+            *place = bank;
+        }
+    }
+
+    fn give_all(&mut self, one: &Due, effects: &[Effect]) -> Result<(), Memory>
+        ensures { OnOk result (world_of self.new ≡ give_all one.now effects.now (world_of self.old)) }
     {
         for effect in effects {
-            self.give(entity, *effect)?;
+            self.give(one, *effect)?;
         }
         Ok(())
     }
 
-    // Feedback goes nowhere, since no goal is polled.
-    fn give(&mut self, entity: EntityNo, effect: Effect) -> Result<(), Memory>
-        requires { names_nothing effect ≡ true }
-        ensures { (graph : GraphData) → OnOk result (self.new ≡ give graph (timer_caller entity) effect self.old) }
+    // There is nothing that another effect could do something to.
+    fn give(&mut self, one: &Due, effect: Effect) -> Result<(), Memory>
+        ensures { OnOk result (world_of self.new ≡ give one.now effect (world_of self.old)) }
     {
         match effect {
-            Effect::Log(value) => self.add_line(Line::Log { entity, value }),
+            Effect::Log(value) => self.add_line(Line::Log {
+                entity: one.handler.entity,
+                value,
+            }),
+            Effect::Publish { topic, value } => self.add_line(Line::Pub { topic, value }),
             _ => Ok(()),
         }
     }
 
     fn add_line(&mut self, line: Line) -> Result<(), Memory>
-        ensures { OnOk result (self.new ≡ add_line line self.old) }
+        ensures { OnOk result (world_of self.new ≡ add_line line (world_of self.old)) }
     {
         self.lines.add(&line)
-    }
-}
-
-// The script of a timer's callbacks; what is no timer has none.
-fn timer_script(declared: &Declared) -> &[Instr]
-    ensures { result.now ≡ unwrap_or (script_for kind.Timer declared.now) [] }
-{
-    match declared {
-        Declared::Topic => &[],
-        Declared::Entity(entity) => script_of(&entity.is),
-    }
-}
-
-fn script_of(entity: &Resolved) -> &[Instr]
-    ensures { result.now ≡ unwrap_or (callback_script kind.Timer entity.now) [] }
-{
-    match entity {
-        EntityOf::Timer(timer) => timer.script.as_slice(),
-        _ => &[],
     }
 }
 
@@ -258,37 +295,44 @@ fn new_timers(alloc: Global, graph: &Graph) -> Result<Vec<EntityTimer>, Memory>
     let mut timers = Vec::new(alloc);
     for number in 0..graph.len() {
         let entity = EntityNo(number as u16);
-        push_timer(&mut timers, entity, graph.declared(entity))?;
+        push_timer(&mut timers, graph, entity, graph.declared(entity))?;
     }
     Ok(timers)
 }
 
 fn push_timer(
     timers: &mut Vec<EntityTimer>,
+    graph: &Graph,
     entity: EntityNo,
     declared: &Declared,
 ) -> Result<(), Memory>
     requires { IsTrue (of_entity true is_within declared.now) }
-    ensures { OnOk result (timers.new.items ≡ timers.old.items ++ new_timer entity declared.now) }
+    ensures { OnOk result (timers.new.items ≡ timers.old.items ++ timer_in graph.now entity declared.now) }
 {
     match declared {
         Declared::Topic => Ok(()),
-        Declared::Entity(declared) => push_timer_of(timers, entity, &declared.is),
+        Declared::Entity(found) => push_timer_of(timers, graph, entity, found),
     }
 }
 
 fn push_timer_of(
     timers: &mut Vec<EntityTimer>,
+    graph: &Graph,
     entity: EntityNo,
-    is: &Resolved,
+    found: &GraphEntity,
 ) -> Result<(), Memory>
-    requires { IsTrue (is_within is.now) }
-    ensures { OnOk result (timers.new.items ≡ timers.old.items ++ timer_in entity is.now) }
+    requires { IsTrue (is_within found.now.is) }
+    ensures { OnOk result (timers.new.items ≡ timers.old.items ++ timer_in graph.now entity (in_group found.now.group found.now.is)) }
 {
-    if let EntityOf::Timer(found) = is {
+    if let EntityOf::Timer(timer) = &found.is {
         timers.push(EntityTimer {
-            entity,
-            timer: Timer::new(found.period),
+            handler: Handler {
+                entity,
+                group: found.group,
+                exclusive: graph.is_exclusive(found.group),
+                script: Script::of(timer.script.shared().clone()?),
+            },
+            timer: Timer::new(timer.period),
         })?;
     }
     Ok(())
@@ -304,15 +348,13 @@ fn new_banks(alloc: Global, groups: usize) -> Result<Vec<Bank>, Memory>
     Ok(banks)
 }
 
-fn take_due(alloc: Global, timers: &mut [EntityTimer], now: Moment) -> Result<Vec<EntityNo>, Memory>
+fn take_due(alloc: Global, timers: &mut [EntityTimer], now: Moment) -> Result<Vec<Due>, Memory>
     ensures timers { OnOk result (timers.new ≡ map (timer_taken now) timers.old) }
-    ensures due { IfOk result (λ due. due.items ≡ filter_map (due_entity now) timers.old) }
+    ensures due { IfOk result (λ due. due.items ≡ flat_map (due_ready now) timers.old) }
 {
     let mut due = Vec::new(alloc);
     for place in 0..timers.len() {
-        if let Some(entity) = timers[place].take(now) {
-            due.push(entity)?;
-        }
+        timers[place].take_into(now, &mut due)?;
     }
     Ok(due)
 }

@@ -1,45 +1,57 @@
 -- Worlds of timers alone.
-use Rattle.std.specs.Prelude.{◌≡◌, ℕ, [], length, map, Bool, true, false, if◌then◌else◌, Option, None, Some}
-use Rattle.exec_graph.specs.Graph.{GraphData, declared_at, entities_where, is_timer, script_for}
+use Rattle.std.specs.Prelude.{◌≡◌, List, [], true, Some}
+use Rattle.std.specs.Option.{unwrap_or}
+use Rattle.exec_graph.specs.Entity.{EntityNo}
+use Rattle.exec_graph.specs.Graph.{GraphData, of_entity, group_of, is_exclusive, is_timer, cons_if, script_for}
 use Rattle.exec_graph.specs.Lawful.{IsLawfulPlan}
 use Rattle.exec_graph.specs.Plan.{PlanData}
-use Rattle.exec_msg.specs.Timer.{is_due}
-use Rattle.exec_msg.specs.declared.kind.Kind.TheVariants.{Timer}
-use Rattle.exec_script.specs.declared.effects.Effect.{Effect}
-use Rattle.exec_script.specs.declared.effects.Effect.TheVariants as effect
+use Rattle.exec_graph.specs.declared.entity.Declared.{Declared}
+use Rattle.exec_msg.specs.declared.kind.Kind.TheVariants as kind
+use Rattle.exec_msg.specs.declared.line.Line.{Line}
 use Rattle.exec_run.specs.Alone.{is_of_timers}
-use Rattle.exec_world.specs.Give.{Caller}
-use Rattle.exec_world.specs.Ready.{Ready, due, ready_with}
-use Rattle.exec_world.specs.World.{TimerEntry, WorldState}
+use Rattle.exec_world.specs.Ready.{ready_for}
+use Rattle.exec_world.specs.Transcript.{period_in}
+use Rattle.exec_world.specs.World.{Handler, Moment, TimerEntry, Variables, WorldState}
+use Rattle.exec_world.specs.declared.ready.Cause.TheVariants as cause
+use Rattle.exec_world.specs.declared.ready.Ready.{Ready}
 
 -- a lawful plan of timers alone
 pub record IsOfTimers (plan : PlanData) : Type 0 where
   pub lawful : IsLawfulPlan plan
   pub timers : is_of_timers plan.graph ≡ true
 
--- a world of a graph of timers alone: it has the graph's timers and the variables of each callback group, and nothing that
--- other entities have
-pub record HasTimersAlone (graph : GraphData) (world : WorldState) : Type 0 where
-  pub timers : map (λ entry. entry.entity) world.timers ≡ entities_where is_timer graph
-  pub queues : world.queues ≡ []
-  pub servers : world.servers ≡ []
-  pub clients : world.clients ≡ []
-  pub groups : length world.variables ≡ length graph.groups
+-- what a world of timers alone has: its timers, the variables of each callback group, and the lines so far
+pub record TimerWorld : Type 0 where
+  pub timers : List TimerEntry
+  pub variables : List Variables
+  pub lines : List Line
 
--- the entity of a timer that is due at a moment
-abbrev pub due_entity : ℕ → TimerEntry → Option ℕ
-due_entity moment entry = if is_due entry.timer moment then Some entry.entity else None
+-- the world that it is, with nothing that other entities have
+abbrev pub world_of : TimerWorld → WorldState
+world_of world = record {
+  topics = [];
+  timers = world.timers;
+  queues = [];
+  servers = [];
+  clients = [];
+  action_clients = [];
+  variables = world.variables;
+  lines = world.lines;
+}
 
--- the ready callback of a timer that is due
-abbrev pub timer_ready : GraphData → ℕ → Ready
-timer_ready graph entity = ready_with graph entity due (script_for Timer (declared_at graph entity))
+-- a timer's callback that is ready at a moment
+abbrev pub timer_ready : Moment → Handler → Ready
+timer_ready moment handler = ready_for moment handler cause.Due [] (Some handler.script)
 
--- whose effects those of a timer's callback are: the timer's, and no goal's
-abbrev pub timer_caller : ℕ → Caller
-timer_caller entity = record { entity = entity; polled = None }
-
--- whether an effect names nothing of a graph; feedback goes to nothing where no goal is polled
-abbrev pub names_nothing : Effect → Bool
-names_nothing (effect.Log value) = true
-names_nothing (effect.Feedback value) = true
-names_nothing _ = false
+-- the timer that stands at a number, if one does, made at moment 0
+abbrev pub timer_in : GraphData → EntityNo → Declared → List TimerEntry
+timer_in graph number declared = cons_if (is_timer declared)
+    (record {
+      handler = record {
+        entity = number;
+        group = group_of declared;
+        exclusive = is_exclusive graph (group_of declared);
+        script = unwrap_or (script_for kind.Timer declared) [];
+      };
+      timer = record { next = of_entity 0 period_in declared; period = of_entity 0 period_in declared };
+    }) []

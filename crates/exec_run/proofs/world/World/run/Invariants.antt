@@ -1,5 +1,5 @@
 use Rattle.std.proofs.Common.{◌≡◌, ◌+◌, drop}
-use Rattle.exec_run.specs.inner.Timers.{HasTimersAlone}
+use Rattle.exec_run.specs.inner.Timers.{world_of}
 use Rattle.exec_world.specs.Transcript.{rounds}
 use Rattle.exec_run.proofs.world.World.run.Given as goal
 
@@ -7,7 +7,6 @@ use Rattle.exec_run.proofs.world.World.run.Given as goal
 abbrev pub invariant-loop-moment : goal.invariant-loop-moment
 invariant-loop-moment g l = record {
   counted : l.number ≡ l.moment-index;
-  left : rounds l.plan (l.number + 1) (drop l.moment-index l.moment-items) l.self
-      ≡ rounds l.plan 1 l.moment-items l.initial.self;
-  alone : HasTimersAlone l.plan.graph l.self;
+  left : rounds l.plan (l.number + 1) (drop l.moment-index l.moment-items) (world_of l.self)
+      ≡ rounds l.plan 1 l.moment-items (world_of l.initial.self);
 }
