@@ -1,3 +1,7 @@
+pub mod Addresses
+pub mod Channels
+pub mod Depths
+pub mod Displaced
 pub mod Ended
 pub mod Growing
 pub mod Handling
