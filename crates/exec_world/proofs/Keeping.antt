@@ -85,9 +85,9 @@ abbrev pub canceled : EntityNo → List Decided → ReturnCode → ℕ → World
 canceled server decisions returned count world =
     add_lines (moved_lines server (moved decisions (goals_of server world)) ++ line.Code server returned count ∷ []) (change_goals server (table_after decisions) world)
 
--- each basic change but an acceptance and an end keeps a property: lines that say no status, an item that is queued, goals
--- that keep identifiers and states, the execution of a goal, the goals that a cancel request moves, where a task stands, a
--- call, a goal that is sent, and variables
+-- each basic change but an acceptance, an end and an answer keeps a property: lines that are quiet, an item that may be sent
+-- there and answers nothing, goals that keep identifiers and states, the execution of a goal, the goals that a cancel request
+-- moves, where a task stands, a call, a goal that is sent, and variables; and clients are known to send where they may
 pub record Moves (routes : Routes) (P : WorldState → Type 0) : Type 0 where
   pub lines_kept : (lines : List Line) (world : WorldState) → IsQuiet lines → P world → P (add_lines lines world)
   pub pushes_kept : (entity : EntityNo) (new : Item) (world : WorldState) → is_sent_well routes entity new ≡ true → is_answer (taker_of new) ≡ false → P world → P (push entity new world)

@@ -33,21 +33,22 @@ use Rattle.exec_world.specs.declared.ready.Ready.{Ready}
 
 -- what an acceptance makes of a property: it happens only where the callback took a goal request, and its server has room
 -- for the goal
-abbrev pub Accepts : Ready → (WorldState → Type 0) → (WorldState → Type 0) → Type 0
-Accepts one P Q =
+abbrev pub Accepts : Ready → (WorldState → Type 0) → Type 0
+Accepts one P =
     (request : GoalRequest) (decision : ℕ) (world : WorldState) →
-    one.cause ≡ cause.Took (item.Goal request.id request.client request.value) → has_room_for request.id (goals_of one.entity world) ≡ true → P world → Q (accept one.entity one.moment decision request world)
+    one.cause ≡ cause.Took (item.Goal request.id request.client request.value) → has_room_for request.id (goals_of one.entity world) ≡ true → P world → P (accept one.entity one.moment decision request world)
 
 -- the world in which a goal ended by an event, with the line of its state
 abbrev pub ended : EntityNo → GoalId → Event → ℤ → Moment → WorldState → WorldState
 ended server id by value moment world = state_said server (goal_at server id (with_ended server id by value moment world)) (with_ended server id by value moment world)
 
 -- what the end of a goal makes of a property: it happens only where the event leads to a terminal state
-abbrev pub Ends : Ready → (WorldState → Type 0) → (WorldState → Type 0) → Type 0
-Ends one P Q =
+abbrev pub Ends : Ready → (WorldState → Type 0) → Type 0
+Ends one P =
     (id : GoalId) (by : Event) (value : ℤ) (reached : State) (world : WorldState) →
-    end_state id by (goals_of one.entity world) ≡ Some reached → P world → Q (ended one.entity id by value one.moment world)
+    end_state id by (goals_of one.entity world) ≡ Some reached → P world → P (ended one.entity id by value one.moment world)
 
+-- what is found passes the test
 pub found_test : {A : Type 0} (test : A → Bool) (all : List A) (one : A) → find test all ≡ Some one → test one ≡ true
 found_test {A} test [] one found = absurd (true≢false (sym (ap (λ (o : Option A). is_some o) found)))
 found_test {A} test (first ∷ all) one found = by (test first) refl (found_test test all one)
@@ -70,7 +71,7 @@ Answers routes one entity _ = ⊥
 abbrev pub Sends : Routes → Ready → (WorldState → Type 0) → (WorldState → Type 0) → Type 0
 Sends routes one P Q = (entity : EntityNo) (new : Item) (world : WorldState) → Answers routes one entity new → P world → Q (push entity new world)
 
-module _ {routes : Routes} {P Q : WorldState → Type 0} (k : Moves routes P) (weaken : (world : WorldState) → P world → Q world) (one : Ready) (accepts : Accepts one P P) (ending : Ends one P P) (sends : Sends routes one P Q) where
+module _ {routes : Routes} {P Q : WorldState → Type 0} (k : Moves routes P) (weaken : (world : WorldState) → P world → Q world) (one : Ready) (accepts : Accepts one P) (ending : Ends one P) (sends : Sends routes one P Q) where
   accept_keeps : (b : Bool) (request : GoalRequest) (decision : ℕ) (world : WorldState) → one.cause ≡ cause.Took (item.Goal request.id request.client request.value) → (b ≡ true → has_room_for request.id (goals_of one.entity world) ≡ true) → P world → P (accept_where b one.entity one.moment decision request world)
   accept_keeps true request decision world same room p = accepts request decision world same (room refl) p
   accept_keeps false request decision world same room p = p
