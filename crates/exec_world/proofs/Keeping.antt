@@ -1,7 +1,7 @@
 -- What every basic change of a world keeps, effects and closings keep.
 use Rattle.std.proofs.Common.{◌≡◌, ℕ, zero, suc, ℤ, Bool, true, false, ◌+◌, List, [], ◌∷◌, ◌++◌, length, map, drop, Option, None, Some, refl, ap, ◌∙◌}
-use Rattle.std.specs.List.{fold}
-use Rattle.exec_goal.specs.Cancel.{CancelRequest, Decided, moved, after_answer, table_after, code_of, is_moved}
+use Rattle.std.specs.List.{fold, list_any}
+use Rattle.exec_goal.specs.Cancel.{CancelRequest, Decided, moved, after_answer, table_after, is_moved}
 use Rattle.exec_goal.specs.State.{status_of}
 use Rattle.exec_goal.specs.Table.{GoalRecord, Asked, told, later, unknown, has_id, after_event, asked_by}
 use Rattle.exec_goal.specs.declared.info.GoalInfo.{GoalInfo}
@@ -28,10 +28,10 @@ use Rattle.exec_script.specs.declared.step.Stop.TheVariants as stop
 use Rattle.exec_task.specs.Task.{TaskState, polled_where, is_awake, poll_input}
 use Rattle.exec_task.specs.declared.wait.Turn.{Turn}
 use Rattle.exec_world.specs.Callback.{Handling, handle, call_in, take_item, poll, poll_where, act, callback, instructions_of, candidate_input}
-use Rattle.exec_world.specs.Close.{tell, tell_end, moved_lines, cancel, answer_ask, ask_where, respond}
+use Rattle.exec_world.specs.Close.{tell, tell_end, moved_lines, answer_ask}
 use Rattle.exec_world.specs.Give.{publish, call_by, send_goal_by, send_cancel, cancel_all_by, cancel_goal_by, oldest_accepted, execute_goal, client_of, give_feedback, give}
-use Rattle.exec_world.specs.Item.{GoalId, goal_id}
-use Rattle.exec_world.specs.LawWords.{statuses_of}
+use Rattle.exec_world.specs.Item.{GoalId, goal_id, taker_of}
+use Rattle.exec_world.specs.LawWords.{statuses_of, is_answer, is_loss}
 use Rattle.exec_world.specs.Ready.{turn_at, input_of}
 use Rattle.exec_world.specs.Transcript.{feed_one, feed}
 use Rattle.exec_world.specs.World.{WorldState, GoalWork, ClientEntry, ActionClientEntry, Variables, add_line, add_lines, drop_line, lost_by, queued, push, push_any, subscribers_of, goals_of, change_goals, with_task, client_at, with_call, action_client_at, with_goal_sent, with_variables}
@@ -56,9 +56,25 @@ pub record Kept (P : WorldState → Type 0) : Type 0 where
   pub sending_kept : (client : EntityNo) (world : WorldState) → P world → P (with_goal_sent client world)
   pub variables_kept : (group : ℕ) (variables : Variables) (world : WorldState) → P world → P (with_variables group variables world)
 
--- lines that say no goal's status
+-- lines that say no goal's status, and of no answer that it was displaced
 abbrev pub IsQuiet : List Line → Type 0
-IsQuiet lines = (server : EntityNo) (id : GoalId) → statuses_of server id lines ≡ []
+IsQuiet lines = ((server : EntityNo) (id : GoalId) → statuses_of server id lines ≡ []) × (list_any is_loss lines ≡ false)
+
+-- where clients send their requests: whether a client is one of a service, and whether an action client is one of a server
+pub record Routes : Type 0 where
+  pub service : EntityNo → EntityNo → Bool
+  pub server : EntityNo → EntityNo → Bool
+
+-- wherever
+abbrev pub anywhere : Routes
+anywhere = record { service = λ client entity. true; server = λ client entity. true }
+
+-- whether an item may be sent to an entity
+abbrev pub is_sent_well : Routes → EntityNo → Item → Bool
+is_sent_well routes entity (item.Request client number value) = routes.service client entity
+is_sent_well routes entity (item.Goal id (Some client) value) = routes.server client entity
+is_sent_well routes entity (item.Cancel request (Some client)) = routes.server client entity
+is_sent_well routes entity _ = true
 
 -- the line of a goal's state, if there is a goal
 abbrev pub state_said : EntityNo → Option GoalRecord → WorldState → WorldState
@@ -70,12 +86,14 @@ abbrev pub canceled : EntityNo → List Decided → ReturnCode → ℕ → World
 canceled server decisions returned count world =
     add_lines (moved_lines server (moved decisions (goals_of server world)) ++ line.Code server returned count ∷ []) (change_goals server (table_after decisions) world)
 
--- each basic change but an acceptance and an end keeps a property: lines that say no status, an item that is queued, goals
--- that keep identifiers and states, the execution of a goal, the goals that a cancel request moves, where a task stands, a
--- call, a goal that is sent, and variables
-pub record Moves (P : WorldState → Type 0) : Type 0 where
+-- each basic change but an acceptance, an end and an answer keeps a property: lines that are quiet, an item that may be sent
+-- there and answers nothing, goals that keep identifiers and states, the execution of a goal, the goals that a cancel request
+-- moves, where a task stands, a call, a goal that is sent, and variables; and clients are known to send where they may
+pub record Moves (routes : Routes) (P : WorldState → Type 0) : Type 0 where
   pub lines_kept : (lines : List Line) (world : WorldState) → IsQuiet lines → P world → P (add_lines lines world)
-  pub queues_kept : (entity : EntityNo) (new : Item) (world : WorldState) → P world → P (queued entity new world)
+  pub pushes_kept : (entity : EntityNo) (new : Item) (world : WorldState) → is_sent_well routes entity new ≡ true → is_answer (taker_of new) ≡ false → P world → P (push entity new world)
+  pub clients_known : (number : EntityNo) (client : ClientEntry) (world : WorldState) → client_at number world ≡ Some client → P world → routes.service client.entity client.service ≡ true
+  pub action_clients_known : (number : EntityNo) (client : ActionClientEntry) (world : WorldState) → action_client_at number world ≡ Some client → P world → routes.server client.entity client.server ≡ true
   pub held_kept : (server : EntityNo) (id : GoalId) (change : GoalRecord → GoalRecord) (world : WorldState) → ((goal : GoalRecord) → (change goal).id ≡ goal.id) → ((goal : GoalRecord) → (change goal).state ≡ goal.state) → P world → P (change_goals server (change_first (has_id id) change) world)
   pub execution_kept : (server : EntityNo) (goal : GoalRecord) (world : WorldState) → oldest_accepted server world ≡ Some goal → P world → P (execute_goal server (Some goal) world)
   pub answer_kept : (server : EntityNo) (decisions : List Decided) (returned : ReturnCode) (count : ℕ) (world : WorldState) → P world → P (canceled server decisions returned count world)
@@ -181,10 +199,15 @@ ids_answered decisions (goal ∷ goals) =
 
 -- ---- effects and what closes a callback
 
-pub moves_kept : {P : WorldState → Type 0} → Kept P → Moves P
+pub push_kept : {P : WorldState → Type 0} → Kept P → (entity : EntityNo) (new : Item) (world : WorldState) → P world → P (push entity new world)
+push_kept k entity new world p = k.lines_kept (map (drop_line entity) (lost_by entity new world)) (queued entity new world) (k.queues_kept entity new world p)
+
+pub moves_kept : {P : WorldState → Type 0} → Kept P → Moves anywhere P
 moves_kept {P} k = record {
   lines_kept = λ lines world quiet p. k.lines_kept lines world p;
-  queues_kept = k.queues_kept;
+  pushes_kept = λ entity new world well free p. push_kept k entity new world p;
+  clients_known = λ number client world found p. refl;
+  action_clients_known = λ number client world found p. refl;
   held_kept = λ server id change world same unmoved p. k.goals_kept server _ world (ids_changed id change same) p;
   execution_kept = λ server goal world found p. k.lines_kept _ _ (k.goals_kept server _ world (ids_changed goal.id (after_event event.Execute) (λ one. refl)) p);
   answer_kept = λ server decisions returned count world p. k.lines_kept _ _ (k.goals_kept server _ world (ids_answered decisions) p);
@@ -194,90 +217,69 @@ moves_kept {P} k = record {
   variables_kept = k.variables_kept;
 }
 
-drops_quiet : (entity : EntityNo) (items : List Item) → IsQuiet (map (drop_line entity) items)
-drops_quiet entity [] server id = refl
-drops_quiet entity (first ∷ items) server id = drops_quiet entity items server id
-
-module _ {P : WorldState → Type 0} (k : Moves P) where
+module _ {routes : Routes} {P : WorldState → Type 0} (k : Moves routes P) where
   line_kept : (one : Line) (world : WorldState) → IsQuiet (one ∷ []) → P world → P (add_line one world)
   line_kept one world quiet p = k.lines_kept (one ∷ []) world quiet p
 
-  pub push_keeps : (entity : EntityNo) (new : Item) (world : WorldState) → P world → P (push entity new world)
-  push_keeps entity new world p =
-      k.lines_kept (map (drop_line entity) (lost_by entity new world)) (queued entity new world) (drops_quiet entity (lost_by entity new world)) (k.queues_kept entity new world p)
-
-  pub push_any_keeps : (client : Option EntityNo) (new : Item) (world : WorldState) → P world → P (push_any client new world)
-  push_any_keeps None new world p = p
-  push_any_keeps (Some client) new world p = push_keeps client new world p
-
   pub publish_keeps : (topic : EntityNo) (value : ℤ) (world : WorldState) → P world → P (publish topic value world)
   publish_keeps topic value world p =
-      fold_keeps P (λ before subscriber. push subscriber (item.Message value) before) (λ before subscriber q. push_keeps subscriber (item.Message value) before q) (subscribers_of topic world) world p
+      fold_keeps P (λ before subscriber. push subscriber (item.Message value) before) (λ before subscriber q. k.pushes_kept subscriber (item.Message value) before refl refl q) (subscribers_of topic world) world p
 
-  call_keeps : (client : Option ClientEntry) (value : ℤ) (world : WorldState) → P world → P (call_by client value world)
-  call_keeps None value world p = p
-  call_keeps (Some client) value world p =
-      push_keeps client.service (item.Request client.entity (client.calls + 1) value) _
-      (line_kept (line.Call client.entity (client.calls + 1) value) _ (λ at goal. refl) (k.calls_kept client.entity world p))
+  call_keeps : (number : EntityNo) (client : Option ClientEntry) (value : ℤ) (world : WorldState) → client_at number world ≡ client → P world → P (call_by client value world)
+  call_keeps number None value world found p = p
+  call_keeps number (Some client) value world found p =
+      k.pushes_kept client.service (item.Request client.entity (client.calls + 1) value) (add_line (line.Call client.entity (client.calls + 1) value) (with_call client.entity world)) (k.clients_known number client world found p) refl
+      (line_kept (line.Call client.entity (client.calls + 1) value) _ ((λ at goal. refl), refl) (k.calls_kept client.entity world p))
 
-  send_goal_keeps : (client : Option ActionClientEntry) (value : ℤ) (world : WorldState) → P world → P (send_goal_by client value world)
-  send_goal_keeps None value world p = p
-  send_goal_keeps (Some client) value world p =
-      push_keeps client.server (item.Goal (goal_id client.place (client.goals + 1)) (Some client.entity) value) _
-      (line_kept (line.Goal client.entity (goal_id client.place (client.goals + 1)) value) _ (λ at goal. refl) (k.sending_kept client.entity world p))
+  send_goal_keeps : (number : EntityNo) (client : Option ActionClientEntry) (value : ℤ) (world : WorldState) → action_client_at number world ≡ client → P world → P (send_goal_by client value world)
+  send_goal_keeps number None value world found p = p
+  send_goal_keeps number (Some client) value world found p =
+      k.pushes_kept client.server (item.Goal (goal_id client.place (client.goals + 1)) (Some client.entity) value) (add_line (line.Goal client.entity (goal_id client.place (client.goals + 1)) value) (with_goal_sent client.entity world)) (k.action_clients_known number client world found p) refl
+      (line_kept (line.Goal client.entity (goal_id client.place (client.goals + 1)) value) _ ((λ at goal. refl), refl) (k.sending_kept client.entity world p))
 
-  send_cancel_keeps : (client : ActionClientEntry) (request : CancelRequest) (world : WorldState) → P world → P (send_cancel client request world)
-  send_cancel_keeps client request world p =
-      push_keeps client.server (item.Cancel request (Some client.entity)) _ (line_kept (line.Cancel client.entity request.id request.stamp) world (λ at goal. refl) p)
+  send_cancel_keeps : (number : EntityNo) (client : ActionClientEntry) (request : CancelRequest) (world : WorldState) → action_client_at number world ≡ Some client → P world → P (send_cancel client request world)
+  send_cancel_keeps number client request world found p =
+      k.pushes_kept client.server (item.Cancel request (Some client.entity)) (add_line (line.Cancel client.entity request.id request.stamp) world) (k.action_clients_known number client world found p) refl (line_kept (line.Cancel client.entity request.id request.stamp) world ((λ at goal. refl), refl) p)
 
-  cancel_all_keeps : (client : Option ActionClientEntry) (stamp : ℕ) (world : WorldState) → P world → P (cancel_all_by client stamp world)
-  cancel_all_keeps None stamp world p = p
-  cancel_all_keeps (Some client) stamp world p = send_cancel_keeps client (record { id = 0; stamp = stamp }) world p
+  cancel_all_keeps : (number : EntityNo) (client : Option ActionClientEntry) (stamp : ℕ) (world : WorldState) → action_client_at number world ≡ client → P world → P (cancel_all_by client stamp world)
+  cancel_all_keeps number None stamp world found p = p
+  cancel_all_keeps number (Some client) stamp world found p = send_cancel_keeps number client (record { id = 0; stamp = stamp }) world found p
 
-  cancel_goal_keeps : (client : Option ActionClientEntry) (number stamp : ℕ) (world : WorldState) → P world → P (cancel_goal_by client number stamp world)
-  cancel_goal_keeps None number stamp world p = p
-  cancel_goal_keeps (Some client) number stamp world p = send_cancel_keeps client (record { id = goal_id client.place number; stamp = stamp }) world p
+  cancel_goal_keeps : (at : EntityNo) (client : Option ActionClientEntry) (number stamp : ℕ) (world : WorldState) → action_client_at at world ≡ client → P world → P (cancel_goal_by client number stamp world)
+  cancel_goal_keeps at None number stamp world found p = p
+  cancel_goal_keeps at (Some client) number stamp world found p = send_cancel_keeps at client (record { id = goal_id client.place number; stamp = stamp }) world found p
 
   execute_keeps : (server : EntityNo) (goal : Option GoalRecord) (world : WorldState) → oldest_accepted server world ≡ goal → P world → P (execute_goal server goal world)
   execute_keeps server None world found p = p
   execute_keeps server (Some goal) world found p = k.execution_kept server goal world found p
 
+  feedback_sent : (client : Option EntityNo) (id : GoalId) (value : ℤ) (world : WorldState) → P world → P (push_any client (item.Feedback id value) world)
+  feedback_sent None id value world p = p
+  feedback_sent (Some client) id value world p = k.pushes_kept client (item.Feedback id value) world refl refl p
+
   feedback_keeps : (server : EntityNo) (why : Cause) (value : ℤ) (world : WorldState) → P world → P (give_feedback server why value world)
   feedback_keeps server cause.Due value world p = p
   feedback_keeps server (cause.Took taken) value world p = p
-  feedback_keeps server (cause.Woke id goal canceling) value world p = push_any_keeps (client_of server id world) (item.Feedback id value) _ (line_kept (line.Feedback server id value) world (λ at goal. refl) p)
+  feedback_keeps server (cause.Woke id goal canceling) value world p = feedback_sent (client_of server id world) id value _ (line_kept (line.Feedback server id value) world ((λ at goal. refl), refl) p)
 
   -- an effect
   pub give_keeps : (one : Ready) (given : Effect) (world : WorldState) → P world → P (give one given world)
-  give_keeps one (effect.Publish topic value) world p = publish_keeps topic value _ (line_kept (line.Pub topic value) world (λ at goal. refl) p)
-  give_keeps one (effect.Call client value) world p = call_keeps (client_at client world) value world p
-  give_keeps one (effect.SendGoal client value) world p = send_goal_keeps (action_client_at client world) value world p
-  give_keeps one (effect.CancelAll client stamp) world p = cancel_all_keeps (action_client_at client world) stamp world p
-  give_keeps one (effect.CancelGoal client number stamp) world p = cancel_goal_keeps (action_client_at client world) number stamp world p
+  give_keeps one (effect.Publish topic value) world p = publish_keeps topic value _ (line_kept (line.Pub topic value) world ((λ at goal. refl), refl) p)
+  give_keeps one (effect.Call client value) world p = call_keeps client (client_at client world) value world refl p
+  give_keeps one (effect.SendGoal client value) world p = send_goal_keeps client (action_client_at client world) value world refl p
+  give_keeps one (effect.CancelAll client stamp) world p = cancel_all_keeps client (action_client_at client world) stamp world refl p
+  give_keeps one (effect.CancelGoal client number stamp) world p = cancel_goal_keeps client (action_client_at client world) number stamp world refl p
   give_keeps one (effect.Execute server) world p = execute_keeps server (oldest_accepted server world) world refl p
-  give_keeps one (effect.Log value) world p = line_kept (line.Log one.entity value) world (λ at goal. refl) p
+  give_keeps one (effect.Log value) world p = line_kept (line.Log one.entity value) world ((λ at goal. refl), refl) p
   give_keeps one (effect.Feedback value) world p = feedback_keeps one.entity one.cause value world p
 
-  pub cancel_keeps : (server : EntityNo) (request : CancelRequest) (client : Option EntityNo) (decisions : List Decided) (world : WorldState) → P world → P (cancel server request client decisions world)
-  cancel_keeps server request client decisions world p =
-      push_any_keeps client (item.Code (code_of request decisions (goals_of server world)) (length (moved decisions (goals_of server world)))) _
-      (k.answer_kept server decisions (code_of request decisions (goals_of server world)) (length (moved decisions (goals_of server world))) world p)
-
   tell_keeps : (server : EntityNo) (id : GoalId) (status : GoalStatus) (value : ℤ) (client : EntityNo) (world : WorldState) → P world → P (tell server id status value client world)
-  tell_keeps server id status value client world p = push_keeps _ (item.Result id status value) _ (line_kept (line.Result server id status value) world (λ at goal. refl) p)
+  tell_keeps server id status value client world p = k.pushes_kept client (item.Result id status value) (add_line (line.Result server id status value) world) refl refl (line_kept (line.Result server id status value) world ((λ at goal. refl), refl) p)
 
   pub answer_ask_keeps : (server : EntityNo) (id : GoalId) (client : EntityNo) (asked : Asked) (world : WorldState) → P world → P (answer_ask server id client asked world)
   answer_ask_keeps server id client (told status value) world p = tell_keeps server id status value client world p
   answer_ask_keeps server id client unknown world p = tell_keeps server id _ _ client world p
   answer_ask_keeps server id client later world p = k.held_kept server id (asked_by client) world (λ one. refl) (λ one. refl) p
-
-  ask_where_keeps : (b : Bool) (client : ActionClientEntry) (id : GoalId) (world : WorldState) → P world → P (ask_where b client id world)
-  ask_where_keeps true client id world p = push_keeps _ (item.Ask id client.entity) _ (line_kept (line.Ask client.entity id) world (λ at goal. refl) p)
-  ask_where_keeps false client id world p = p
-
-  pub respond_keeps : (client : Option ActionClientEntry) (id : GoalId) (accepted : Bool) (world : WorldState) → P world → P (respond client id accepted world)
-  respond_keeps None id accepted world p = p
-  respond_keeps (Some client) id accepted world p = ask_where_keeps _ client id world p
 
   pub tell_end_keeps : (server : EntityNo) (goal : Option GoalRecord) (world : WorldState) → P (state_said server goal world) → P (tell_end server goal world)
   tell_end_keeps server None world p = p
@@ -288,8 +290,8 @@ module _ {P : WorldState → Type 0} (k : Moves P) where
   -- an entry of a feed
   feed_one_keeps : (fed : Fed) (world : WorldState) → P world → P (feed_one fed world)
   feed_one_keeps (feeding.Message topic value) world p = publish_keeps topic value world p
-  feed_one_keeps (feeding.Goal server id value) world p = push_keeps server (item.Goal id None value) _ p
-  feed_one_keeps (feeding.Cancel server id stamp) world p = push_keeps server (item.Cancel (record { id = id; stamp = stamp }) None) _ p
+  feed_one_keeps (feeding.Goal server id value) world p = k.pushes_kept server (item.Goal id None value) world refl refl p
+  feed_one_keeps (feeding.Cancel server id stamp) world p = k.pushes_kept server (item.Cancel (record { id = id; stamp = stamp }) None) world refl refl p
 
   -- a feed
   pub feed_keeps : (entries : List Feed) (world : WorldState) → P world → P (feed entries world)

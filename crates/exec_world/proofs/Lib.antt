@@ -1,4 +1,8 @@
+pub mod Addresses
 pub mod Awake
+pub mod Channels
+pub mod Depths
+pub mod Displaced
 pub mod Ended
 pub mod Expiring
 pub mod Growing

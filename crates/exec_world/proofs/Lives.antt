@@ -21,7 +21,7 @@ use Rattle.exec_msg.specs.declared.goal.ReturnCode.{ReturnCode}
 use Rattle.exec_msg.specs.declared.line.Line.{Line}
 use Rattle.exec_msg.specs.declared.line.Line.TheVariants as line
 use Rattle.exec_world.proofs.Identifiers.{Distinct, goals_in, Makes, changing, tasking, accepting, goals_apart, goals_here, expired_goals, first_goals, room_without}
-use Rattle.exec_world.proofs.Keeping.{ids_changed, Moves, canceled, state_said, feed_keeps}
+use Rattle.exec_world.proofs.Keeping.{ids_changed, Moves, canceled, state_said, feed_keeps, anywhere}
 use Rattle.exec_world.proofs.ReadyLists.{IsListed, list_listed}
 use Rattle.exec_world.proofs.Running.{ended, run_keeps, snapshot_keeps, round_keeps}
 use Rattle.exec_world.proofs.OfKinds.{AreOfTheirKinds, kinds_kept, kinds_first}
@@ -36,7 +36,8 @@ use Rattle.exec_world.specs.LawWords.{AreLawful, shape_of, statuses_of}
 use Rattle.exec_world.specs.Ready.{kind_of, ready_list, take_inputs}
 use Rattle.exec_world.specs.Run.{run}
 use Rattle.exec_world.specs.Transcript.{takes_from_queue, first_world, server_expired, expire_lines, expire, at_snapshot, run_all, round, rounds, pending_by, closing_lines, lines_of}
-use Rattle.exec_world.specs.World.{WorldState, Moment, ServerEntry, ClientEntry, is_server_at, add_line, add_lines, goals_of, change_goals, has_room_for}
+use Rattle.exec_world.specs.World.{WorldState, drop_line, lost_by, queued, push, Moment, ServerEntry, ClientEntry, is_server_at, add_line, add_lines, goals_of, change_goals, has_room_for}
+use Rattle.exec_world.specs.declared.item.Item.{Item}
 use Rattle.exec_world.specs.declared.ready.Cause.{Cause}
 use Rattle.exec_world.specs.declared.ready.Ready.{Ready}
 
@@ -92,11 +93,20 @@ module _ (server : EntityNo) (id : GoalId) (listed : List EntityNo) where
       ∙ append-nil (statuses_of server id (moved_lines other (moved decisions (goals_of other world))))
       ∙ apart_said server id other (moved decisions (goals_of other world)) differs) v) (λ is. inr refl) v.1
 
+  drops_quiet : (entity : EntityNo) (items : List Item) → statuses_of server id (map (drop_line entity) items) ≡ []
+  drops_quiet entity [] = refl
+  drops_quiet entity (first ∷ items) = drops_quiet entity items
+
   -- so each basic change keeps the view
-  view_moves : Moves View
+  push_view : (entity : EntityNo) (new : Item) (world : WorldState) → View world → View (push entity new world)
+  push_view entity new world v = view_lines (map (drop_line entity) (lost_by entity new world)) (queued entity new world) (drops_quiet entity (lost_by entity new world)) v
+
+  view_moves : Moves anywhere View
   view_moves = record {
-    lines_kept = λ lines world quiet v. view_lines lines world (quiet server id) v;
-    queues_kept = λ entity new world v. v;
+    lines_kept = λ lines world quiet v. view_lines lines world (quiet.0 server id) v;
+    pushes_kept = λ entity new world well free v. push_view entity new world v;
+    clients_known = λ number client world found v. refl;
+    action_clients_known = λ number client world found v. refl;
     held_kept = held_view;
     execution_kept = execution_view;
     answer_kept = answer_view;
@@ -176,9 +186,10 @@ module _ (moves : (before : State) (by : Event) (reached : State) → after befo
 
   run_view : (one : Ready) (world : WorldState) → IsListed plan.graph one → PlanView world → PlanView (run one world)
   run_view one world is_there v =
-      run_keeps (view_moves server id (entities_where is_server plan.graph)) (view_moves server id (entities_where is_server plan.graph)) (λ before q. q) one
+      run_keeps (view_moves server id (entities_where is_server plan.graph)) (λ before q. q) one
       (λ request decision before same room q. accept_view server id (entities_where is_server plan.graph) one.entity one.moment decision request before (is_there (ap (λ (why : Cause). kind_of why) same)) room q)
-      (λ goal by value reached before leads q. end_view server id (entities_where is_server plan.graph) moves one.entity goal by value one.moment reached before leads q) world v
+      (λ goal by value reached before leads q. end_view server id (entities_where is_server plan.graph) moves one.entity goal by value one.moment reached before leads q)
+      (λ entity new before answers q. push_view server id (entities_where is_server plan.graph) entity new before q) world v
 
   run_all_view : (list : List Ready) (world : WorldState) → AllByRecursion (IsListed plan.graph) list → PlanView world → PlanView (run_all list world)
   run_all_view [] world p v = v

@@ -73,14 +73,14 @@ part_behind (item.Result id status value) e = refl
 abbrev pub IsOf : EntityNo → Kind → Ready → Type 0
 IsOf entity of one = (kind_of one.cause ≡ of) × (one.entity ≡ entity)
 
-due_of : (moment : Moment) (entry : TimerEntry) → AllByRecursion (IsOf entry.handler.entity kind.Timer) (due_ready moment entry)
+pub due_of : (moment : Moment) (entry : TimerEntry) → AllByRecursion (IsOf entry.handler.entity kind.Timer) (due_ready moment entry)
 due_of moment entry = by (is_due entry.timer moment) refl
   where
     by : (b : Bool) → is_due entry.timer moment ≡ b → AllByRecursion (IsOf entry.handler.entity kind.Timer) (due_ready moment entry)
     by true e = rw e ((refl, refl), tt)
     by false e = rw e tt
 
-poll_of : (moment : Moment) (entry : ServerEntry) → AllByRecursion (IsOf entry.handler.entity kind.Poll) (poll_ready moment entry)
+pub poll_of : (moment : Moment) (entry : ServerEntry) → AllByRecursion (IsOf entry.handler.entity kind.Poll) (poll_ready moment entry)
 poll_of moment entry = all_map (IsOf entry.handler.entity kind.Poll) _ (λ goal. (refl, refl)) _
 
 module _ (moment : Moment) (world : WorldState) where
@@ -158,7 +158,7 @@ pairs_placed of position [] p = tt
 pairs_placed of position (one ∷ list) p = (all_placed (Apart of one) (λ place other q. q) (suc position) list p.0, pairs_placed of (suc position) list p.1)
 
 -- no two callbacks of a kind but poll are of one entity
-list_apart : (of : Kind) → of ≢ kind.Poll → (graph : GraphData) (moment : Moment) (world : WorldState) → IsWired graph world → AreOfTheirKinds world → Pairs (Apart of) (ready_list moment world)
+pub list_apart : (of : Kind) → of ≢ kind.Poll → (graph : GraphData) (moment : Moment) (world : WorldState) → IsWired graph world → AreOfTheirKinds world → Pairs (Apart of) (ready_list moment world)
 list_apart of other graph moment world wires p =
     let timers : List Ready = flat_map (due_ready moment) world.timers in
     let before : List Ready = flat_map (queue_ready moment world) (filter (λ queue. is_before_polls queue.kind) world.queues) in
@@ -228,7 +228,7 @@ none_more entity of one (other ∷ rest) is apart = by (is_callback_of entity of
         absurd (apart.0 a.0 b.0 (b.1 ∙ sym a.1))
     by false not_too e = rw not_too e
 
-one_at_most : (entity : EntityNo) (of : Kind) (list : List Ready) → Pairs (Apart of) list → length (filter (is_callback_of entity of) list) ≤ 1
+pub one_at_most : (entity : EntityNo) (of : Kind) (list : List Ready) → Pairs (Apart of) list → length (filter (is_callback_of entity of) list) ≤ 1
 one_at_most entity of [] apart = omega arith
 one_at_most entity of (one ∷ rest) apart = by (is_callback_of entity of one) refl (one_at_most entity of rest apart.1)
   where

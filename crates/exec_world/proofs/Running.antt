@@ -1,5 +1,10 @@
 -- What every basic change of a world keeps, a callback that runs keeps, and so do rounds.
-use Rattle.std.proofs.Common.{◌≡◌, ℕ, suc, ℤ, Bool, true, false, if◌then◌else◌, List, [], ◌∷◌, Option, None, Some, refl, sym, true≢false}
+use Rattle.std.proofs.Common.{◌≡◌, ℕ, suc, ℤ, Bool, true, false, if◌then◌else◌, ◌&&◌, is_some, List, [], ◌∷◌, length, Option, None, Some, refl, sym, ap, subst, true≢false}
+use Rattle.std.specs.List.{find}
+use Rattle.std.specs.Option.{unwrap_or}
+use Rattle.std.proofs.lemmas.Bool.{eqb-true}
+use Rattle.exec_goal.specs.Cancel.{CancelRequest, Decided, moved, code_of}
+use Rattle.exec_msg.specs.declared.goal.ReturnCode.{ReturnCode}
 use Rattle.exec_goal.specs.Calls.{end_state}
 use Rattle.exec_goal.specs.declared.state.State.{State}
 use Rattle.exec_goal.specs.Table.{asked_for, is_accepting, after_end}
@@ -11,15 +16,15 @@ use Rattle.exec_msg.specs.declared.line.Line.TheVariants as line
 use Rattle.exec_script.specs.declared.effects.Close.{Close}
 use Rattle.exec_script.specs.declared.effects.Close.TheVariants as close
 use Rattle.exec_task.specs.Task.{TaskState}
-use Rattle.exec_world.proofs.Keeping.{Kept, Moves, moves_kept, ids_changed, state_said, fold_keeps, callback_keeps, give_keeps, push_keeps, push_any_keeps, cancel_keeps, answer_ask_keeps, respond_keeps, tell_end_keeps, feed_keeps}
+use Rattle.exec_world.proofs.Keeping.{Routes, Kept, Moves, push_kept, moves_kept, ids_changed, state_said, fold_keeps, callback_keeps, give_keeps, answer_ask_keeps, tell_end_keeps, feed_keeps}
 use Rattle.exec_world.specs.Callback.{Outcome, callback}
-use Rattle.exec_world.specs.Close.{GoalRequest, reply_in, decision_in, decisions_in, accept, accept_where, decide, with_ended, goal_at, end_in, close_item, close_cause, close_poll}
+use Rattle.exec_world.specs.Close.{GoalRequest, reply_in, decision_in, decisions_in, accept, accept_where, decide, with_ended, goal_at, end_in, close_item, close_cause, close_poll, cancel, ask_where, respond}
 use Rattle.exec_world.specs.Give.{give}
 use Rattle.exec_world.specs.Item.{GoalId}
 use Rattle.exec_world.specs.Ready.{run_line, ready_list, take_inputs}
 use Rattle.exec_world.specs.Run.{work_for, with_polled, run}
 use Rattle.exec_world.specs.Transcript.{expire, at_snapshot, run_all, round, rounds}
-use Rattle.exec_world.specs.World.{WorldState, Moment, GoalWork, add_line, goals_of, has_room_for, variables_of, action_client_at}
+use Rattle.exec_world.specs.World.{WorldState, Moment, GoalWork, add_line, goals_of, has_room_for, variables_of, action_client_at, ActionClientEntry, push, push_any, is_action_client_at}
 use Rattle.exec_world.specs.declared.item.Item.{Item}
 use Rattle.exec_world.specs.declared.item.Item.TheVariants as item
 use Rattle.exec_world.specs.declared.ready.Cause.{Cause}
@@ -28,68 +33,115 @@ use Rattle.exec_world.specs.declared.ready.Ready.{Ready}
 
 -- what an acceptance makes of a property: it happens only where the callback took a goal request, and its server has room
 -- for the goal
-abbrev pub Accepts : Ready → (WorldState → Type 0) → (WorldState → Type 0) → Type 0
-Accepts one P Q =
+abbrev pub Accepts : Ready → (WorldState → Type 0) → Type 0
+Accepts one P =
     (request : GoalRequest) (decision : ℕ) (world : WorldState) →
-    one.cause ≡ cause.Took (item.Goal request.id request.client request.value) → has_room_for request.id (goals_of one.entity world) ≡ true → P world → Q (accept one.entity one.moment decision request world)
+    one.cause ≡ cause.Took (item.Goal request.id request.client request.value) → has_room_for request.id (goals_of one.entity world) ≡ true → P world → P (accept one.entity one.moment decision request world)
 
 -- the world in which a goal ended by an event, with the line of its state
 abbrev pub ended : EntityNo → GoalId → Event → ℤ → Moment → WorldState → WorldState
 ended server id by value moment world = state_said server (goal_at server id (with_ended server id by value moment world)) (with_ended server id by value moment world)
 
 -- what the end of a goal makes of a property: it happens only where the event leads to a terminal state
-abbrev pub Ends : Ready → (WorldState → Type 0) → (WorldState → Type 0) → Type 0
-Ends one P Q =
+abbrev pub Ends : Ready → (WorldState → Type 0) → Type 0
+Ends one P =
     (id : GoalId) (by : Event) (value : ℤ) (reached : State) (world : WorldState) →
-    end_state id by (goals_of one.entity world) ≡ Some reached → P world → Q (ended one.entity id by value one.moment world)
+    end_state id by (goals_of one.entity world) ≡ Some reached → P world → P (ended one.entity id by value one.moment world)
 
-module _ {P Q : WorldState → Type 0} (k : Moves P) (l : Moves Q) (weaken : (world : WorldState) → P world → Q world) where
-  accept_keeps : (b : Bool) (one : Ready) → Accepts one P Q → (request : GoalRequest) (decision : ℕ) (world : WorldState) → one.cause ≡ cause.Took (item.Goal request.id request.client request.value) → (b ≡ true → has_room_for request.id (goals_of one.entity world) ≡ true) → P world → Q (accept_where b one.entity one.moment decision request world)
-  accept_keeps true one accepts request decision world same room p = accepts request decision world same (room refl) p
-  accept_keeps false one accepts request decision world same room p = weaken world p
+-- what is found passes the test
+pub found_test : {A : Type 0} (test : A → Bool) (all : List A) (one : A) → find test all ≡ Some one → test one ≡ true
+found_test {A} test [] one found = absurd (true≢false (sym (ap (λ (o : Option A). is_some o) found)))
+found_test {A} test (first ∷ all) one found = by (test first) refl (found_test test all one)
+  where
+    by : (b : Bool) → test first ≡ b → (find test all ≡ Some one → test one ≡ true) → test one ≡ true
+    by true e rest =
+        let here : Some first ≡ Some one = rw e at found in
+        subst (λ (x : A). test x ≡ true) (ap (λ (o : Option A). unwrap_or o first) here) e
+    by false e rest = let there : find test all ≡ Some one = rw e at found in rest there
+
+-- what a callback sends that answers what it took: a reply, a response, a code, or an ask for the result of a goal
+abbrev pub Answers : Routes → Ready → EntityNo → Item → Type 0
+Answers routes one entity (item.Reply number value) = (given : ℤ) × (one.cause ≡ cause.Took (item.Request entity number given))
+Answers routes one entity (item.Response id accepted) = (value : ℤ) × (one.cause ≡ cause.Took (item.Goal id (Some entity) value))
+Answers routes one entity (item.Code returned moved) = (request : CancelRequest) × (one.cause ≡ cause.Took (item.Cancel request (Some entity)))
+Answers routes one entity (item.Ask id client) = (accepted : Bool) × ((one.cause ≡ cause.Took (item.Response id accepted)) × (routes.server one.entity entity ≡ true))
+Answers routes one entity _ = ⊥
+
+-- what such an answer makes of a property, behind which nothing else happens
+abbrev pub Sends : Routes → Ready → (WorldState → Type 0) → (WorldState → Type 0) → Type 0
+Sends routes one P Q = (entity : EntityNo) (new : Item) (world : WorldState) → Answers routes one entity new → P world → Q (push entity new world)
+
+module _ {routes : Routes} {P Q : WorldState → Type 0} (k : Moves routes P) (weaken : (world : WorldState) → P world → Q world) (one : Ready) (accepts : Accepts one P) (ending : Ends one P) (sends : Sends routes one P Q) where
+  accept_keeps : (b : Bool) (request : GoalRequest) (decision : ℕ) (world : WorldState) → one.cause ≡ cause.Took (item.Goal request.id request.client request.value) → (b ≡ true → has_room_for request.id (goals_of one.entity world) ≡ true) → P world → P (accept_where b one.entity one.moment decision request world)
+  accept_keeps true request decision world same room p = accepts request decision world same (room refl) p
+  accept_keeps false request decision world same room p = p
 
   -- a decision that accepts is one for which there is room
   roomy : (b : Bool) (decision : ℕ) → is_accepting (if b then decision else 1) ≡ true → b ≡ true
   roomy true decision e = refl
   roomy false decision e = absurd (true≢false (sym e))
 
-  decide_keeps : (one : Ready) → Accepts one P Q → (request : GoalRequest) (decision : ℕ) (world : WorldState) → one.cause ≡ cause.Took (item.Goal request.id request.client request.value) → (is_accepting decision ≡ true → has_room_for request.id (goals_of one.entity world) ≡ true) → P world → Q (decide one.entity one.moment decision request world)
-  decide_keeps one accepts request decision world same room p =
-      push_any_keeps l request.client (item.Response request.id (is_accepting decision)) _
-      (accept_keeps (is_accepting decision) one accepts request decision _ same room (k.lines_kept (line.Decide one.entity request.id decision ∷ []) _ (λ at goal. refl) p))
+  response_sent : (client : Option EntityNo) (id : GoalId) (value : ℤ) (accepted : Bool) (world : WorldState) → one.cause ≡ cause.Took (item.Goal id client value) → P world → Q (push_any client (item.Response id accepted) world)
+  response_sent None id value accepted world same p = weaken world p
+  response_sent (Some client) id value accepted world same p = sends client (item.Response id accepted) world (value, same) p
 
-  took_keeps : (one : Ready) → Accepts one P Q → (taken : Item) (closing : Close) (world : WorldState) → one.cause ≡ cause.Took taken → P world → Q (close_item one.entity one.moment taken closing world)
-  took_keeps one accepts (item.Message value) closing world same p = weaken _ p
-  took_keeps one accepts (item.Request client number value) closing world same p =
-      push_keeps l client (item.Reply number (reply_in closing)) _ (l.lines_kept (line.Reply one.entity (reply_in closing) ∷ []) _ (λ at goal. refl) (weaken _ p))
-  took_keeps one accepts (item.Reply number value) closing world same p = weaken _ p
-  took_keeps one accepts (item.Goal id client value) closing world same p =
-      decide_keeps one accepts (record { id = id; client = client; value = value }) (if has_room_for id (goals_of one.entity world) then decision_in closing else 1) world same
+  decide_keeps : (request : GoalRequest) (decision : ℕ) (world : WorldState) → one.cause ≡ cause.Took (item.Goal request.id request.client request.value) → (is_accepting decision ≡ true → has_room_for request.id (goals_of one.entity world) ≡ true) → P world → Q (decide one.entity one.moment decision request world)
+  decide_keeps request decision world same room p =
+      response_sent request.client request.id request.value (is_accepting decision) _ same
+      (accept_keeps (is_accepting decision) request decision _ same room (k.lines_kept (line.Decide one.entity request.id decision ∷ []) _ ((λ at goal. refl), refl) p))
+
+  code_sent : (client : Option EntityNo) (request : CancelRequest) (returned : ReturnCode) (count : ℕ) (world : WorldState) → one.cause ≡ cause.Took (item.Cancel request client) → P world → Q (push_any client (item.Code returned count) world)
+  code_sent None request returned count world same p = weaken world p
+  code_sent (Some client) request returned count world same p = sends client (item.Code returned count) world (request, same) p
+
+  cancel_keeps : (request : CancelRequest) (client : Option EntityNo) (decisions : List Decided) (world : WorldState) → one.cause ≡ cause.Took (item.Cancel request client) → P world → Q (cancel one.entity request client decisions world)
+  cancel_keeps request client decisions world same p =
+      code_sent client request (code_of request decisions (goals_of one.entity world)) (length (moved decisions (goals_of one.entity world))) _ same
+      (k.answer_kept one.entity decisions (code_of request decisions (goals_of one.entity world)) (length (moved decisions (goals_of one.entity world))) world p)
+
+  ask_keeps : (b : Bool) (client : ActionClientEntry) (id : GoalId) (accepted : Bool) (world : WorldState) → one.cause ≡ cause.Took (item.Response id accepted) → action_client_at one.entity world ≡ Some client → P world → Q (ask_where b client id world)
+  ask_keeps false client id accepted world same found p = weaken world p
+  ask_keeps true client id accepted world same found p =
+      sends client.server (item.Ask id client.entity) (add_line (line.Ask client.entity id) world)
+      (accepted, (same, subst (λ (n : EntityNo). routes.server n client.server ≡ true) (eqb-true client.entity one.entity (found_test (is_action_client_at one.entity) world.action_clients client found)) (k.action_clients_known one.entity client world found p)))
+      (k.lines_kept (line.Ask client.entity id ∷ []) world ((λ at goal. refl), refl) p)
+
+  respond_keeps : (client : Option ActionClientEntry) (id : GoalId) (accepted : Bool) (world : WorldState) → one.cause ≡ cause.Took (item.Response id accepted) → action_client_at one.entity world ≡ client → P world → Q (respond client id accepted world)
+  respond_keeps None id accepted world same found p = weaken world p
+  respond_keeps (Some client) id accepted world same found p = ask_keeps (accepted && client.asks) client id accepted world same found p
+
+  took_keeps : (taken : Item) (closing : Close) (world : WorldState) → one.cause ≡ cause.Took taken → P world → Q (close_item one.entity one.moment taken closing world)
+  took_keeps (item.Message value) closing world same p = weaken _ p
+  took_keeps (item.Request client number value) closing world same p =
+      sends client (item.Reply number (reply_in closing)) _ (value, same) (k.lines_kept (line.Reply one.entity (reply_in closing) ∷ []) _ ((λ at goal. refl), refl) p)
+  took_keeps (item.Reply number value) closing world same p = weaken _ p
+  took_keeps (item.Goal id client value) closing world same p =
+      decide_keeps (record { id = id; client = client; value = value }) (if has_room_for id (goals_of one.entity world) then decision_in closing else 1) world same
       (roomy (has_room_for id (goals_of one.entity world)) (decision_in closing)) p
-  took_keeps one accepts (item.Cancel request client) closing world same p = weaken _ (cancel_keeps k one.entity request client (decisions_in closing) world p)
-  took_keeps one accepts (item.Ask id client) closing world same p = answer_ask_keeps l one.entity id client (asked_for id (goals_of one.entity world)) _ (weaken _ p)
-  took_keeps one accepts (item.Response id accepted) closing world same p = respond_keeps l (action_client_at one.entity world) id accepted _ (weaken _ p)
-  took_keeps one accepts (item.Code returned moved) closing world same p = weaken _ p
-  took_keeps one accepts (item.Feedback id value) closing world same p = weaken _ p
-  took_keeps one accepts (item.Result id status value) closing world same p = weaken _ p
+  took_keeps (item.Cancel request client) closing world same p = cancel_keeps request client (decisions_in closing) world same p
+  took_keeps (item.Ask id client) closing world same p = weaken _ (answer_ask_keeps k one.entity id client (asked_for id (goals_of one.entity world)) world p)
+  took_keeps (item.Response id accepted) closing world same p = respond_keeps (action_client_at one.entity world) id accepted world same refl p
+  took_keeps (item.Code returned moved) closing world same p = weaken _ p
+  took_keeps (item.Feedback id value) closing world same p = weaken _ p
+  took_keeps (item.Result id status value) closing world same p = weaken _ p
 
-  end_keeps : (one : Ready) → Ends one P Q → (id : GoalId) (by : Event) (value : ℤ) (reached : Option State) (world : WorldState) → end_state id by (goals_of one.entity world) ≡ reached → P world → Q (end_in reached one.entity id by value one.moment world)
-  end_keeps one ending id by value None world leads p = weaken world p
-  end_keeps one ending id by value (Some reached) world leads p =
-      tell_end_keeps l one.entity (goal_at one.entity id (with_ended one.entity id by value one.moment world)) _ (ending id by value reached world leads p)
+  end_keeps : (id : GoalId) (by : Event) (value : ℤ) (reached : Option State) (world : WorldState) → end_state id by (goals_of one.entity world) ≡ reached → P world → P (end_in reached one.entity id by value one.moment world)
+  end_keeps id by value None world leads p = p
+  end_keeps id by value (Some reached) world leads p =
+      tell_end_keeps k one.entity (goal_at one.entity id (with_ended one.entity id by value one.moment world)) _ (ending id by value reached world leads p)
 
-  poll_keeps : (one : Ready) → Ends one P Q → (id : GoalId) (closing : Close) (world : WorldState) → P world → Q (close_poll one.entity id one.moment closing world)
-  poll_keeps one ending id close.Nothing world p = weaken _ p
-  poll_keeps one ending id (close.Reply reply) world p = weaken _ p
-  poll_keeps one ending id (close.Decide decision) world p = weaken _ p
-  poll_keeps one ending id (close.Decisions decisions) world p = weaken _ p
-  poll_keeps one ending id close.Pending world p = weaken _ p
-  poll_keeps one ending id (close.Ended by value) world p = end_keeps one ending id by value (end_state id by (goals_of one.entity world)) world refl p
+  poll_keeps : (id : GoalId) (closing : Close) (world : WorldState) → P world → P (close_poll one.entity id one.moment closing world)
+  poll_keeps id close.Nothing world p = p
+  poll_keeps id (close.Reply reply) world p = p
+  poll_keeps id (close.Decide decision) world p = p
+  poll_keeps id (close.Decisions decisions) world p = p
+  poll_keeps id close.Pending world p = p
+  poll_keeps id (close.Ended by value) world p = end_keeps id by value (end_state id by (goals_of one.entity world)) world refl p
 
-  closing_keeps : (one : Ready) → Accepts one P Q → Ends one P Q → (why : Cause) (closing : Close) (world : WorldState) → one.cause ≡ why → P world → Q (close_cause one.entity one.moment why closing world)
-  closing_keeps one accepts ending cause.Due closing world same p = weaken _ p
-  closing_keeps one accepts ending (cause.Took taken) closing world same p = took_keeps one accepts taken closing world same p
-  closing_keeps one accepts ending (cause.Woke id value canceling) closing world same p = poll_keeps one ending id closing world p
+  closing_keeps : (why : Cause) (closing : Close) (world : WorldState) → one.cause ≡ why → P world → Q (close_cause one.entity one.moment why closing world)
+  closing_keeps cause.Due closing world same p = weaken _ p
+  closing_keeps (cause.Took taken) closing world same p = took_keeps taken closing world same p
+  closing_keeps (cause.Woke id value canceling) closing world same p = weaken _ (poll_keeps id closing world p)
 
   with_polled_keeps : (server : EntityNo) (why : Cause) (task : Option TaskState) (world : WorldState) → P world → P (with_polled server why task world)
   with_polled_keeps server cause.Due task world p = p
@@ -98,16 +150,16 @@ module _ {P Q : WorldState → Type 0} (k : Moves P) (l : Moves Q) (weaken : (wo
   with_polled_keeps server (cause.Woke id value canceling) (Some task) world p = k.tasks_kept server id task world p
 
   -- a callback that runs
-  pub run_keeps : (one : Ready) → Accepts one P Q → Ends one P Q → (world : WorldState) → P world → Q (run one world)
-  run_keeps one accepts ending world p =
+  pub run_keeps : (world : WorldState) → P world → Q (run one world)
+  run_keeps world p =
       let work : Option GoalWork = work_for one.entity one.cause world in
       let before : WorldState = add_line (run_line one) world in
       let outcome : Outcome WorldState = callback (give one) one work (variables_of one.group world) before in
-      closing_keeps one accepts ending one.cause outcome.close _ refl
+      closing_keeps one.cause outcome.close _ refl
       (with_polled_keeps one.entity one.cause outcome.task _
       (k.variables_kept one.group outcome.variables outcome.given
       (callback_keeps P (give one) (λ effect given q. give_keeps k one effect given q) one work (variables_of one.group world) before
-      (k.lines_kept (run_line one ∷ []) world (λ at goal. refl) p))))
+      (k.lines_kept (run_line one ∷ []) world ((λ at goal. refl), refl) p))))
 
 said_kept : {P : WorldState → Type 0} → Kept P → (server : EntityNo) (goal : _) (world : WorldState) → P world → P (state_said server goal world)
 said_kept k server None world p = p
@@ -128,9 +180,10 @@ pub record KeptByRounds (P : WorldState → Type 0) : Type 0 where
 module _ {P : WorldState → Type 0} (k : KeptByRounds P) where
   pub one_keeps : (one : Ready) (world : WorldState) → P world → P (run one world)
   one_keeps one world p =
-      run_keeps (moves_kept k.basic) (moves_kept k.basic) (λ before q. q) one
+      run_keeps (moves_kept k.basic) (λ before q. q) one
       (λ request decision before same room q. k.accepts_kept one.entity one.moment decision request before room q)
-      (λ id by value reached before leads q. end_kept k.basic one.entity id by value one.moment before q) world p
+      (λ id by value reached before leads q. end_kept k.basic one.entity id by value one.moment before q)
+      (λ entity new before answers q. push_kept k.basic entity new before q) world p
 
   run_all_keeps : (list : List Ready) (world : WorldState) → P world → P (run_all list world)
   run_all_keeps list world p = fold_keeps P (λ before one. run one before) (λ before one q. one_keeps one before q) list world p

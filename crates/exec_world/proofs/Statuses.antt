@@ -109,17 +109,6 @@ module _ (change : GoalRecord → GoalRecord) (same : (goal : GoalRecord) → (c
           rw (e, same goal, e, moves goal) (ap (λ (o : Option State). Some (moved_by by_event (unwrap_or o before))) here)
       by false e rest = let there : state_in id goals ≡ Some before = rw e at found in rw (e, e) (rest there)
 
--- a goal that is found passes the test
-pub found_passes : (test : GoalRecord → Bool) (goals : List GoalRecord) (goal : GoalRecord) → find test goals ≡ Some goal → test goal ≡ true
-found_passes test [] goal found = absurd (true≢false (sym (ap (λ (o : Option GoalRecord). is_some o) found)))
-found_passes test (one ∷ goals) goal found = by (test one) refl (found_passes test goals goal)
-  where
-    by : (b : Bool) → test one ≡ b → (find test goals ≡ Some goal → test goal ≡ true) → test goal ≡ true
-    by true e rest =
-        let here : Some one ≡ Some goal = rw e at found in
-        subst (λ (x : GoalRecord). test x ≡ true) (ap (λ (o : Option GoalRecord). unwrap_or o one) here) e
-    by false e rest = let there : find test goals ≡ Some goal = rw e at found in rest there
-
 -- among goals of different identifiers, one that is found is the one of its identifier
 found_apart : (id : GoalId) (test : GoalRecord → Bool) (goals : List GoalRecord) (goal : GoalRecord) → AllByRecursion (λ other. id == other ≡ false) (ids goals) → find test goals ≡ Some goal → id == goal.id ≡ false
 found_apart id test [] goal p found = absurd (true≢false (sym (ap (λ (o : Option GoalRecord). is_some o) found)))

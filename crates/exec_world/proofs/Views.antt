@@ -21,12 +21,13 @@ use Rattle.exec_msg.specs.declared.line.Line.{Line}
 use Rattle.exec_msg.specs.declared.line.Line.TheVariants as line
 use Rattle.exec_world.proofs.Identifiers.{Distinct, distinct_more, filter_all, filter_distinct}
 use Rattle.exec_world.proofs.Keeping.{ids, ids_changed, ids_answered}
-use Rattle.exec_world.proofs.Statuses.{Told, told_step, told_new, told_gone, state_of_other, state_moved, found_passes, found_state, none_in, state_behind, state_before, EndsIn, ends_in}
+use Rattle.exec_world.proofs.Statuses.{Told, told_step, told_new, told_gone, state_of_other, state_moved, found_state, none_in, state_behind, state_before, EndsIn, ends_in}
 use Rattle.exec_world.specs.Close.{GoalRequest, accepted_lines, moved_lines}
 use Rattle.exec_world.specs.Item.{GoalId}
 use Rattle.exec_world.specs.LawWords.{statuses_of}
 use Rattle.exec_world.specs.World.{Moment}
 use Rattle.exec_graph.specs.Entity.{EntityNo}
+use Rattle.exec_world.proofs.Running.{found_test}
 
 -- ---- one goal's statuses and state
 
@@ -235,7 +236,7 @@ module _ (server : EntityNo) (id : GoalId) where
     -- the oldest goal that is accepted is executed
     pub fits_executed : (goal : GoalRecord) → find (λ one. is_accepted one.state) goals ≡ Some goal → Fits server id (lines ++ line.State server goal.id (status_of (moved_by event.Execute goal.state)) ∷ []) (change_first (has_id goal.id) (after_event event.Execute) goals)
     fits_executed goal found =
-        let accepted : goal.state ≡ state.Accepted = accepted_is goal.state (found_passes (λ one. is_accepted one.state) goals goal found) in
+        let accepted : goal.state ≡ state.Accepted = accepted_is goal.state (found_test (λ one. is_accepted one.state) goals goal found) in
         subst (λ (at : State). Fits server id (lines ++ line.State server goal.id (status_of (moved_by event.Execute at)) ∷ []) (change_first (has_id goal.id) (after_event event.Execute) goals)) (sym accepted)
         (fits_event goal.id (after_event event.Execute) event.Execute state.Accepted state.Executing (λ one. refl) (λ one. refl) execute refl
         (found_state (λ one. is_accepted one.state) goals goal f.distinct found ∙ ap (λ (at : State). Some at) accepted))
@@ -254,7 +255,7 @@ module _ (server : EntityNo) (id : GoalId) where
     fits_ended moves goal by value moment reached found leads is =
         let from : EndsIn (state_in goal goals) by reached = ends_in (state_in goal goals) by reached leads in
         let to : moved_by by from.at ≡ reached = ap (λ (o : Option State). unwrap_or o from.at) from.leads in
-        let named : found.id ≡ goal = eqb-true found.id goal (found_passes (has_id goal) (change_first (has_id goal) (after_end by value moment) goals) found is) in
+        let named : found.id ≡ goal = eqb-true found.id goal (found_test (has_id goal) (change_first (has_id goal) (after_end by value moment) goals) found is) in
         let ended : Some found.state ≡ Some reached =
         sym (ap (λ (o : Option GoalRecord). option_map (λ one. one.state) o) is)
         ∙ state_moved (after_end by value moment) (λ one. refl) goal by (λ one. refl) goals from.at from.is ∙ ap (λ (at : State). Some at) to in

@@ -1,11 +1,12 @@
 -- Words for the laws of rounds.
-use Rattle.std.specs.Prelude.{◌≡◌, ◌⊎◌, Bool, ◌&&◌, ◌==◌, List, [], ◌∷◌, length, map, replicate, Option, None, Some, if◌then◌else◌}
+use Rattle.std.specs.Prelude.{◌≡◌, ◌⊎◌, Bool, ◌&&◌, ◌==◌, List, [], ◌∷◌, length, map, replicate, Option, None, Some, if◌then◌else◌, true, false}
 use Rattle.std.specs.List.{flat_map}
 use Rattle.exec_goal.specs.Cancel.{Decided}
 use Rattle.exec_goal.specs.State.{Transition, status_of}
 use Rattle.exec_goal.specs.declared.state.State.{State}
 use Rattle.exec_graph.specs.Entity.{EntityNo}
 use Rattle.exec_msg.specs.declared.kind.Kind.{Kind}
+use Rattle.exec_msg.specs.declared.kind.Kind.TheVariants as kind
 use Rattle.exec_msg.specs.declared.goal.Event.{Event}
 use Rattle.exec_msg.specs.declared.goal.GoalStatus.{GoalStatus}
 use Rattle.exec_msg.specs.declared.goal.GoalStatus.TheVariants as status
@@ -25,6 +26,19 @@ IsDecision decided = (decided.1 ≡ 1) ⊎ (decided.1 ≡ 2)
 -- whether a ready callback is an entity's of a kind
 abbrev pub is_callback_of : EntityNo → Kind → Ready → Bool
 is_callback_of entity kind one = (one.entity == entity) && (ready_number (kind_of one.cause) == ready_number kind)
+
+-- whether callbacks of a kind take what answers a request: replies, asks for results, responses and codes
+abbrev pub is_answer : Kind → Bool
+is_answer kind.Reply = true
+is_answer kind.Ask = true
+is_answer kind.Response = true
+is_answer kind.Code = true
+is_answer _ = false
+
+-- whether a line says that such an answer was displaced
+abbrev pub is_loss : Line → Bool
+is_loss (line.Drop entity of value) = is_answer of
+is_loss _ = false
 
 -- an entry without what a run changes of it
 abbrev pub timer_shape : TimerEntry → TimerEntry

@@ -1,9 +1,10 @@
 //! Laws of rounds on one thread: each function's contract says one, and its body is empty or calls the laws that it
 //! rests on.
-ghost use Rattle.std.specs.Prelude.{◌≡◌, ◌≢◌, ℕ, ◌+◌, ◌≤◌, List, ◌∷◌, [], ◌++◌, ◌==◌, length, map, take, drop, None, Some};
-ghost use Rattle.std.specs.List.{All, IsDistinct, filter, fold};
+ghost use Rattle.std.specs.Prelude.{◌≡◌, ◌≢◌, ℕ, ◌+◌, ◌≤◌, List, ◌∷◌, [], ◌++◌, ◌==◌, length, map, take, drop, false, None, Some};
+ghost use Rattle.std.specs.List.{All, IsDistinct, filter, fold, list_any};
 ghost use Rattle.exec_goal.specs.declared.info.GoalInfo.{GoalInfo};
 ghost use Rattle.exec_graph.specs.Graph.{depth_of, declared_at};
+ghost use Rattle.exec_graph.specs.Lawful.{IsLawfulPlan};
 ghost use Rattle.exec_graph.specs.Plan.{PlanData};
 ghost use Rattle.exec_msg.specs.declared.goal.GoalStatus.{GoalStatus};
 ghost use Rattle.exec_msg.specs.declared.goal.GoalStatus.TheVariants as status;
@@ -13,7 +14,7 @@ ghost use Rattle.exec_msg.specs.declared.line.Line.TheVariants as line;
 ghost use Rattle.exec_script.specs.declared.effects.Effect.{Effect};
 ghost use Rattle.exec_world.specs.Callback.{Handling, handle};
 ghost use Rattle.exec_world.specs.Item.{taker_of};
-ghost use Rattle.exec_world.specs.LawWords.{AreLawful, IsDecision, is_callback_of, shape_of, statuses_of, IsFinal, MayCome};
+ghost use Rattle.exec_world.specs.LawWords.{is_loss, AreLawful, IsDecision, is_callback_of, shape_of, statuses_of, IsFinal, MayCome};
 ghost use Rattle.exec_world.specs.Ready.{ready_list};
 ghost use Rattle.exec_world.specs.Transcript.{at_snapshot, first_world, lines_of, round, rounds};
 ghost use Rattle.exec_world.specs.World.{WorldState, goals_of};
@@ -67,6 +68,11 @@ pub fn an_entity_has_one_callback_of_a_kind()
 pub fn identifiers_differ()
     ensures { (plan : PlanData) (number : ℕ) (moments : List ℕ) (server : ℕ) →
         IsDistinct (λ one other. one == other) (map (λ goal. goal.id) (goals_of server (rounds plan number moments (first_world plan.graph)))) }
+{}
+
+/// In the transcript of a lawful plan no reply, ask, response and code is displaced: at most one is under way to a queue.
+pub fn answers_are_never_displaced()
+    ensures { (plan : PlanData) → IsLawfulPlan plan → list_any is_loss (lines_of plan) ≡ false }
 {}
 
 /// In the transcript of a plan, the statuses of a server's goals of one identifier begin with the acceptance of the
