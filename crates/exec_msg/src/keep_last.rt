@@ -1,4 +1,5 @@
 ghost use Rattle.std.specs.Prelude.{◌≡◌, ◌≤◌, [], length, slice_get, OnOk, IfOk};
+ghost use Rattle.std.specs.Option.{option_copied};
 ghost use Rattle.exec_msg.specs.KeepLast.{sent, displaced, taken};
 ghost use Rattle.exec_msg.specs.declared.limits.TheConstants.{DEPTH};
 
@@ -52,6 +53,13 @@ impl<T> KeepLast<T> {
         ensures oldest { result ≡ slice_get self.old.items 0 }
     {
         self.ring.pop_front()
+    }
+
+    /// The oldest item, where there is one.
+    pub fn front(&self) -> Option<&T>
+        ensures { option_copied result ≡ slice_get self.now.items 0 }
+    {
+        self.ring.front()
     }
 
     /// The number of its items.

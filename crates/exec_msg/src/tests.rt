@@ -1,8 +1,8 @@
 ghost use Rattle.std.specs.Prelude.{◌≡◌};
 
 use crate::{
-    EntityNo, GoalId, GoalStatus, KeepLast, Kind, Line, LineList, Lines, Memory, Moment, Named,
-    Names, ReturnCode, Text, Timer, write_line,
+    EntityNo, GoalId, GoalStatus, KeepLast, Kind, LazyQueue, Line, LineList, Lines, Memory, Moment,
+    Named, Names, ReturnCode, Text, Timer, write_line,
 };
 use std::alloc::{AllocError, Global};
 use std::marker::Brand;
@@ -283,9 +283,31 @@ fn keeps_the_last_items(rt: HostRuntime) -> Result<(), Fail> {
     assert_eq!(rt; queue.push(2), None);
     assert_eq!(rt; queue.push(3), Some(1));
     assert_eq!(rt; queue.len(), 2);
+    assert_eq!(rt; queue.front().copied(), Some(2));
     assert_eq!(rt; queue.take(), Some(2));
     assert_eq!(rt; queue.take(), Some(3));
     assert_eq!(rt; queue.take(), None);
+    assert_eq!(rt; queue.len(), 0);
+    Ok(())
+}
+
+// A send that is refused leaves the queue as it was, and the next one makes its room.
+#[test]
+fn makes_room_with_the_first_item(rt: HostRuntime) -> Result<(), Fail> {
+    let mut queue = LazyQueue::new(rt.alloc(), 2);
+    assert_eq!(rt; queue.depth(), 2);
+    assert_eq!(rt; queue.front(), None::<&i64>);
+    assert_eq!(rt; queue.take(), None);
+    if queue.send(1).is_err() {
+        assert_eq!(rt; queue.len(), 0);
+        queue.send(1)?;
+    }
+    assert!(rt; queue.send(2) == Ok(None));
+    assert!(rt; queue.send(3) == Ok(Some(1)));
+    assert_eq!(rt; queue.len(), 2);
+    assert_eq!(rt; queue.front().copied(), Some(2));
+    assert_eq!(rt; queue.take(), Some(2));
+    assert_eq!(rt; queue.take(), Some(3));
     assert_eq!(rt; queue.len(), 0);
     Ok(())
 }

@@ -1,0 +1,105 @@
+ghost use Rattle.std.specs.Prelude.{◌≡◌, ◌≤◌, [], length, slice_get, OnOk, IfOk, OnErr};
+ghost use Rattle.std.specs.Option.{option_copied};
+ghost use Rattle.exec_msg.specs.KeepLast.{sent, displaced, taken};
+ghost use Rattle.exec_msg.specs.declared.limits.TheConstants.{DEPTH};
+
+use crate::keep_last::KeepLast;
+use crate::memory::Memory;
+use std::alloc::Global;
+use std::marker::Model;
+
+/// A [`KeepLast`] whose room is made when its first item is sent, so that a queue to which nothing is ever sent takes
+/// no memory, however deep it is.
+#[derive(Drop)]
+pub struct LazyQueue<T> {
+    alloc: Global,
+    depth: usize,
+    made: Option<KeepLast<T>>,
+}
+
+impl<T> Model for LazyQueue<T> {
+    ghost use Rattle.std.specs.Prelude.{◌≡◌, ◌≤◌, length, IfSome};
+    ghost use Rattle.exec_msg.specs.KeepLast.{Queue, queue_code};
+    ghost use Rattle.exec_msg.specs.inner.Lazy.{made_items};
+    ghost use Rattle.exec_msg.specs.declared.limits.TheConstants.{DEPTH};
+
+    ghost Value = { Queue T };
+
+    ghost coded = { queue_code T.code };
+
+    ghost view = { λ queue. record { items = made_items queue.made; depth = queue.depth } };
+
+    ghost invariant = { λ queue. (1 ≤ queue.depth) × (queue.depth ≤ DEPTH) × (length (made_items queue.made) ≤ queue.depth) × IfSome queue.made (λ made. made.depth ≡ queue.depth) };
+}
+
+impl<T> LazyQueue<T> {
+    /// An empty queue of a depth from 1 to [`DEPTH`](crate::limits::DEPTH) items. It takes no memory.
+    pub fn new(alloc: Global, depth: usize) -> LazyQueue<T>
+        requires { (1 ≤ depth) × (depth ≤ DEPTH) }
+        ensures { result ≡ record { items = []; depth = depth } }
+    {
+        LazyQueue {
+            alloc,
+            depth,
+            made: None,
+        }
+    }
+
+    /// Takes the oldest item, where there is one.
+    pub fn take(&mut self) -> Option<T>
+        ensures taken { self.new ≡ record self.old { items = taken self.old.items } }
+        ensures oldest { result ≡ slice_get self.old.items 0 }
+    {
+        match &mut self.made {
+            None => None,
+            Some(made) => made.take(),
+        }
+    }
+
+    /// The oldest item, where there is one.
+    pub fn front(&self) -> Option<&T>
+        ensures { option_copied result ≡ slice_get self.now.items 0 }
+    {
+        match &self.made {
+            None => None,
+            Some(made) => made.front(),
+        }
+    }
+
+    /// The number of its items.
+    pub fn len(&self) -> usize
+        ensures value { result ≡ length self.now.items }
+        ensures bound { result ≤ self.now.depth }
+    {
+        match &self.made {
+            None => 0,
+            Some(made) => made.len(),
+        }
+    }
+
+    /// How many items it holds at most.
+    pub fn depth(&self) -> usize
+        ensures { result ≡ self.now.depth }
+    {
+        self.depth
+    }
+}
+
+impl<T: Drop> LazyQueue<T> {
+    /// Sends an item. A full queue loses its oldest item by it, which is given back. The first item that is sent makes
+    /// all the room that the queue will ever need; where memory is refused for it, the item is dropped and the queue
+    /// stays as it was.
+    pub fn send(&mut self, item: T) -> Result<Option<T>, Memory>
+        ensures ok { OnOk result (self.new ≡ record self.old { items = sent self.old.depth item self.old.items }) }
+        ensures displaced { IfOk result (λ lost. lost ≡ slice_get (displaced self.old.depth item self.old.items) 0) }
+        ensures err { OnErr result (self.new ≡ self.old) }
+    {
+        if let Some(made) = &mut self.made {
+            return Ok(made.push(item));
+        }
+        let mut made = KeepLast::new(self.alloc, self.depth)?;
+        let displaced = made.push(item);
+        self.made = Some(made);
+        Ok(displaced)
+    }
+}
