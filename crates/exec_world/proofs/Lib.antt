@@ -1,5 +1,7 @@
 pub mod Ended
 pub mod Endings
+pub mod Finding
+pub mod FirstPlaces
 pub mod Growing
 pub mod Handling
 pub mod Identifiers
@@ -12,6 +14,7 @@ pub mod Requests
 pub mod Running
 pub mod Shapes
 pub mod Statuses
+pub mod Taking
 pub mod Turning
 pub mod Views
 pub mod Within

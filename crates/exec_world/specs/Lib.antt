@@ -5,3 +5,4 @@ pub mod Ready
 pub mod Run
 pub mod Transcript
 pub mod World
+pub mod inner
