@@ -3,7 +3,7 @@ use Rattle.std.proofs.Common.{◌≡◌, ◌≢◌, ℕ, ◌==◌, List, [], ◌
 use Rattle.std.specs.List.{find}
 use Rattle.std.specs.Option.{option_map}
 use Rattle.std.proofs.lemmas.Bool.{eqb-true, ne_eqb}
-use Rattle.exec_goal.specs.Calls.{with_changed}
+use Rattle.exec_msg.specs.Lists.{change_first}
 use Rattle.exec_goal.specs.Table.{GoalRecord, has_id}
 
 module _ (change : GoalRecord → GoalRecord) (keeps : (goal : GoalRecord) → (change goal).id ≡ goal.id) where
@@ -13,9 +13,9 @@ module _ (change : GoalRecord → GoalRecord) (keeps : (goal : GoalRecord) → (
   ids_by false goal goals others same = ap (λ ids. goal.id ∷ ids) same
 
   -- the identifiers stay, in their order
-  pub changed-ids : (id : ℕ) (goals : List GoalRecord) → map (λ goal. goal.id) (with_changed id change goals) ≡ map (λ goal. goal.id) goals
+  pub changed-ids : (id : ℕ) (goals : List GoalRecord) → map (λ goal. goal.id) (change_first (has_id id) change goals) ≡ map (λ goal. goal.id) goals
   changed-ids id [] = refl
-  changed-ids id (goal ∷ goals) = ids_by (has_id id goal) goal goals (with_changed id change goals) (changed-ids id goals)
+  changed-ids id (goal ∷ goals) = ids_by (has_id id goal) goal goals (change_first (has_id id) change goals) (changed-ids id goals)
 
   found_by : (id : ℕ) (b : Bool) (goal : GoalRecord) (goals others : List GoalRecord) → has_id id goal ≡ b → find (has_id id) others ≡ option_map change (find (has_id id) goals) →
       find (has_id id) (if b then change goal ∷ goals else goal ∷ others) ≡ option_map change (cond b (Some goal) (find (has_id id) goals))
@@ -25,9 +25,9 @@ module _ (change : GoalRecord → GoalRecord) (keeps : (goal : GoalRecord) → (
   found_by id false goal goals others is same = rw is same
 
   -- the goal of the identifier is the one that was held, changed
-  pub changed-found : (id : ℕ) (goals : List GoalRecord) → find (has_id id) (with_changed id change goals) ≡ option_map change (find (has_id id) goals)
+  pub changed-found : (id : ℕ) (goals : List GoalRecord) → find (has_id id) (change_first (has_id id) change goals) ≡ option_map change (find (has_id id) goals)
   changed-found id [] = refl
-  changed-found id (goal ∷ goals) = found_by id (has_id id goal) goal goals (with_changed id change goals) refl (changed-found id goals)
+  changed-found id (goal ∷ goals) = found_by id (has_id id goal) goal goals (change_first (has_id id) change goals) refl (changed-found id goals)
 
   others_by : (id other : ℕ) (b : Bool) (goal : GoalRecord) (goals changed : List GoalRecord) → id ≢ other → has_id id goal ≡ b → find (has_id other) changed ≡ find (has_id other) goals →
       find (has_id other) (if b then change goal ∷ goals else goal ∷ changed) ≡ cond (has_id other goal) (Some goal) (find (has_id other) goals)
@@ -39,6 +39,6 @@ module _ (change : GoalRecord → GoalRecord) (keeps : (goal : GoalRecord) → (
   others_by id other false goal goals changed differ is same = ap (λ found. cond (has_id other goal) (Some goal) found) same
 
   -- each goal of another identifier stays
-  pub changed-others : (id other : ℕ) (goals : List GoalRecord) → id ≢ other → find (has_id other) (with_changed id change goals) ≡ find (has_id other) goals
+  pub changed-others : (id other : ℕ) (goals : List GoalRecord) → id ≢ other → find (has_id other) (change_first (has_id id) change goals) ≡ find (has_id other) goals
   changed-others id other [] differ = refl
-  changed-others id other (goal ∷ goals) differ = others_by id other (has_id id goal) goal goals (with_changed id change goals) differ refl (changed-others id other goals differ)
+  changed-others id other (goal ∷ goals) differ = others_by id other (has_id id goal) goal goals (change_first (has_id id) change goals) differ refl (changed-others id other goals differ)

@@ -10,12 +10,13 @@ use Rattle.std.proofs.lemmas.List.{get_or-map, length-map}
 use Rattle.std.proofs.lemmas.Map.Made.{AllPairs-from_IsDistinct}
 use Rattle.std.proofs.lemmas.Nat.{div-add-mod'}
 use Rattle.indexmap.specs.IndexMap.{insert_entry}
-use Rattle.exec_goal.specs.Calls.{with_changed, next_state, moved_to, where_terminal}
+use Rattle.exec_goal.specs.Calls.{next_state, moved_to, where_terminal}
 use Rattle.exec_goal.specs.Held.{record_of, records_of}
 use Rattle.exec_goal.specs.LawWords.{HaveDistinctIds}
 use Rattle.exec_goal.specs.State.{is_terminal, status_of}
 use Rattle.exec_goal.specs.declared.state.State.{State}
 use Rattle.exec_goal.specs.Table.{GoalRecord, told, later, unknown, has_id, holds, answer_to, asked_for}
+use Rattle.exec_msg.specs.Lists.{change_first}
 use Rattle.exec_msg.specs.declared.goal.Event.{Event}
 use Rattle.exec_goal.specs.declared.held.HeldGoal.{HeldGoal}
 
@@ -121,25 +122,25 @@ module _ (test : ℕ → Bool) (id : ℕ) (same : (key : ℕ) → test key ≡ (
     changed_by false true entry entries rest set others tests is found induction = absurd cc
 
     -- a change of an entry's value is a change of its goal
-    pub changed-set_value : (entries : List (ℕ × HeldGoal)) → lookup test entries ≡ Some held → records_of (set_value test entries after) ≡ with_changed id change (records_of entries)
+    pub changed-set_value : (entries : List (ℕ × HeldGoal)) → lookup test entries ≡ Some held → records_of (set_value test entries after) ≡ change_first (has_id id) change (records_of entries)
     changed-set_value [] found = absurd cc
     changed-set_value (entry ∷ entries) found =
-        changed_by (test entry.0) (entry.0 == id) entry entries (lookup test entries) (set_value test entries after) (with_changed id change (records_of entries)) (same entry.0) refl found
+        changed_by (test entry.0) (entry.0 == id) entry entries (lookup test entries) (set_value test entries after) (change_first (has_id id) change (records_of entries)) (same entry.0) refl found
         (λ rest. changed-set_value entries rest)
 
     -- the same where the map's entries are those of a table
     pub changed-in : (entries set : List (ℕ × HeldGoal)) (goals : List GoalRecord) → records_of entries ≡ goals → Some held ≡ lookup test entries → set ≡ set_value test entries after →
-        records_of set ≡ with_changed id change goals
-    changed-in entries set goals are found is = ap records_of is ∙ changed-set_value entries (sym found) ∙ ap (λ (goals : List GoalRecord). with_changed id change goals) are
+        records_of set ≡ change_first (has_id id) change goals
+    changed-in entries set goals are found is = ap records_of is ∙ changed-set_value entries (sym found) ∙ ap (λ (goals : List GoalRecord). change_first (has_id id) change goals) are
 
 same_goal : (b : Bool) (goal : GoalRecord) (goals others : List GoalRecord) → others ≡ goals → (if b then goal ∷ goals else goal ∷ others) ≡ goal ∷ goals
 same_goal true goal goals others same = refl
 same_goal false goal goals others same = ap (λ goals. goal ∷ goals) same
 
 -- where a goal is changed to itself the table stays
-pub with_changed-same : (id : ℕ) (goals : List GoalRecord) → with_changed id (λ goal. goal) goals ≡ goals
-with_changed-same id [] = refl
-with_changed-same id (goal ∷ goals) = same_goal (has_id id goal) goal goals (with_changed id (λ goal. goal) goals) (with_changed-same id goals)
+pub change_first-same : (id : ℕ) (goals : List GoalRecord) → change_first (has_id id) (λ (goal : GoalRecord). goal) goals ≡ goals
+change_first-same id [] = refl
+change_first-same id (goal ∷ goals) = same_goal (has_id id goal) goal goals (change_first (has_id id) (λ (goal : GoalRecord). goal) goals) (change_first-same id goals)
 
 -- a terminal state that an event leads to is one that it leads to
 pub terminal-reached : (reached : Option State) (next : State) → Some next ≡ where_terminal reached → reached ≡ Some next

@@ -6,3 +6,4 @@ pub mod Filtering
 pub mod Looping
 pub mod Moving
 pub mod ReturnCodes
+pub mod Tallying

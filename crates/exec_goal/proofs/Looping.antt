@@ -1,8 +1,9 @@
 -- Steps of the loops over the goals of a table, and over the decisions of a cancel handler.
-use Rattle.std.proofs.Common.{◌≡◌, ◌≢◌, ℕ, zero, suc, ◌+◌, ◌<◌, ◌≤◌, ◌==◌, List, [], ◌∷◌, ◌++◌, map, length, drop, get_or, Bool, true, false, not, cond, if◌then◌else◌, Some, slice_get, slice_set, refl, ap, sym, ◌∙◌, arith, append_assoc, add-one, drop-cons, remove}
-use Rattle.std.specs.List.{filter, list_any}
+use Rattle.std.proofs.Common.{◌≡◌, ◌≢◌, ℕ, zero, suc, ◌+◌, ◌<◌, ◌≤◌, ◌==◌, List, [], ◌∷◌, ◌++◌, map, length, drop, get_or, Bool, true, false, not, cond, if◌then◌else◌, Option, Some, slice_get, slice_set, refl, ap, sym, ◌∙◌, arith, append_assoc, add-one, drop-cons, remove}
+use Rattle.std.specs.List.{filter, find, list_any}
 use Rattle.std.proofs.lemmas.Bool.{eqb-true}
-use Rattle.exec_goal.specs.Calls.{drop_first, IsFirst}
+use Rattle.exec_goal.specs.Calls.{IsFirst}
+use Rattle.exec_msg.specs.Lists.{drop_first}
 use Rattle.exec_goal.specs.Held.{record_of, records_of}
 use Rattle.exec_goal.specs.Info.{info_of}
 use Rattle.exec_goal.specs.Table.{GoalRecord}
@@ -99,6 +100,15 @@ pub found-first : {A : Type 0} (test : A → Bool) (xs : List A) (i : ℕ) → I
 found-first test [] i first = absurd (omega (arith, first.within))
 found-first test (x ∷ xs) zero first = found_here (test x) x (filter test xs) (first.passes x)
 found-first test (x ∷ xs) (suc i) first = found-first test xs i (next_first test x xs i first) ∙ found_later (test x) x (filter test xs) (first.before 0 x (omega arith))
+
+first_by : {A : Type 0} (b : Bool) (x : A) (found : Option A) (rest : List A) → found ≡ slice_get rest 0 → cond b (Some x) found ≡ slice_get (cond b (x ∷ rest) rest) 0
+first_by true x found rest same = refl
+first_by false x found rest same = same
+
+-- what is found is the first of those that pass
+pub find-filter : {A : Type 0} (test : A → Bool) (xs : List A) → find test xs ≡ slice_get (filter test xs) 0
+find-filter test [] = refl
+find-filter test (x ∷ xs) = first_by (test x) x (find test xs) (filter test xs) (find-filter test xs)
 
 filter_by : {A : Type 0} (test : A → Bool) (b : Bool) (x : A) (xs others : List A) → test x ≡ b → filter test others ≡ drop 1 (filter test xs) → filter test (if b then xs else x ∷ others) ≡ drop 1 (cond b (x ∷ filter test xs) (filter test xs))
 filter_by test true x xs others is induction = refl

@@ -2,6 +2,7 @@
 use Rattle.std.specs.Prelude.{◌≡◌, ℕ, ◌<◌, List, [], ◌∷◌, length, slice_index_or, ◌&&◌, ◌==◌, Bool, true, false, if◌then◌else◌, Option, None, Some}
 use Rattle.std.specs.List.{find, list_any}
 use Rattle.std.specs.Option.{option_map}
+use Rattle.exec_msg.specs.Lists.{change_first, drop_first}
 use Rattle.exec_msg.specs.declared.goal.Event.{Event}
 use Rattle.exec_msg.specs.declared.goal.Event.TheVariants as event
 use Rattle.exec_goal.specs.State.{after, is_cancelable, is_terminal}
@@ -9,11 +10,6 @@ use Rattle.exec_goal.specs.Table.{GoalRecord, has_id, Asked, told, later, unknow
 use Rattle.exec_goal.specs.declared.refusals.Reject.{Reject}
 use Rattle.exec_goal.specs.declared.refusals.Reject.TheVariants as reject
 use Rattle.exec_goal.specs.declared.state.State.{State}
-
--- the table in which the goal of an identifier is changed
-abbrev pub with_changed : ℕ → (GoalRecord → GoalRecord) → List GoalRecord → List GoalRecord
-with_changed id change [] = []
-with_changed id change (goal ∷ goals) = if has_id id goal then change goal ∷ goals else goal ∷ with_changed id change goals
 
 -- the state of the goal of an identifier
 abbrev pub state_in : ℕ → List GoalRecord → Option State
@@ -48,16 +44,11 @@ end_state id event goals = where_terminal (next_state id event goals)
 -- the table after a result request that is told so: where the result comes later, the client is noted
 abbrev pub noted : Asked → ℕ → ℕ → List GoalRecord → List GoalRecord
 noted (told status value) id client goals = goals
-noted later id client goals = with_changed id (asked_by client) goals
+noted later id client goals = change_first (has_id id) (asked_by client) goals
 noted unknown id client goals = goals
 
 abbrev pub after_asking : ℕ → ℕ → List GoalRecord → List GoalRecord
 after_asking id client goals = noted (asked_for id goals) id client goals
-
--- a list without its first element that passes a test
-abbrev pub drop_first : {A : Type 0} → (A → Bool) → List A → List A
-drop_first test [] = []
-drop_first test (x ∷ xs) = if test x then xs else x ∷ drop_first test xs
 
 -- the table without the first goal that has expired
 abbrev pub after_expiry : ℕ → Option ℕ → List GoalRecord → List GoalRecord

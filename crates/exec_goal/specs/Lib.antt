@@ -6,3 +6,4 @@ pub mod Info
 pub mod LawWords
 pub mod State
 pub mod Table
+pub mod inner

@@ -6,7 +6,7 @@ use Rattle.exec_msg.specs.declared.goal.Event.{Event}
 use Rattle.exec_msg.specs.declared.goal.Event.TheVariants as event
 use Rattle.exec_msg.specs.declared.goal.GoalStatus.{GoalStatus}
 use Rattle.exec_msg.specs.declared.limits.TheConstants.{GOALS}
-use Rattle.exec_goal.specs.State.{after, status_of, is_terminal}
+use Rattle.exec_goal.specs.State.{after, status_of, is_worked_on, is_terminal}
 use Rattle.exec_goal.specs.declared.state.State.{State}
 use Rattle.exec_goal.specs.declared.state.State.TheVariants as state
 
@@ -32,6 +32,10 @@ holds id goals = list_any (has_id id) goals
 -- whether the table has no room
 abbrev pub is_full : List GoalRecord → Bool
 is_full goals = nat_le GOALS (length goals)
+
+-- how many goals of the table the server works on
+abbrev pub working : List GoalRecord → ℕ
+working goals = length (filter (λ goal. is_worked_on goal.state) goals)
 
 -- the decisions of a goal handler: anything but ACCEPT_AND_EXECUTE, 2, and ACCEPT_AND_DEFER, 3, rejects
 abbrev pub is_accepting : ℕ → Bool

@@ -7,6 +7,7 @@ use crate::held::HeldGoal;
 use crate::info::GoalInfo;
 use crate::refusals::Reject;
 use crate::state::State;
+use crate::tally::Tally;
 use exec_msg::limits::GOALS;
 use exec_msg::{GoalId, Moment};
 use indexmap::IndexMap;
@@ -19,16 +20,20 @@ use std::marker::Model;
 pub struct Goals {
     alloc: Global,
     held: IndexMap<GoalId, HeldGoal>,
+    tally: Tally,
 }
 
 impl Model for Goals {
     ghost use Rattle.std.specs.Prelude.{List};
     ghost use Rattle.exec_goal.specs.Held.{records_of};
     ghost use Rattle.exec_goal.specs.Table.{GoalRecord};
+    ghost use Rattle.exec_goal.specs.inner.Tally.{IsTallied};
 
     ghost Value = { List GoalRecord };
 
     ghost view = { λ goals. records_of goals.held.entries };
+
+    ghost invariant = { λ goals. IsTallied goals.tally (records_of goals.held.entries) };
 }
 
 /// The answer to a goal that is accepted.
@@ -43,7 +48,7 @@ impl Goals {
     ghost use Rattle.exec_goal.specs.Calls.{state_in};
     ghost use Rattle.exec_goal.specs.Info.{info_of};
     ghost use Rattle.exec_goal.specs.LawWords.{HaveDistinctIds};
-    ghost use Rattle.exec_goal.specs.Table.{holds, is_full, accepted_state, with_accepted};
+    ghost use Rattle.exec_goal.specs.Table.{holds, is_full, working, accepted_state, with_accepted};
     ghost use Rattle.exec_goal.specs.declared.refusals.Reject.TheVariants as reject;
 
     /// No goals. It takes no memory.
@@ -53,6 +58,7 @@ impl Goals {
         Goals {
             alloc,
             held: IndexMap::new(alloc),
+            tally: Tally::new(),
         }
     }
 
@@ -76,6 +82,14 @@ impl Goals {
         ensures { result ≡ is_full self.now }
     {
         self.len() >= GOALS
+    }
+
+    /// How many of the goals the server works on: those that are EXECUTING or CANCELING. It looks
+    /// at no goal.
+    pub fn working(&self) -> usize
+        ensures { result ≡ working self.now }
+    {
+        self.tally.working
     }
 
     /// The state of a goal, or `None` where it isn't held.
@@ -121,6 +135,7 @@ impl Goals {
         let goal = HeldGoal::accepted(self.alloc, value, moment, decision);
         let state = goal.state;
         self.held.insert(id, goal)?;
+        self.tally.count_move(State::Accepted, state, moment);
         Ok(Accepted { state })
     }
 }

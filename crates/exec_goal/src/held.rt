@@ -1,5 +1,6 @@
 use crate::info::GoalInfo;
 use crate::state::State;
+use crate::tally::has_passed;
 use exec_msg::{EntityNo, GoalId, Items, Moment};
 use std::alloc::Global;
 
@@ -69,8 +70,6 @@ impl HeldGoal {
     pub(crate) fn is_expired(&self, moment: Moment, timeout: u64) -> bool
         ensures { (id : ℕ) → result ≡ is_expired moment (Some timeout) (record_of (id, self.now)) }
     {
-        // A difference, since a sum might not fit.
-        let age = moment.ticks().checked_sub(self.ended.ticks());
-        self.state.is_terminal() && age.is_some_and(|age| timeout <= age)
+        self.state.is_terminal() && has_passed(self.ended, timeout, moment)
     }
 }

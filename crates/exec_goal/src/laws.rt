@@ -3,7 +3,6 @@
 
 ghost use Rattle.std.specs.Prelude.{◌≡◌, ◌≢◌, ◌↔◌, ◌⊎◌, ℕ, ◌+◌, ◌≤◌, ℤ, List, [], ◌∷◌, ◌++◌, length, map, take, drop, true, false, find, All, Any, Contains, IsPermutation, Option, None, Some};
 ghost use Rattle.std.specs.Option.{option_map};
-ghost use Rattle.exec_goal.specs.Calls.{with_changed};
 ghost use Rattle.exec_goal.specs.Cancel.{CancelRequest, Decided, selects, is_candidate, candidates, is_moved, moved, after_answer, table_after, code_of};
 ghost use Rattle.exec_goal.specs.LawWords.{HaveDistinctIds, IsSublist, AllRefused};
 ghost use Rattle.exec_goal.specs.State.{Transition, after, status_of, is_terminal};
@@ -11,6 +10,7 @@ ghost use Rattle.exec_goal.specs.Table.{GoalRecord, has_id, holds, is_full, is_a
 ghost use Rattle.exec_goal.specs.declared.state.State.{State};
 ghost use Rattle.exec_goal.specs.declared.state.State.TheVariants as state;
 ghost use Rattle.exec_msg.specs.Goal.{status_number};
+ghost use Rattle.exec_msg.specs.Lists.{change_first};
 ghost use Rattle.exec_msg.specs.declared.goal.Event.{Event};
 ghost use Rattle.exec_msg.specs.declared.goal.Event.TheVariants as event;
 ghost use Rattle.exec_msg.specs.declared.goal.GoalStatus.{GoalStatus};
@@ -240,9 +240,9 @@ pub fn code_is_rejected_else()
 /// and leaves the goals of all others.
 pub fn changes_reach_one_goal()
     ensures order { (id : ℕ) (change : GoalRecord → GoalRecord) (goals : List GoalRecord) → ((goal : GoalRecord) → (change goal).id ≡ goal.id) →
-        map (λ goal. goal.id) (with_changed id change goals) ≡ map (λ goal. goal.id) goals }
+        map (λ goal. goal.id) (change_first (has_id id) change goals) ≡ map (λ goal. goal.id) goals }
     ensures changed { (id : ℕ) (change : GoalRecord → GoalRecord) (goals : List GoalRecord) → ((goal : GoalRecord) → (change goal).id ≡ goal.id) →
-        find (has_id id) (with_changed id change goals) ≡ option_map change (find (has_id id) goals) }
+        find (has_id id) (change_first (has_id id) change goals) ≡ option_map change (find (has_id id) goals) }
     ensures others { (id other : ℕ) (change : GoalRecord → GoalRecord) (goals : List GoalRecord) → ((goal : GoalRecord) → (change goal).id ≡ goal.id) → id ≢ other →
-        find (has_id other) (with_changed id change goals) ≡ find (has_id other) goals }
+        find (has_id other) (change_first (has_id id) change goals) ≡ find (has_id other) goals }
 {}

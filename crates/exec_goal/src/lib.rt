@@ -10,6 +10,7 @@ mod info;
 pub mod laws;
 mod refusals;
 mod state;
+mod tally;
 #[cfg(test)]
 mod tests;
 

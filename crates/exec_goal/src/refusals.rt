@@ -3,7 +3,7 @@ ghost use Rattle.exec_goal.specs.Calls.{reject_number};
 ghost use Rattle.exec_goal.specs.declared.refusals.Reject.TheVariants.{Memory as OutOfMemory};
 
 use exec_msg::Memory;
-use std::alloc::AllocFailed;
+use std::alloc::{AllocError, AllocFailed};
 use thiserror::Error;
 
 /// Why a goal isn't accepted, each with its number.
@@ -26,6 +26,22 @@ impl Reject {
         ensures { result ≡ reject_number self }
     {
         self as u8
+    }
+}
+
+impl From<Memory> for Reject {
+    ghost from_gives = { λ _ refusal. refusal ≡ OutOfMemory };
+
+    fn from(_refused: Memory) -> Reject {
+        Reject::Memory
+    }
+}
+
+impl From<AllocError> for Reject {
+    ghost from_gives = { λ _ refusal. refusal ≡ OutOfMemory };
+
+    fn from(_refused: AllocError) -> Reject {
+        Reject::Memory
     }
 }
 

@@ -1,6 +1,6 @@
 ghost use Rattle.std.specs.Prelude.{◌≡◌};
 ghost use Rattle.exec_goal.specs.Calls.{where_terminal};
-ghost use Rattle.exec_goal.specs.State.{after, status_of, is_cancelable, is_terminal};
+ghost use Rattle.exec_goal.specs.State.{after, status_of, is_accepted, is_cancelable, is_canceling, is_worked_on, is_terminal};
 
 use exec_msg::{Event, GoalStatus};
 
@@ -65,6 +65,27 @@ impl State {
             State::Canceled => GoalStatus::Canceled,
             State::Aborted => GoalStatus::Aborted,
         }
+    }
+
+    /// Whether the goal is accepted and not executed yet.
+    pub fn is_accepted(self) -> bool
+        ensures { result ≡ is_accepted self }
+    {
+        matches!(self, State::Accepted)
+    }
+
+    /// Whether the goal is to be canceled.
+    pub fn is_canceling(self) -> bool
+        ensures { result ≡ is_canceling self }
+    {
+        matches!(self, State::Canceling)
+    }
+
+    /// Whether the server works on the goal: it is EXECUTING or CANCELING.
+    pub fn is_worked_on(self) -> bool
+        ensures { result ≡ is_worked_on self }
+    {
+        matches!(self, State::Executing | State::Canceling)
     }
 
     /// Whether the goal has ended.

@@ -1,7 +1,7 @@
 -- Graphs: nodes with their callback groups, topics, and the entities that the `rclcpp` documentation names.
-use Rattle.std.specs.Prelude.{ℕ, suc, List, [], ◌∷◌, map, Bool, true, false, is_some, Option, None, Some, slice_index_or}
+use Rattle.std.specs.Prelude.{ℕ, suc, List, [], ◌∷◌, map, Bool, true, false, is_some, Option, None, Some, slice_get, slice_index_or}
 use Rattle.std.specs.List.{flat_map}
-use Rattle.std.specs.Option.{unwrap_or}
+use Rattle.std.specs.Option.{option_map_or, unwrap_or}
 use Rattle.exec_msg.specs.declared.kind.Kind.{Kind}
 use Rattle.exec_msg.specs.declared.kind.Kind.TheVariants as kind
 use Rattle.exec_graph.specs.Entity.{EntityNo, Script, Resolved, is_of}
@@ -85,6 +85,10 @@ queue_depth (ActionClient entity) = entity.depth
 -- how many items the queues of what stands at a number hold
 abbrev pub depth_of : Declared → ℕ
 depth_of = of_entity 0 queue_depth
+
+-- whether a callback group is mutually exclusive; a reentrant one isn't, and no group but the graph's is
+abbrev pub is_exclusive : GraphData → GroupNo → Bool
+is_exclusive graph group = option_map_or (λ found. found.exclusive) (slice_get graph.groups group) false
 
 -- ---- callbacks
 

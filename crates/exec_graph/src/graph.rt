@@ -31,11 +31,10 @@ impl Model for Graph {
 }
 
 impl Graph {
-    ghost use Rattle.std.specs.Option.{option_map_or};
     ghost use Rattle.std.specs.Prelude.{◌≡◌, ◌<◌, ◌≤◌, ◌&&◌, length, false, not, slice_get, IsTrue};
     ghost use Rattle.std.specs.List.{position_from};
     ghost use Rattle.std.specs.Str.{bytes_eq};
-    ghost use Rattle.exec_graph.specs.Graph.{names_of, declared_at, group_of, is_topic, is_server};
+    ghost use Rattle.exec_graph.specs.Graph.{names_of, declared_at, group_of, is_exclusive, is_topic, is_server};
     ghost use Rattle.exec_graph.specs.Lawful.{IsLawful, is_at};
 
     /// The names of the nodes, at their numbers.
@@ -89,7 +88,7 @@ impl Graph {
 
     /// Whether a callback group is mutually exclusive. A reentrant one isn't, and no group but the graph's is.
     pub fn is_exclusive(&self, group: GroupNo) -> bool
-        ensures { result ≡ option_map_or (λ found. found.exclusive) (slice_get self.now.groups group) false }
+        ensures { result ≡ is_exclusive self.now group }
     {
         match self.groups.get(group.0 as usize) {
             Some(found) => found.exclusive,

@@ -2,5 +2,6 @@ pub mod Goal
 pub mod KeepLast
 pub mod Kind
 pub mod Line
+pub mod Lists
 pub mod Timer
 pub mod inner

@@ -10,9 +10,14 @@ use Rattle.exec_script.specs.declared.step.Step.{Step}
 use Rattle.exec_script.specs.declared.step.Step.TheVariants as step
 use Rattle.exec_script.specs.declared.step.Stop.{Stop}
 use Rattle.exec_script.specs.declared.step.Stop.TheVariants as stop
-use Rattle.exec_task.specs.Task.{TaskState, polled_where, run_of, after_stop, ending_event, is_awake, is_reached}
+use Rattle.exec_script.specs.declared.effects.Close.{Close}
+use Rattle.exec_script.specs.declared.effects.Close.TheVariants as close
+use Rattle.exec_task.specs.Task.{TaskState, polled, polled_where, run_of, after_stop, ending_event, is_awake, is_reached, answer_by}
 use Rattle.exec_task.specs.declared.wait.Ending.{Ending}
 use Rattle.exec_task.specs.declared.wait.Turn.{Turn}
+use Rattle.exec_task.specs.declared.wait.Wait.{Wait}
+use Rattle.exec_world.specs.Callback.{close_of_answer, poll, poll_where}
+use Rattle.exec_world.specs.World.{GoalWork, Variables}
 
 -- the events that end a goal
 abbrev ends : Event → Bool
@@ -109,3 +114,25 @@ poll_ends true put script value turn task variables given ending awake on is =
     stop_ends turn (run_of put script value turn task variables given).stop (record task { registers = (run_of put script value turn task variables given).registers; told = task.told || turn.canceling }) ending
     (follow_ends put _ (drop task.place script) task.place 0 _ refl)
     (not_ended task.ending (is_reached task.waits turn.moment || (turn.canceling && not task.told)) awake) is
+
+-- the event of a closing, if it is the end of a goal
+abbrev event_in : Close → Event
+event_in (close.Ended by value) = by
+event_in _ = event.Abort
+
+-- the ending that an answer tells closes a poll
+closed_ending : (ending : Option Ending) (waits : Wait) (by : Event) (value : ℤ) → close_of_answer (answer_by ending waits) ≡ close.Ended by value → (last : Ending) × ((ending ≡ Some last) × (last.event ≡ by))
+closed_ending None waits by value e = absurd cc
+closed_ending (Some last) waits by value e = (last, (refl, ap (λ (closing : Close). event_in closing) e))
+
+-- so where a poll is closed by the end of its goal, that is one of these
+pub poll_closes : {S : Type 0} (put : Effect → S → S) (turn : Turn) (work : Option GoalWork) (variables : Variables) (given : S) (by : Event) (value : ℤ) → (poll put turn work variables given).close ≡ close.Ended by value → EndsBy turn.canceling by
+poll_closes put turn None variables given by value e = absurd cc
+poll_closes {S} put turn (Some work) variables given by value e = where_awake (is_awake work.task turn) refl e
+  where
+    where_awake : (b : Bool) → is_awake work.task turn ≡ b → (poll_where b put turn work variables given).close ≡ close.Ended by value → EndsBy turn.canceling by
+    where_awake false awake is = absurd cc
+    where_awake true awake is =
+        let after : TaskState = (polled put work.script work.value turn work.task variables given).task in
+        let last : (last : Ending) × ((after.ending ≡ Some last) × (last.event ≡ by)) = closed_ending after.ending after.waits by value is in
+        subst (λ (one : Event). EndsBy turn.canceling one) last.1.1 (poll_ends (is_awake work.task turn) put work.script work.value turn work.task variables given last.0 awake awake last.1.0)

@@ -1,9 +1,15 @@
 -- What is found and changed first stands at the first place.
-use Rattle.std.proofs.Common.{◌≡◌, ℕ, zero, suc, ◌≤◌, Bool, true, false, cond, if◌then◌else◌, length, List, [], ◌∷◌, ◌++◌, Option, Some, None, find, slice_get, slice_set, get_or, refl, ap, ◌∙◌}
+use Rattle.std.proofs.Common.{◌≡◌, ℕ, zero, suc, ◌≤◌, Bool, true, false, cond, if◌then◌else◌, length, List, [], ◌∷◌, ◌++◌, Option, Some, None, find, slice_get, slice_set, get_or, nat_lt, refl, sym, ap, ◌∙◌, arith}
+use Rattle.std.proofs.lemmas.Bool.{ltb-true, ltb-false}
+use Rattle.std.proofs.lemmas.Option.{slice_get-get_or, slice_get_past}
 use Rattle.std.specs.Option.{option_map}
-use Rattle.std.proofs.lemmas.Option.{slice_get_past}
-use Rattle.exec_world.specs.World.{change_first}
+use Rattle.exec_msg.specs.Lists.{change_first}
 use Rattle.exec_world.specs.inner.Places.{first_place, change_at}
+
+-- the first place once an element more stands behind
+abbrev pub place_or : Option ℕ → Bool → ℕ → Option ℕ
+place_or None b i = if b then Some i else None
+place_or (Some j) b i = Some j
 
 module _ {A : Type 0} (test : A → Bool) where
   nothing_by : (b : Bool) (x : A) (place : Option ℕ) (found : Option A) → (if b then Some zero else option_map suc place) ≡ None → (place ≡ None → found ≡ None) → cond b (Some x) found ≡ None
@@ -57,11 +63,6 @@ module _ {A : Type 0} (test : A → Bool) where
     first_place-changed keeps zero (x ∷ xs) = ap (λ (b : Bool). if b then Some zero else option_map suc (first_place test xs)) (keeps x)
     first_place-changed keeps (suc i) (x ∷ xs) = ap (λ (place : Option ℕ). if test x then Some zero else option_map suc place) (first_place-changed keeps i xs)
 
-  -- the first place once an element more stands behind
-  abbrev pub place_or : Option ℕ → Bool → ℕ → Option ℕ
-  place_or None b i = if b then Some i else None
-  place_or (Some j) b i = Some j
-
   behind_by : (b c : Bool) (place : Option ℕ) (n : ℕ) → (if b then Some zero else option_map suc (place_or place c n)) ≡ place_or (if b then Some zero else option_map suc place) c (suc n)
   behind_by true c place n = refl
   behind_by false c (Some j) n = refl
@@ -79,16 +80,24 @@ module _ {A : Type 0} (test : A → Bool) where
       ∙ behind_by (test y) (test x) (first_place test xs) (length xs)
 
 -- a write to a place is a change there
-pub written : {A : Type 0} (change : A → A) (xs : List A) (i : ℕ) (d after : A) → after ≡ change (get_or xs i d) → slice_set xs i after ≡ change_at i change xs
-written change [] i d after is = refl
-written change (x ∷ xs) zero d after is = ap (λ y. y ∷ xs) is
-written change (x ∷ xs) (suc i) d after is = ap (λ ys. x ∷ ys) (written change xs i d after is)
+pub written : {A : Type 0} (change : A → A) (xs : List A) (i : ℕ) (x after : A) → x ≡ get_or xs i x → after ≡ change x → slice_set xs i after ≡ change_at i change xs
+written change [] i x after is sets = refl
+written change (y ∷ xs) zero x after is sets = ap (λ z. z ∷ xs) (sets ∙ ap change is)
+written change (y ∷ xs) (suc i) x after is sets = ap (λ ys. y ∷ ys) (written change xs i x after is sets)
 
 -- a change at no place is none
-change_at-nowhere : {A : Type 0} (change : A → A) (xs : List A) (i : ℕ) → slice_get xs i ≡ None → xs ≡ change_at i change xs
-change_at-nowhere change [] i is = refl
-change_at-nowhere change (x ∷ xs) zero is = absurd cc
-change_at-nowhere change (x ∷ xs) (suc i) is = ap (λ ys. x ∷ ys) (change_at-nowhere change xs i is)
+change_at-past : {A : Type 0} (change : A → A) (xs : List A) (i : ℕ) → length xs ≤ i → xs ≡ change_at i change xs
+change_at-past change [] i past = refl
+change_at-past change (x ∷ xs) zero past = absurd (omega arith)
+change_at-past change (x ∷ xs) (suc i) past = ap (λ ys. x ∷ ys) (change_at-past change xs i (omega arith))
 
-pub change_at-past : {A : Type 0} (change : A → A) (xs : List A) (i : ℕ) → length xs ≤ i → xs ≡ change_at i change xs
-change_at-past change xs i past = change_at-nowhere change xs i (slice_get_past xs i past)
+pub change_at-beyond : {A : Type 0} (change : A → A) (xs : List A) (i : ℕ) → false ≡ nat_lt i (length xs) → xs ≡ change_at i change xs
+change_at-beyond change xs i is = change_at-past change xs i (ltb-false i (length xs) (sym is))
+
+-- what stands at a place
+pub read_at : {A : Type 0} (xs : List A) (i : ℕ) (x : A) → true ≡ nat_lt i (length xs) → x ≡ get_or xs i x → slice_get xs i ≡ Some x
+read_at xs i x within is = slice_get-get_or xs i x (ltb-true i (length xs) (sym within)) ∙ ap Some (sym is)
+
+-- nothing stands at no place
+pub none_beyond : {A : Type 0} (xs : List A) (i : ℕ) → false ≡ nat_lt i (length xs) → slice_get xs i ≡ None
+none_beyond xs i is = slice_get_past xs i (ltb-false i (length xs) (sym is))

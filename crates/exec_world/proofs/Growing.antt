@@ -17,18 +17,19 @@ Begins before world = (more : List Line) × (world.lines ≡ before ++ more)
 more_lines : (before lines some : List Line) → (more : List Line) × (some ≡ before ++ more) → (more : List Line) × (some ++ lines ≡ before ++ more)
 more_lines before lines some p = (p.0 ++ lines, ap (λ (all : List Line). all ++ lines) p.1 ∙ append_assoc before p.0 lines)
 
-begins_kept : (plan : PlanData) (before : List Line) → KeptByRounds plan (Begins before)
-begins_kept plan before = record {
+begins_kept : (before : List Line) → KeptByRounds (Begins before)
+begins_kept before = record {
   basic = record {
     lines_kept = λ lines world p. more_lines before lines world.lines p;
-    queues_kept = λ entity item world p. p;
-    goals_kept = λ server goals world same p. p;
-    calls_kept = λ client number world p. p;
-    sending_kept = λ client number world p. p;
+    queues_kept = λ entity new world p. p;
+    goals_kept = λ server change world same p. p;
+    tasks_kept = λ server id task world p. p;
+    calls_kept = λ client world p. p;
+    sending_kept = λ client world p. p;
     variables_kept = λ group variables world p. p;
   };
-  accepts_kept = λ server decision held world p. more_lines before _ world.lines p;
-  expiry_kept = λ moment world p. more_lines before (flat_map (expire_lines plan.graph moment) world.servers) world.lines p;
+  accepts_kept = λ server moment decision request world p. more_lines before _ world.lines p;
+  expiry_kept = λ moment world p. more_lines before (flat_map (expire_lines moment) world.servers) world.lines p;
   snapshot_kept = λ moment world p. p;
 }
 
@@ -39,8 +40,8 @@ pub round_grows : (plan : PlanData) (number moment : ℕ) (world : WorldState) �
 round_grows plan number moment world =
     let before : List Line = world.lines ++ line.Round number moment ∷ [] in
     ap (λ (n : ℕ). take n (round plan number moment world).lines) (sym (length-append world.lines (line.Round number moment ∷ [])))
-    ∙ front before _ (round_keeps (begins_kept plan before) number moment world ([], sym (append-nil before)))
+    ∙ front before _ (round_keeps (begins_kept before) plan number moment world ([], sym (append-nil before)))
 
 pub rounds_grow : (plan : PlanData) (number : ℕ) (moments : List ℕ) (world : WorldState) → take (length world.lines) (rounds plan number moments world).lines ≡ world.lines
 rounds_grow plan number moments world =
-    front world.lines _ (rounds_keep (begins_kept plan world.lines) number moments world ([], sym (append-nil world.lines)))
+    front world.lines _ (rounds_keep (begins_kept world.lines) plan number moments world ([], sym (append-nil world.lines)))

@@ -4,16 +4,18 @@ use Rattle.std.specs.List.{All, AllByRecursion, filter, find}
 use Rattle.std.specs.Option.{option_map_or}
 use Rattle.std.proofs.lemmas.Bool.{and_parts, eqb-true}
 use Rattle.std.proofs.lemmas.List.Elements.{All-nil, All-push, All-drop, All-from_recursion}
-use Rattle.exec_graph.specs.Graph.{GraphData, Waitable, wait_set, kinds, depth_of, declared_at}
+use Rattle.exec_graph.specs.Entity.{EntityNo}
+use Rattle.exec_graph.specs.Graph.{GraphData, Waitable, wait_set, kinds}
 use Rattle.exec_graph.specs.Plan.{PlanData}
-use Rattle.exec_msg.specs.KeepLast.{sent}
+use Rattle.exec_msg.specs.Kind.{ready_number}
 use Rattle.exec_msg.specs.declared.kind.Kind.{Kind}
 use Rattle.exec_msg.specs.declared.kind.Kind.TheVariants as kind
 use Rattle.exec_world.proofs.Running.{KeptByRounds, rounds_keep}
-use Rattle.exec_msg.specs.Kind.{ready_number}
+use Rattle.exec_world.specs.Item.{taker_of}
 use Rattle.exec_world.specs.Ready.{queue_taken}
-use Rattle.exec_world.specs.Transcript.{has_queue, first_world, rounds}
-use Rattle.exec_world.specs.World.{WorldState, Queue, Item, change_first, is_queue, kind_of, items_in}
+use Rattle.exec_world.specs.Transcript.{takes_from_queue, new_queue, first_world, rounds}
+use Rattle.exec_world.specs.World.{WorldState, Moment, Queue, change_first, is_queue, queue_after, items_in}
+use Rattle.exec_world.specs.declared.item.Item.{Item}
 
 kind_back : (one : Kind) → get_or kinds (ready_number one - 1) kind.Timer ≡ one
 kind_back kind.Timer = refl
@@ -35,61 +37,46 @@ same_kind one other e = sym (kind_back one) ∙ ap (λ (n : ℕ). get_or kinds (
 
 -- a queue holds items of its kind
 abbrev pub IsOfItsKind : Queue → Type 0
-IsOfItsKind queue = All (λ item. kind_of item ≡ queue.kind) queue.items
+IsOfItsKind queue = All (λ one. taker_of one ≡ queue.kind) queue.items
 
-kinds_after : (graph : GraphData) (entity : ℕ) (item : Item) (queues : List Queue) → AllByRecursion IsOfItsKind queues → AllByRecursion IsOfItsKind (change_first (is_queue entity (kind_of item)) (λ queue. record queue { items = sent (depth_of (declared_at graph entity)) item queue.items }) queues)
-kinds_after graph entity item [] p = tt
-kinds_after graph entity item (queue ∷ queues) p = by (is_queue entity (kind_of item) queue) refl (kinds_after graph entity item queues p.1)
+kinds_after : (entity : EntityNo) (new : Item) (queues : List Queue) → AllByRecursion IsOfItsKind queues → AllByRecursion IsOfItsKind (change_first (is_queue entity (taker_of new)) (queue_after new) queues)
+kinds_after entity new [] p = tt
+kinds_after entity new (queue ∷ queues) p = by (is_queue entity (taker_of new) queue) refl (kinds_after entity new queues p.1)
   where
-    by : (b : Bool) → is_queue entity (kind_of item) queue ≡ b → AllByRecursion IsOfItsKind (change_first (is_queue entity (kind_of item)) (λ queue. record queue { items = sent (depth_of (declared_at graph entity)) item queue.items }) queues) → AllByRecursion IsOfItsKind (change_first (is_queue entity (kind_of item)) (λ queue. record queue { items = sent (depth_of (declared_at graph entity)) item queue.items }) (queue ∷ queues))
+    by : (b : Bool) → is_queue entity (taker_of new) queue ≡ b → AllByRecursion IsOfItsKind (change_first (is_queue entity (taker_of new)) (queue_after new) queues) → AllByRecursion IsOfItsKind (change_first (is_queue entity (taker_of new)) (queue_after new) (queue ∷ queues))
     by true e rest =
-        let same : kind_of item ≡ queue.kind = sym (same_kind queue.kind (kind_of item) (eqb-true (ready_number queue.kind) (ready_number (kind_of item)) (and_parts (queue.entity == entity) (ready_number queue.kind == ready_number (kind_of item)) e).1)) in
-        let held : All (λ one. kind_of one ≡ queue.kind) (sent (depth_of (declared_at graph entity)) item queue.items) =
-        All-drop (λ one. kind_of one ≡ queue.kind) (length (queue.items ++ item ∷ []) - depth_of (declared_at graph entity)) (queue.items ++ item ∷ []) (All-push (λ one. kind_of one ≡ queue.kind) queue.items item p.0 same) in
-        rw e (held, p.1)
+        let same : taker_of new ≡ queue.kind = sym (same_kind queue.kind (taker_of new) (eqb-true (ready_number queue.kind) (ready_number (taker_of new)) (and_parts (queue.handler.entity == entity) (ready_number queue.kind == ready_number (taker_of new)) e).1)) in
+        rw e (All-drop (λ one. taker_of one ≡ queue.kind) (length (queue.items ++ new ∷ []) - queue.depth) (queue.items ++ new ∷ []) (All-push (λ one. taker_of one ≡ queue.kind) queue.items new p.0 same), p.1)
     by false e rest = rw e (p.0, rest)
 
 kinds_taken : (queues : List Queue) → AllByRecursion IsOfItsKind queues → AllByRecursion IsOfItsKind (map queue_taken queues)
 kinds_taken [] p = tt
-kinds_taken (queue ∷ queues) p = (All-drop (λ one. kind_of one ≡ queue.kind) 1 queue.items p.0, kinds_taken queues p.1)
+kinds_taken (queue ∷ queues) p = (All-drop (λ one. taker_of one ≡ queue.kind) 1 queue.items p.0, kinds_taken queues p.1)
 
-pub kinds_first : (waitables : List Waitable) → AllByRecursion IsOfItsKind (map (λ waitable. record { entity = waitable.entity; kind = waitable.kind; items = [] }) waitables)
-kinds_first [] = tt
-kinds_first (waitable ∷ waitables) = (All-nil (λ one. kind_of one ≡ waitable.kind), kinds_first waitables)
+pub kinds_first : (graph : GraphData) (waitables : List Waitable) → AllByRecursion IsOfItsKind (map (new_queue graph) waitables)
+kinds_first graph [] = tt
+kinds_first graph (waitable ∷ waitables) = (All-nil (λ one. taker_of one ≡ waitable.kind), kinds_first graph waitables)
 
 -- all queues of a world do
 abbrev pub AreOfTheirKinds : WorldState → Type 0
 AreOfTheirKinds world = AllByRecursion IsOfItsKind world.queues
 
-pub kinds_kept : (plan : PlanData) → KeptByRounds plan AreOfTheirKinds
-kinds_kept plan = record {
+pub kinds_kept : KeptByRounds AreOfTheirKinds
+kinds_kept = record {
   basic = record {
     lines_kept = λ lines world p. p;
-    queues_kept = λ entity item world p. kinds_after plan.graph entity item world.queues p;
-    goals_kept = λ server goals world same p. p;
-    calls_kept = λ client number world p. p;
-    sending_kept = λ client number world p. p;
+    queues_kept = λ entity new world p. kinds_after entity new world.queues p;
+    goals_kept = λ server change world same p. p;
+    tasks_kept = λ server id task world p. p;
+    calls_kept = λ client world p. p;
+    sending_kept = λ client world p. p;
     variables_kept = λ group variables world p. p;
   };
-  accepts_kept = λ server decision held world p. p;
+  accepts_kept = λ server moment decision request world p. p;
   expiry_kept = λ moment world p. p;
   snapshot_kept = λ moment world p. kinds_taken world.queues p;
 }
 
--- so what is found in an entity's queue of a kind is of it
-pub found_kinds : (entity : ℕ) (of : Kind) (world : WorldState) → AreOfTheirKinds world → All (λ item. kind_of item ≡ of) (items_in entity of world)
-found_kinds entity of world p = among world.queues p
-  where
-    among : (queues : List Queue) → AllByRecursion IsOfItsKind queues → All (λ item. kind_of item ≡ of) (option_map_or (λ queue. queue.items) (find (is_queue entity of) queues) [])
-    among [] q = All-nil (λ item. kind_of item ≡ of)
-    among (queue ∷ queues) q = by (is_queue entity of queue) refl (among queues q.1)
-      where
-        by : (b : Bool) → is_queue entity of queue ≡ b → All (λ item. kind_of item ≡ of) (option_map_or (λ queue. queue.items) (find (is_queue entity of) queues) []) → All (λ item. kind_of item ≡ of) (option_map_or (λ queue. queue.items) (find (is_queue entity of) (queue ∷ queues)) [])
-        by true e rest =
-            let same : queue.kind ≡ of = same_kind queue.kind of (eqb-true (ready_number queue.kind) (ready_number of) (and_parts (queue.entity == entity) (ready_number queue.kind == ready_number of) e).1) in
-            rw e (subst (λ (at : Kind). All (λ item. kind_of item ≡ at) queue.items) same q.0)
-        by false e rest = rw e rest
-
-pub queues_of_kinds : (plan : PlanData) (number : ℕ) (moments : List ℕ) → All (λ queue. All (λ item. kind_of item ≡ queue.kind) queue.items) (rounds plan number moments (first_world plan.graph)).queues
+pub queues_of_kinds : (plan : PlanData) (number : ℕ) (moments : List Moment) → All (λ queue. All (λ one. taker_of one ≡ queue.kind) queue.items) (rounds plan number moments (first_world plan.graph)).queues
 queues_of_kinds plan number moments =
-    All-from_recursion IsOfItsKind _ (rounds_keep (kinds_kept plan) number moments (first_world plan.graph) (kinds_first (filter has_queue (wait_set plan.graph))))
+    All-from_recursion IsOfItsKind _ (rounds_keep kinds_kept plan number moments (first_world plan.graph) (kinds_first plan.graph (filter (λ waitable. takes_from_queue waitable.kind) (wait_set plan.graph))))

@@ -1,146 +1,168 @@
--- What every basic change of a world keeps, a callback that runs keeps.
-use Rattle.std.proofs.Common.{◌≡◌, ℕ, suc, ℤ, pos, Bool, true, false, is_some, ◌&&◌, List, [], ◌∷◌, Option, None, Some, refl, sym, ap, ◌∙◌, true≢false}
-use Rattle.std.specs.List.{find}
-use Rattle.std.specs.Option.{unwrap_or}
-use Rattle.exec_goal.specs.Table.{GoalRecord, asked_for, is_accepting, after_end}
-use Rattle.exec_goal.specs.State.{is_canceling}
-use Rattle.exec_msg.specs.declared.goal.Event.{Event}
-use Rattle.exec_world.specs.Give.{Caller, give}
-use Rattle.exec_graph.specs.Graph.{GraphData, declared_at}
+-- What every basic change of a world keeps, a callback that runs keeps, and so do rounds.
+use Rattle.std.proofs.Common.{◌≡◌, ℕ, suc, ℤ, Bool, true, false, if◌then◌else◌, List, [], ◌∷◌, Option, None, Some, refl, sym, ap, ◌∙◌, true≢false}
+use Rattle.exec_goal.specs.Table.{asked_for, has_id, is_accepting, after_end}
+use Rattle.exec_graph.specs.Entity.{EntityNo}
+use Rattle.exec_graph.specs.Feeding.{fed_in}
 use Rattle.exec_graph.specs.Plan.{PlanData}
+use Rattle.exec_msg.specs.declared.goal.Event.{Event}
 use Rattle.exec_msg.specs.declared.line.Line.TheVariants as line
-use Rattle.exec_script.specs.Script.{CallInput, decision_within}
-use Rattle.exec_script.specs.declared.instr.Instr.{Instr}
-use Rattle.exec_task.specs.Task.{Polled, polled, is_awake}
-use Rattle.exec_task.specs.declared.wait.Ending.{Ending}
-use Rattle.exec_world.proofs.Endings.{EndsBy, poll_ends}
-use Rattle.exec_world.proofs.Keeping.{Kept, Moves, moves_kept, ids_changed, state_said, fold_keeps, push_keeps, push_any_keeps, called_keeps, handling_keeps, close_handling_keeps, close_ask_keeps, ask_where_keeps, close_ended_keeps, polled_keeps, feed_keeps}
-use Rattle.exec_world.specs.LawWords.{at_snapshot}
-use Rattle.exec_world.specs.Ready.{Ready, Cause, due, took, woke, call_input, run_line, turn_of, ready_list, take_inputs}
-use Rattle.exec_world.specs.Run.{script_run, after_script, accept, accept_where, held_goal, asks, take_item, end_goal, poll_goal, act, run}
-use Rattle.exec_world.specs.Transcript.{expire, run_all, round, rounds}
-use Rattle.exec_world.specs.World.{WorldState, HeldGoal, Item, message, request, reply, goal_request, cancel_request, ask, response, code, feedback, result, add_line, records_of, goals_of, change_goal, is_goal, variables_of, with_variables}
+use Rattle.exec_script.specs.declared.effects.Close.{Close}
+use Rattle.exec_script.specs.declared.effects.Close.TheVariants as close
+use Rattle.exec_script.specs.declared.effects.Effect.{Effect}
+use Rattle.exec_task.specs.Task.{TaskState}
+use Rattle.exec_world.proofs.Endings.{EndsBy, poll_closes}
+use Rattle.exec_world.proofs.Keeping.{Kept, Moves, moves_kept, ids_changed, state_said, fold_keeps, callback_keeps, give_keeps, push_keeps, push_any_keeps, cancel_keeps, answer_ask_keeps, respond_keeps, tell_end_keeps, feed_keeps}
+use Rattle.exec_world.specs.Callback.{Outcome, act, callback}
+use Rattle.exec_world.specs.Close.{GoalRequest, reply_in, decision_in, decisions_in, accept, accept_where, decide, with_ended, goal_at, close_item, close_cause, close_poll, close_callback}
+use Rattle.exec_world.specs.Give.{give}
+use Rattle.exec_world.specs.Item.{GoalId}
+use Rattle.exec_world.specs.Ready.{run_line, turn_at, ready_list, take_inputs}
+use Rattle.exec_world.specs.Run.{work_for, with_polled, after_callback, run}
+use Rattle.exec_world.specs.Transcript.{expire, feed, at_snapshot, run_all, round, rounds}
+use Rattle.exec_world.specs.World.{WorldState, Moment, GoalWork, Variables, add_line, goals_of, has_room_for, variables_of, with_variables, action_client_at}
+use Rattle.exec_world.specs.declared.item.Item.{Item}
+use Rattle.exec_world.specs.declared.item.Item.TheVariants as item
+use Rattle.exec_world.specs.declared.ready.Cause.{Cause}
+use Rattle.exec_world.specs.declared.ready.Cause.TheVariants as cause
+use Rattle.exec_world.specs.declared.ready.Ready.{Ready}
 
--- what an acceptance makes of a property: it happens only where the callback took a goal request and has a script
+-- what an acceptance makes of a property: it happens only where the callback took a goal request, and its server has room
+-- for the goal
 abbrev pub Accepts : Ready → (WorldState → Type 0) → (WorldState → Type 0) → Type 0
 Accepts one P Q =
-    (id : ℕ) (client : Option ℕ) (value : ℤ) (goals : List GoalRecord) (moment decision : ℕ) (world : WorldState) →
-    one.cause ≡ took (goal_request id client value) goals → is_some one.script ≡ true → P world → Q (accept one.entity decision (held_goal id value moment decision client) world)
+    (request : GoalRequest) (decision : ℕ) (world : WorldState) →
+    one.cause ≡ cause.Took (item.Goal request.id request.client request.value) → has_room_for request.id (goals_of one.entity world) ≡ true → P world → Q (accept one.entity one.moment decision request world)
 
--- the world in which a poll ended its goal by an event, with the line of its state
-abbrev pub ended : ℕ → ℕ → Event → ℤ → ℕ → WorldState → WorldState
-ended server id by value moment world =
-    state_said server (find (is_goal id) (goals_of server (change_goal server id (λ held. record held { goal = after_end by value moment held.goal }) world)))
-    (change_goal server id (λ held. record held { goal = after_end by value moment held.goal }) world)
+-- the world in which a goal ended by an event, with the line of its state
+abbrev pub ended : EntityNo → GoalId → Event → ℤ → Moment → WorldState → WorldState
+ended server id by value moment world = state_said server (goal_at server id (with_ended server id by value moment world)) (with_ended server id by value moment world)
 
 -- what the end of a goal makes of a property: it happens only where the callback polled the goal
-abbrev pub Ends : ℕ → Ready → (WorldState → Type 0) → (WorldState → Type 0) → Type 0
-Ends moment one P Q =
-    (held : HeldGoal) (by : Event) (value : ℤ) (world : WorldState) →
-    one.cause ≡ woke held → (is_awake held.task (turn_of moment held) ≡ true → EndsBy (is_canceling held.goal.state) by) → P world → Q (ended one.entity held.goal.id by value moment world)
+abbrev pub Ends : Ready → (WorldState → Type 0) → (WorldState → Type 0) → Type 0
+Ends one P Q =
+    (id : GoalId) (value : ℤ) (canceling : Bool) (by : Event) (result : ℤ) (world : WorldState) →
+    one.cause ≡ cause.Woke id value canceling → EndsBy canceling by → P world → Q (ended one.entity id by result one.moment world)
 
--- a callback without a script answers nothing
-silent : (graph : GraphData) (one : Ready) (input : CallInput) (world : WorldState) → one.script ≡ None → (script_run graph one input world).answer ≡ None
-silent graph one input world e = rw e refl
+-- what closes a callback that polled: its goal ends in one of these ways, if it does
+abbrev Closes : Cause → Close → Type 0
+Closes why closing = (id : GoalId) (value : ℤ) (canceling : Bool) (by : Event) (result : ℤ) → why ≡ cause.Woke id value canceling → closing ≡ close.Ended by result → EndsBy canceling by
 
--- so only one with a script accepts
-scripted : (graph : GraphData) (one : Ready) (input : CallInput) (world : WorldState) → is_accepting (decision_within 3 (unwrap_or (script_run graph one input world).answer (pos 1))) ≡ true → is_some one.script ≡ true
-scripted graph one input world accepting = by one.script refl
-  where
-    by : (script : Option (List Instr)) → one.script ≡ script → is_some script ≡ true
-    by None e = absurd (true≢false (sym accepting ∙ ap (λ (answer : Option ℤ). is_accepting (decision_within 3 (unwrap_or answer (pos 1)))) (silent graph one input world e)))
-    by (Some script) e = refl
+-- whether a callback polls
+abbrev is_poll : Cause → Bool
+is_poll (cause.Woke id value canceling) = true
+is_poll _ = false
 
-module _ {graph : GraphData} {P Q : WorldState → Type 0} (k : Moves graph P) (l : Moves graph Q) (weaken : (world : WorldState) → P world → Q world) where
-  accept_keeps : (b : Bool) (one : Ready) → Accepts one P Q → (id : ℕ) (client : Option ℕ) (value : ℤ) (goals : List GoalRecord) (moment decision : ℕ) (world : WorldState) → one.cause ≡ took (goal_request id client value) goals → (b ≡ true → is_some one.script ≡ true) → P world → Q (accept_where b one.entity decision (held_goal id value moment decision client) world)
-  accept_keeps true one accepts id client value goals moment decision world same has p = accepts id client value goals moment decision world same (has refl) p
-  accept_keeps false one accepts id client value goals moment decision world same has p = weaken world p
+-- whether the goal of a poll is being canceled
+abbrev canceling_in : Cause → Bool
+canceling_in (cause.Woke id value canceling) = canceling
+canceling_in _ = false
 
-  took_keeps : (moment : ℕ) (one : Ready) → Accepts one P Q → (item : Item) (goals : List GoalRecord) (world : WorldState) → one.cause ≡ took item goals → P world → Q (take_item graph moment one item goals world)
-  took_keeps moment one accepts (message value) goals world same p = weaken _ (called_keeps k one _ world p)
-  took_keeps moment one accepts (request client number value) goals world same p = push_keeps l client (reply number (unwrap_or (script_run graph one (call_input moment (took (request client number value) goals)) world).answer (pos 0))) _ (l.lines_kept (line.Reply one.entity (unwrap_or (script_run graph one (call_input moment (took (request client number value) goals)) world).answer (pos 0)) ∷ []) _ (λ at goal. refl) (weaken _ (called_keeps k one _ world p)))
-  took_keeps moment one accepts (reply number value) goals world same p = weaken _ (called_keeps k one _ world p)
-  took_keeps moment one accepts (goal_request id client value) goals world same p =
-      let input = call_input moment (took (goal_request id client value) goals) in
-      push_any_keeps l client (response id (is_accepting (decision_within 3 (unwrap_or (script_run graph one input world).answer (pos 1))))) _
-      (accept_keeps (is_accepting (decision_within 3 (unwrap_or (script_run graph one input world).answer (pos 1)))) one accepts id client value goals moment _ _ same
-      (scripted graph one input world)
-      (k.lines_kept (line.Decide one.entity id (decision_within 3 (unwrap_or (script_run graph one input world).answer (pos 1))) ∷ []) _ (λ at goal. refl) (called_keeps k one input world p)))
-  took_keeps moment one accepts (cancel_request asked client) goals world same p =
-      weaken _ (close_handling_keeps k one.entity asked client _ (handling_keeps k moment one goals (record { world = world; decisions = [] }) p))
-  took_keeps moment one accepts (ask id client) goals world same p =
-      let input = call_input moment (took (ask id client) goals) in
-      close_ask_keeps l one.entity id client (asked_for id (records_of one.entity (after_script one.group (script_run graph one input world)))) _ (weaken _ (called_keeps k one input world p))
-  took_keeps moment one accepts (response id accepted) goals world same p =
-      ask_where_keeps l (accepted && asks (declared_at graph one.entity)) one.entity id _ (weaken _ (called_keeps k one _ world p))
-  took_keeps moment one accepts (code returned moved) goals world same p = weaken _ (called_keeps k one _ world p)
-  took_keeps moment one accepts (feedback id value) goals world same p = weaken _ (called_keeps k one _ world p)
-  took_keeps moment one accepts (result id status value) goals world same p = weaken _ (called_keeps k one _ world p)
+closes_by : {S : Type 0} (put : Effect → S → S) (why : Cause) (one : Ready) (work : Option GoalWork) (variables : Variables) (given : S) → Closes why (act why put one work variables given).close
+closes_by put cause.Due one work variables given id value canceling by result same is = absurd (true≢false (sym (ap (λ (c : Cause). is_poll c) same)))
+closes_by put (cause.Took taken) one work variables given id value canceling by result same is = absurd (true≢false (sym (ap (λ (c : Cause). is_poll c) same)))
+closes_by put (cause.Woke goal given_value now_canceling) one work variables given id value canceling by result same is =
+    rw (sym (ap (λ (c : Cause). canceling_in c) same)) (poll_closes put (turn_at one.moment now_canceling) work variables given by result is)
 
-  end_keeps : (moment : ℕ) (one : Ready) → Ends moment one P Q → (held : HeldGoal) (ending : Option Ending) (world : WorldState) → one.cause ≡ woke held →
-      ((last : Ending) → ending ≡ Some last → is_awake held.task (turn_of moment held) ≡ true → EndsBy (is_canceling held.goal.state) last.event) → P world → Q (end_goal graph moment one.entity held.goal.id ending world)
-  end_keeps moment one ending held None world same by p = weaken world p
-  end_keeps moment one ending held (Some last) world same by p =
-      close_ended_keeps l one.entity (find (is_goal held.goal.id) (goals_of one.entity (change_goal one.entity held.goal.id (λ held. record held { goal = after_end last.event last.value moment held.goal }) world))) _
-      (ending held last.event last.value world same (by last refl) p)
+module _ {P Q : WorldState → Type 0} (k : Moves P) (l : Moves Q) (weaken : (world : WorldState) → P world → Q world) where
+  accept_keeps : (b : Bool) (one : Ready) → Accepts one P Q → (request : GoalRequest) (decision : ℕ) (world : WorldState) → one.cause ≡ cause.Took (item.Goal request.id request.client request.value) → (b ≡ true → has_room_for request.id (goals_of one.entity world) ≡ true) → P world → Q (accept_where b one.entity one.moment decision request world)
+  accept_keeps true one accepts request decision world same room p = accepts request decision world same (room refl) p
+  accept_keeps false one accepts request decision world same room p = weaken world p
 
-  poll_keeps : (moment : ℕ) (one : Ready) → Ends moment one P Q → (held : HeldGoal) (world : WorldState) → one.cause ≡ woke held → P world → Q (poll_goal graph moment one held world)
-  poll_keeps moment one ending held world same p =
-      let caller : Caller = record { entity = one.entity; polled = Some held } in
-      let poll : Polled WorldState = polled (give graph caller) (unwrap_or one.script []) held.goal.value (turn_of moment held) held.task (variables_of one.group world) world in
-      end_keeps moment one ending held poll.task.ending
-      (change_goal one.entity held.goal.id (λ other. record other { task = poll.task }) (with_variables one.group poll.variables poll.given)) same
-      (λ last is awake. poll_ends (is_awake held.task (turn_of moment held)) (give graph caller) (unwrap_or one.script []) held.goal.value (turn_of moment held) held.task (variables_of one.group world) world last awake awake is)
-      (k.held_kept one.entity held.goal.id (λ other. record other { task = poll.task }) _ (λ other. refl) (λ other. refl)
-      (k.variables_kept one.group poll.variables poll.given
-      (polled_keeps k (is_awake held.task (turn_of moment held)) caller (unwrap_or one.script []) held.goal.value (turn_of moment held) held.task (variables_of one.group world) world p)))
+  -- a decision that accepts is one for which there is room
+  roomy : (b : Bool) (decision : ℕ) → is_accepting (if b then decision else 1) ≡ true → b ≡ true
+  roomy true decision e = refl
+  roomy false decision e = absurd (true≢false (sym e))
 
-  act_keeps : (moment : ℕ) (one : Ready) → Accepts one P Q → Ends moment one P Q → (cause : Cause) (world : WorldState) → one.cause ≡ cause → P world → Q (act graph moment one cause world)
-  act_keeps moment one accepts ending due world same p = weaken _ (called_keeps k one _ world p)
-  act_keeps moment one accepts ending (took item goals) world same p = took_keeps moment one accepts item goals world same p
-  act_keeps moment one accepts ending (woke held) world same p = poll_keeps moment one ending held world same p
+  decide_keeps : (one : Ready) → Accepts one P Q → (request : GoalRequest) (decision : ℕ) (world : WorldState) → one.cause ≡ cause.Took (item.Goal request.id request.client request.value) → (is_accepting decision ≡ true → has_room_for request.id (goals_of one.entity world) ≡ true) → P world → Q (decide one.entity one.moment decision request world)
+  decide_keeps one accepts request decision world same room p =
+      push_any_keeps l request.client (item.Response request.id (is_accepting decision)) _
+      (accept_keeps (is_accepting decision) one accepts request decision _ same room (k.lines_kept (line.Decide one.entity request.id decision ∷ []) _ (λ at goal. refl) p))
+
+  took_keeps : (one : Ready) → Accepts one P Q → (taken : Item) (closing : Close) (world : WorldState) → Closes one.cause closing → one.cause ≡ cause.Took taken → P world → Q (close_item one.entity one.moment taken closing world)
+  took_keeps one accepts (item.Message value) closing world closes same p = weaken _ p
+  took_keeps one accepts (item.Request client number value) closing world closes same p =
+      push_keeps l client (item.Reply number (reply_in closing)) _ (l.lines_kept (line.Reply one.entity (reply_in closing) ∷ []) _ (λ at goal. refl) (weaken _ p))
+  took_keeps one accepts (item.Reply number value) closing world closes same p = weaken _ p
+  took_keeps one accepts (item.Goal id client value) closing world closes same p =
+      decide_keeps one accepts (record { id = id; client = client; value = value }) (if has_room_for id (goals_of one.entity world) then decision_in closing else 1) world same
+      (roomy (has_room_for id (goals_of one.entity world)) (decision_in closing)) p
+  took_keeps one accepts (item.Cancel request client) closing world closes same p = weaken _ (cancel_keeps k one.entity request client (decisions_in closing) world p)
+  took_keeps one accepts (item.Ask id client) closing world closes same p = answer_ask_keeps l one.entity id client (asked_for id (goals_of one.entity world)) _ (weaken _ p)
+  took_keeps one accepts (item.Response id accepted) closing world closes same p = respond_keeps l (action_client_at one.entity world) id accepted _ (weaken _ p)
+  took_keeps one accepts (item.Code returned moved) closing world closes same p = weaken _ p
+  took_keeps one accepts (item.Feedback id value) closing world closes same p = weaken _ p
+  took_keeps one accepts (item.Result id status value) closing world closes same p = weaken _ p
+
+  poll_keeps : (one : Ready) → Ends one P Q → (id : GoalId) (value : ℤ) (canceling : Bool) (closing : Close) (world : WorldState) → Closes one.cause closing → one.cause ≡ cause.Woke id value canceling → P world → Q (close_poll one.entity id one.moment closing world)
+  poll_keeps one ending id value canceling close.Nothing world closes same p = weaken _ p
+  poll_keeps one ending id value canceling (close.Reply reply) world closes same p = weaken _ p
+  poll_keeps one ending id value canceling (close.Decide decision) world closes same p = weaken _ p
+  poll_keeps one ending id value canceling (close.Decisions decisions) world closes same p = weaken _ p
+  poll_keeps one ending id value canceling close.Pending world closes same p = weaken _ p
+  poll_keeps one ending id value canceling (close.Ended by result) world closes same p =
+      tell_end_keeps l one.entity (goal_at one.entity id (with_ended one.entity id by result one.moment world)) _
+      (ending id value canceling by result world same (closes id value canceling by result same refl) p)
+
+  closing_keeps : (one : Ready) → Accepts one P Q → Ends one P Q → (why : Cause) (closing : Close) (world : WorldState) → Closes one.cause closing → one.cause ≡ why → P world → Q (close_cause one.entity one.moment why closing world)
+  closing_keeps one accepts ending cause.Due closing world closes same p = weaken _ p
+  closing_keeps one accepts ending (cause.Took taken) closing world closes same p = took_keeps one accepts taken closing world closes same p
+  closing_keeps one accepts ending (cause.Woke id value canceling) closing world closes same p = poll_keeps one ending id value canceling closing world closes same p
+
+  with_polled_keeps : (server : EntityNo) (why : Cause) (task : Option TaskState) (world : WorldState) → P world → P (with_polled server why task world)
+  with_polled_keeps server cause.Due task world p = p
+  with_polled_keeps server (cause.Took taken) task world p = p
+  with_polled_keeps server (cause.Woke id value canceling) None world p = p
+  with_polled_keeps server (cause.Woke id value canceling) (Some task) world p = k.tasks_kept server id task world p
 
   -- a callback that runs
-  pub run_keeps : (moment : ℕ) (one : Ready) → Accepts one P Q → Ends moment one P Q → (world : WorldState) → P world → Q (run graph moment one world)
-  run_keeps moment one accepts ending world p = act_keeps moment one accepts ending one.cause _ refl (k.lines_kept (run_line moment one ∷ []) world (λ at goal. refl) p)
+  pub run_keeps : (one : Ready) → Accepts one P Q → Ends one P Q → (world : WorldState) → P world → Q (run one world)
+  run_keeps one accepts ending world p =
+      let work : Option GoalWork = work_for one.entity one.cause world in
+      let before : WorldState = add_line (run_line one) world in
+      let outcome : Outcome WorldState = callback (give one) one work (variables_of one.group world) before in
+      closing_keeps one accepts ending one.cause outcome.close _ (closes_by (give one) one.cause one work (variables_of one.group world) before) refl
+      (with_polled_keeps one.entity one.cause outcome.task _
+      (k.variables_kept one.group outcome.variables outcome.given
+      (callback_keeps P (give one) (λ effect given q. give_keeps k one effect given q) one work (variables_of one.group world) before
+      (k.lines_kept (run_line one ∷ []) world (λ at goal. refl) p))))
 
-said_kept : {graph : GraphData} {P : WorldState → Type 0} → Kept graph P → (server : ℕ) (held : Option HeldGoal) (world : WorldState) → P world → P (state_said server held world)
+said_kept : {P : WorldState → Type 0} → Kept P → (server : EntityNo) (goal : _) (world : WorldState) → P world → P (state_said server goal world)
 said_kept k server None world p = p
-said_kept k server (Some held) world p = k.lines_kept _ _ p
+said_kept k server (Some goal) world p = k.lines_kept _ _ p
 
 -- what every change keeps under which identifiers stay, the end of a goal keeps
-pub end_kept : {graph : GraphData} {P : WorldState → Type 0} → Kept graph P → (server id : ℕ) (by : Event) (value : ℤ) (moment : ℕ) (world : WorldState) → P world → P (ended server id by value moment world)
-end_kept {graph} {P} k server id by value moment world p =
-    said_kept k server _ _ (k.goals_kept server _ world (ids_changed id (λ held. record held { goal = after_end by value moment held.goal }) (λ one. refl) (goals_of server world)) p)
+pub end_kept : {P : WorldState → Type 0} → Kept P → (server : EntityNo) (id : GoalId) (by : Event) (value : ℤ) (moment : Moment) (world : WorldState) → P world → P (ended server id by value moment world)
+end_kept k server id by value moment world p =
+    said_kept k server _ _ (k.goals_kept server _ world (ids_changed id (after_end by value moment) (λ one. refl)) p)
 
 -- each part of a round keeps a property, an acceptance too
-pub record KeptByRounds (plan : PlanData) (P : WorldState → Type 0) : Type 0 where
-  pub basic : Kept plan.graph P
-  pub accepts_kept : (server decision : ℕ) (held : HeldGoal) (world : WorldState) → P world → P (accept server decision held world)
-  pub expiry_kept : (moment : ℕ) (world : WorldState) → P world → P (expire plan.graph moment world)
-  pub snapshot_kept : (moment : ℕ) (world : WorldState) → P world → P (take_inputs moment world)
+pub record KeptByRounds (P : WorldState → Type 0) : Type 0 where
+  pub basic : Kept P
+  pub accepts_kept : (server : EntityNo) (moment : Moment) (decision : ℕ) (request : GoalRequest) (world : WorldState) → P world → P (accept server moment decision request world)
+  pub expiry_kept : (moment : Moment) (world : WorldState) → P world → P (expire moment world)
+  pub snapshot_kept : (moment : Moment) (world : WorldState) → P world → P (take_inputs moment world)
 
-module _ {plan : PlanData} {P : WorldState → Type 0} (k : KeptByRounds plan P) where
-  pub callback_keeps : (moment : ℕ) (one : Ready) (world : WorldState) → P world → P (run plan.graph moment one world)
-  callback_keeps moment one world p =
-      run_keeps (moves_kept k.basic) (moves_kept k.basic) (λ before q. q) moment one
-      (λ id client value goals at decision before same has q. k.accepts_kept one.entity decision (held_goal id value at decision client) before q)
-      (λ held by value before same last q. end_kept k.basic one.entity held.goal.id by value moment before q) world p
+module _ {P : WorldState → Type 0} (k : KeptByRounds P) where
+  pub one_keeps : (one : Ready) (world : WorldState) → P world → P (run one world)
+  one_keeps one world p =
+      run_keeps (moves_kept k.basic) (moves_kept k.basic) (λ before q. q) one
+      (λ request decision before same room q. k.accepts_kept one.entity one.moment decision request before q)
+      (λ id value canceling by result before same how q. end_kept k.basic one.entity id by result one.moment before q) world p
 
-  run_all_keeps : (moment : ℕ) (list : List Ready) (world : WorldState) → P world → P (run_all plan.graph moment list world)
-  run_all_keeps moment list world p = fold_keeps P (λ before one. run plan.graph moment one before) (λ before one q. callback_keeps moment one before q) list world p
+  run_all_keeps : (list : List Ready) (world : WorldState) → P world → P (run_all list world)
+  run_all_keeps list world p = fold_keeps P (λ before one. run one before) (λ before one q. one_keeps one before q) list world p
 
   -- what comes before the snapshot
-  pub snapshot_keeps : (number moment : ℕ) (world : WorldState) → P (add_line (line.Round number moment) world) → P (at_snapshot plan number moment world)
-  snapshot_keeps number moment world p = feed_keeps plan (moves_kept k.basic) number _ (k.expiry_kept moment _ p)
+  pub snapshot_keeps : (plan : PlanData) (number : ℕ) (moment : Moment) (world : WorldState) → P (add_line (line.Round number moment) world) → P (at_snapshot plan number moment world)
+  snapshot_keeps plan number moment world p = feed_keeps (moves_kept k.basic) (fed_in number plan.feed) _ (k.expiry_kept moment _ p)
 
   -- a round
-  pub round_keeps : (number moment : ℕ) (world : WorldState) → P (add_line (line.Round number moment) world) → P (round plan number moment world)
-  round_keeps number moment world p =
+  pub round_keeps : (plan : PlanData) (number : ℕ) (moment : Moment) (world : WorldState) → P (add_line (line.Round number moment) world) → P (round plan number moment world)
+  round_keeps plan number moment world p =
       let before : WorldState = at_snapshot plan number moment world in
-      run_all_keeps moment (ready_list plan.graph moment before) (take_inputs moment before) (k.snapshot_kept moment before (snapshot_keeps number moment world p))
+      run_all_keeps (ready_list moment before) (take_inputs moment before) (k.snapshot_kept moment before (snapshot_keeps plan number moment world p))
 
   -- rounds
-  pub rounds_keep : (number : ℕ) (moments : List ℕ) (world : WorldState) → P world → P (rounds plan number moments world)
-  rounds_keep number [] world p = p
-  rounds_keep number (moment ∷ moments) world p = rounds_keep (suc number) moments _ (round_keeps number moment world (k.basic.lines_kept _ _ p))
+  pub rounds_keep : (plan : PlanData) (number : ℕ) (moments : List Moment) (world : WorldState) → P world → P (rounds plan number moments world)
+  rounds_keep plan number [] world p = p
+  rounds_keep plan number (moment ∷ moments) world p = rounds_keep plan (suc number) moments _ (round_keeps plan number moment world (k.basic.lines_kept _ _ p))

@@ -1,16 +1,14 @@
 -- Rounds change no shape.
-use Rattle.std.proofs.Common.{◌≡◌, ℕ, Bool, true, false, List, [], ◌∷◌, length, map, refl, ap, ◌∙◌}
+use Rattle.std.proofs.Common.{◌≡◌, ℕ, Bool, true, false, List, [], ◌∷◌, length, map, replicate, refl, ap, ◌∙◌}
 use Rattle.std.proofs.lemmas.List.{length-set}
 use Rattle.exec_graph.specs.Plan.{PlanData}
 use Rattle.exec_msg.specs.Timer.{is_due}
-use Rattle.exec_msg.specs.declared.kind.Kind.{Kind}
-use Rattle.exec_world.proofs.Keeping.{queued}
 use Rattle.exec_world.proofs.Running.{KeptByRounds, rounds_keep}
-use Rattle.exec_world.specs.LawWords.{WorldShape, shape_of}
+use Rattle.exec_world.specs.Close.{accept}
+use Rattle.exec_world.specs.LawWords.{timer_shape, queue_shape, server_shape, client_shape, action_client_shape, shape_of}
 use Rattle.exec_world.specs.Ready.{timer_taken, queue_taken, client_taken, take_inputs}
-use Rattle.exec_world.specs.Run.{accept}
 use Rattle.exec_world.specs.Transcript.{expire, rounds}
-use Rattle.exec_world.specs.World.{WorldState, TimerEntry, Queue, ActionClientEntry, change_first, with_goals, with_call, with_goal_sent, with_variables}
+use Rattle.exec_world.specs.World.{WorldState, Moment, TimerEntry, change_first, queued, change_goals, with_task, with_call, with_goal_sent, with_variables}
 
 -- a change that leaves a part leaves it in a list
 pub part_changed : {A B : Type 0} (part : A → B) (test : A → Bool) (change : A → A) → ((one : A) → part (change one) ≡ part one) → (all : List A) → map part (change_first test change all) ≡ map part all
@@ -26,45 +24,39 @@ part_mapped part change same [] = refl
 part_mapped {A} {B} part change same (one ∷ all) =
     ap (λ (first : B). first ∷ map part (map change all)) (same one) ∙ ap (λ (others : List B). part one ∷ others) (part_mapped part change same all)
 
-timer_same : (moment : ℕ) (entry : TimerEntry) → (timer_taken moment entry).entity ≡ entry.entity
+timer_same : (moment : Moment) (entry : TimerEntry) → timer_shape (timer_taken moment entry) ≡ timer_shape entry
 timer_same moment entry = by (is_due entry.timer moment) refl
   where
-    by : (b : Bool) → is_due entry.timer moment ≡ b → (timer_taken moment entry).entity ≡ entry.entity
+    by : (b : Bool) → is_due entry.timer moment ≡ b → timer_shape (timer_taken moment entry) ≡ timer_shape entry
     by true e = rw e refl
     by false e = rw e refl
 
--- the parts of queues and action clients that stay
-abbrev queue_part : Queue → ℕ × Kind
-queue_part queue = (queue.entity, queue.kind)
-
-abbrev client_part : ActionClientEntry → ℕ × ℕ
-client_part entry = (entry.entity, entry.place)
-
--- worlds whose parts are the same have one shape
-same_shape : (before after : WorldState) →
-    map (λ entry. entry.entity) after.timers ≡ map (λ entry. entry.entity) before.timers →
-    map queue_part after.queues ≡ map queue_part before.queues →
-    map (λ entry. entry.entity) after.servers ≡ map (λ entry. entry.entity) before.servers →
-    map (λ entry. entry.entity) after.clients ≡ map (λ entry. entry.entity) before.clients →
-    map client_part after.action_clients ≡ map client_part before.action_clients →
+-- worlds whose parts have one shape have one
+same_shape : (before after : WorldState) → after.topics ≡ before.topics →
+    map timer_shape after.timers ≡ map timer_shape before.timers →
+    map queue_shape after.queues ≡ map queue_shape before.queues →
+    map server_shape after.servers ≡ map server_shape before.servers →
+    map client_shape after.clients ≡ map client_shape before.clients →
+    map action_client_shape after.action_clients ≡ map action_client_shape before.action_clients →
     length after.variables ≡ length before.variables → shape_of after ≡ shape_of before
-same_shape before after timers queues servers clients action_clients groups = rw (timers, queues, servers, clients, action_clients, groups) refl
+same_shape before after topics timers queues servers clients action_clients groups = rw (topics, timers, queues, servers, clients, action_clients, groups) refl
 
-shape_kept : (plan : PlanData) (of : WorldShape) → KeptByRounds plan (λ world. shape_of world ≡ of)
-shape_kept plan of = record {
+shape_kept : (of : WorldState) → KeptByRounds (λ world. shape_of world ≡ of)
+shape_kept of = record {
   basic = record {
     lines_kept = λ lines world p. p;
-    queues_kept = λ entity item world p. same_shape world (queued plan.graph entity item world) refl (part_changed _ _ _ (λ queue. refl) world.queues) refl refl refl refl ∙ p;
-    goals_kept = λ server goals world same p. same_shape world (with_goals server goals world) refl refl (part_changed _ _ _ (λ entry. refl) world.servers) refl refl refl ∙ p;
-    calls_kept = λ client number world p. same_shape world (with_call client number world) refl refl refl (part_changed _ _ _ (λ entry. refl) world.clients) refl refl ∙ p;
-    sending_kept = λ client number world p. same_shape world (with_goal_sent client number world) refl refl refl refl (part_changed _ _ _ (λ entry. refl) world.action_clients) refl ∙ p;
-    variables_kept = λ group variables world p. same_shape world (with_variables group variables world) refl refl refl refl refl (length-set world.variables group variables) ∙ p;
+    queues_kept = λ entity new world p. same_shape world (queued entity new world) refl refl (part_changed queue_shape _ _ (λ queue. refl) world.queues) refl refl refl refl ∙ p;
+    goals_kept = λ server change world same p. same_shape world (change_goals server change world) refl refl refl (part_changed server_shape _ _ (λ entry. refl) world.servers) refl refl refl ∙ p;
+    tasks_kept = λ server id task world p. same_shape world (with_task server id task world) refl refl refl (part_changed server_shape _ _ (λ entry. refl) world.servers) refl refl refl ∙ p;
+    calls_kept = λ client world p. same_shape world (with_call client world) refl refl refl refl (part_changed client_shape _ _ (λ entry. refl) world.clients) refl refl ∙ p;
+    sending_kept = λ client world p. same_shape world (with_goal_sent client world) refl refl refl refl refl (part_changed action_client_shape _ _ (λ entry. refl) world.action_clients) refl ∙ p;
+    variables_kept = λ group variables world p. same_shape world (with_variables group variables world) refl refl refl refl refl refl (length-set world.variables group variables) ∙ p;
   };
-  accepts_kept = λ server decision held world p. same_shape world (accept server decision held world) refl refl (part_changed _ _ _ (λ entry. refl) world.servers) refl refl refl ∙ p;
-  expiry_kept = λ moment world p. same_shape world (expire plan.graph moment world) refl refl (part_mapped _ _ (λ entry. refl) world.servers) refl refl refl ∙ p;
+  accepts_kept = λ server moment decision request world p. same_shape world (accept server moment decision request world) refl refl refl (part_changed server_shape _ _ (λ entry. refl) world.servers) refl refl refl ∙ p;
+  expiry_kept = λ moment world p. same_shape world (expire moment world) refl refl refl (part_mapped server_shape _ (λ entry. refl) world.servers) refl refl refl ∙ p;
   snapshot_kept = λ moment world p.
-      same_shape world (take_inputs moment world) (part_mapped _ _ (timer_same moment) world.timers) (part_mapped _ queue_taken (λ queue. refl) world.queues) refl (part_mapped _ (client_taken world) (λ entry. refl) world.clients) refl refl ∙ p;
+      same_shape world (take_inputs moment world) refl (part_mapped timer_shape _ (timer_same moment) world.timers) (part_mapped queue_shape queue_taken (λ queue. refl) world.queues) refl (part_mapped client_shape (client_taken world) (λ entry. refl) world.clients) refl refl ∙ p;
 }
 
-pub shape_stays : (plan : PlanData) (number : ℕ) (moments : List ℕ) (world : WorldState) → shape_of (rounds plan number moments world) ≡ shape_of world
-shape_stays plan number moments world = rounds_keep (shape_kept plan (shape_of world)) number moments world refl
+pub shape_stays : (plan : PlanData) (number : ℕ) (moments : List Moment) (world : WorldState) → shape_of (rounds plan number moments world) ≡ shape_of world
+shape_stays plan number moments world = rounds_keep (shape_kept (shape_of world)) plan number moments world refl

@@ -1,10 +1,10 @@
 -- Words for the laws of rounds.
-use Rattle.std.specs.Prelude.{◌≡◌, ◌⊎◌, ℕ, Bool, ◌&&◌, ◌==◌, List, [], ◌∷◌, length, map, Option, None, Some, if◌then◌else◌}
+use Rattle.std.specs.Prelude.{◌≡◌, ◌⊎◌, ℕ, Bool, ◌&&◌, ◌==◌, List, [], ◌∷◌, length, map, replicate, Option, None, Some, if◌then◌else◌}
 use Rattle.std.specs.List.{flat_map}
 use Rattle.exec_goal.specs.Cancel.{Decided}
 use Rattle.exec_goal.specs.State.{Transition, status_of}
 use Rattle.exec_goal.specs.declared.state.State.{State}
-use Rattle.exec_graph.specs.Plan.{PlanData}
+use Rattle.exec_graph.specs.Entity.{EntityNo}
 use Rattle.exec_msg.specs.declared.kind.Kind.{Kind}
 use Rattle.exec_msg.specs.declared.goal.Event.{Event}
 use Rattle.exec_msg.specs.declared.goal.GoalStatus.{GoalStatus}
@@ -12,53 +12,58 @@ use Rattle.exec_msg.specs.declared.goal.GoalStatus.TheVariants as status
 use Rattle.exec_msg.specs.declared.line.Line.{Line}
 use Rattle.exec_msg.specs.declared.line.Line.TheVariants as line
 use Rattle.exec_msg.specs.Kind.{ready_number}
-use Rattle.exec_world.specs.Ready.{Ready, kind_of_cause}
-use Rattle.exec_world.specs.Transcript.{expire, feed}
-use Rattle.exec_world.specs.World.{WorldState, add_line}
+use Rattle.exec_script.specs.Zeros.{zeros}
+use Rattle.exec_world.specs.Item.{GoalId}
+use Rattle.exec_world.specs.Ready.{kind_of}
+use Rattle.exec_world.specs.World.{WorldState, TimerEntry, Queue, ServerEntry, ClientEntry, ActionClientEntry}
+use Rattle.exec_world.specs.declared.ready.Ready.{Ready}
 
 -- a cancel handler's decision: 1 rejects, and 2 accepts
 abbrev pub IsDecision : Decided → Type 0
 IsDecision decided = (decided.1 ≡ 1) ⊎ (decided.1 ≡ 2)
 
--- the world of which a round's snapshot is taken
-abbrev pub at_snapshot : PlanData → ℕ → ℕ → WorldState → WorldState
-at_snapshot plan number moment world = feed plan number (expire plan.graph moment (add_line (line.Round number moment) world))
-
 -- whether a ready callback is an entity's of a kind
-abbrev pub is_callback_of : ℕ → Kind → Ready → Bool
-is_callback_of entity kind one = (one.entity == entity) && (ready_number (kind_of_cause one.cause) == ready_number kind)
+abbrev pub is_callback_of : EntityNo → Kind → Ready → Bool
+is_callback_of entity kind one = (one.entity == entity) && (ready_number (kind_of one.cause) == ready_number kind)
 
--- what a world has of its graph: the entities of its timers, queues (with the kind of callback that takes from each),
--- servers, service clients and action clients (with the place of each among the action clients), in their order, and the
--- number of its callback groups
-pub record WorldShape : Type 0 where
-  pub timers : List ℕ
-  pub queues : List (ℕ × Kind)
-  pub servers : List ℕ
-  pub clients : List ℕ
-  pub action_clients : List (ℕ × ℕ)
-  pub groups : ℕ
+-- an entry without what a run changes of it
+abbrev pub timer_shape : TimerEntry → TimerEntry
+timer_shape entry = record entry { timer = record entry.timer { next = 0 } }
 
--- the shape of a world
-abbrev pub shape_of : WorldState → WorldShape
+abbrev pub queue_shape : Queue → Queue
+queue_shape queue = record queue { items = [] }
+
+abbrev pub server_shape : ServerEntry → ServerEntry
+server_shape entry = record entry { goals = []; held = [] }
+
+abbrev pub client_shape : ClientEntry → ClientEntry
+client_shape entry = record entry { calls = 0; pending = [] }
+
+abbrev pub action_client_shape : ActionClientEntry → ActionClientEntry
+action_client_shape entry = record entry { goals = 0 }
+
+-- what a world has of its graph: all that a run changes is taken away
+abbrev pub shape_of : WorldState → WorldState
 shape_of world = record {
-  timers = map (λ entry. entry.entity) world.timers;
-  queues = map (λ queue. (queue.entity, queue.kind)) world.queues;
-  servers = map (λ entry. entry.entity) world.servers;
-  clients = map (λ entry. entry.entity) world.clients;
-  action_clients = map (λ entry. (entry.entity, entry.place)) world.action_clients;
-  groups = length world.variables;
+  topics = world.topics;
+  timers = map timer_shape world.timers;
+  queues = map queue_shape world.queues;
+  servers = map server_shape world.servers;
+  clients = map client_shape world.clients;
+  action_clients = map action_client_shape world.action_clients;
+  variables = replicate (length world.variables) zeros;
+  lines = [];
 }
 
 -- ---- the statuses of a goal
 
 -- the status that a line says of a server's goal of an identifier
-abbrev pub status_in : ℕ → ℕ → Line → List GoalStatus
+abbrev pub status_in : EntityNo → GoalId → Line → List GoalStatus
 status_in server id (line.State at goal status) = if (at == server) && (goal == id) then status ∷ [] else []
 status_in server id _ = []
 
 -- the statuses that lines say of it, in order
-abbrev pub statuses_of : ℕ → ℕ → List Line → List GoalStatus
+abbrev pub statuses_of : EntityNo → GoalId → List Line → List GoalStatus
 statuses_of server id lines = flat_map (status_in server id) lines
 
 -- a transition leads from one status to another

@@ -1,5 +1,8 @@
+pub mod Callback
+pub mod Close
 pub mod Examples
 pub mod Give
+pub mod Item
 pub mod LawWords
 pub mod Ready
 pub mod Run

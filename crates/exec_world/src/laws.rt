@@ -2,29 +2,32 @@
 //! rests on.
 ghost use Rattle.std.specs.Prelude.{◌≡◌, ◌≢◌, ℕ, ◌+◌, ◌≤◌, List, ◌∷◌, [], ◌++◌, ◌==◌, length, map, take, drop, None, Some};
 ghost use Rattle.std.specs.List.{All, IsDistinct, filter, fold};
-ghost use Rattle.exec_goal.specs.Table.{GoalRecord};
-ghost use Rattle.exec_graph.specs.Graph.{GraphData, depth_of, declared_at};
+ghost use Rattle.exec_goal.specs.declared.info.GoalInfo.{GoalInfo};
+ghost use Rattle.exec_graph.specs.Graph.{depth_of, declared_at};
 ghost use Rattle.exec_graph.specs.Plan.{PlanData};
 ghost use Rattle.exec_msg.specs.declared.goal.GoalStatus.{GoalStatus};
 ghost use Rattle.exec_msg.specs.declared.goal.GoalStatus.TheVariants as status;
 ghost use Rattle.exec_msg.specs.declared.kind.Kind.{Kind};
 ghost use Rattle.exec_msg.specs.declared.kind.Kind.TheVariants as kind;
 ghost use Rattle.exec_msg.specs.declared.line.Line.TheVariants as line;
-ghost use Rattle.exec_world.specs.LawWords.{AreLawful, IsDecision, at_snapshot, is_callback_of, shape_of, statuses_of, IsFinal, MayCome};
-ghost use Rattle.exec_world.specs.Ready.{Ready, ready_list};
-ghost use Rattle.exec_world.specs.Run.{Handling, handle};
-ghost use Rattle.exec_world.specs.Transcript.{first_world, lines_of, round, rounds};
-ghost use Rattle.exec_world.specs.World.{WorldState, goals_of, kind_of};
+ghost use Rattle.exec_script.specs.declared.effects.Effect.{Effect};
+ghost use Rattle.exec_world.specs.Callback.{Handling, handle};
+ghost use Rattle.exec_world.specs.Item.{taker_of};
+ghost use Rattle.exec_world.specs.LawWords.{AreLawful, IsDecision, is_callback_of, shape_of, statuses_of, IsFinal, MayCome};
+ghost use Rattle.exec_world.specs.Ready.{ready_list};
+ghost use Rattle.exec_world.specs.Transcript.{at_snapshot, first_world, lines_of, round, rounds};
+ghost use Rattle.exec_world.specs.World.{WorldState, goals_of};
+ghost use Rattle.exec_world.specs.declared.ready.Ready.{Ready};
 
 /// Where a cancel handler ran for candidates, the decisions are those before, followed by one for each candidate, with
-/// its identifier, in order, and each of these is 1 or 2.
-pub fn decisions_are_of_the_candidates()
-    ensures before { (graph : GraphData) (moment : ℕ) (ready : Ready) (handling : Handling) (goals : List GoalRecord) →
-        take (length handling.decisions) (fold (handle graph moment ready) handling goals).decisions ≡ handling.decisions }
-    ensures identifiers { (graph : GraphData) (moment : ℕ) (ready : Ready) (handling : Handling) (goals : List GoalRecord) →
-        map (λ decided. decided.0) (drop (length handling.decisions) (fold (handle graph moment ready) handling goals).decisions) ≡ map (λ goal. goal.id) goals }
-    ensures each { (graph : GraphData) (moment : ℕ) (ready : Ready) (handling : Handling) (goals : List GoalRecord) →
-        All IsDecision (drop (length handling.decisions) (fold (handle graph moment ready) handling goals).decisions) }
+/// its identifier, in order, and each of these is 1 or 2. `S` is whatever the handler's effects go into.
+pub fn decisions_are_of_the_candidates<S>()
+    ensures before { (give : Effect → S → S) (ready : Ready) (handling : Handling S) (candidates : List GoalInfo) →
+        take (length handling.decisions) (fold (handle give ready) handling candidates).decisions ≡ handling.decisions }
+    ensures identifiers { (give : Effect → S → S) (ready : Ready) (handling : Handling S) (candidates : List GoalInfo) →
+        map (λ decided. decided.0) (drop (length handling.decisions) (fold (handle give ready) handling candidates).decisions) ≡ map (λ candidate. candidate.id) candidates }
+    ensures each { (give : Effect → S → S) (ready : Ready) (handling : Handling S) (candidates : List GoalInfo) →
+        All IsDecision (drop (length handling.decisions) (fold (handle give ready) handling candidates).decisions) }
 {}
 
 /// A round keeps all lines, and the first that it adds is its own; rounds keep all lines.
@@ -38,39 +41,20 @@ pub fn lines_only_grow()
 /// Each queue holds at most its entity's depth, after any rounds of a plan.
 pub fn queues_stay_within_their_depths()
     ensures { (plan : PlanData) (number : ℕ) (moments : List ℕ) →
-        All (λ queue. length queue.items ≤ depth_of (declared_at plan.graph queue.entity)) (rounds plan number moments (first_world plan.graph)).queues }
+        All (λ queue. length queue.items ≤ depth_of (declared_at plan.graph queue.handler.entity)) (rounds plan number moments (first_world plan.graph)).queues }
 {}
 
 /// Each queue holds items of its kind alone, after any rounds of a plan.
 pub fn queues_hold_items_of_their_kinds()
     ensures { (plan : PlanData) (number : ℕ) (moments : List ℕ) →
-        All (λ queue. All (λ item. kind_of item ≡ queue.kind) queue.items) (rounds plan number moments (first_world plan.graph)).queues }
+        All (λ queue. All (λ one. taker_of one ≡ queue.kind) queue.items) (rounds plan number moments (first_world plan.graph)).queues }
 {}
 
-/// Rounds change no shape: the entities of timers, queues, servers and clients, and the number of callback groups, stay
-/// as they are.
+/// Rounds change no shape: which topics, timers, queues, servers, clients and callback groups there are, and what they
+/// have of the graph, stays as it is.
 pub fn the_shape_never_changes()
     ensures { (plan : PlanData) (number : ℕ) (moments : List ℕ) (world : WorldState) →
         shape_of (rounds plan number moments world) ≡ shape_of world }
-{}
-
-/// In each ready list an entity has at most one callback of each kind but poll.
-pub fn an_entity_has_one_callback_of_a_kind()
-    ensures { (plan : PlanData) (number : ℕ) (moments : List ℕ) (next moment entity : ℕ) (of : Kind) → of ≢ kind.Poll →
-        length (filter (is_callback_of entity of) (ready_list plan.graph moment (at_snapshot plan next moment (rounds plan number moments (first_world plan.graph))))) ≤ 1 }
-{}
-
-/// No two goals of one server have one identifier, after any rounds of a plan.
-pub fn identifiers_differ()
-    ensures { (plan : PlanData) (number : ℕ) (moments : List ℕ) (server : ℕ) →
-        IsDistinct (λ one other. one == other) (map (λ held. held.goal.id) (goals_of server (rounds plan number moments (first_world plan.graph)))) }
-{}
-
-/// In the transcript of a plan, the statuses of a server's goals of one identifier begin with the acceptance of the
-/// first, each further one follows by a transition or is the acceptance of the next, and that comes only behind a
-/// terminal one.
-pub fn statuses_follow_the_transitions()
-    ensures { (plan : PlanData) (server id : ℕ) → AreLawful None (statuses_of server id (lines_of plan)) }
 {}
 
 /// Behind a terminal status of a goal only the acceptance of the next one comes: so a goal has one terminal status at most.

@@ -2,5 +2,11 @@
 #![tactic(auto)]
 
 pub mod examples;
+mod handler;
+mod item;
 pub mod laws;
 mod queue;
+mod ready;
+
+pub use item::Item;
+pub use ready::{Cause, Ready};

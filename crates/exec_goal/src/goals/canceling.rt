@@ -107,6 +107,8 @@ impl Goals {
     {
         let (id, goal) = self.held.pair_mut(index);
         let is_accepted = accepted.has(*id);
+        let before = goal.state;
         goal.cancel_where(is_accepted);
+        self.tally.count_move(before, goal.state, goal.ended);
     }
 }

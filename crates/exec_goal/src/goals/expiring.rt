@@ -1,25 +1,66 @@
 //! Goals that a server forgets.
 use super::Goals;
+use crate::tally::first_with;
 use exec_msg::{GoalId, Moment};
 
 impl Goals {
     ghost use Rattle.std.specs.Prelude.{◌≡◌, ◌<◌, Some, [], length, drop, slice_get, slice_index_or, IfSome, IfNone};
+    ghost use Rattle.std.specs.List.{find, AllByRecursion};
     ghost use Rattle.std.specs.Option.{option_map};
     ghost use Rattle.exec_goal.specs.Calls.{after_expiry, IsFirst};
     ghost use Rattle.exec_goal.specs.Table.{GoalRecord, is_expired, expired, unexpired};
+    ghost use Rattle.exec_goal.specs.inner.Tally.{EndsFrom, first_with_goal};
 
     /// Forgets the first goal, in the order of acceptance, that had ended so many ticks before a
     /// moment or longer, and answers its identifier, or `None` where there is none. The others
     /// keep their order.
     pub fn expire(&mut self, moment: Moment, timeout: u64) -> Option<GoalId>
         ensures first { result ≡ option_map (λ goal. goal.id) (slice_get (expired moment (Some timeout) self.old) 0) }
+        ensures found { result ≡ option_map (λ goal. goal.id) (find (is_expired moment (Some timeout)) self.old) }
         ensures table { self.new ≡ after_expiry moment (Some timeout) self.old }
         ensures left { expired moment (Some timeout) self.new ≡ drop 1 (expired moment (Some timeout) self.old) }
         ensures kept { unexpired moment (Some timeout) self.new ≡ unexpired moment (Some timeout) self.old }
     {
-        let index = self.first_expired(moment, timeout)?;
+        let index = self.next_expired(moment, timeout)?;
         let (id, _forgotten) = self.held.shift_remove_index(index).unwrap();
         Some(id)
+    }
+
+    // The place of the first goal that has expired. No goal is looked at while none can have
+    // expired: where all were looked at in vain, the first end is known anew.
+    fn next_expired(&mut self, moment: Moment, timeout: u64) -> Option<usize>
+        ensures found { IfSome result (λ index. IsFirst (is_expired moment (Some timeout)) self.old index) }
+        ensures none { IfNone result (expired moment (Some timeout) self.old ≡ []) }
+        ensures same { self.new ≡ self.old }
+    {
+        if !self.tally.may_expire(moment, timeout) {
+            return None;
+        }
+        let found = self.first_expired(moment, timeout);
+        if found.is_none() {
+            self.tally.first_end = self.first_end();
+        }
+        found
+    }
+
+    // A moment before which no goal has ended, or `None` where none has.
+    fn first_end(&self) -> Option<Moment>
+        ensures { AllByRecursion (EndsFrom result) self.now }
+    {
+        let mut first = None;
+        for index in 0..self.len() {
+            first = self.first_with_goal(index, first);
+        }
+        first
+    }
+
+    // The first end that is known with that of the goal at a place, where it has ended.
+    fn first_with_goal(&self, index: usize, first: Option<Moment>) -> Option<Moment>
+        requires { index < length self.now }
+        ensures { (d : GoalRecord) → result ≡ first_with_goal (slice_index_or self.now index d) first }
+    {
+        let (_id, goal) = self.held.get_index(index).unwrap();
+        first_with(goal.state.is_terminal(), goal.ended, first)
     }
 
     fn first_expired(&self, moment: Moment, timeout: u64) -> Option<usize>

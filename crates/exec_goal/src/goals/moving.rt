@@ -6,15 +6,16 @@ use exec_msg::{Event, GoalId, Moment};
 
 impl Goals {
     ghost use Rattle.std.specs.Prelude.{◌≡◌, None, Some, IfOk, OnOk, OnErr};
-    ghost use Rattle.exec_goal.specs.Calls.{next_state, end_state, with_changed};
-    ghost use Rattle.exec_goal.specs.Table.{after_event, after_end};
+    ghost use Rattle.exec_goal.specs.Calls.{next_state, end_state};
+    ghost use Rattle.exec_goal.specs.Table.{has_id, after_event, after_end};
+    ghost use Rattle.exec_msg.specs.Lists.{change_first};
 
     /// Moves a goal by an event, and answers its state then. Where no such goal is held, or its
     /// state has no such transition, all goals stay as they were. An event that ends the goal
     /// leaves its result 0 and its end at its stamp: [`Goals::end`] keeps both.
     pub fn apply(&mut self, id: GoalId, event: Event) -> Result<State, Illegal>
         ensures state { IfOk result (λ state. next_state id event self.old ≡ Some state) }
-        ensures moved { OnOk result (self.new ≡ with_changed id (after_event event) self.old) }
+        ensures moved { OnOk result (self.new ≡ change_first (has_id id) (after_event event) self.old) }
         ensures illegal { OnErr result (next_state id event self.old ≡ None) }
         ensures refused { OnErr result (self.new ≡ self.old) }
     {
@@ -24,7 +25,9 @@ impl Goals {
         let Some(next) = goal.state.after(event) else {
             return Err(Illegal);
         };
+        let before = goal.state;
         goal.state = next;
+        self.tally.count_move(before, next, goal.ended);
         Ok(next)
     }
 
@@ -39,7 +42,7 @@ impl Goals {
         moment: Moment,
     ) -> Result<State, Illegal>
         ensures state { IfOk result (λ state. end_state id event self.old ≡ Some state) }
-        ensures ended { OnOk result (self.new ≡ with_changed id (after_end event value moment) self.old) }
+        ensures ended { OnOk result (self.new ≡ change_first (has_id id) (after_end event value moment) self.old) }
         ensures illegal { OnErr result (end_state id event self.old ≡ None) }
         ensures refused { OnErr result (self.new ≡ self.old) }
     {
@@ -49,9 +52,11 @@ impl Goals {
         let Some(next) = goal.state.end(event) else {
             return Err(Illegal);
         };
+        let before = goal.state;
         goal.state = next;
         goal.result = value;
         goal.ended = moment;
+        self.tally.count_move(before, next, moment);
         Ok(next)
     }
 }

@@ -11,7 +11,7 @@ use Rattle.exec_msg.specs.declared.line.Line.{Line}
 use Rattle.exec_msg.specs.declared.line.Line.TheVariants as line
 use Rattle.exec_script.specs.Instruction as instr
 use Rattle.exec_script.specs.declared.instr.Operand.TheVariants as operand
-use Rattle.exec_world.specs.World.{goal_id}
+use Rattle.exec_world.specs.Item.{goal_id}
 
 -- a goal that is canceled in the round in which it succeeds
 abbrev pub succeeded_while_canceling : PlanData

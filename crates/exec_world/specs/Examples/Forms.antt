@@ -13,7 +13,7 @@ use Rattle.exec_script.specs.declared.instr.Destination.TheVariants as destinati
 use Rattle.exec_script.specs.Instruction as instr
 use Rattle.exec_script.specs.declared.instr.Operand.TheVariants as operand
 use Rattle.exec_script.specs.declared.instr.Operation.TheVariants as operation
-use Rattle.exec_world.specs.World.{goal_id}
+use Rattle.exec_world.specs.Item.{goal_id}
 
 -- a client cancels in each of the four forms, with a handler that accepts those that are EXECUTING
 abbrev pub cancel_forms : PlanData

@@ -13,7 +13,7 @@ use Rattle.exec_script.specs.declared.instr.Destination.TheVariants as destinati
 use Rattle.exec_script.specs.Instruction as instr
 use Rattle.exec_script.specs.declared.instr.Operand.TheVariants as operand
 use Rattle.exec_script.specs.declared.instr.Operation.TheVariants as operation
-use Rattle.exec_world.specs.World.{goal_id}
+use Rattle.exec_world.specs.Item.{goal_id}
 
 -- a server whose queue of goal requests is full
 abbrev pub full_goal_queue : PlanData

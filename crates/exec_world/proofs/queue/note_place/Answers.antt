@@ -1,10 +1,10 @@
-use Rattle.std.proofs.Common.{None, Some, ap}
-use Rattle.exec_world.proofs.FirstPlaces.{written, change_at-past}
+use Rattle.std.proofs.Common.{Some, ap}
+use Rattle.exec_world.proofs.FirstPlaces.{written, change_at-beyond}
 use Rattle.exec_world.specs.inner.Places.{noted}
 use Rattle.exec_world.proofs.queue.note_place.Goals as goal
 
-pub returns-then-slot-places : goal.returns-then-slot-places
-returns-then-slot-places c = written (noted c.args.place) c.args.places.now c.args.slot None _ (ap Some c.unwrap_or.ensures)
+pub returns-in-Some : goal.returns-in-Some
+returns-in-Some c = written (noted c.args.place) c.args.places.now.items c.args.slot c.in-Some.found.now _ c.in-Some.ensures.value (ap Some c.unwrap_or.ensures)
 
-pub returns-else-slot-places : goal.returns-else-slot-places
-returns-else-slot-places c = change_at-past (noted c.args.place) c.args.places.now c.args.slot c.if-slot-places.false
+pub returns-in_default : goal.returns-in_default
+returns-in_default c = change_at-beyond (noted c.args.place) c.args.places.now.items c.args.slot c.in_default.ensures.item.0

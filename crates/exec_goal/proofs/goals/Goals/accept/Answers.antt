@@ -1,8 +1,12 @@
-use Rattle.std.proofs.Common.{◌∙◌, sym, ap, false, ◌≡◌, ◌++◌, ◌∷◌, [], rules, w64, to_z-of_z}
+use Rattle.std.proofs.Common.{ℕ, List, ◌<◌, ◌∙◌, sym, ap, subst, arith, length, leb-false, false, ◌≡◌, ◌++◌, ◌∷◌, [], rules, w64, to_z-of_z}
 use mir.Val.{SFits}
 use Rattle.exec_goal.proofs.Entries.{ids_decide, inserted-new}
+use Rattle.exec_goal.proofs.Tallying.{tallied-fits, tallied-accepted}
 use Rattle.exec_goal.specs.Held.{records_of}
-use Rattle.exec_goal.specs.Table.{holds, new_goal}
+use Rattle.exec_goal.specs.Table.{GoalRecord, holds, new_goal}
+use Rattle.exec_goal.specs.declared.state.State.TheVariants as state
+use Rattle.exec_goal.specs.inner.Tally.{CountsMove, IsTallied}
+use Rattle.exec_msg.specs.declared.limits.TheConstants.{GOALS}
 use Rattle.exec_goal.proofs.goals.Goals.accept.Goals as goal
 
 pub returns-clause-accepted : goal.returns-clause-accepted
@@ -13,3 +17,17 @@ returns-clause-accepted c =
     ∙ ap (λ goal. records_of c.self.inside.held.entries ++ goal ∷ []) (c.accepted-goal.ensures.stands_for c.args.id)
     ∙ ap (λ value. records_of c.self.inside.held.entries ++ new_goal c.args.id value c.args.moment c.args.decision ∷ []) (to_z-of_z fits)
     ∙ ap (λ goals. goals ++ new_goal c.args.id c.args.value c.args.moment c.args.decision ∷ []) c.self.view_is
+
+pub count_move-requires-clause-fits : goal.count_move-requires-clause-fits
+count_move-requires-clause-fits c = tallied-fits c.self.inside.tally (records_of c.self.inside.held.entries) c.self.invariant
+
+pub invariant_of-self-2 : goal.invariant_of-self-2
+invariant_of-self-2 c =
+    let goals : List GoalRecord = records_of c.self.inside.held.entries in
+    let none : holds c.args.id goals ≡ false = ap (holds c.args.id) c.self.view_is ∙ sym c.holds.ensures ∙ c.if-holds.false in
+    let room : length goals < GOALS = omega (arith, leb-false GOALS (length c.args.self.now) (sym c.is_full.ensures ∙ c.if-is_full.false), ap length c.self.view_is) in
+    subst (λ (goals : List GoalRecord). IsTallied c.count_move.new.self goals)
+    (sym (ap records_of c.in_ok-insert.ensures.entries ∙ inserted-new _ (λ a b. ids_decide a b) c.args.id _ c.self.inside.held.entries none))
+    (tallied-accepted c.self.inside.tally c.count_move.new.self goals _ room
+    (subst (λ (ended : ℕ). CountsMove state.Accepted c.accepted-goal.result.state ended c.self.inside.tally c.count_move.new.self) (sym (ap (λ goal. goal.ended) (c.accepted-goal.ensures.stands_for c.args.id))) c.count_move.ensures)
+    c.self.invariant)

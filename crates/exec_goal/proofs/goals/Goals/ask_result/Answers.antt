@@ -1,11 +1,12 @@
 use Rattle.std.proofs.Common.{◌∙◌, sym, ap, refl, rules, true, false, w64, to_z-of_z}
 use mir.Val.{SFits}
-use Rattle.exec_goal.proofs.Entries.{ids_decide, key_test, changed-in, with_changed-same, asked-unknown, asked-held, on_err}
+use Rattle.exec_goal.proofs.Entries.{ids_decide, key_test, changed-in, change_first-same, asked-unknown, asked-held, on_err}
 use Rattle.exec_goal.specs.Calls.{noted}
 use Rattle.exec_goal.specs.Held.{record_of, records_of}
 use Rattle.exec_goal.specs.Info.{answer_of}
 use Rattle.exec_goal.specs.Table.{GoalRecord, Asked, asked_by}
 use Rattle.exec_goal.specs.declared.asked.Asked.TheVariants as answer
+use Rattle.exec_goal.proofs.Tallying.{unmoved, tallied-in, tallied-kept}
 use Rattle.exec_goal.proofs.goals.Goals.ask_result.Goals as goal
 
 pub returns-in_default-clause-told : goal.returns-in_default-clause-told
@@ -28,7 +29,7 @@ returns-then-is_terminal-clause-noted c =
     let asked = asked-held _ c.args.id (key_test _ (λ a b. ids_decide a b) c.args.id) true c.in-Some.goal.now c.self.inside.held.entries c.args.self.now c.self.view_is c.in-Some.ensures.value (sym c.is_terminal.ensures ∙ c.if-is_terminal.true) in
     changed-in _ c.args.id (key_test _ (λ a b. ids_decide a b) c.args.id) (λ (goal : GoalRecord). goal) c.in-Some.goal.now c.in-Some.goal.now refl
     c.self.inside.held.entries (c.get_mut.follows.lender c.in-Some.goal.now).entries c.args.self.now c.self.view_is c.in-Some.ensures.value (c.get_mut.follows.holds c.in-Some.goal.now).0
-    ∙ with_changed-same c.args.id c.args.self.now ∙ sym (ap (λ (asked : Asked). noted asked c.args.id c.args.asker c.args.self.now) asked)
+    ∙ change_first-same c.args.id c.args.self.now ∙ sym (ap (λ (asked : Asked). noted asked c.args.id c.args.asker c.args.self.now) asked)
 
 pub returns-clause-told : goal.returns-clause-told
 returns-clause-told c =
@@ -52,5 +53,18 @@ returns-in_err-push-clause-refused c =
     let goal = record_of (c.args.id, c.in-Some.goal.now) in
     let kept = changed-in _ c.args.id (key_test _ (λ a b. ids_decide a b) c.args.id) (λ (goal : GoalRecord). goal) c.in-Some.goal.now _ (ap (λ askers. record goal { askers = askers }) c.in_err-push.ensures.err)
     c.self.inside.held.entries (c.get_mut.follows.lender _).entries c.args.self.now c.self.view_is c.in-Some.ensures.value (c.get_mut.follows.holds _).0
-    ∙ with_changed-same c.args.id c.args.self.now in
+    ∙ change_first-same c.args.id c.args.self.now in
     on_err c.from_residual.result kept
+
+pub invariant_of-self-then-is_terminal : goal.invariant_of-self-then-is_terminal
+invariant_of-self-then-is_terminal c = tallied-kept _ c.args.id (key_test _ (λ a b. ids_decide a b) c.args.id) c.in-Some.goal.now c.self.inside.held.entries c.in-Some.ensures.value (c.get_mut.follows.lender c.in-Some.goal.now).entries c.self.inside.tally (c.get_mut.follows.holds c.in-Some.goal.now).0 c.self.invariant
+
+pub invariant_of-self-in_err-push : goal.invariant_of-self-in_err-push
+invariant_of-self-in_err-push c =
+    tallied-in _ c.args.id (key_test _ (λ a b. ids_decide a b) c.args.id) c.in-Some.goal.now c.self.inside.held.entries c.in-Some.ensures.value _ (c.get_mut.follows.lender _).entries c.self.inside.tally c.self.inside.tally (c.get_mut.follows.holds _).0
+    (unmoved c.in-Some.goal.now.state c.in-Some.goal.now.ended c.self.inside.tally (sym c.is_terminal.ensures ∙ c.if-is_terminal.false)) c.self.invariant
+
+pub invariant_of-self-2 : goal.invariant_of-self-2
+invariant_of-self-2 c =
+    tallied-in _ c.args.id (key_test _ (λ a b. ids_decide a b) c.args.id) c.in-Some.goal.now c.self.inside.held.entries c.in-Some.ensures.value _ (c.get_mut.follows.lender _).entries c.self.inside.tally c.self.inside.tally (c.get_mut.follows.holds _).0
+    (unmoved c.in-Some.goal.now.state c.in-Some.goal.now.ended c.self.inside.tally (sym c.is_terminal.ensures ∙ c.if-is_terminal.false)) c.self.invariant

@@ -1,9 +1,10 @@
 use Rattle.std.proofs.Common.{ℕ, ◌∙◌, sym, ap, List, Bool, slice_set}
 use Rattle.exec_goal.proofs.Looping.{record-at, records-set_value_at}
 use Rattle.exec_goal.specs.Calls.{is_among, after_answer_by}
-use Rattle.exec_goal.specs.Held.{record_of}
+use Rattle.exec_goal.specs.Held.{record_of, records_of}
 use Rattle.exec_goal.specs.Table.{GoalRecord}
 use Rattle.exec_goal.specs.declared.held.HeldGoal.{HeldGoal}
+use Rattle.exec_goal.proofs.Tallying.{tallied-fits, counted-at, tallied-at}
 use Rattle.exec_goal.proofs.goals.Goals.cancel_at.Goals as goal
 
 pub returns : goal.returns
@@ -16,3 +17,16 @@ returns c = λ d.
     ∙ ap (λ (goal : GoalRecord). slice_set c.args.self.now c.args.index goal)
     (c.cancel_where.ensures entry.0 ∙ ap (λ (accepted : Bool). after_answer_by (λ _. accepted) (record_of entry)) c.has-is_accepted.ensures
     ∙ ap (after_answer_by (is_among c.args.accepted.now)) (sym (record-at c.self.inside.held.entries c.args.self.now c.args.index entry c.self.view_is at d)))
+
+pub count_move-requires-clause-counted : goal.count_move-requires-clause-counted
+count_move-requires-clause-counted c =
+    let entry : ℕ × HeldGoal = (c.pair_mut-goal.result.0.now, c.pair_mut-goal.result.1.now) in
+    counted-at c.self.inside.held.entries c.args.index entry c.pair_mut-goal.ensures.value c.self.inside.tally c.self.invariant
+
+pub count_move-requires-clause-fits : goal.count_move-requires-clause-fits
+count_move-requires-clause-fits c = tallied-fits c.self.inside.tally (records_of c.self.inside.held.entries) c.self.invariant
+
+pub invariant_of-self : goal.invariant_of-self
+invariant_of-self c =
+    let entry : ℕ × HeldGoal = (c.pair_mut-goal.result.0.now, c.pair_mut-goal.result.1.now) in
+    tallied-at c.self.inside.held.entries c.args.index entry c.pair_mut-goal.ensures.value c.cancel_where.new.self c.self.inside.tally c.count_move.new.self c.count_move.ensures c.self.invariant

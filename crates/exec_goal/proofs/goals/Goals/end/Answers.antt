@@ -1,11 +1,12 @@
 use Rattle.std.proofs.Common.{◌∙◌, ◌≡◌, sym, ap, refl, rules, None, Some, w64, to_z, of_z, to_z-of_z}
 use Rattle.std.specs.Option.{unwrap_or}
 use mir.Val.{SFits}
-use Rattle.exec_goal.proofs.Entries.{ids_decide, key_test, next-in, changed-in, with_changed-same, terminal-reached}
+use Rattle.exec_goal.proofs.Entries.{ids_decide, key_test, next-in, changed-in, change_first-same, terminal-reached}
 use Rattle.exec_goal.specs.Calls.{where_terminal}
-use Rattle.exec_goal.specs.Held.{record_of}
+use Rattle.exec_goal.specs.Held.{record_of, records_of}
 use Rattle.exec_goal.specs.State.{after}
 use Rattle.exec_goal.specs.Table.{GoalRecord, after_end}
+use Rattle.exec_goal.proofs.Tallying.{tallied-fits, counted-in, tallied-in, tallied-kept}
 use Rattle.exec_goal.proofs.goals.Goals.end.Goals as goal
 
 pub returns-in_default-clause-illegal : goal.returns-in_default-clause-illegal
@@ -21,7 +22,7 @@ pub returns-in_default-end-clause-refused : goal.returns-in_default-end-clause-r
 returns-in_default-end-clause-refused c =
     changed-in _ c.args.id (key_test _ (λ a b. ids_decide a b) c.args.id) (λ (goal : GoalRecord). goal) c.in-Some.goal.now c.in-Some.goal.now refl
     c.self.inside.held.entries (c.get_mut.follows.lender c.in-Some.goal.now).entries c.args.self.now c.self.view_is c.in-Some.ensures.value (c.get_mut.follows.holds c.in-Some.goal.now).0
-    ∙ with_changed-same c.args.id c.args.self.now
+    ∙ change_first-same c.args.id c.args.self.now
 
 pub returns-clause-state : goal.returns-clause-state
 returns-clause-state c =
@@ -37,3 +38,15 @@ returns-clause-ended c =
     (λ i. record goal { state = unwrap_or (sym reached i) goal.state; result = to_z-of_z fits i; ended = c.args.moment }) in
     changed-in _ c.args.id (key_test _ (λ a b. ids_decide a b) c.args.id) (after_end c.args.event c.args.value c.args.moment) c.in-Some.goal.now _ changes
     c.self.inside.held.entries (c.get_mut.follows.lender _).entries c.args.self.now c.self.view_is c.in-Some.ensures.value (c.get_mut.follows.holds _).0
+
+pub invariant_of-self-in_default-end : goal.invariant_of-self-in_default-end
+invariant_of-self-in_default-end c = tallied-kept _ c.args.id (key_test _ (λ a b. ids_decide a b) c.args.id) c.in-Some.goal.now c.self.inside.held.entries c.in-Some.ensures.value (c.get_mut.follows.lender c.in-Some.goal.now).entries c.self.inside.tally (c.get_mut.follows.holds c.in-Some.goal.now).0 c.self.invariant
+
+pub count_move-requires-clause-counted : goal.count_move-requires-clause-counted
+count_move-requires-clause-counted c = counted-in _ c.args.id (key_test _ (λ a b. ids_decide a b) c.args.id) c.in-Some.goal.now c.self.inside.held.entries c.in-Some.ensures.value c.self.inside.tally c.self.invariant
+
+pub count_move-requires-clause-fits : goal.count_move-requires-clause-fits
+count_move-requires-clause-fits c = tallied-fits c.self.inside.tally (records_of c.self.inside.held.entries) c.self.invariant
+
+pub invariant_of-self-2 : goal.invariant_of-self-2
+invariant_of-self-2 c = tallied-in _ c.args.id (key_test _ (λ a b. ids_decide a b) c.args.id) c.in-Some.goal.now c.self.inside.held.entries c.in-Some.ensures.value _ (c.get_mut.follows.lender _).entries c.self.inside.tally c.count_move.new.self (c.get_mut.follows.holds _).0 c.count_move.ensures c.self.invariant

@@ -1,0 +1,284 @@
+-- How a table's tally follows what is done to its goals.
+use Rattle.std.proofs.Common.{◌≡◌, ℕ, zero, suc, ◌+◌, ◌≤◌, ◌<◌, ◌^◌, ◌==◌, ◌&&◌, List, [], ◌∷◌, ◌++◌, length, Bool, true, false, cond, nat_le, if◌then◌else◌, Option, None, Some, slice_get, slice_set, remove, get_or, refl, ap, sym, subst, ◌∙◌, arith}
+use Rattle.std.specs.List.{filter, find, AllByRecursion}
+use Rattle.std.specs.Map.{lookup, set_value}
+use Rattle.std.specs.Option.{option_map}
+use Rattle.std.proofs.lemmas.Bool.{and_parts, leb-true, leb-false, lt-leb, eqb-true, eqb-false}
+use Rattle.std.proofs.lemmas.Option.{slice_get-map}
+use Rattle.indexmap.specs.IndexMap.{set_value_at}
+use Rattle.exec_msg.specs.Lists.{change_first}
+use Rattle.exec_msg.specs.declared.limits.TheConstants.{GOALS}
+use Rattle.exec_goal.proofs.Entries.{found-in, changed-in, change_first-same}
+use Rattle.exec_goal.proofs.Looping.{records-set_value_at}
+use Rattle.exec_goal.specs.Calls.{IsFirst}
+use Rattle.exec_goal.specs.Held.{record_of, records_of}
+use Rattle.exec_goal.specs.State.{is_worked_on, is_terminal}
+use Rattle.exec_goal.specs.Table.{GoalRecord, has_id, working, is_expired, expired}
+use Rattle.exec_goal.specs.declared.held.HeldGoal.{HeldGoal}
+use Rattle.exec_goal.specs.declared.state.State.{State}
+use Rattle.exec_goal.specs.declared.state.State.TheVariants as state
+use Rattle.exec_goal.specs.declared.tally.Tally.{Tally}
+use Rattle.exec_goal.specs.inner.Tally.{one_where, earlier, first_with, first_with_goal, may_expire, CountsMove, EndsFrom, IsTallied}
+
+-- ---- how many goals are worked on
+
+counted_by : (b : Bool) (goal : GoalRecord) (rest : List GoalRecord) → length (cond b (goal ∷ rest) rest) ≡ one_where b + length rest
+counted_by true goal rest = omega arith
+counted_by false goal rest = omega arith
+
+pub working-cons : (goal : GoalRecord) (goals : List GoalRecord) → working (goal ∷ goals) ≡ one_where (is_worked_on goal.state) + working goals
+working-cons goal goals = counted_by (is_worked_on goal.state) goal (filter (λ goal. is_worked_on goal.state) goals)
+
+at_most_one : (b : Bool) → one_where b ≤ 1
+at_most_one true = omega arith
+at_most_one false = omega arith
+
+-- they are goals of the table
+pub working-within : (goals : List GoalRecord) → working goals ≤ length goals
+working-within [] = omega arith
+working-within (goal ∷ goals) = omega (arith, working-cons goal goals, at_most_one (is_worked_on goal.state), working-within goals)
+
+working-append : (goals : List GoalRecord) (goal : GoalRecord) → working (goals ++ goal ∷ []) ≡ working goals + one_where (is_worked_on goal.state)
+working-append [] goal = omega (arith, working-cons goal [])
+working-append (first ∷ goals) goal = omega (arith, working-cons first (goals ++ goal ∷ []), working-cons first goals, working-append goals goal)
+
+-- no more are worked on than a number can say
+pub tallied-fits : (tally : Tally) (goals : List GoalRecord) → IsTallied tally goals → tally.working < 2 ^ 63
+tallied-fits tally goals tallied = omega (arith, tallied.counted, working-within goals, tallied.within)
+
+-- ---- ends
+
+weaker_by : (b : Bool) (first ended at : ℕ) → nat_le first ended ≡ b → first ≤ at → (if b then first else ended) ≤ at
+weaker_by true first ended at is below = below
+weaker_by false first ended at is below = omega (arith, leb-false first ended is, below)
+
+-- an earlier first end is one as well
+pub ends-weaker : (b : Bool) (ended : ℕ) (first : Option ℕ) (goal : GoalRecord) → EndsFrom first goal → EndsFrom (first_with b ended first) goal
+ends-weaker false ended first goal ends = ends
+ends-weaker true ended None goal ends = λ is. absurd cc
+ends-weaker true ended (Some first) goal ends = λ is. weaker_by (nat_le first ended) first ended goal.ended refl (ends is)
+
+all-weaker : (b : Bool) (ended : ℕ) (first : Option ℕ) (goals : List GoalRecord) → AllByRecursion (EndsFrom first) goals → AllByRecursion (EndsFrom (first_with b ended first)) goals
+all-weaker b ended first [] ends = tt
+all-weaker b ended first (goal ∷ goals) ends = (ends-weaker b ended first goal ends.0, all-weaker b ended first goals ends.1)
+
+within_by : (b : Bool) (first ended : ℕ) → nat_le first ended ≡ b → (if b then first else ended) ≤ ended
+within_by true first ended is = leb-true first ended is
+within_by false first ended is = omega arith
+
+-- a first end that knows of a goal's end
+pub ends-here : (b : Bool) (first : Option ℕ) (goal : GoalRecord) → is_terminal goal.state ≡ b → EndsFrom (first_with b goal.ended first) goal
+ends-here true None goal is = λ _. omega arith
+ends-here true (Some first) goal is = λ _. within_by (nat_le first goal.ended) first goal.ended refl
+ends-here false None goal is = is
+ends-here false (Some first) goal is = λ ended. absurd cc
+
+-- ---- a goal is put in another's place
+
+-- the second list is the first with one goal in another's place
+pub data Replaced (old new : GoalRecord) : List GoalRecord → List GoalRecord → Type 0 where
+  here : (goals : List GoalRecord) → Replaced old new (old ∷ goals) (new ∷ goals)
+  later : (goal : GoalRecord) (goals others : List GoalRecord) → Replaced old new goals others → Replaced old new (goal ∷ goals) (goal ∷ others)
+
+module _ (old new : GoalRecord) where
+  replaced-working : (goals others : List GoalRecord) → Replaced old new goals others →
+      working others + one_where (is_worked_on old.state) ≡ working goals + one_where (is_worked_on new.state)
+  replaced-working _ _ (here goals) = omega (arith, working-cons old goals, working-cons new goals)
+  replaced-working _ _ (later goal goals others replaced) = omega (arith, working-cons goal goals, working-cons goal others, replaced-working goals others replaced)
+
+  replaced-counted : (goals others : List GoalRecord) → Replaced old new goals others → one_where (is_worked_on old.state) ≤ working goals
+  replaced-counted _ _ (here goals) = omega (arith, working-cons old goals)
+  replaced-counted _ _ (later goal goals others replaced) = omega (arith, working-cons goal goals, replaced-counted goals others replaced)
+
+  replaced-length : (goals others : List GoalRecord) → Replaced old new goals others → length others ≡ length goals
+  replaced-length _ _ (here goals) = refl
+  replaced-length _ _ (later goal goals others replaced) = ap suc (replaced-length goals others replaced)
+
+  replaced-ends : (b : Bool) (ended : ℕ) (first : Option ℕ) (goals others : List GoalRecord) → EndsFrom (first_with b ended first) new → Replaced old new goals others →
+      AllByRecursion (EndsFrom first) goals → AllByRecursion (EndsFrom (first_with b ended first)) others
+  replaced-ends b ended first _ _ ends-new (here goals) ends = (ends-new, all-weaker b ended first goals ends.1)
+  replaced-ends b ended first _ _ ends-new (later goal goals others replaced) ends = (ends-weaker b ended first goal ends.0, replaced-ends b ended first goals others ends-new replaced ends.1)
+
+  -- the tally after it
+  pub tallied-replaced : (before after : Tally) (goals others : List GoalRecord) → Replaced old new goals others → CountsMove old.state new.state new.ended before after →
+      IsTallied before goals → IsTallied after others
+  tallied-replaced before after goals others replaced counts tallied = record {
+    counted = omega (arith, tallied.counted, counts.working, replaced-working goals others replaced);
+    ends = subst (λ first. AllByRecursion (EndsFrom first) others) (sym counts.first)
+        (replaced-ends (is_terminal new.state) new.ended before.first_end goals others (ends-here (is_terminal new.state) before.first_end new refl) replaced tallied.ends);
+    within = omega (arith, tallied.within, replaced-length goals others replaced);
+  }
+
+  -- the goal that is replaced is counted
+  pub tallied-counted : (tally : Tally) (goals others : List GoalRecord) → Replaced old new goals others → IsTallied tally goals → one_where (is_worked_on old.state) ≤ tally.working
+  tallied-counted tally goals others replaced tallied = omega (arith, tallied.counted, replaced-counted goals others replaced)
+
+replaced_by : (b : Bool) (test : GoalRecord → Bool) (change : GoalRecord → GoalRecord) (old goal : GoalRecord) (goals : List GoalRecord) → cond b (Some goal) (find test goals) ≡ Some old →
+    (find test goals ≡ Some old → Replaced old (change old) goals (change_first test change goals)) →
+    Replaced old (change old) (goal ∷ goals) (if b then change goal ∷ goals else goal ∷ change_first test change goals)
+replaced_by true test change old goal goals found others =
+    let same : goal ≡ old = cc in
+    subst (λ goal. Replaced old (change old) (goal ∷ goals) (change goal ∷ goals)) (sym same) (here goals)
+replaced_by false test change old goal goals found others = later goal goals (change_first test change goals) (others found)
+
+-- the first goal that passes a test is changed
+pub replaced-first : (test : GoalRecord → Bool) (change : GoalRecord → GoalRecord) (old : GoalRecord) (goals : List GoalRecord) → find test goals ≡ Some old →
+    Replaced old (change old) goals (change_first test change goals)
+replaced-first test change old [] found = absurd cc
+replaced-first test change old (goal ∷ goals) found = replaced_by (test goal) test change old goal goals found (replaced-first test change old goals)
+
+-- a goal at a place is changed
+pub replaced-at : (old new : GoalRecord) (goals : List GoalRecord) (i : ℕ) → slice_get goals i ≡ Some old → Replaced old new goals (slice_set goals i new)
+replaced-at old new [] i is = absurd cc
+replaced-at old new (goal ∷ goals) zero is =
+    let same : goal ≡ old = cc in
+    subst (λ goal. Replaced old new (goal ∷ goals) (new ∷ goals)) (sym same) (here goals)
+replaced-at old new (goal ∷ goals) (suc i) is = later goal goals (slice_set goals i new) (replaced-at old new goals i is)
+
+-- ---- a goal is accepted, or forgotten
+
+ends-append : (first : Option ℕ) (goals : List GoalRecord) (goal : GoalRecord) → AllByRecursion (EndsFrom first) goals → EndsFrom first goal → AllByRecursion (EndsFrom first) (goals ++ goal ∷ [])
+ends-append first [] goal ends last = (last, tt)
+ends-append first (one ∷ goals) goal ends last = (ends.0, ends-append first goals goal ends.1 last)
+
+length-append : (goals : List GoalRecord) (goal : GoalRecord) → length (goals ++ goal ∷ []) ≡ suc (length goals)
+length-append [] goal = refl
+length-append (one ∷ goals) goal = ap suc (length-append goals goal)
+
+-- a new goal, which counts as one that was ACCEPTED
+pub tallied-accepted : (before after : Tally) (goals : List GoalRecord) (goal : GoalRecord) → length goals < GOALS → CountsMove state.Accepted goal.state goal.ended before after →
+    IsTallied before goals → IsTallied after (goals ++ goal ∷ [])
+tallied-accepted before after goals goal room counts tallied = record {
+  counted = omega (arith, tallied.counted, counts.working, working-append goals goal);
+  ends = subst (λ first. AllByRecursion (EndsFrom first) (goals ++ goal ∷ [])) (sym counts.first)
+      (ends-append (first_with (is_terminal goal.state) goal.ended before.first_end) goals goal (all-weaker (is_terminal goal.state) goal.ended before.first_end goals tallied.ends)
+      (ends-here (is_terminal goal.state) before.first_end goal refl));
+  within = omega (arith, room, length-append goals goal);
+}
+
+idle_ended : (before : State) → is_terminal before ≡ true → one_where (is_worked_on before) ≡ 0
+idle_ended state.Accepted is = absurd cc
+idle_ended state.Executing is = absurd cc
+idle_ended state.Canceling is = absurd cc
+idle_ended state.Succeeded is = refl
+idle_ended state.Canceled is = refl
+idle_ended state.Aborted is = refl
+
+removed-working : (goals : List GoalRecord) (i : ℕ) → i < length goals → ((d : GoalRecord) → is_terminal (get_or goals i d).state ≡ true) → working (remove goals i) ≡ working goals
+removed-working [] i within ended = absurd (omega (arith, within))
+removed-working (goal ∷ goals) zero within ended = omega (arith, working-cons goal goals, idle_ended goal.state (ended goal))
+removed-working (goal ∷ goals) (suc i) within ended =
+    omega (arith, working-cons goal goals, working-cons goal (remove goals i), removed-working goals i (omega (arith, within)) (λ d. ended d))
+
+removed-ends : (first : Option ℕ) (goals : List GoalRecord) (i : ℕ) → AllByRecursion (EndsFrom first) goals → AllByRecursion (EndsFrom first) (remove goals i)
+removed-ends first [] zero ends = tt
+removed-ends first [] (suc i) ends = tt
+removed-ends first (goal ∷ goals) zero ends = ends.1
+removed-ends first (goal ∷ goals) (suc i) ends = (ends.0, removed-ends first goals i ends.1)
+
+removed-length : (goals : List GoalRecord) (i : ℕ) → length (remove goals i) ≤ length goals
+removed-length [] zero = omega arith
+removed-length [] (suc i) = omega arith
+removed-length (goal ∷ goals) zero = omega arith
+removed-length (goal ∷ goals) (suc i) = omega (arith, removed-length goals i)
+
+-- a goal that has expired is taken out
+pub tallied-removed : (moment timeout : ℕ) (tally : Tally) (goals : List GoalRecord) (i : ℕ) → IsFirst (is_expired moment (Some timeout)) goals i → IsTallied tally goals → IsTallied tally (remove goals i)
+tallied-removed moment timeout tally goals i first tallied =
+    let ended : (d : GoalRecord) → is_terminal (get_or goals i d).state ≡ true =
+    λ d. (and_parts (is_terminal (get_or goals i d).state) (nat_le ((get_or goals i d).ended + timeout) moment) (first.passes d)).0 in
+    record {
+      counted = omega (arith, tallied.counted, removed-working goals i first.within ended);
+      ends = removed-ends tally.first_end goals i tallied.ends;
+      within = omega (arith, tallied.within, removed-length goals i);
+    }
+
+-- ---- none can have expired
+
+unexpired_by : (b : Bool) (goal : GoalRecord) (kept : List GoalRecord) → b ≡ false → kept ≡ [] → cond b (goal ∷ kept) kept ≡ []
+unexpired_by true goal kept is none = absurd cc
+unexpired_by false goal kept is none = none
+
+not_both : (b c : Bool) → (b ≡ true → c ≡ false) → (b && c) ≡ false
+not_both true c is = is refl
+not_both false c is = refl
+
+later_end : (first ended timeout moment : ℕ) → nat_le (first + timeout) moment ≡ false → first ≤ ended → nat_le (ended + timeout) moment ≡ false
+later_end first ended timeout moment is below = lt-leb (ended + timeout) moment (omega (arith, leb-false (first + timeout) moment is, below))
+
+-- where the first end is too late, or no goal has ended
+pub unexpired : (first : Option ℕ) (moment timeout : ℕ) (goals : List GoalRecord) → may_expire moment timeout first ≡ false → AllByRecursion (EndsFrom first) goals → expired moment (Some timeout) goals ≡ []
+unexpired first moment timeout [] is ends = refl
+unexpired None moment timeout (goal ∷ goals) is ends =
+    unexpired_by (is_expired moment (Some timeout) goal) goal (expired moment (Some timeout) goals)
+    (not_both (is_terminal goal.state) (nat_le (goal.ended + timeout) moment) (λ ended. absurd cc)) (unexpired None moment timeout goals is ends.1)
+unexpired (Some first) moment timeout (goal ∷ goals) is ends =
+    unexpired_by (is_expired moment (Some timeout) goal) goal (expired moment (Some timeout) goals)
+    (not_both (is_terminal goal.state) (nat_le (goal.ended + timeout) moment) (λ ended. later_end first goal.ended timeout moment is (ends.0 ended)))
+    (unexpired (Some first) moment timeout goals is ends.1)
+
+-- ---- the first end is looked up
+
+-- one more goal is looked at
+pub next-ends : (goals : List GoalRecord) (i : ℕ) (first next : Option ℕ) → ((d : GoalRecord) → next ≡ first_with_goal (get_or goals i d) first) →
+    ((k : ℕ) (d : GoalRecord) → k < i → EndsFrom first (get_or goals k d)) → (k : ℕ) (d : GoalRecord) → k < i + 1 → EndsFrom next (get_or goals k d)
+next-ends goals i first next is ends k d below = by (k == i) refl
+  where
+    by : (b : Bool) → (k == i) ≡ b → EndsFrom next (get_or goals k d)
+    by true same =
+        let goal = get_or goals i d in
+        subst (λ k. EndsFrom next (get_or goals k d)) (sym (eqb-true k i same))
+        (subst (λ next. EndsFrom next goal) (sym (is d)) (ends-here (is_terminal goal.state) first goal refl))
+    by false other =
+        let goal = get_or goals i d in
+        subst (λ next. EndsFrom next (get_or goals k d)) (sym (is d))
+        (ends-weaker (is_terminal goal.state) goal.ended first (get_or goals k d) (ends k d (omega (arith, below, eqb-false k i other))))
+
+-- all were looked at
+pub all-ends : (first : Option ℕ) (goals : List GoalRecord) → ((k : ℕ) (d : GoalRecord) → k < length goals → EndsFrom first (get_or goals k d)) → AllByRecursion (EndsFrom first) goals
+all-ends first [] ends = tt
+all-ends first (goal ∷ goals) ends = (ends 0 goal (omega arith), all-ends first goals (λ k d within. ends (suc k) d (omega (arith, within))))
+
+-- ---- the entries of the map
+
+-- a goal that hasn't ended stays of its state
+pub unmoved : (before : State) (ended : ℕ) (tally : Tally) → is_terminal before ≡ false → CountsMove before before ended tally tally
+unmoved before ended tally is = record { working = refl; first = ap (λ (b : Bool). first_with b ended tally.first_end) (sym is) }
+
+module _ (test : ℕ → Bool) (id : ℕ) (same : (key : ℕ) → test key ≡ (key == id)) (held : HeldGoal) (entries : List (ℕ × HeldGoal)) (found : Some held ≡ lookup test entries) where
+  -- a goal that is found by its identifier is counted
+  pub counted-in : (tally : Tally) → IsTallied tally (records_of entries) → one_where (is_worked_on held.state) ≤ tally.working
+  counted-in tally tallied =
+      let goal = record_of (id, held) in
+      tallied-counted goal goal tally (records_of entries) _
+      (replaced-first (has_id id) (λ _. goal) goal (records_of entries) (found-in test id same entries (records_of entries) (Some held) refl found)) tallied
+
+  -- another value is written in its place
+  pub tallied-in : (after : HeldGoal) (set : List (ℕ × HeldGoal)) (old new : Tally) → set ≡ set_value test entries after → CountsMove held.state after.state after.ended old new →
+      IsTallied old (records_of entries) → IsTallied new (records_of set)
+  tallied-in after set old new is counts tallied =
+      let goal = record_of (id, held) in
+      let other = record_of (id, after) in
+      subst (λ goals. IsTallied new goals) (sym (changed-in test id same (λ _. other) held after refl entries set (records_of entries) refl found is))
+      (tallied-replaced goal other old new (records_of entries) _
+      (replaced-first (has_id id) (λ _. other) goal (records_of entries) (found-in test id same entries (records_of entries) (Some held) refl found)) counts tallied)
+
+  -- it is written back as it was
+  pub tallied-kept : (set : List (ℕ × HeldGoal)) (tally : Tally) → set ≡ set_value test entries held → IsTallied tally (records_of entries) → IsTallied tally (records_of set)
+  tallied-kept set tally is tallied =
+      subst (λ goals. IsTallied tally goals)
+      (sym (changed-in test id same (λ (goal : GoalRecord). goal) held held refl entries set (records_of entries) refl found is ∙ change_first-same id (records_of entries))) tallied
+
+-- the same by a place
+module _ (entries : List (ℕ × HeldGoal)) (i : ℕ) (entry : ℕ × HeldGoal) (found : slice_get entries i ≡ Some entry) where
+  goal-at : slice_get (records_of entries) i ≡ Some (record_of entry)
+  goal-at = slice_get-map record_of entries i ∙ ap (option_map record_of) found
+
+  pub counted-at : (tally : Tally) → IsTallied tally (records_of entries) → one_where (is_worked_on entry.1.state) ≤ tally.working
+  counted-at tally tallied = tallied-counted (record_of entry) (record_of entry) tally (records_of entries) _ (replaced-at (record_of entry) (record_of entry) (records_of entries) i goal-at) tallied
+
+  pub tallied-at : (after : HeldGoal) (old new : Tally) → CountsMove entry.1.state after.state after.ended old new → IsTallied old (records_of entries) → IsTallied new (records_of (set_value_at entries i after))
+  tallied-at after old new counts tallied =
+      let other = record_of (entry.0, after) in
+      subst (λ goals. IsTallied new goals) (sym (records-set_value_at entries i entry after found))
+      (tallied-replaced (record_of entry) other old new (records_of entries) _ (replaced-at (record_of entry) other (records_of entries) i goal-at) counts tallied)

@@ -1,0 +1,48 @@
+-- What a table knows of its goals without a look at each.
+use Rattle.std.specs.Prelude.{◌≡◌, ℕ, ◌+◌, ◌≤◌, List, length, Bool, true, false, nat_le, if◌then◌else◌, Option, None, Some}
+use Rattle.std.specs.List.{AllByRecursion}
+use Rattle.exec_msg.specs.declared.limits.TheConstants.{GOALS}
+use Rattle.exec_goal.specs.State.{is_worked_on, is_terminal}
+use Rattle.exec_goal.specs.Table.{GoalRecord, working}
+use Rattle.exec_goal.specs.declared.state.State.{State}
+use Rattle.exec_goal.specs.declared.tally.Tally.{Tally}
+
+-- 1 where something is so, and else 0
+abbrev pub one_where : Bool → ℕ
+one_where true = 1
+one_where false = 0
+
+-- the earlier of two moments, of which there may be the second alone
+abbrev pub earlier : Option ℕ → ℕ → ℕ
+earlier None ended = ended
+earlier (Some first) ended = if nat_le first ended then first else ended
+
+-- the first end that is known, once a goal has ended at a moment where it has
+abbrev pub first_with : Bool → ℕ → Option ℕ → Option ℕ
+first_with true ended first = Some (earlier first ended)
+first_with false ended first = first
+
+-- whether a goal may have ended so many ticks before a moment, or longer
+abbrev pub may_expire : ℕ → ℕ → Option ℕ → Bool
+may_expire moment timeout None = false
+may_expire moment timeout (Some first) = nat_le (first + timeout) moment
+
+-- a tally is counted on as a goal that was of one state is of another, and where that is terminal ended at a moment
+pub record CountsMove (before after : State) (ended : ℕ) (old new : Tally) : Type 0 where
+  pub working : new.working + one_where (is_worked_on before) ≡ old.working + one_where (is_worked_on after)
+  pub first : new.first_end ≡ first_with (is_terminal after) ended old.first_end
+
+-- the same with the end of a goal
+abbrev pub first_with_goal : GoalRecord → Option ℕ → Option ℕ
+first_with_goal goal first = first_with (is_terminal goal.state) goal.ended first
+
+-- a goal hasn't ended, or not before the first end that is known
+abbrev pub EndsFrom : Option ℕ → GoalRecord → Type 0
+EndsFrom None goal = is_terminal goal.state ≡ false
+EndsFrom (Some first) goal = is_terminal goal.state ≡ true → first ≤ goal.ended
+
+-- a tally is that of a table, which has no more goals than it may
+pub record IsTallied (tally : Tally) (goals : List GoalRecord) : Type 0 where
+  pub counted : tally.working ≡ working goals
+  pub ends : AllByRecursion (EndsFrom tally.first_end) goals
+  pub within : length goals ≤ GOALS

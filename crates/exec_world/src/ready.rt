@@ -1,0 +1,41 @@
+use crate::item::Item;
+use exec_goal::GoalInfo;
+use exec_graph::{GroupNo, Script};
+use exec_msg::{EntityNo, GoalId, Items, Moment};
+
+/// Why a callback is ready.
+#[derive(Clone, Copy, Debug, PartialEq, Eq)]
+pub enum Cause {
+    /// Its timer is due.
+    Due,
+    /// It took the oldest item of its queue.
+    Took(Item),
+    /// A goal is awake: its identifier, its value, and whether it is being canceled.
+    Woke {
+        id: GoalId,
+        value: i64,
+        canceling: bool,
+    },
+}
+
+/// A callback that is ready at a snapshot, with the input that the snapshot took for it.
+#[derive(Drop)]
+pub struct Ready {
+    /// Its place in the ready list, from 1.
+    pub position: usize,
+    /// Its entity.
+    pub entity: EntityNo,
+    /// The entity's callback group.
+    pub group: GroupNo,
+    /// Whether that is mutually exclusive.
+    pub exclusive: bool,
+    /// The moment of its round.
+    pub moment: Moment,
+    /// Why it is ready.
+    pub cause: Cause,
+    /// Of a cancel request the goals that it may cancel, as they were at the snapshot, in the order of acceptance.
+    pub candidates: Items<GoalInfo>,
+    /// What runs, of a cancel request once for each candidate. None for an ask, and none for a goal request whose identifier
+    /// is held, or that finds no room, at the snapshot.
+    pub script: Option<Script>,
+}
