@@ -13,10 +13,9 @@ use Rattle.exec_graph.specs.inner.Entries.{entities_of as entries_of}
 use Rattle.exec_graph.specs.Faults.{names_of}
 use Rattle.exec_graph.specs.Graph.{EntityData}
 use Rattle.exec_graph.specs.Names.{are_distinct}
-use Rattle.exec_graph.specs.Numbers.{Placed, entities_of, groups_of}
+use Rattle.exec_graph.specs.Numbers.{Placed, entities_of}
 use Rattle.exec_graph.specs.Options.{each}
 use Rattle.exec_graph.specs.Resolved.{entity_in, topic_in}
-use Rattle.exec_graph.specs.declared.entity.CallbackGroup.{CallbackGroup}
 use Rattle.exec_graph.specs.declared.entity.Declared.{Declared}
 use Rattle.exec_graph.proofs.Bools.{and_left, and_right, or_left, or_right, not_true, both_true}
 use Rattle.exec_graph.proofs.NameLists.{from_place}
@@ -118,15 +117,15 @@ next_topic topics i topic front after text within there same appends holds disti
 -- ---- entities
 
 -- what stands so far, and then what is left, is all
-abbrev pub Stands : List (List ℕ) → DirectoryData → List CallbackGroup → List Placed → List EntityData → Type 0
-Stands topics directory groups left front =
-    (source : GraphDraft) → are_distinct (names_of source) ≡ true → topics ≡ source.topics → directory ≡ directory_of source → groups ≡ groups_of source →
+abbrev pub Stands : List (List ℕ) → DirectoryData → List Placed → List EntityData → Type 0
+Stands topics directory left front =
+    (source : GraphDraft) → are_distinct (names_of source) ≡ true → topics ≡ source.topics → directory ≡ directory_of source →
     (map title front ++ map name_of left ≡ names_of source)
     × (option_map (λ others. front ++ others) (each (entity_in source) left) ≡ option_map (λ others. map topic_in source.topics ++ others) (each (entity_in source) (entities_of source)))
 
 -- the topics stand first
-pub starts : (topics : List (List ℕ)) (directory : DirectoryData) (groups : List CallbackGroup) (left : List Placed) (front : List EntityData) → left ≡ directory.entities → (are_distinct topics ≡ true → front ≡ map topic_in topics) → Stands topics directory groups left front
-starts topics directory groups left front all are = λ source distinct named from grouped.
+pub starts : (topics : List (List ℕ)) (directory : DirectoryData) (left : List Placed) (front : List EntityData) → left ≡ directory.entities → (are_distinct topics ≡ true → front ≡ map topic_in topics) → Stands topics directory left front
+starts topics directory left front all are = λ source distinct named from.
     let those : left ≡ entities_of source = all ∙ ap (λ (d : DirectoryData). d.entities) from in
     let first : front ≡ map topic_in source.topics = are (ap are_distinct named ∙ front_distinct source.topics (map name_of (entities_of source)) distinct) ∙ ap (map topic_in) named in (
       ap (λ (es : List EntityData). map title es ++ map name_of left) first ∙ ap (λ (ts : List (List ℕ)). ts ++ map name_of left) (topic_names source.topics) ∙ ap (λ (ps : List Placed). source.topics ++ map name_of ps) those,
@@ -138,14 +137,12 @@ read_one front next None = refl
 read_one front next (Some others) = ap (λ (es : List EntityData). Some es) (append_assoc front (next ∷ []) others)
 
 -- what stands gains the next
-pub next_stands : (topics : List (List ℕ)) (directory : DirectoryData) (groups : List CallbackGroup) (placeds : List Placed) (i : ℕ) (placed : Placed) (front after : List EntityData) (text : List ℕ) (is : Declared) → i < length placeds → placed ≡ get_or placeds i placed → text ≡ name_of placed →
-    ((source : GraphDraft) → are_distinct (names_of source) ≡ true → directory ≡ directory_of source → groups ≡ groups_of source → entity_in source placed ≡ Some (entity (name_of placed) is)) →
+pub next_stands : (topics : List (List ℕ)) (directory : DirectoryData) (left rest : List Placed) (placed : Placed) (front after : List EntityData) (text : List ℕ) (is : Declared) → left ≡ placed ∷ rest → text ≡ name_of placed →
+    ((source : GraphDraft) → are_distinct (names_of source) ≡ true → directory ≡ directory_of source → entity_in source placed ≡ Some (entity (name_of placed) is)) →
     (list_any (is_name text) (map title front) ≡ false → after ≡ front ++ entity text is ∷ []) →
-    Stands topics directory groups (drop i placeds) front → Stands topics directory groups (drop (i + 1) placeds) after
-next_stands topics directory groups placeds i placed front after text is within there same gives appends holds = λ source distinct named from grouped.
-    let rest : List Placed = drop (i + 1) placeds in
-    let here : drop i placeds ≡ placed ∷ rest = from_place placeds i placed within there in
-    let before = holds source distinct named from grouped in
+    Stands topics directory left front → Stands topics directory rest after
+next_stands topics directory left rest placed front after text is here same gives appends holds = λ source distinct named from.
+    let before = holds source distinct named from in
     let names : map title front ++ text ∷ map name_of rest ≡ names_of source =
     ap (λ (name : List ℕ). map title front ++ name ∷ map name_of rest) same ∙ ap (λ (ps : List Placed). map title front ++ map name_of ps) (sym here) ∙ before.0 in
     let last : after ≡ front ++ entity text is ∷ [] = appends (not_in_front (map title front) text (map name_of rest) (ap are_distinct names ∙ distinct)) in (
@@ -156,17 +153,17 @@ next_stands topics directory groups placeds i placed front after text is within 
       ap (λ (es : List EntityData). option_map (λ others. es ++ others) (each (entity_in source) rest)) last
           ∙ read_one front (entity text is) (each (entity_in source) rest)
           ∙ ap (λ (name : List ℕ). option_map (λ others. front ++ others) (option_and_then (λ ys. Some (entity name is ∷ ys)) (each (entity_in source) rest))) same
-          ∙ ap (λ (o : Option EntityData). option_map (λ others. front ++ others) (option_and_then (λ y. option_and_then (λ ys. Some (y ∷ ys)) (each (entity_in source) rest)) o)) (sym (gives source distinct from grouped))
+          ∙ ap (λ (o : Option EntityData). option_map (λ others. front ++ others) (option_and_then (λ y. option_and_then (λ ys. Some (y ∷ ys)) (each (entity_in source) rest)) o)) (sym (gives source distinct from))
           ∙ ap (λ (ps : List Placed). option_map (λ others. front ++ others) (each (entity_in source) ps)) (sym here)
           ∙ before.1,
     )
 
 -- all stand where nothing is left
-pub all_stand : (topics : List (List ℕ)) (directory : DirectoryData) (groups : List CallbackGroup) (left : List Placed) (front : List EntityData) → left ≡ [] → Stands topics directory groups left front →
-    (source : GraphDraft) → are_distinct (names_of source) ≡ true → topics ≡ source.topics → directory ≡ directory_of source → groups ≡ groups_of source →
+pub all_stand : (topics : List (List ℕ)) (directory : DirectoryData) (left : List Placed) (front : List EntityData) → left ≡ [] → Stands topics directory left front →
+    (source : GraphDraft) → are_distinct (names_of source) ≡ true → topics ≡ source.topics → directory ≡ directory_of source →
     option_map (λ others. map topic_in source.topics ++ others) (each (entity_in source) (entities_of source)) ≡ Some front
-all_stand topics directory groups left front none holds source distinct named from grouped =
-    sym (holds source distinct named from grouped).1
+all_stand topics directory left front none holds source distinct named from =
+    sym (holds source distinct named from).1
     ∙ ap (λ (ps : List Placed). option_map (λ others. front ++ others) (each (entity_in source) ps)) none
     ∙ ap (λ (es : List EntityData). Some es) (append-nil front)
 

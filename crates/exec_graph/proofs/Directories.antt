@@ -1,6 +1,6 @@
 -- How a directory is made of names that are added one after another.
 use Rattle.std.proofs.Common.{◌≡◌, ℕ, Bool, true, false, ◌&&◌, if◌then◌else◌, List, [], ◌∷◌, ◌++◌, Option, None, Some, option_and_then, refl, sym, ap, ◌∙◌}
-use Rattle.exec_graph.specs.inner.Directory.{DirectoryData, names_from, where_so}
+use Rattle.exec_graph.specs.inner.Directory.{DirectoryData, NodeGroupsData, names_from, where_so}
 use Rattle.exec_graph.specs.Faults.{are_names}
 use Rattle.exec_graph.specs.Numbers.{Placed}
 use Rattle.exec_graph.proofs.NameLists.{is_new, added_to_none}
@@ -46,10 +46,10 @@ module _ (topics others start after : List (List ℕ)) (a : Bool) (empty : start
     names_added is = sym (all_added ∙ ap (λ (b : Bool). where_so b last) is) ∙ added_to_none (topics ++ others)
 
 -- a directory of these parts
-abbrev directory : ℕ → List (List ℕ) → List (List (List ℕ)) → List Placed → DirectoryData
+abbrev directory : ℕ → List (List ℕ) → List NodeGroupsData → List Placed → DirectoryData
 directory topics names groups entities = record { topics = topics; names = names; groups = groups; entities = entities }
 
-pub made_of : (h n : Bool) (count topics : ℕ) (found names : List (List ℕ)) (gathered groups : List (List (List ℕ))) (placed entities : List Placed) → count ≡ topics → Some found ≡ where_so n names → Some gathered ≡ where_so h groups → placed ≡ entities →
+pub made_of : (h n : Bool) (count topics : ℕ) (found names : List (List ℕ)) (gathered groups : List NodeGroupsData) (placed entities : List Placed) → count ≡ topics → Some found ≡ where_so n names → Some gathered ≡ where_so h groups → placed ≡ entities →
     Some (directory count found gathered placed) ≡ where_so (h && n) (directory topics names groups entities)
 made_of true true count topics found names gathered groups placed entities same named grouped ordered =
     let found_is : found ≡ names = cc in

@@ -17,6 +17,7 @@ pub mod Groups
 pub mod Kept
 pub mod Known
 pub mod Lawful
+pub mod Linking
 pub mod Listed
 pub mod Looking
 pub mod Lookups

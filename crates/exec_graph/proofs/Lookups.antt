@@ -1,5 +1,5 @@
 -- What a directory finds is what the draft of a graph declares.
-use Rattle.std.proofs.Common.{◌≡◌, ℕ, ◌+◌, ◌-◌, ◌<◌, ◌≤◌, Bool, true, false, not, ◌&&◌, ◌==◌, cond, if◌then◌else◌, nat_lt, length, map, List, [], ◌∷◌, ◌++◌, Option, None, Some, option_and_then, slice_get, refl, sym, ap, subst, ◌∙◌, append_assoc, arith}
+use Rattle.std.proofs.Common.{◌≡◌, ℕ, ◌+◌, ◌-◌, ◌<◌, ◌≤◌, Bool, true, false, not, ◌&&◌, ◌==◌, cond, if◌then◌else◌, nat_lt, length, map, List, [], ◌∷◌, ◌++◌, Option, None, Some, option_and_then, slice_get, refl, sym, ap, subst, ◌∙◌, append_assoc, zero-add, arith}
 use Rattle.std.specs.List.{list_any, position_from}
 use Rattle.std.specs.Option.{option_map}
 use Rattle.std.specs.Str.{bytes_eq}
@@ -7,9 +7,12 @@ use Rattle.std.proofs.lemmas.Bool.{lt-ltb, le-ltb}
 use Rattle.std.proofs.lemmas.List.{length-append}
 use Rattle.std.proofs.lemmas.List.Folds.{list_any-append}
 use Rattle.std.proofs.lemmas.Slice.Eq.{bytes_eq-Decides}
-use Rattle.exec_graph.specs.inner.Directory.{where_so, passing, topic_number, entity_number, number_in, scope_in, resolved_by, directory_of}
+use Rattle.exec_graph.specs.inner.Directory.{DirectoryData, where_so, position_of, placed_named, passing, topic_number, entity_number, number_in, scope_in, referred, resolved_by, directory_of}
+use Rattle.exec_graph.specs.inner.Directory as Directory
 use Rattle.exec_graph.specs.declared.draft.GraphDraft.{GraphDraft}
-use Rattle.exec_graph.specs.Entity.{Drafted, is_of, read_by}
+use Rattle.exec_graph.specs.Entity.{Drafted, is_of, reference_of, if_there, read_by}
+use Rattle.exec_graph.specs.declared.entity.EntityOf.{EntityOf}
+use Rattle.exec_graph.specs.declared.entity.EntityOf.TheVariants.{Timer, Subscription, Service, Client, Server, ActionClient}
 use Rattle.exec_graph.specs.Faults.{names_of}
 use Rattle.exec_graph.specs.Names.{are_distinct}
 use Rattle.exec_graph.specs.Numbers.{Placed, entities_of, topic_named, entity_named, named, scope_of}
@@ -18,6 +21,8 @@ use Rattle.exec_graph.specs.declared.entity.EntityKind.TheVariants as entity_kin
 use Rattle.exec_graph.specs.declared.entity.Referent.{Referent}
 use Rattle.exec_graph.specs.declared.entity.Referent.TheVariants as referent
 use Rattle.exec_graph.proofs.Bools.{and_left, and_right, or_left, or_right}
+use Rattle.exec_graph.proofs.Reading.{then_read, some_is}
+use Rattle.exec_graph.proofs.TextPlaces.{found_within}
 
 -- the name of an entity
 abbrev name_of : Placed → List ℕ
@@ -174,6 +179,56 @@ scope_same draft distinct node = λ i. record {
   server = λ name. entity_found draft (λ placed. is_of entity_kind.Server placed.entity.is && (placed.node == node)) name distinct i;
 }
 
--- what an entity of a node is
-pub resolved_same : (draft : GraphDraft) → are_distinct (names_of draft) ≡ true → (node : ℕ) (entity : Drafted) → resolved_by (record { directory = directory_of draft; node = node }) entity ≡ read_by (named draft) (script_in (scope_of draft node)) entity
-resolved_same draft distinct node entity = λ i. read_by (λ to name. number_same draft distinct to name i) (script_in (scope_same draft distinct node i)) entity
+-- ---- what an entity is
+
+-- something that is read where it is there
+read_as : {A : Type 0} (o found : Option A) → option_map (λ (a : A). Some a) o ≡ Some found → o ≡ found
+read_as None found e = absurd cc
+read_as (Some a) found e = some_is (Some a) found e
+
+-- what is read by the number of what an entity refers to
+module _ {S T : Type 0} (number : Referent → List ℕ → Option ℕ) (read : S → Option T) (reference : Option ℕ) where
+  pub read_same : (entity : EntityOf (List ℕ) S) → if_there (λ reference. number reference.to reference.name) (reference_of entity) ≡ Some reference → read_by (λ to name. reference) read entity ≡ read_by number read entity
+  read_same (Timer entity) there = refl
+  read_same (Subscription entity) there = λ i. option_and_then (λ topic. option_and_then (λ script. Some (Subscription (record { topic = topic; depth = entity.depth; script = script }))) (read entity.script)) (sym (read_as (number referent.Topic entity.topic) reference there) i)
+  read_same (Service entity) there = refl
+  read_same (Client entity) there = λ i. option_and_then (λ service. option_and_then (λ script. Some (Client (record { service = service; depth = entity.depth; script = script }))) (read entity.script)) (sym (read_as (number (referent.Entity entity_kind.Service) entity.service) reference there) i)
+  read_same (Server entity) there = refl
+  read_same (ActionClient entity) there = λ i. read_by (λ to name. sym (read_as (number (referent.Entity entity_kind.Server) entity.server) reference there) i) read (ActionClient entity)
+
+-- what an entity of a node is that is linked
+pub resolved_same : (draft : GraphDraft) → are_distinct (names_of draft) ≡ true → (node : ℕ) (reference : Option ℕ) (entity : Drafted) → referred (directory_of draft) entity ≡ Some reference →
+    resolved_by (record { directory = directory_of draft; node = node }) reference entity ≡ read_by (named draft) (script_in (scope_of draft node)) entity
+resolved_same draft distinct node reference entity there =
+    read_same (number_in (directory_of draft)) (script_in (scope_in (directory_of draft) node)) reference entity there
+    ∙ (λ i. read_by (λ to name. number_same draft distinct to name i) (script_in (scope_same draft distinct node i)) entity)
+
+-- ---- bounds
+
+position_below : (name : List ℕ) (directory : DirectoryData) (number : ℕ) → position_of directory name ≡ Some number → number < length directory.names
+position_below name directory number found = subst (λ (bound : ℕ). number < bound) (zero-add (length directory.names)) (found_within (is_name name) 0 directory.names number found)
+
+where_is : {A : Type 0} (b : Bool) (value found : A) → where_so b value ≡ Some found → value ≡ found
+where_is true value found e = some_is value found e
+where_is false value found e = absurd cc
+
+-- a number that is found is that of a name
+pub number_below : (directory : DirectoryData) (to : Referent) (name : List ℕ) (number : ℕ) → number_in directory to name ≡ Some number → number < length directory.names
+number_below directory referent.Topic name number found =
+    then_read _ (position_of directory name) _ number found (λ place there e.
+    subst (λ (n : ℕ). n < length directory.names) (where_is (nat_lt place directory.topics) place number e) (position_below name directory place there))
+number_below directory (referent.Entity kind) name number found =
+    then_read _ (placed_named directory name) _ number found (λ pair named e1.
+    then_read _ (position_of directory name) _ pair named (λ place there e2.
+    subst (λ (n : ℕ). n < length directory.names) (at_place place pair e2 ∙ where_is (is_of kind pair.1.entity.is) pair.0 number e1) (position_below name directory place there)))
+  where
+    mapped : (place : ℕ) (o : Option Placed) (pair : ℕ × Placed) → option_map (λ placed. (place, placed)) o ≡ Some pair → place ≡ pair.0
+    mapped place None pair e = absurd cc
+    mapped place (Some placed) pair e = ap (λ (p : ℕ × Placed). p.0) (some_is (place, placed) pair e)
+
+    chosen : (b : Bool) (place : ℕ) (o : Option Placed) (pair : ℕ × Placed) → (if b then None else option_map (λ placed. (place, placed)) o) ≡ Some pair → place ≡ pair.0
+    chosen true place o pair e = absurd cc
+    chosen false place o pair e = mapped place o pair e
+
+    at_place : (place : ℕ) (pair : ℕ × Placed) → Directory.placed_at directory place ≡ Some pair → place ≡ pair.0
+    at_place place pair e = chosen (nat_lt place directory.topics) place (slice_get directory.entities (place - directory.topics)) pair e

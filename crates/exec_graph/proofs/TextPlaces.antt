@@ -8,7 +8,6 @@ use Rattle.std.specs.Map.{update}
 use Rattle.std.specs.Ordering.{nat_cmp}
 use Rattle.std.proofs.lemmas.Slice.Eq.{bytes_eq-Decides}
 use Rattle.exec_graph.specs.inner.Places.{FindsPlaces}
-use Rattle.exec_graph.proofs.SameTexts.{bytes_sym}
 
 abbrev or_at : Bool → ℕ → Option ℕ → Option ℕ
 or_at b place None = if b then Some place else None

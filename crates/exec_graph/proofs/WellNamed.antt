@@ -1,44 +1,24 @@
--- A draft is well named where its directory resolves all its entities.
-use Rattle.std.proofs.Common.{◌≡◌, ℕ, zero, suc, ◌+◌, ◌<◌, Bool, true, false, ◌&&◌, ◌||◌, ◌==◌, map, List, [], ◌∷◌, Option, None, Some, is_some, slice_get, refl, sym, ap, ◌∙◌, zero-add, arith}
-use Rattle.std.specs.List.{list_any, list_all}
+-- A draft is well named where its directory links all its entities.
+use Rattle.std.proofs.Common.{◌≡◌, ℕ, zero, suc, ◌+◌, ◌<◌, Bool, true, false, ◌&&◌, ◌==◌, cond, length, map, List, [], ◌∷◌, ◌++◌, Option, None, Some, option_and_then, option_map, is_some, slice_get, refl, sym, ap, ◌∙◌, zero-add, add-zero, arith}
+use Rattle.std.specs.List.{list_all, position_from}
+use Rattle.std.specs.Option.{option_map_or}
 use Rattle.std.specs.Str.{bytes_eq}
 use Rattle.std.proofs.lemmas.Bool.{eqb-true, eq-eqb}
-use Rattle.std.proofs.lemmas.List.Folds.{list_any-append}
-use Rattle.exec_graph.specs.inner.Directory.{DirectoryData, where_so, names_of_groups, has_in, has_group, resolves, directory_of}
+use Rattle.std.proofs.lemmas.List.{length-map}
+use Rattle.exec_graph.specs.inner.Directory.{DirectoryData, Linked, where_so, names_of_groups, node_groups_from, number_among, number_in, group_in, referred, linked_in, directory_of}
 use Rattle.exec_graph.specs.declared.draft.GraphDraft.{GraphDraft}
-use Rattle.exec_graph.specs.Entity.{refers}
+use Rattle.exec_graph.specs.Entity.{ReferenceData, Drafted, reference_of, refers, if_there}
 use Rattle.exec_graph.specs.Faults.{are_names, has_named_groups, names_of, is_resolved, is_well_named}
 use Rattle.exec_graph.specs.Names.{is_name, are_distinct}
 use Rattle.exec_graph.specs.Numbers.{Placed, entities_of, groups_from, named_group, is_group, same_name, group_named}
+use Rattle.exec_graph.specs.Options.{◌>>=◌, each}
 use Rattle.exec_graph.specs.declared.draft.GroupDraft.{GroupDraft}
 use Rattle.exec_graph.specs.declared.draft.NodeDraft.{NodeDraft}
+use Rattle.exec_graph.specs.declared.entity.CallbackGroup.{CallbackGroup}
 use Rattle.exec_graph.proofs.Bools.{and_right}
 use Rattle.exec_graph.proofs.Lookups.{number_same}
-use Rattle.exec_graph.proofs.Positions.{found_any}
-
-any_mapped : {X A : Type 0} (test : A → Bool) (see : X → A) (xs : List X) → list_any test (map see xs) ≡ list_any (λ x. test (see x)) xs
-any_mapped test see [] = refl
-any_mapped test see (x ∷ xs) = ap (λ b. test (see x) || b) (any_mapped test see xs)
 
 -- ---- groups
-
-and_false : (t : Bool) → false ≡ (t && false)
-and_false true = refl
-and_false false = refl
-
-or_false : (b : Bool) → (b || false) ≡ b
-or_false true = refl
-or_false false = refl
-
-or_and : (t s a : Bool) → ((t && s) || (t && a)) ≡ (t && (s || a))
-or_and true s a = refl
-or_and false s a = refl
-
-any_of_node : (node number : ℕ) (name : Option (List ℕ)) (groups : List GroupDraft) (t : Bool) → number == node ≡ t → list_any (is_group node name) (map (named_group number) groups) ≡ (t && list_any (λ group. same_name (Some group.name) name) groups)
-any_of_node node number name [] t is = and_false t
-any_of_node node number name (group ∷ groups) t is =
-    (λ i. (is i && same_name (Some group.name) name) || any_of_node node number name groups t is i)
-    ∙ or_and t (same_name (Some group.name) name) (list_any (λ group. same_name (Some group.name) name) groups)
 
 differs : (a b : ℕ) → b < a → a == b ≡ false
 differs a b below = by (a == b) refl
@@ -54,43 +34,98 @@ differs_back a b below = by (a == b) refl
     by true same = let is : a ≡ b = eqb-true a b same in absurd (omega (arith, is, below))
     by false e = e
 
-none_later : (node number : ℕ) (name : Option (List ℕ)) (nodes : List NodeDraft) → node < number → list_any (is_group node name) (groups_from number nodes) ≡ false
-none_later node number name [] below = refl
-none_later node number name (draft ∷ nodes) below =
+-- groups of another node are passed over
+passed : (node number : ℕ) (name : Option (List ℕ)) (first : ℕ) (groups : List GroupDraft) (rest : List CallbackGroup) → number == node ≡ false →
+    position_from (is_group node name) first (map (named_group number) groups ++ rest) ≡ position_from (is_group node name) (first + length groups) rest
+passed node number name first [] rest apart = ap (λ (n : ℕ). position_from (is_group node name) n rest) (sym (add-zero first))
+passed node number name first (group ∷ groups) rest apart =
+    let next : first + 1 + length groups ≡ first + suc (length groups) = omega arith in
+    ap (λ (t : Bool). cond (t && same_name (Some group.name) name) (Some first) (position_from (is_group node name) (first + 1) (map (named_group number) groups ++ rest))) apart
+    ∙ passed node number name (first + 1) groups rest apart
+    ∙ ap (λ (n : ℕ). position_from (is_group node name) n rest) next
+
+-- none of later nodes is of this one
+none_later : (node number : ℕ) (name : Option (List ℕ)) (first : ℕ) (nodes : List NodeDraft) → node < number → position_from (is_group node name) first (groups_from number nodes) ≡ None
+none_later node number name first [] below = refl
+none_later node number name first (draft ∷ nodes) below =
     let apart = differs number node below in
-    (λ i. (apart i && same_name None name) || list_any-append (is_group node name) (map (named_group number) draft.groups) (groups_from (suc number) nodes) i)
-    ∙ (λ i. any_of_node node number name draft.groups false apart i || none_later node (suc number) name nodes (omega (arith, below)) i)
+    ap (λ (t : Bool). cond (t && same_name None name) (Some first) (position_from (is_group node name) (first + 1) (map (named_group number) draft.groups ++ groups_from (suc number) nodes))) apart
+    ∙ passed node number name (first + 1) draft.groups (groups_from (suc number) nodes) apart
+    ∙ none_later node (suc number) name (first + 1 + length draft.groups) nodes (omega (arith, below))
 
-last : (name : Option (List ℕ)) (draft : NodeDraft) → (same_name None name || (list_any (λ group. same_name (Some group.name) name) draft.groups || false)) ≡ has_in (Some (names_of_groups draft)) name
-last None draft = refl
-last (Some name) draft =
-    or_false (list_any (λ group. bytes_eq group.name name) draft.groups)
-    ∙ sym (found_any (λ other. bytes_eq other name) 0 (names_of_groups draft) ∙ any_mapped (λ other. bytes_eq other name) (λ (group : GroupDraft). group.name) draft.groups)
+-- a position, counted from elsewhere
+counted : (test : List ℕ → Bool) (by first : ℕ) (texts : List (List ℕ)) → position_from test (by + first) texts ≡ option_map (λ place. by + place) (position_from test first texts)
+counted test by first [] = refl
+counted test by first (text ∷ texts) = step (test text) (position_from test (by + first + 1) texts) (position_from test (first + 1) texts)
+    (let next : by + first + 1 ≡ by + (first + 1) = omega arith in ap (λ (n : ℕ). position_from test n texts) next ∙ counted test by (first + 1) texts) where
+      step : (t : Bool) (far near : Option ℕ) → far ≡ option_map (λ place. by + place) near → cond t (Some (by + first)) far ≡ option_map (λ place. by + place) (cond t (Some first) near)
+      step true far near same = refl
+      step false far near same = same
 
-in_node : (k number : ℕ) (name : Option (List ℕ)) (nodes : List NodeDraft) → list_any (is_group (number + k) name) (groups_from number nodes) ≡ has_in (slice_get (map names_of_groups nodes) k) name
-in_node k number name [] = refl
-in_node zero number name (draft ∷ nodes) =
-    let same : number == number + 0 ≡ true = eq-eqb number (number + 0) (omega arith) in
-    (λ i. (same i && same_name None name) || list_any-append (is_group (number + 0) name) (map (named_group number) draft.groups) (groups_from (suc number) nodes) i)
-    ∙ (λ i. same_name None name || (any_of_node (number + 0) number name draft.groups true same i || none_later (number + 0) (suc number) name nodes (omega arith) i))
-    ∙ last name draft
-in_node (suc k) number name (draft ∷ nodes) =
+-- a named group of a node is found by its name
+named_here : (node number : ℕ) (name : List ℕ) (first : ℕ) (groups : List GroupDraft) (rest : List CallbackGroup) → number == node ≡ true → ((from : ℕ) → position_from (is_group node (Some name)) from rest ≡ None) →
+    position_from (is_group node (Some name)) first (map (named_group number) groups ++ rest) ≡ position_from (λ other. bytes_eq other name) first (map (λ group. group.name) groups)
+named_here node number name first [] rest same none = none first
+named_here node number name first (group ∷ groups) rest same none =
+    λ i. cond (same i && bytes_eq group.name name) (Some first) (named_here node number name (first + 1) groups rest same none i)
+
+-- the group of a name in a node
+here : (node number : ℕ) (name : Option (List ℕ)) (first : ℕ) (draft : NodeDraft) (nodes : List NodeDraft) → number == node ≡ true → node < suc number →
+    position_from (is_group node name) first (groups_from number (draft ∷ nodes)) ≡ number_among name (record { first = first; names = names_of_groups draft })
+here node number None first draft nodes same within =
+    ap (λ (t : Bool). cond (t && true) (Some first) (position_from (is_group node None) (first + 1) (map (named_group number) draft.groups ++ groups_from (suc number) nodes))) same
+here node number (Some name) first draft nodes same within =
+    let next : first + 1 ≡ suc first + 0 = omega arith in
+    ap (λ (t : Bool). cond (t && false) (Some first) (position_from (is_group node (Some name)) (first + 1) (map (named_group number) draft.groups ++ groups_from (suc number) nodes))) same
+    ∙ named_here node number name (first + 1) draft.groups (groups_from (suc number) nodes) same (λ from. none_later node (suc number) (Some name) from nodes within)
+    ∙ ap (λ (n : ℕ). position_from (λ other. bytes_eq other name) n (names_of_groups draft)) next
+    ∙ counted (λ other. bytes_eq other name) (suc first) 0 (names_of_groups draft)
+
+in_node : (k number : ℕ) (name : Option (List ℕ)) (first : ℕ) (nodes : List NodeDraft) → position_from (is_group (number + k) name) first (groups_from number nodes) ≡ option_and_then (number_among name) (slice_get (node_groups_from first nodes) k)
+in_node k number name first [] = refl
+in_node zero number name first (draft ∷ nodes) = here (number + 0) number name first draft nodes (eq-eqb number (number + 0) (omega arith)) (omega arith)
+in_node (suc k) number name first (draft ∷ nodes) =
     let apart = differs_back number (number + suc k) (omega arith) in
     let next : number + suc k ≡ suc number + k = omega arith in
-    (λ i. (apart i && same_name None name) || list_any-append (is_group (number + suc k) name) (map (named_group number) draft.groups) (groups_from (suc number) nodes) i)
-    ∙ (λ i. any_of_node (number + suc k) number name draft.groups false apart i || list_any (is_group (next i) name) (groups_from (suc number) nodes))
-    ∙ in_node k (suc number) name nodes
+    let behind : first + 1 + length draft.groups ≡ suc first + length (names_of_groups draft) = omega (arith, length-map draft.groups (λ (group : GroupDraft). group.name)) in
+    ap (λ (t : Bool). cond (t && same_name None name) (Some first) (position_from (is_group (number + suc k) name) (first + 1) (map (named_group number) draft.groups ++ groups_from (suc number) nodes))) apart
+    ∙ passed (number + suc k) number name (first + 1) draft.groups (groups_from (suc number) nodes) apart
+    ∙ (λ i. position_from (is_group (next i) name) (behind i) (groups_from (suc number) nodes))
+    ∙ in_node k (suc number) name (suc first + length (names_of_groups draft)) nodes
 
-has : (draft : GraphDraft) (node : ℕ) (name : Option (List ℕ)) → is_some (group_named draft node name) ≡ has_group (directory_of draft) node name
-has draft node name =
-    found_any (is_group node name) 0 (groups_from 0 draft.nodes)
-    ∙ ap (λ (n : ℕ). list_any (is_group n name) (groups_from 0 draft.nodes)) (sym (zero-add node))
-    ∙ in_node node 0 name draft.nodes
+-- a group is found by its name
+pub group_same : (draft : GraphDraft) (node : ℕ) (name : Option (List ℕ)) → group_in (directory_of draft) node name ≡ group_named draft node name
+group_same draft node name =
+    sym (in_node node 0 name 0 draft.nodes)
+    ∙ ap (λ (n : ℕ). position_from (is_group n name) 0 (groups_from 0 draft.nodes)) (zero-add node)
 
 -- ---- entities
 
-resolves_same : (draft : GraphDraft) → are_distinct (names_of draft) ≡ true → (placed : Placed) → resolves (directory_of draft) placed ≡ is_resolved draft placed
-resolves_same draft distinct placed = λ i. sym (has draft placed.node placed.entity.group) i && refers (λ to name. is_some (number_same draft distinct to name i)) placed.entity.is
+-- what an entity refers to is declared where it has a number
+is_referred : (directory : DirectoryData) (entity : Drafted) → is_some (referred directory entity) ≡ refers (λ to name. is_some (number_in directory to name)) entity
+is_referred directory entity = by (reference_of entity) where
+  mapped : (o : Option ℕ) → is_some (option_map (λ (n : ℕ). Some n) o) ≡ is_some o
+  mapped None = refl
+  mapped (Some n) = refl
+
+  by : (reference : Option (ReferenceData (List ℕ))) → is_some (if_there (λ reference. number_in directory reference.to reference.name) reference) ≡ option_map_or (λ reference. is_some (number_in directory reference.to reference.name)) reference true
+  by None = refl
+  by (Some reference) = mapped (number_in directory reference.to reference.name)
+
+-- an entity with these numbers
+abbrev linked : Placed → ℕ → Option ℕ → Linked
+linked placed group reference = record { placed = placed; group = group; reference = reference }
+
+both_there : (group : Option ℕ) (reference : Option (Option ℕ)) (placed : Placed) → is_some (group >>= (λ group. reference >>= (λ reference. Some (linked placed group reference)))) ≡ (is_some group && is_some reference)
+both_there None reference placed = refl
+both_there (Some group) None placed = refl
+both_there (Some group) (Some reference) placed = refl
+
+links_same : (draft : GraphDraft) → are_distinct (names_of draft) ≡ true → (placed : Placed) → is_some (linked_in (directory_of draft) placed) ≡ is_resolved draft placed
+links_same draft distinct placed =
+    both_there (group_in (directory_of draft) placed.node placed.entity.group) (referred (directory_of draft) placed.entity.is) placed
+    ∙ (λ i. is_some (group_same draft placed.node placed.entity.group i) && is_referred (directory_of draft) placed.entity.is i)
+    ∙ (λ i. is_some (group_named draft placed.node placed.entity.group) && refers (λ to name. is_some (number_same draft distinct to name i)) placed.entity.is)
 
 named_by : (a h n r : Bool) → true ≡ a → (h && n) ≡ true → r ≡ (((a && h) && n) && r)
 named_by true true true r is both = refl
@@ -98,20 +133,41 @@ named_by true true false r is both = absurd cc
 named_by true false n r is both = absurd cc
 named_by false h n r is both = absurd cc
 
-module _ (draft : GraphDraft) (found : DirectoryData) (b : Bool) (nodes : true ≡ are_names (map (λ node. node.name) draft.nodes)) (is : b ≡ list_all (resolves found) found.entities) where
-  by : (h n : Bool) → list_all has_named_groups draft.nodes ≡ h → are_names (names_of draft) ≡ n → Some found ≡ where_so (h && n) (directory_of draft) → where_so b found ≡ where_so (is_well_named draft) (directory_of draft)
+both_some : (o : Option Linked) (rest : Option (List Linked)) → is_some (o >>= (λ y. rest >>= (λ ys. Some (y ∷ ys)))) ≡ (is_some o && is_some rest)
+both_some None rest = refl
+both_some (Some y) None = refl
+both_some (Some y) (Some ys) = refl
+
+-- all are linked where each is
+all_linked : (link : Placed → Option Linked) (placed : List Placed) → is_some (each link placed) ≡ list_all (λ one. is_some (link one)) placed
+all_linked link [] = refl
+all_linked link (one ∷ placed) = both_some (link one) (each link placed) ∙ ap (λ (t : Bool). is_some (link one) && t) (all_linked link placed)
+
+module _ (draft : GraphDraft) (found : DirectoryData) (nodes : true ≡ are_names (map (λ node. node.name) draft.nodes)) where
+  by : (h n : Bool) → list_all has_named_groups draft.nodes ≡ h → are_names (names_of draft) ≡ n → Some found ≡ where_so (h && n) (directory_of draft) → (found ≡ directory_of draft) × (is_some (each (linked_in found) found.entities) ≡ is_well_named draft)
   by true true grouped named there =
       let same : found ≡ directory_of draft = cc in
       let distinct : are_distinct (names_of draft) ≡ true = and_right (list_all is_name (names_of draft)) (are_distinct (names_of draft)) named in
-      let all : b ≡ list_all (is_resolved draft) (entities_of draft) =
-      is ∙ ap (λ (directory : DirectoryData). list_all (resolves directory) directory.entities) same
-      ∙ (λ i. list_all (λ placed. resolves_same draft distinct placed i) (entities_of draft)) in
-      (λ i. where_so (all i) (same i))
-      ∙ ap (λ (test : Bool). where_so test (directory_of draft))
-      (named_by (are_names (map (λ node. node.name) draft.nodes)) (list_all has_named_groups draft.nodes) (are_names (names_of draft)) (list_all (is_resolved draft) (entities_of draft)) nodes (λ i. grouped i && named i))
+      let all : is_some (each (linked_in found) found.entities) ≡ list_all (is_resolved draft) (entities_of draft) =
+      all_linked (linked_in found) found.entities
+      ∙ ap (λ (directory : DirectoryData). list_all (λ placed. is_some (linked_in directory placed)) directory.entities) same
+      ∙ (λ i. list_all (λ placed. links_same draft distinct placed i) (entities_of draft)) in
+      (same, all ∙ named_by (are_names (map (λ node. node.name) draft.nodes)) (list_all has_named_groups draft.nodes) (are_names (names_of draft)) (list_all (is_resolved draft) (entities_of draft)) nodes (λ i. grouped i && named i))
   by true false grouped named there = absurd cc
   by false n grouped named there = absurd cc
 
-  -- what is found is well named where all of it is resolved
-  pub is_named : Some found ≡ where_so (list_all has_named_groups draft.nodes && are_names (names_of draft)) (directory_of draft) → where_so b found ≡ where_so (is_well_named draft) (directory_of draft)
-  is_named there = by (list_all has_named_groups draft.nodes) (are_names (names_of draft)) refl refl there
+  module _ (there : Some found ≡ where_so (list_all has_named_groups draft.nodes && are_names (names_of draft)) (directory_of draft)) where
+    both : (found ≡ directory_of draft) × (is_some (each (linked_in found) found.entities) ≡ is_well_named draft)
+    both = by (list_all has_named_groups draft.nodes) (are_names (names_of draft)) refl refl there
+
+    -- what is found is well named where all of it is linked
+    pub is_named : (linked : List Linked) → each (linked_in found) found.entities ≡ Some linked → is_well_named draft ≡ true
+    is_named linked all = sym both.1 ∙ ap is_some all
+
+    -- and not where one isn't
+    pub is_misnamed : each (linked_in found) found.entities ≡ None → is_well_named draft ≡ false
+    is_misnamed none = sym both.1 ∙ ap is_some none
+
+    -- it is the directory of the draft then
+    pub directory_there : is_well_named draft ≡ true → Some found ≡ where_so (is_well_named draft) (directory_of draft)
+    directory_there named = ap (λ (directory : DirectoryData). Some directory) both.0 ∙ ap (λ (b : Bool). where_so b (directory_of draft)) (sym named)

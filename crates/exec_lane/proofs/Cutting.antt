@@ -4,9 +4,9 @@ use Rattle.std.specs.List.{filter, flat_map, list_any}
 use Rattle.std.proofs.lemmas.Bool.{eqb-true, eq-eqb}
 use Rattle.std.proofs.lemmas.List.Elements.{filter-append, filter_agree}
 use Rattle.std.proofs.lemmas.List.{length-append}
-use Rattle.exec_graph.specs.Graph.{GraphData, cons_if}
-use Rattle.exec_lane.specs.Lane.{is_exclusive, is_of_group, is_group_of, lane_from, begins_lane, lanes_behind}
-use Rattle.exec_world.specs.Ready.{Ready}
+use Rattle.exec_graph.specs.Graph.{GraphData, is_exclusive, cons_if}
+use Rattle.exec_lane.specs.Lane.{is_of_group, is_group_of, lane_from, begins_lane, lanes_behind}
+use Rattle.exec_world.specs.declared.ready.Ready.{Ready}
 
 -- how many callbacks pass a test
 abbrev pub size : (Ready → Bool) → List Ready → ℕ

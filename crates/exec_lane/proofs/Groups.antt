@@ -2,9 +2,9 @@
 use Rattle.std.proofs.Common.{◌≡◌, ℕ, Bool, true, false, cond, ◌||◌, ◌==◌, List, [], ◌∷◌, map, refl, sym, ap, ◌∙◌, true≢false}
 use Rattle.std.specs.List.{filter, list_any}
 use Rattle.std.proofs.lemmas.Bool.{eqb-true, eq-eqb}
-use Rattle.exec_graph.specs.Graph.{GraphData, cons_if}
-use Rattle.exec_lane.specs.Lane.{is_exclusive, is_of_group, lane_from, begins_lane, lanes_behind, lanes_of, has_group, as_lane}
-use Rattle.exec_world.specs.Ready.{Ready}
+use Rattle.exec_graph.specs.Graph.{GraphData, is_exclusive, cons_if}
+use Rattle.exec_lane.specs.Lane.{is_of_group, lane_from, begins_lane, lanes_behind, lanes_of, has_group, as_lane}
+use Rattle.exec_world.specs.declared.ready.Ready.{Ready}
 
 or_true : (b : Bool) → b || true ≡ true
 or_true true = refl

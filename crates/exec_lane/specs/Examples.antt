@@ -1,15 +1,24 @@
 -- A worked example: the lane of two timers of one callback group in their first round.
-use Rattle.std.specs.Prelude.{ℤ, pos, List, [], ◌∷◌, None}
-use Rattle.exec_lane.specs.Lane.{Done, LaneState}
+use Rattle.std.specs.Prelude.{ℤ, pos, List, [], ◌∷◌, map, None}
+use Rattle.exec_lane.specs.Lane.{Entry, Done, LaneState}
 use Rattle.exec_script.specs.declared.effects.Close.TheVariants as close
 use Rattle.exec_script.specs.declared.effects.Effect.TheVariants as effect
 use Rattle.exec_world.specs.Examples.Timers.{shared}
-use Rattle.exec_world.specs.Ready.{Ready, ready_list}
+use Rattle.exec_world.specs.Ready.{ready_list}
 use Rattle.exec_world.specs.Transcript.{first_world}
+use Rattle.exec_world.specs.declared.ready.Ready.{Ready}
 
 -- the ready list of the first round, at moment 1
 abbrev pub first_ready : List Ready
-first_ready = ready_list shared.graph 1 (first_world shared.graph)
+first_ready = ready_list 1 (first_world shared.graph)
+
+-- a callback that polls no goal
+abbrev pub alone : Ready → Entry
+alone one = record { ready = one; work = None }
+
+-- the entries of their lane
+abbrev pub first_entries : List Entry
+first_entries = map alone first_ready
 
 -- a callback that logs a value
 abbrev pub logs : ℤ → Done

@@ -1,14 +1,15 @@
 //! Laws of lanes: each function's contract says one, and its body is empty or calls the law that it rests on.
 ghost use Rattle.std.specs.Prelude.{◌≡◌, ◌≢◌, ◌≤◌, ℕ, List, [], ◌∷◌, length, map, Bool, true, false};
 ghost use Rattle.std.specs.List.{filter, flat_map};
-ghost use Rattle.exec_graph.specs.Graph.{GraphData};
-ghost use Rattle.exec_lane.specs.Lane.{is_exclusive, is_of_group, has_group, as_lane, lanes_of};
+ghost use Rattle.exec_graph.specs.Graph.{GraphData, is_exclusive};
+ghost use Rattle.exec_lane.specs.Lane.{is_of_group, has_group, as_lane, lanes_of};
 ghost use Rattle.exec_graph.specs.Plan.{PlanData};
 ghost use Rattle.exec_msg.specs.declared.kind.Kind.{Kind};
 ghost use Rattle.exec_msg.specs.declared.kind.Kind.TheVariants as kind;
-ghost use Rattle.exec_world.specs.LawWords.{at_snapshot, is_callback_of};
-ghost use Rattle.exec_world.specs.Ready.{Ready, ready_list};
-ghost use Rattle.exec_world.specs.Transcript.{first_world, rounds};
+ghost use Rattle.exec_world.specs.LawWords.{is_callback_of};
+ghost use Rattle.exec_world.specs.Ready.{ready_list};
+ghost use Rattle.exec_world.specs.Transcript.{at_snapshot, first_world, rounds};
+ghost use Rattle.exec_world.specs.declared.ready.Ready.{Ready};
 
 /// Every ready callback stands in exactly one lane: whatever a test picks, all lanes together hold as many
 /// callbacks that pass it as the ready list.
@@ -33,7 +34,7 @@ pub fn a_reentrant_callback_is_a_lane()
 /// from one queue.
 pub fn lanes_share_no_queue()
     ensures { (plan : PlanData) (number : ℕ) (moments : List ℕ) (next moment entity : ℕ) (of : Kind) → of ≢ kind.Poll →
-        length (filter (is_callback_of entity of) (flat_map (λ lane. lane) (lanes_of plan.graph (ready_list plan.graph moment (at_snapshot plan next moment (rounds plan number moments (first_world plan.graph))))))) ≤ 1 }
+        length (filter (is_callback_of entity of) (flat_map (λ lane. lane) (lanes_of plan.graph (ready_list moment (at_snapshot plan next moment (rounds plan number moments (first_world plan.graph))))))) ≤ 1 }
 {
     exec_world::laws::an_entity_has_one_callback_of_a_kind();
 }

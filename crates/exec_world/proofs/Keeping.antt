@@ -1,6 +1,6 @@
 -- What every basic change of a world keeps, effects and closings keep.
 use Rattle.std.proofs.Common.{◌≡◌, ℕ, zero, suc, ℤ, Bool, true, false, ◌+◌, List, [], ◌∷◌, ◌++◌, length, map, drop, Option, None, Some, refl, ap, ◌∙◌}
-use Rattle.std.specs.List.{fold, find}
+use Rattle.std.specs.List.{fold}
 use Rattle.exec_goal.specs.Cancel.{CancelRequest, Decided, moved, after_answer, table_after, code_of, is_moved}
 use Rattle.exec_goal.specs.State.{status_of}
 use Rattle.exec_goal.specs.Table.{GoalRecord, Asked, told, later, unknown, has_id, after_event, asked_by}
@@ -9,12 +9,13 @@ use Rattle.exec_graph.specs.Entity.{EntityNo, Script}
 use Rattle.exec_graph.specs.declared.plan.Feed.{Feed}
 use Rattle.exec_graph.specs.declared.plan.Fed.{Fed}
 use Rattle.exec_graph.specs.declared.plan.Fed.TheVariants as feeding
+use Rattle.exec_msg.specs.Lists.{change_first}
 use Rattle.exec_msg.specs.declared.goal.Event.TheVariants as event
 use Rattle.exec_msg.specs.declared.goal.ReturnCode.{ReturnCode}
 use Rattle.exec_msg.specs.declared.goal.GoalStatus.{GoalStatus}
 use Rattle.exec_msg.specs.declared.line.Line.{Line}
 use Rattle.exec_msg.specs.declared.line.Line.TheVariants as line
-use Rattle.exec_script.specs.Script.{ScriptState, CallInput, step_of, passed_by, after_step, follow, resumed, called}
+use Rattle.exec_script.specs.Script.{ScriptState, CallInput, step_of, passed_by, after_step, follow, resumed}
 use Rattle.exec_script.specs.Zeros.{zeros}
 use Rattle.exec_script.specs.declared.effects.Effect.{Effect}
 use Rattle.exec_script.specs.declared.effects.Effect.TheVariants as effect
@@ -26,14 +27,14 @@ use Rattle.exec_script.specs.declared.step.Step.TheVariants as step
 use Rattle.exec_script.specs.declared.step.Stop.TheVariants as stop
 use Rattle.exec_task.specs.Task.{TaskState, polled_where, is_awake, poll_input}
 use Rattle.exec_task.specs.declared.wait.Turn.{Turn}
-use Rattle.exec_world.specs.Callback.{Handling, handle, handle_all, call_in, role_of, take_item, poll, poll_where, act, callback, instructions_of, candidate_input}
+use Rattle.exec_world.specs.Callback.{Handling, handle, call_in, take_item, poll, poll_where, act, callback, instructions_of, candidate_input}
 use Rattle.exec_world.specs.Close.{tell, tell_end, moved_lines, cancel, answer_ask, ask_where, respond}
 use Rattle.exec_world.specs.Give.{publish, call_by, send_goal_by, send_cancel, cancel_all_by, cancel_goal_by, oldest_accepted, execute_goal, client_of, give_feedback, give}
 use Rattle.exec_world.specs.Item.{GoalId, goal_id}
 use Rattle.exec_world.specs.LawWords.{statuses_of}
 use Rattle.exec_world.specs.Ready.{turn_at, input_of}
 use Rattle.exec_world.specs.Transcript.{feed_one, feed}
-use Rattle.exec_world.specs.World.{WorldState, GoalWork, ClientEntry, ActionClientEntry, Variables, change_first, add_line, add_lines, drop_line, lost_by, queued, push, push_any, subscribers_of, goals_of, change_goals, with_task, client_at, with_call, action_client_at, with_goal_sent, with_variables}
+use Rattle.exec_world.specs.World.{WorldState, GoalWork, ClientEntry, ActionClientEntry, Variables, add_line, add_lines, drop_line, lost_by, queued, push, push_any, subscribers_of, goals_of, change_goals, with_task, client_at, with_call, action_client_at, with_goal_sent, with_variables}
 use Rattle.exec_world.specs.declared.item.Item.{Item}
 use Rattle.exec_world.specs.declared.item.Item.TheVariants as item
 use Rattle.exec_world.specs.declared.ready.Cause.{Cause}

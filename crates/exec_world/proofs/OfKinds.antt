@@ -1,7 +1,6 @@
 -- Each queue holds items of its kind alone.
-use Rattle.std.proofs.Common.{◌≡◌, ℕ, ◌-◌, Bool, true, false, ◌==◌, List, [], ◌∷◌, ◌++◌, length, map, get_or, refl, sym, ap, subst, ◌∙◌}
-use Rattle.std.specs.List.{All, AllByRecursion, filter, find}
-use Rattle.std.specs.Option.{option_map_or}
+use Rattle.std.proofs.Common.{◌≡◌, ℕ, ◌-◌, Bool, true, false, ◌==◌, List, [], ◌∷◌, ◌++◌, length, map, get_or, refl, sym, ap, ◌∙◌}
+use Rattle.std.specs.List.{All, AllByRecursion, filter}
 use Rattle.std.proofs.lemmas.Bool.{and_parts, eqb-true}
 use Rattle.std.proofs.lemmas.List.Elements.{All-nil, All-push, All-drop, All-from_recursion}
 use Rattle.exec_graph.specs.Entity.{EntityNo}
@@ -10,11 +9,12 @@ use Rattle.exec_graph.specs.Plan.{PlanData}
 use Rattle.exec_msg.specs.Kind.{ready_number}
 use Rattle.exec_msg.specs.declared.kind.Kind.{Kind}
 use Rattle.exec_msg.specs.declared.kind.Kind.TheVariants as kind
+use Rattle.exec_msg.specs.Lists.{change_first}
 use Rattle.exec_world.proofs.Running.{KeptByRounds, rounds_keep}
 use Rattle.exec_world.specs.Item.{taker_of}
 use Rattle.exec_world.specs.Ready.{queue_taken}
 use Rattle.exec_world.specs.Transcript.{takes_from_queue, new_queue, first_world, rounds}
-use Rattle.exec_world.specs.World.{WorldState, Moment, Queue, change_first, is_queue, queue_after, items_in}
+use Rattle.exec_world.specs.World.{WorldState, Moment, Queue, is_queue, queue_after}
 use Rattle.exec_world.specs.declared.item.Item.{Item}
 
 kind_back : (one : Kind) → get_or kinds (ready_number one - 1) kind.Timer ≡ one
@@ -72,7 +72,7 @@ kinds_kept = record {
     sending_kept = λ client world p. p;
     variables_kept = λ group variables world p. p;
   };
-  accepts_kept = λ server moment decision request world p. p;
+  accepts_kept = λ server moment decision request world room p. p;
   expiry_kept = λ moment world p. p;
   snapshot_kept = λ moment world p. kinds_taken world.queues p;
 }

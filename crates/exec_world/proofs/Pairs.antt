@@ -1,6 +1,6 @@
 -- What holds of each element of a list, and of each two.
-use Rattle.std.proofs.Common.{◌≡◌, Bool, true, ◌&&◌, List, [], ◌∷◌, ◌++◌, map}
-use Rattle.std.specs.List.{AllByRecursion, flat_map, list_all}
+use Rattle.std.proofs.Common.{◌≡◌, Bool, true, false, ◌&&◌, List, [], ◌∷◌, ◌++◌, map, refl}
+use Rattle.std.specs.List.{AllByRecursion, filter, flat_map, list_all}
 use Rattle.std.proofs.lemmas.Bool.{and_parts}
 
 pub all_append : {A : Type 0} (P : A → Type 0) (some more : List A) → AllByRecursion P some → AllByRecursion P more → AllByRecursion P (some ++ more)
@@ -14,6 +14,10 @@ all_flat P f each (one ∷ all) = all_append P (f one) (flat_map f all) (each on
 pub all_map : {A B : Type 0} (P : B → Type 0) (f : A → B) → ((one : A) → P (f one)) → (all : List A) → AllByRecursion P (map f all)
 all_map P f each [] = tt
 all_map P f each (one ∷ all) = (each one, all_map P f each all)
+
+pub all_mapped : {A B : Type 0} (Q : A → Type 0) (P : B → Type 0) (f : A → B) → ((one : A) → Q one → P (f one)) → (all : List A) → AllByRecursion Q all → AllByRecursion P (map f all)
+all_mapped Q P f each [] q = tt
+all_mapped Q P f each (one ∷ all) q = (each one q.0, all_mapped Q P f each all q.1)
 
 pub all_both : {A : Type 0} (P Q R : A → Type 0) → ((one : A) → P one → Q one → R one) → (all : List A) → AllByRecursion P all → AllByRecursion Q all → AllByRecursion R all
 all_both P Q R both [] p q = tt
@@ -68,3 +72,55 @@ pairs_tested {A} test (one ∷ all) e = (each all (and_parts (list_all (test one
     each : (rest : List A) → list_all (test one) rest ≡ true → AllByRecursion (λ other. test one other ≡ true) rest
     each [] t = tt
     each (other ∷ rest) t = ((and_parts (test one other) (list_all (test one) rest) t).0, each rest (and_parts (test one other) (list_all (test one) rest) t).1)
+
+-- ---- lists whose elements have a property of their own
+
+pub all_flat_where : {A B : Type 0} (Q : A → Type 0) (P : B → Type 0) (f : A → List B) → ((one : A) → Q one → AllByRecursion P (f one)) → (all : List A) → AllByRecursion Q all → AllByRecursion P (flat_map f all)
+all_flat_where Q P f each [] q = tt
+all_flat_where Q P f each (one ∷ all) q = all_append P (f one) (flat_map f all) (each one q.0) (all_flat_where Q P f each all q.1)
+
+-- a property of all, put beside a relation of each two
+pub pairs_with : {A : Type 0} (P : A → Type 0) (R : A → A → Type 0) (all : List A) → AllByRecursion P all → Pairs R all → Pairs (λ one other. P one × (P other × R one other)) all
+pairs_with P R [] p r = tt
+pairs_with P R (one ∷ all) p r = (all_both P (R one) (λ other. P one × (P other × R one other)) (λ other q s. (p.0, (q, s))) all p.1 r.0, pairs_with P R all p.1 r.1)
+
+-- a relation that each two elements of a property have
+pub pairs_all : {A : Type 0} (Q : A → Type 0) (R : A → A → Type 0) → ((one other : A) → Q one → Q other → R one other) → (all : List A) → AllByRecursion Q all → Pairs R all
+pairs_all Q R related [] q = tt
+pairs_all Q R related (one ∷ all) q = (all_weaker Q (R one) (λ other p. related one other q.0 p) all q.1, pairs_all Q R related all q.1)
+
+-- ---- what a test leaves
+
+pub all_filter : {A : Type 0} (P : A → Type 0) (test : A → Bool) (all : List A) → AllByRecursion P all → AllByRecursion P (filter test all)
+all_filter P test [] p = tt
+all_filter {A} P test (one ∷ all) p = by (test one) refl (all_filter P test all p.1)
+  where
+    by : (b : Bool) → test one ≡ b → AllByRecursion P (filter test all) → AllByRecursion P (filter test (one ∷ all))
+    by true e rest = rw e (p.0, rest)
+    by false e rest = rw e rest
+
+pub all_passed : {A : Type 0} (test : A → Bool) (all : List A) → AllByRecursion (λ one. test one ≡ true) (filter test all)
+all_passed test [] = tt
+all_passed {A} test (one ∷ all) = by (test one) refl (all_passed test all)
+  where
+    by : (b : Bool) → test one ≡ b → AllByRecursion (λ one. test one ≡ true) (filter test all) → AllByRecursion (λ one. test one ≡ true) (filter test (one ∷ all))
+    by true e rest = rw e (e, rest)
+    by false e rest = rw e rest
+
+pub pairs_filter : {A : Type 0} (R : A → A → Type 0) (test : A → Bool) (all : List A) → Pairs R all → Pairs R (filter test all)
+pairs_filter R test [] p = tt
+pairs_filter R test (one ∷ all) p = by (test one) refl (pairs_filter R test all p.1)
+  where
+    by : (b : Bool) → test one ≡ b → Pairs R (filter test all) → Pairs R (filter test (one ∷ all))
+    by true e rest = rw e (all_filter (R one) test all p.0, rest)
+    by false e rest = rw e rest
+
+-- ---- what holds of all that is made of elements, holds of the elements
+
+pub all_unmapped : {A B : Type 0} (P : B → Type 0) (f : A → B) (all : List A) → AllByRecursion P (map f all) → AllByRecursion (λ one. P (f one)) all
+all_unmapped P f [] p = tt
+all_unmapped P f (one ∷ all) p = (p.0, all_unmapped P f all p.1)
+
+pub pairs_unmapped : {A B : Type 0} (R : B → B → Type 0) (f : A → B) (all : List A) → Pairs R (map f all) → Pairs (λ one other. R (f one) (f other)) all
+pairs_unmapped R f [] p = tt
+pairs_unmapped R f (one ∷ all) p = (all_unmapped (R (f one)) f all p.0, pairs_unmapped R f all p.1)

@@ -1,6 +1,8 @@
 -- What every basic change of a world keeps, a callback that runs keeps, and so do rounds.
-use Rattle.std.proofs.Common.{◌≡◌, ℕ, suc, ℤ, Bool, true, false, if◌then◌else◌, List, [], ◌∷◌, Option, None, Some, refl, sym, ap, ◌∙◌, true≢false}
-use Rattle.exec_goal.specs.Table.{asked_for, has_id, is_accepting, after_end}
+use Rattle.std.proofs.Common.{◌≡◌, ℕ, suc, ℤ, Bool, true, false, if◌then◌else◌, List, [], ◌∷◌, Option, None, Some, refl, sym, true≢false}
+use Rattle.exec_goal.specs.Calls.{end_state}
+use Rattle.exec_goal.specs.declared.state.State.{State}
+use Rattle.exec_goal.specs.Table.{asked_for, is_accepting, after_end}
 use Rattle.exec_graph.specs.Entity.{EntityNo}
 use Rattle.exec_graph.specs.Feeding.{fed_in}
 use Rattle.exec_graph.specs.Plan.{PlanData}
@@ -8,18 +10,16 @@ use Rattle.exec_msg.specs.declared.goal.Event.{Event}
 use Rattle.exec_msg.specs.declared.line.Line.TheVariants as line
 use Rattle.exec_script.specs.declared.effects.Close.{Close}
 use Rattle.exec_script.specs.declared.effects.Close.TheVariants as close
-use Rattle.exec_script.specs.declared.effects.Effect.{Effect}
 use Rattle.exec_task.specs.Task.{TaskState}
-use Rattle.exec_world.proofs.Endings.{EndsBy, poll_closes}
 use Rattle.exec_world.proofs.Keeping.{Kept, Moves, moves_kept, ids_changed, state_said, fold_keeps, callback_keeps, give_keeps, push_keeps, push_any_keeps, cancel_keeps, answer_ask_keeps, respond_keeps, tell_end_keeps, feed_keeps}
-use Rattle.exec_world.specs.Callback.{Outcome, act, callback}
-use Rattle.exec_world.specs.Close.{GoalRequest, reply_in, decision_in, decisions_in, accept, accept_where, decide, with_ended, goal_at, close_item, close_cause, close_poll, close_callback}
+use Rattle.exec_world.specs.Callback.{Outcome, callback}
+use Rattle.exec_world.specs.Close.{GoalRequest, reply_in, decision_in, decisions_in, accept, accept_where, decide, with_ended, goal_at, end_in, close_item, close_cause, close_poll}
 use Rattle.exec_world.specs.Give.{give}
 use Rattle.exec_world.specs.Item.{GoalId}
-use Rattle.exec_world.specs.Ready.{run_line, turn_at, ready_list, take_inputs}
-use Rattle.exec_world.specs.Run.{work_for, with_polled, after_callback, run}
-use Rattle.exec_world.specs.Transcript.{expire, feed, at_snapshot, run_all, round, rounds}
-use Rattle.exec_world.specs.World.{WorldState, Moment, GoalWork, Variables, add_line, goals_of, has_room_for, variables_of, with_variables, action_client_at}
+use Rattle.exec_world.specs.Ready.{run_line, ready_list, take_inputs}
+use Rattle.exec_world.specs.Run.{work_for, with_polled, run}
+use Rattle.exec_world.specs.Transcript.{expire, at_snapshot, run_all, round, rounds}
+use Rattle.exec_world.specs.World.{WorldState, Moment, GoalWork, add_line, goals_of, has_room_for, variables_of, action_client_at}
 use Rattle.exec_world.specs.declared.item.Item.{Item}
 use Rattle.exec_world.specs.declared.item.Item.TheVariants as item
 use Rattle.exec_world.specs.declared.ready.Cause.{Cause}
@@ -37,31 +37,11 @@ Accepts one P Q =
 abbrev pub ended : EntityNo → GoalId → Event → ℤ → Moment → WorldState → WorldState
 ended server id by value moment world = state_said server (goal_at server id (with_ended server id by value moment world)) (with_ended server id by value moment world)
 
--- what the end of a goal makes of a property: it happens only where the callback polled the goal
+-- what the end of a goal makes of a property: it happens only where the event leads to a terminal state
 abbrev pub Ends : Ready → (WorldState → Type 0) → (WorldState → Type 0) → Type 0
 Ends one P Q =
-    (id : GoalId) (value : ℤ) (canceling : Bool) (by : Event) (result : ℤ) (world : WorldState) →
-    one.cause ≡ cause.Woke id value canceling → EndsBy canceling by → P world → Q (ended one.entity id by result one.moment world)
-
--- what closes a callback that polled: its goal ends in one of these ways, if it does
-abbrev Closes : Cause → Close → Type 0
-Closes why closing = (id : GoalId) (value : ℤ) (canceling : Bool) (by : Event) (result : ℤ) → why ≡ cause.Woke id value canceling → closing ≡ close.Ended by result → EndsBy canceling by
-
--- whether a callback polls
-abbrev is_poll : Cause → Bool
-is_poll (cause.Woke id value canceling) = true
-is_poll _ = false
-
--- whether the goal of a poll is being canceled
-abbrev canceling_in : Cause → Bool
-canceling_in (cause.Woke id value canceling) = canceling
-canceling_in _ = false
-
-closes_by : {S : Type 0} (put : Effect → S → S) (why : Cause) (one : Ready) (work : Option GoalWork) (variables : Variables) (given : S) → Closes why (act why put one work variables given).close
-closes_by put cause.Due one work variables given id value canceling by result same is = absurd (true≢false (sym (ap (λ (c : Cause). is_poll c) same)))
-closes_by put (cause.Took taken) one work variables given id value canceling by result same is = absurd (true≢false (sym (ap (λ (c : Cause). is_poll c) same)))
-closes_by put (cause.Woke goal given_value now_canceling) one work variables given id value canceling by result same is =
-    rw (sym (ap (λ (c : Cause). canceling_in c) same)) (poll_closes put (turn_at one.moment now_canceling) work variables given by result is)
+    (id : GoalId) (by : Event) (value : ℤ) (reached : State) (world : WorldState) →
+    end_state id by (goals_of one.entity world) ≡ Some reached → P world → Q (ended one.entity id by value one.moment world)
 
 module _ {P Q : WorldState → Type 0} (k : Moves P) (l : Moves Q) (weaken : (world : WorldState) → P world → Q world) where
   accept_keeps : (b : Bool) (one : Ready) → Accepts one P Q → (request : GoalRequest) (decision : ℕ) (world : WorldState) → one.cause ≡ cause.Took (item.Goal request.id request.client request.value) → (b ≡ true → has_room_for request.id (goals_of one.entity world) ≡ true) → P world → Q (accept_where b one.entity one.moment decision request world)
@@ -78,35 +58,38 @@ module _ {P Q : WorldState → Type 0} (k : Moves P) (l : Moves Q) (weaken : (wo
       push_any_keeps l request.client (item.Response request.id (is_accepting decision)) _
       (accept_keeps (is_accepting decision) one accepts request decision _ same room (k.lines_kept (line.Decide one.entity request.id decision ∷ []) _ (λ at goal. refl) p))
 
-  took_keeps : (one : Ready) → Accepts one P Q → (taken : Item) (closing : Close) (world : WorldState) → Closes one.cause closing → one.cause ≡ cause.Took taken → P world → Q (close_item one.entity one.moment taken closing world)
-  took_keeps one accepts (item.Message value) closing world closes same p = weaken _ p
-  took_keeps one accepts (item.Request client number value) closing world closes same p =
+  took_keeps : (one : Ready) → Accepts one P Q → (taken : Item) (closing : Close) (world : WorldState) → one.cause ≡ cause.Took taken → P world → Q (close_item one.entity one.moment taken closing world)
+  took_keeps one accepts (item.Message value) closing world same p = weaken _ p
+  took_keeps one accepts (item.Request client number value) closing world same p =
       push_keeps l client (item.Reply number (reply_in closing)) _ (l.lines_kept (line.Reply one.entity (reply_in closing) ∷ []) _ (λ at goal. refl) (weaken _ p))
-  took_keeps one accepts (item.Reply number value) closing world closes same p = weaken _ p
-  took_keeps one accepts (item.Goal id client value) closing world closes same p =
+  took_keeps one accepts (item.Reply number value) closing world same p = weaken _ p
+  took_keeps one accepts (item.Goal id client value) closing world same p =
       decide_keeps one accepts (record { id = id; client = client; value = value }) (if has_room_for id (goals_of one.entity world) then decision_in closing else 1) world same
       (roomy (has_room_for id (goals_of one.entity world)) (decision_in closing)) p
-  took_keeps one accepts (item.Cancel request client) closing world closes same p = weaken _ (cancel_keeps k one.entity request client (decisions_in closing) world p)
-  took_keeps one accepts (item.Ask id client) closing world closes same p = answer_ask_keeps l one.entity id client (asked_for id (goals_of one.entity world)) _ (weaken _ p)
-  took_keeps one accepts (item.Response id accepted) closing world closes same p = respond_keeps l (action_client_at one.entity world) id accepted _ (weaken _ p)
-  took_keeps one accepts (item.Code returned moved) closing world closes same p = weaken _ p
-  took_keeps one accepts (item.Feedback id value) closing world closes same p = weaken _ p
-  took_keeps one accepts (item.Result id status value) closing world closes same p = weaken _ p
+  took_keeps one accepts (item.Cancel request client) closing world same p = weaken _ (cancel_keeps k one.entity request client (decisions_in closing) world p)
+  took_keeps one accepts (item.Ask id client) closing world same p = answer_ask_keeps l one.entity id client (asked_for id (goals_of one.entity world)) _ (weaken _ p)
+  took_keeps one accepts (item.Response id accepted) closing world same p = respond_keeps l (action_client_at one.entity world) id accepted _ (weaken _ p)
+  took_keeps one accepts (item.Code returned moved) closing world same p = weaken _ p
+  took_keeps one accepts (item.Feedback id value) closing world same p = weaken _ p
+  took_keeps one accepts (item.Result id status value) closing world same p = weaken _ p
 
-  poll_keeps : (one : Ready) → Ends one P Q → (id : GoalId) (value : ℤ) (canceling : Bool) (closing : Close) (world : WorldState) → Closes one.cause closing → one.cause ≡ cause.Woke id value canceling → P world → Q (close_poll one.entity id one.moment closing world)
-  poll_keeps one ending id value canceling close.Nothing world closes same p = weaken _ p
-  poll_keeps one ending id value canceling (close.Reply reply) world closes same p = weaken _ p
-  poll_keeps one ending id value canceling (close.Decide decision) world closes same p = weaken _ p
-  poll_keeps one ending id value canceling (close.Decisions decisions) world closes same p = weaken _ p
-  poll_keeps one ending id value canceling close.Pending world closes same p = weaken _ p
-  poll_keeps one ending id value canceling (close.Ended by result) world closes same p =
-      tell_end_keeps l one.entity (goal_at one.entity id (with_ended one.entity id by result one.moment world)) _
-      (ending id value canceling by result world same (closes id value canceling by result same refl) p)
+  end_keeps : (one : Ready) → Ends one P Q → (id : GoalId) (by : Event) (value : ℤ) (reached : Option State) (world : WorldState) → end_state id by (goals_of one.entity world) ≡ reached → P world → Q (end_in reached one.entity id by value one.moment world)
+  end_keeps one ending id by value None world leads p = weaken world p
+  end_keeps one ending id by value (Some reached) world leads p =
+      tell_end_keeps l one.entity (goal_at one.entity id (with_ended one.entity id by value one.moment world)) _ (ending id by value reached world leads p)
 
-  closing_keeps : (one : Ready) → Accepts one P Q → Ends one P Q → (why : Cause) (closing : Close) (world : WorldState) → Closes one.cause closing → one.cause ≡ why → P world → Q (close_cause one.entity one.moment why closing world)
-  closing_keeps one accepts ending cause.Due closing world closes same p = weaken _ p
-  closing_keeps one accepts ending (cause.Took taken) closing world closes same p = took_keeps one accepts taken closing world closes same p
-  closing_keeps one accepts ending (cause.Woke id value canceling) closing world closes same p = poll_keeps one ending id value canceling closing world closes same p
+  poll_keeps : (one : Ready) → Ends one P Q → (id : GoalId) (closing : Close) (world : WorldState) → P world → Q (close_poll one.entity id one.moment closing world)
+  poll_keeps one ending id close.Nothing world p = weaken _ p
+  poll_keeps one ending id (close.Reply reply) world p = weaken _ p
+  poll_keeps one ending id (close.Decide decision) world p = weaken _ p
+  poll_keeps one ending id (close.Decisions decisions) world p = weaken _ p
+  poll_keeps one ending id close.Pending world p = weaken _ p
+  poll_keeps one ending id (close.Ended by value) world p = end_keeps one ending id by value (end_state id by (goals_of one.entity world)) world refl p
+
+  closing_keeps : (one : Ready) → Accepts one P Q → Ends one P Q → (why : Cause) (closing : Close) (world : WorldState) → one.cause ≡ why → P world → Q (close_cause one.entity one.moment why closing world)
+  closing_keeps one accepts ending cause.Due closing world same p = weaken _ p
+  closing_keeps one accepts ending (cause.Took taken) closing world same p = took_keeps one accepts taken closing world same p
+  closing_keeps one accepts ending (cause.Woke id value canceling) closing world same p = poll_keeps one ending id closing world p
 
   with_polled_keeps : (server : EntityNo) (why : Cause) (task : Option TaskState) (world : WorldState) → P world → P (with_polled server why task world)
   with_polled_keeps server cause.Due task world p = p
@@ -120,7 +103,7 @@ module _ {P Q : WorldState → Type 0} (k : Moves P) (l : Moves Q) (weaken : (wo
       let work : Option GoalWork = work_for one.entity one.cause world in
       let before : WorldState = add_line (run_line one) world in
       let outcome : Outcome WorldState = callback (give one) one work (variables_of one.group world) before in
-      closing_keeps one accepts ending one.cause outcome.close _ (closes_by (give one) one.cause one work (variables_of one.group world) before) refl
+      closing_keeps one accepts ending one.cause outcome.close _ refl
       (with_polled_keeps one.entity one.cause outcome.task _
       (k.variables_kept one.group outcome.variables outcome.given
       (callback_keeps P (give one) (λ effect given q. give_keeps k one effect given q) one work (variables_of one.group world) before
@@ -138,7 +121,7 @@ end_kept k server id by value moment world p =
 -- each part of a round keeps a property, an acceptance too
 pub record KeptByRounds (P : WorldState → Type 0) : Type 0 where
   pub basic : Kept P
-  pub accepts_kept : (server : EntityNo) (moment : Moment) (decision : ℕ) (request : GoalRequest) (world : WorldState) → P world → P (accept server moment decision request world)
+  pub accepts_kept : (server : EntityNo) (moment : Moment) (decision : ℕ) (request : GoalRequest) (world : WorldState) → has_room_for request.id (goals_of server world) ≡ true → P world → P (accept server moment decision request world)
   pub expiry_kept : (moment : Moment) (world : WorldState) → P world → P (expire moment world)
   pub snapshot_kept : (moment : Moment) (world : WorldState) → P world → P (take_inputs moment world)
 
@@ -146,8 +129,8 @@ module _ {P : WorldState → Type 0} (k : KeptByRounds P) where
   pub one_keeps : (one : Ready) (world : WorldState) → P world → P (run one world)
   one_keeps one world p =
       run_keeps (moves_kept k.basic) (moves_kept k.basic) (λ before q. q) one
-      (λ request decision before same room q. k.accepts_kept one.entity one.moment decision request before q)
-      (λ id value canceling by result before same how q. end_kept k.basic one.entity id by result one.moment before q) world p
+      (λ request decision before same room q. k.accepts_kept one.entity one.moment decision request before room q)
+      (λ id by value reached before leads q. end_kept k.basic one.entity id by value one.moment before q) world p
 
   run_all_keeps : (list : List Ready) (world : WorldState) → P world → P (run_all list world)
   run_all_keeps list world p = fold_keeps P (λ before one. run one before) (λ before one q. one_keeps one before q) list world p

@@ -1,14 +1,15 @@
 -- Rounds change no shape.
-use Rattle.std.proofs.Common.{◌≡◌, ℕ, Bool, true, false, List, [], ◌∷◌, length, map, replicate, refl, ap, ◌∙◌}
+use Rattle.std.proofs.Common.{◌≡◌, ℕ, Bool, true, false, List, [], ◌∷◌, length, map, refl, ap, ◌∙◌}
 use Rattle.std.proofs.lemmas.List.{length-set}
 use Rattle.exec_graph.specs.Plan.{PlanData}
 use Rattle.exec_msg.specs.Timer.{is_due}
+use Rattle.exec_msg.specs.Lists.{change_first}
 use Rattle.exec_world.proofs.Running.{KeptByRounds, rounds_keep}
 use Rattle.exec_world.specs.Close.{accept}
 use Rattle.exec_world.specs.LawWords.{timer_shape, queue_shape, server_shape, client_shape, action_client_shape, shape_of}
 use Rattle.exec_world.specs.Ready.{timer_taken, queue_taken, client_taken, take_inputs}
 use Rattle.exec_world.specs.Transcript.{expire, rounds}
-use Rattle.exec_world.specs.World.{WorldState, Moment, TimerEntry, change_first, queued, change_goals, with_task, with_call, with_goal_sent, with_variables}
+use Rattle.exec_world.specs.World.{WorldState, Moment, TimerEntry, queued, change_goals, with_task, with_call, with_goal_sent, with_variables}
 
 -- a change that leaves a part leaves it in a list
 pub part_changed : {A B : Type 0} (part : A → B) (test : A → Bool) (change : A → A) → ((one : A) → part (change one) ≡ part one) → (all : List A) → map part (change_first test change all) ≡ map part all
@@ -41,7 +42,7 @@ same_shape : (before after : WorldState) → after.topics ≡ before.topics →
     length after.variables ≡ length before.variables → shape_of after ≡ shape_of before
 same_shape before after topics timers queues servers clients action_clients groups = rw (topics, timers, queues, servers, clients, action_clients, groups) refl
 
-shape_kept : (of : WorldState) → KeptByRounds (λ world. shape_of world ≡ of)
+pub shape_kept : (of : WorldState) → KeptByRounds (λ world. shape_of world ≡ of)
 shape_kept of = record {
   basic = record {
     lines_kept = λ lines world p. p;
@@ -52,7 +53,7 @@ shape_kept of = record {
     sending_kept = λ client world p. same_shape world (with_goal_sent client world) refl refl refl refl refl (part_changed action_client_shape _ _ (λ entry. refl) world.action_clients) refl ∙ p;
     variables_kept = λ group variables world p. same_shape world (with_variables group variables world) refl refl refl refl refl refl (length-set world.variables group variables) ∙ p;
   };
-  accepts_kept = λ server moment decision request world p. same_shape world (accept server moment decision request world) refl refl refl (part_changed server_shape _ _ (λ entry. refl) world.servers) refl refl refl ∙ p;
+  accepts_kept = λ server moment decision request world room p. same_shape world (accept server moment decision request world) refl refl refl (part_changed server_shape _ _ (λ entry. refl) world.servers) refl refl refl ∙ p;
   expiry_kept = λ moment world p. same_shape world (expire moment world) refl refl refl (part_mapped server_shape _ (λ entry. refl) world.servers) refl refl refl ∙ p;
   snapshot_kept = λ moment world p.
       same_shape world (take_inputs moment world) refl (part_mapped timer_shape _ (timer_same moment) world.timers) (part_mapped queue_shape queue_taken (λ queue. refl) world.queues) refl (part_mapped client_shape (client_taken world) (λ entry. refl) world.clients) refl refl ∙ p;

@@ -1,17 +1,18 @@
 -- Each queue stays within its entity's depth.
-use Rattle.std.proofs.Common.{◌≡◌, ℕ, ◌-◌, ◌≤◌, Bool, true, false, List, [], ◌∷◌, ◌++◌, length, map, drop, refl, ap, arith, length-drop}
+use Rattle.std.proofs.Common.{◌≡◌, ℕ, ◌-◌, ◌≤◌, Bool, true, false, List, [], ◌∷◌, ◌++◌, length, map, drop, refl, arith, length-drop}
 use Rattle.std.specs.List.{All, AllByRecursion, filter}
 use Rattle.std.proofs.lemmas.List.Elements.{All-from_recursion}
 use Rattle.exec_graph.specs.Entity.{EntityNo}
 use Rattle.exec_graph.specs.Graph.{GraphData, Waitable, wait_set, depth_of, declared_at}
 use Rattle.exec_graph.specs.Plan.{PlanData}
 use Rattle.exec_msg.specs.KeepLast.{sent}
+use Rattle.exec_msg.specs.Lists.{change_first}
 use Rattle.exec_world.proofs.Pairs.{all_weaker}
 use Rattle.exec_world.proofs.Running.{KeptByRounds, rounds_keep}
 use Rattle.exec_world.specs.Item.{taker_of}
 use Rattle.exec_world.specs.Ready.{queue_taken}
 use Rattle.exec_world.specs.Transcript.{takes_from_queue, new_queue, first_world, rounds}
-use Rattle.exec_world.specs.World.{Moment, Queue, change_first, is_queue, queue_after}
+use Rattle.exec_world.specs.World.{Moment, Queue, is_queue, queue_after}
 use Rattle.exec_world.specs.declared.item.Item.{Item}
 
 -- a queue has its entity's depth, and holds at most so many items
@@ -50,7 +51,7 @@ within_kept graph = record {
     sending_kept = λ client world p. p;
     variables_kept = λ group variables world p. p;
   };
-  accepts_kept = λ server moment decision request world p. p;
+  accepts_kept = λ server moment decision request world room p. p;
   expiry_kept = λ moment world p. p;
   snapshot_kept = λ moment world p. within_taken graph world.queues p;
 }

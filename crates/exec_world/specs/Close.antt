@@ -1,9 +1,11 @@
 -- What closes a callback in the world, behind its effects.
 use Rattle.std.specs.Prelude.{ℕ, ℤ, pos, List, [], ◌∷◌, ◌++◌, length, map, Bool, true, false, ◌&&◌, ◌==◌, if◌then◌else◌, Option, None, Some}
 use Rattle.std.specs.List.{find, fold}
+use Rattle.exec_goal.specs.Calls.{end_state}
 use Rattle.exec_goal.specs.Cancel.{CancelRequest, Decided, moved, table_after, code_of}
 use Rattle.exec_goal.specs.State.{status_of}
 use Rattle.exec_goal.specs.Table.{GoalRecord, Asked, told, later, unknown, has_id, is_accepting, new_goal, after_end, asked_for, asked_by}
+use Rattle.exec_goal.specs.declared.state.State.{State}
 use Rattle.exec_graph.specs.Entity.{EntityNo, Script}
 use Rattle.exec_msg.specs.declared.goal.Event.{Event}
 use Rattle.exec_msg.specs.declared.goal.GoalStatus.{GoalStatus}
@@ -11,11 +13,12 @@ use Rattle.exec_msg.specs.declared.goal.GoalStatus.TheVariants as status
 use Rattle.exec_msg.specs.declared.goal.ReturnCode.{ReturnCode}
 use Rattle.exec_msg.specs.declared.line.Line.{Line}
 use Rattle.exec_msg.specs.declared.line.Line.TheVariants as line
+use Rattle.exec_msg.specs.Lists.{change_first}
 use Rattle.exec_script.specs.declared.effects.Close.{Close}
 use Rattle.exec_script.specs.declared.effects.Close.TheVariants as close
 use Rattle.exec_task.specs.Task.{new_task}
 use Rattle.exec_world.specs.Item.{GoalId}
-use Rattle.exec_world.specs.World.{WorldState, Moment, HeldGoal, ServerEntry, ActionClientEntry, change_first, add_line, add_lines, push, push_any, goals_of, change_server, change_goals, has_room_for, action_client_at}
+use Rattle.exec_world.specs.World.{WorldState, Moment, HeldGoal, ServerEntry, ActionClientEntry, add_line, add_lines, push, push_any, goals_of, change_server, change_goals, has_room_for, action_client_at}
 use Rattle.exec_world.specs.declared.item.Item.{Item}
 use Rattle.exec_world.specs.declared.item.Item.TheVariants as item
 use Rattle.exec_world.specs.declared.ready.Cause.{Cause}
@@ -152,10 +155,15 @@ with_ended server id by value moment world = change_goals server (change_first (
 abbrev pub goal_at : EntityNo → GoalId → WorldState → Option GoalRecord
 goal_at server id world = find (has_id id) (goals_of server world)
 
--- a goal ends by an event with a value
-abbrev pub end : EntityNo → GoalId → Event → ℤ → Moment → WorldState → WorldState
-end server id by value moment world =
+-- a goal ends by an event with a value, where that leads to this state; where it leads to none, nothing happens
+abbrev pub end_in : Option State → EntityNo → GoalId → Event → ℤ → Moment → WorldState → WorldState
+end_in None server id by value moment world = world
+end_in (Some reached) server id by value moment world =
     tell_end server (goal_at server id (with_ended server id by value moment world)) (with_ended server id by value moment world)
+
+-- a goal ends by an event with a value, where that leads to a terminal state
+abbrev pub end : EntityNo → GoalId → Event → ℤ → Moment → WorldState → WorldState
+end server id by value moment world = end_in (end_state id by (goals_of server world)) server id by value moment world
 
 -- a poll that ended a goal ends it; one that pends leaves nothing to do
 abbrev pub close_poll : EntityNo → GoalId → Moment → Close → WorldState → WorldState

@@ -8,10 +8,11 @@ use Rattle.exec_goal.specs.Table.{GoalRecord, has_id, after_event}
 use Rattle.exec_graph.specs.Entity.{EntityNo}
 use Rattle.exec_msg.specs.declared.goal.Event.TheVariants as event
 use Rattle.exec_msg.specs.declared.line.Line.TheVariants as line
+use Rattle.exec_msg.specs.Lists.{change_first}
 use Rattle.exec_script.specs.declared.effects.Effect.{Effect}
 use Rattle.exec_script.specs.declared.effects.Effect.TheVariants as effect
 use Rattle.exec_world.specs.Item.{GoalId, goal_id}
-use Rattle.exec_world.specs.World.{WorldState, ClientEntry, ActionClientEntry, change_first, add_line, push, push_any, subscribers_of, goals_of, change_goals, held_for, client_at, with_call, action_client_at, with_goal_sent}
+use Rattle.exec_world.specs.World.{WorldState, ClientEntry, ActionClientEntry, add_line, push, push_any, subscribers_of, goals_of, change_goals, held_for, client_at, with_call, action_client_at, with_goal_sent}
 use Rattle.exec_world.specs.declared.item.Item.TheVariants as item
 use Rattle.exec_world.specs.declared.ready.Cause.{Cause}
 use Rattle.exec_world.specs.declared.ready.Cause.TheVariants as cause

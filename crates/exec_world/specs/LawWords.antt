@@ -1,5 +1,5 @@
 -- Words for the laws of rounds.
-use Rattle.std.specs.Prelude.{◌≡◌, ◌⊎◌, ℕ, Bool, ◌&&◌, ◌==◌, List, [], ◌∷◌, length, map, replicate, Option, None, Some, if◌then◌else◌}
+use Rattle.std.specs.Prelude.{◌≡◌, ◌⊎◌, Bool, ◌&&◌, ◌==◌, List, [], ◌∷◌, length, map, replicate, Option, None, Some, if◌then◌else◌}
 use Rattle.std.specs.List.{flat_map}
 use Rattle.exec_goal.specs.Cancel.{Decided}
 use Rattle.exec_goal.specs.State.{Transition, status_of}

@@ -8,6 +8,7 @@ use Rattle.exec_goal.specs.Table.{GoalRecord}
 use Rattle.exec_goal.specs.declared.info.GoalInfo.{GoalInfo}
 use Rattle.exec_graph.specs.Entity.{EntityNo, Script}
 use Rattle.exec_msg.specs.Kind.{ready_number}
+use Rattle.exec_msg.specs.Lists.{drop_first}
 use Rattle.exec_msg.specs.Timer.{is_due, called}
 use Rattle.exec_msg.specs.declared.kind.Kind.{Kind}
 use Rattle.exec_msg.specs.declared.kind.Kind.TheVariants as kind
@@ -148,7 +149,7 @@ queue_taken queue = record queue { items = drop 1 queue.items }
 
 -- calls of which the one is done that the first of these items replies to
 abbrev pub without_answered : List Item → List ℕ → List ℕ
-without_answered (item.Reply number value ∷ items) pending = filter (λ call. not (call == number)) pending
+without_answered (item.Reply number value ∷ items) pending = drop_first (λ call. call == number) pending
 without_answered _ pending = pending
 
 -- a service client after it: the call that its first reply answers is no longer pending

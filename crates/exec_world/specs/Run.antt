@@ -1,5 +1,5 @@
 -- What a ready callback does to the world: its line, its script with each effect at its instruction, and what closes it.
-use Rattle.std.specs.Prelude.{ℕ, Option, None, Some}
+use Rattle.std.specs.Prelude.{Option, None, Some}
 use Rattle.std.specs.Option.{option_map}
 use Rattle.exec_graph.specs.Entity.{EntityNo}
 use Rattle.exec_script.specs.declared.effects.Effects.{Effects}

@@ -20,7 +20,7 @@ use Rattle.exec_script.specs.Zeros.{zeros}
 use Rattle.exec_world.specs.Give.{publish}
 use Rattle.exec_world.specs.Ready.{ready_list, take_inputs}
 use Rattle.exec_world.specs.Run.{run}
-use Rattle.exec_world.specs.World.{WorldState, Moment, Handler, TopicEntry, TimerEntry, Queue, HeldGoal, ServerEntry, ClientEntry, ActionClientEntry, add_line, add_lines, push}
+use Rattle.exec_world.specs.World.{WorldState, Moment, Handler, TopicEntry, TimerEntry, Queue, ServerEntry, ClientEntry, ActionClientEntry, add_line, add_lines, push}
 use Rattle.exec_world.specs.declared.item.Item.TheVariants as item
 use Rattle.exec_world.specs.declared.ready.Ready.{Ready}
 

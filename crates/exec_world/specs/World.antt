@@ -7,6 +7,7 @@ use Rattle.exec_graph.specs.Entity.{EntityNo, Script}
 use Rattle.exec_graph.specs.Graph.{GroupNo}
 use Rattle.exec_msg.specs.KeepLast.{sent, displaced}
 use Rattle.exec_msg.specs.Kind.{ready_number}
+use Rattle.exec_msg.specs.Lists.{change_first}
 use Rattle.exec_msg.specs.Timer.{TimerState}
 use Rattle.exec_msg.specs.declared.kind.Kind.{Kind}
 use Rattle.exec_msg.specs.declared.line.Line.{Line}
@@ -96,11 +97,6 @@ pub record WorldState : Type 0 where
   pub action_clients : List ActionClientEntry
   pub variables : List Variables
   pub lines : List Line
-
--- a list in which the first element that passes a test is changed
-abbrev pub change_first : {A : Type 0} → (A → Bool) → (A → A) → List A → List A
-change_first test change [] = []
-change_first test change (x ∷ xs) = if test x then change x ∷ xs else x ∷ change_first test change xs
 
 -- ---- lines
 

@@ -57,6 +57,27 @@ pub fn the_shape_never_changes()
         shape_of (rounds plan number moments world) ≡ shape_of world }
 {}
 
+/// In each ready list an entity has at most one callback of each kind but poll.
+pub fn an_entity_has_one_callback_of_a_kind()
+    ensures { (plan : PlanData) (number : ℕ) (moments : List ℕ) (next moment entity : ℕ) (of : Kind) → of ≢ kind.Poll →
+        length (filter (is_callback_of entity of) (ready_list moment (at_snapshot plan next moment (rounds plan number moments (first_world plan.graph))))) ≤ 1 }
+{}
+
+/// No two goals of one server have one identifier, after any rounds of a plan.
+pub fn identifiers_differ()
+    ensures { (plan : PlanData) (number : ℕ) (moments : List ℕ) (server : ℕ) →
+        IsDistinct (λ one other. one == other) (map (λ goal. goal.id) (goals_of server (rounds plan number moments (first_world plan.graph)))) }
+{}
+
+/// In the transcript of a plan, the statuses of a server's goals of one identifier begin with the acceptance of the
+/// first, each further one follows by a transition or is the acceptance of the next, and that comes only behind a
+/// terminal one.
+pub fn statuses_follow_the_transitions()
+    ensures { (plan : PlanData) (server id : ℕ) → AreLawful None (statuses_of server id (lines_of plan)) }
+{
+    exec_goal::laws::goals_move_by_the_table();
+}
+
 /// Behind a terminal status of a goal only the acceptance of the next one comes: so a goal has one terminal status at most.
 pub fn goals_end_once()
     ensures { (before after : GoalStatus) → IsFinal before → MayCome (Some before) after → after ≡ status.Accepted }

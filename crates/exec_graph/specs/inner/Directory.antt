@@ -1,5 +1,5 @@
 -- A directory of what a graph declares, which finds names.
-use Rattle.std.specs.Prelude.{ℕ, ◌-◌, List, [], ◌∷◌, ◌++◌, length, map, Bool, true, false, not, ◌&&◌, ◌==◌, nat_lt, is_some, if◌then◌else◌, Option, None, Some, option_and_then, slice_get}
+use Rattle.std.specs.Prelude.{◌≡◌, ℕ, suc, ◌+◌, ◌-◌, ◌<◌, List, [], ◌∷◌, ◌++◌, length, map, Bool, true, false, not, ◌&&◌, ◌==◌, nat_lt, if◌then◌else◌, Option, None, Some, IfSome, option_and_then, slice_get}
 use Rattle.std.specs.List.{filter_map, list_any, position_from}
 use Rattle.std.specs.Option.{option_map, option_map_or}
 use Rattle.std.specs.Result.{result_err}
@@ -13,12 +13,13 @@ use Rattle.exec_graph.specs.declared.entity.Referent.TheVariants as referent
 use Rattle.exec_script.specs.declared.fault.ScriptFault.{ScriptFault}
 use Rattle.std.specs.Str.{bytes_eq}
 use Rattle.exec_graph.specs.declared.draft.GraphDraft.{GraphDraft}
-use Rattle.exec_graph.specs.Entity.{Drafted, Script, Resolved, RoleScriptData, is_of, refers, scripts_of, read_by}
+use Rattle.exec_graph.specs.Entity.{Drafted, Script, Resolved, RoleScriptData, is_of, reference_of, scripts_of, if_there, read_by}
 use Rattle.exec_graph.specs.Graph.{EntityData, GroupNo}
 use Rattle.exec_graph.specs.declared.draft.NodeDraft.{NodeDraft}
 use Rattle.exec_graph.specs.Faults.{names_of}
 use Rattle.exec_graph.specs.Names.{is_name}
 use Rattle.exec_graph.specs.Numbers.{Placed, entities_of}
+use Rattle.exec_graph.specs.Options.{◌>>=◌}
 use Rattle.exec_graph.specs.Resolved.{script_in}
 use Rattle.exec_script.specs.Legality.{legality_of}
 use Rattle.exec_script.specs.Spelling.{ScopeNames}
@@ -40,14 +41,25 @@ names_from names (text ∷ texts) =
 abbrev pub names_of_groups : NodeDraft → List (List ℕ)
 names_of_groups node = map (λ group. group.name) node.groups
 
+-- the groups of a node: the number of its default group, and the names of the others, which stand behind it
+pub record NodeGroupsData : Type 0 where
+  pub first : ℕ
+  pub names : List (List ℕ)
+
+-- the groups of nodes in order, of which the first has this number
+abbrev pub node_groups_from : ℕ → List NodeDraft → List NodeGroupsData
+node_groups_from first [] = []
+node_groups_from first (node ∷ nodes) =
+    record { first = first; names = names_of_groups node } ∷ node_groups_from (suc first + length (names_of_groups node)) nodes
+
 -- ---- the directory
 
--- how many topics there are, the names of topics and entities at their numbers, the names of each node's groups, and the
--- entities in the order of their numbers
+-- how many topics there are, the names of topics and entities at their numbers, the groups of each node, and the entities
+-- in the order of their numbers
 pub record DirectoryData : Type 0 where
   pub topics : ℕ
   pub names : List (List ℕ)
-  pub groups : List (List (List ℕ))
+  pub groups : List NodeGroupsData
   pub entities : List Placed
 
 -- the directory of a draft
@@ -55,7 +67,7 @@ abbrev pub directory_of : GraphDraft → DirectoryData
 directory_of draft = record {
   topics = length draft.topics;
   names = names_of draft;
-  groups = map names_of_groups draft.nodes;
+  groups = node_groups_from 0 draft.nodes;
   entities = entities_of draft;
 }
 
@@ -88,24 +100,46 @@ passing test found = where_so (test found.1) found.0
 abbrev pub entity_number : DirectoryData → (Placed → Bool) → List ℕ → Option ℕ
 entity_number directory test name = option_and_then (passing test) (placed_named directory name)
 
--- whether these names, which are those of a node's groups, have one; the default group has none
-abbrev pub has_in : Option (List (List ℕ)) → Option (List ℕ) → Bool
-has_in None name = false
-has_in (Some names) None = true
-has_in (Some names) (Some name) = is_some (position_from (λ other. bytes_eq other name) 0 names)
+-- the number of a node's group of a name, or of its default group, which has none
+abbrev pub number_among : Option (List ℕ) → NodeGroupsData → Option ℕ
+number_among None groups = Some groups.first
+number_among (Some name) groups = option_map (λ place. suc groups.first + place) (position_from (λ other. bytes_eq other name) 0 groups.names)
 
--- whether a node has a group of a name
-abbrev pub has_group : DirectoryData → ℕ → Option (List ℕ) → Bool
-has_group directory node name = has_in (slice_get directory.groups node) name
+-- the same of the node of a number
+abbrev pub group_in : DirectoryData → ℕ → Option (List ℕ) → Option ℕ
+group_in directory node name = option_and_then (number_among name) (slice_get directory.groups node)
 
 -- the number of what a name must be declared as
 abbrev pub number_in : DirectoryData → Referent → List ℕ → Option ℕ
 number_in directory referent.Topic = topic_number directory
 number_in directory (referent.Entity kind) = entity_number directory (λ placed. is_of kind placed.entity.is)
 
--- whether the group of an entity and what it refers to are declared
-abbrev pub resolves : DirectoryData → Placed → Bool
-resolves directory placed = has_group directory placed.node placed.entity.group && refers (λ to name. is_some (number_in directory to name)) placed.entity.is
+-- ---- links
+
+-- the number of what an entity refers to, where it refers to something, and that is declared
+abbrev pub referred : DirectoryData → Drafted → Option (Option ℕ)
+referred directory entity = if_there (λ reference. number_in directory reference.to reference.name) (reference_of entity)
+
+-- an entity with the numbers of its group and of what it refers to
+pub record Linked : Type 0 where
+  pub placed : Placed
+  pub group : ℕ
+  pub reference : Option ℕ
+
+-- an entity with these numbers, where its group and what it refers to are declared
+abbrev pub linked_in : DirectoryData → Placed → Option Linked
+linked_in directory placed = do
+  group ← group_in directory placed.node placed.entity.group
+  reference ← referred directory placed.entity.is
+  Some (record { placed = placed; group = group; reference = reference })
+
+-- an entity was linked by a directory, and its numbers have 16 bits
+pub record IsLinked (directory : DirectoryData) (linked : Linked) : Type 0 where
+  pub by : linked_in directory linked.placed ≡ Some linked
+  pub group : linked.group < 65536
+  pub reference : IfSome linked.reference (λ number. number < 65536)
+
+-- ---- scripts and entities
 
 -- the names that the scripts of a node may use
 abbrev pub scope_in : DirectoryData → ℕ → ScopeNames
@@ -121,9 +155,9 @@ pub record NodeData : Type 0 where
   pub directory : DirectoryData
   pub node : ℕ
 
--- what an entity of a node is, its names and its scripts read by the directory
-abbrev pub resolved_by : NodeData → Drafted → Option Resolved
-resolved_by scope = read_by (number_in scope.directory) (script_in (scope_in scope.directory scope.node))
+-- what an entity of a node is that refers to this number, its scripts read by the directory
+abbrev pub resolved_by : NodeData → Option ℕ → Drafted → Option Resolved
+resolved_by scope reference = read_by (λ to name. reference) (script_in (scope_in scope.directory scope.node))
 
 -- what is declared as this, with the name of a placed entity
 abbrev pub titled : Placed → Declared → EntityData

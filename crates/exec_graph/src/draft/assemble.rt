@@ -1,15 +1,14 @@
 //! How a graph is made of what was declared.
-ghost use Rattle.std.specs.Prelude.{◌≡◌, ◌⊎◌, ◌++◌, ◌≤◌, length, map, string_bytes, ◌∷◌, [], None, Some, true, false, IfOk, IfErr, OnOk};
-ghost use Rattle.std.specs.List.{list_any};
+ghost use Rattle.std.specs.Prelude.{◌≡◌, ◌⊎◌, ◌++◌, ◌<◌, ◌≤◌, length, map, string_bytes, ◌∷◌, [], None, Some, true, false, IfOk, IfErr, IfSome, OnOk};
+ghost use Rattle.std.specs.List.{All, list_any};
 ghost use Rattle.std.specs.Option.{option_map};
 ghost use Rattle.std.specs.Str.{bytes_eq};
-ghost use Rattle.exec_graph.specs.inner.Directory.{directory_of, titled, where_so};
+ghost use Rattle.exec_graph.specs.inner.Directory.{IsLinked, directory_of, linked_in, titled, where_so};
 ghost use Rattle.exec_graph.specs.declared.draft.GraphDraft.{GraphDraft};
 ghost use Rattle.exec_graph.specs.inner.Entries.{entities_of as entries_of};
 ghost use Rattle.exec_graph.specs.Faults.{is_well_named};
 ghost use Rattle.exec_graph.specs.Faults as faults;
 ghost use Rattle.exec_graph.specs.Names.{are_distinct};
-ghost use Rattle.exec_graph.specs.Numbers.{groups_of};
 ghost use Rattle.exec_graph.specs.Numbers as numbers;
 ghost use Rattle.exec_graph.specs.Options.{each};
 ghost use Rattle.exec_graph.specs.Refusals.{fault_in};
@@ -18,16 +17,17 @@ ghost use Rattle.exec_graph.specs.declared.fault.GraphFault.TheVariants as graph
 
 use crate::draft::directory::{Directory, has_node_names};
 use crate::draft::faults::{is_any_faulty, script_faults};
-use crate::draft::groups::{callback_groups, group_named};
+use crate::draft::groups::callback_groups;
 use crate::draft::limits::is_small;
-use crate::draft::numbers::PlacedEntity;
+use crate::draft::named::NamedGraph;
+use crate::draft::numbers::{LinkedEntity, PlacedEntity};
 use crate::draft::resolve::{Unread, resolved};
 use crate::draft::scope::NodeScope;
 use crate::draft::{GraphDraft, NodeDraft};
-use crate::entity::{CallbackGroup, Declared, GraphEntity};
+use crate::entity::{Declared, GraphEntity, GroupNo};
 use crate::fault::GraphFault;
 use crate::graph::Graph;
-use exec_msg::{Memory, Names};
+use exec_msg::{EntityNo, Memory, Names};
 use exec_script::WordText;
 use indexmap::IndexMap;
 use std::alloc::Global;
@@ -37,18 +37,19 @@ pub(crate) fn graph_of(
     alloc: Global,
     draft: &GraphDraft,
     directory: &Directory<'_>,
+    linked: &[LinkedEntity<'_>],
 ) -> Result<Graph, GraphFault>
-    requires { Some directory.now ≡ where_so (is_well_named draft.now) (directory_of draft.now) }
+    requires named { Some directory.now ≡ where_so (is_well_named draft.now) (directory_of draft.now) }
+    requires linked { each (linked_in directory.now) directory.now.entities ≡ Some linked.now }
     ensures graph { IfOk result (λ graph. (fault_in draft.now ≡ None)
         × (graph_in draft.now ≡ Some graph)) }
     ensures fault { IfErr result (λ fault. (fault ≡ graph_fault.Memory) ⊎ (fault_in draft.now ≡ Some fault)) }
 {
-    let small = is_small(alloc, draft, directory.entities())?;
-    if !small {
+    if !is_small(draft, directory.entities()) {
         return Err(GraphFault::Limit);
     }
     let groups = callback_groups(alloc, draft.nodes.as_slice())?;
-    let Some(entities) = entities_of(alloc, draft.topics.as_slice(), directory, &groups)? else {
+    let Some(entities) = entities_of(alloc, draft.topics.as_slice(), directory, linked)? else {
         return Err(GraphFault::Script);
     };
     let faults = script_faults(alloc, &entities, &groups)?;
@@ -72,8 +73,8 @@ pub(crate) fn graph_of(
 pub(crate) fn well_named<'a>(
     alloc: Global,
     draft: &'a GraphDraft,
-) -> Result<Option<Directory<'a>>, Memory>
-    ensures { IfOk result (λ found. found ≡ where_so (is_well_named draft.now) (directory_of draft.now)) }
+) -> Result<Option<NamedGraph<'a>>, Memory>
+    ensures { IfOk result (λ found. found ≡ where_so (is_well_named draft.now) draft.now) }
 {
     if !has_node_names(alloc, draft.nodes.as_slice())? {
         return Ok(None);
@@ -81,30 +82,36 @@ pub(crate) fn well_named<'a>(
     let Some(directory) = Directory::of(alloc, draft)? else {
         return Ok(None);
     };
-    if !directory.is_resolved() {
+    let Some(linked) = directory.linked(alloc)? else {
         return Ok(None);
-    }
-    Ok(Some(directory))
+    };
+    Ok(Some(NamedGraph {
+        alloc,
+        draft,
+        directory,
+        linked,
+    }))
 }
 
-// The topics and entities at their numbers, where what they refer to is declared and their scripts are spelt well.
+// The topics and entities at their numbers, where the scripts of these are spelt well.
 fn entities_of(
     alloc: Global,
     topics: &[WordText],
     directory: &Directory<'_>,
-    groups: &[CallbackGroup],
+    links: &[LinkedEntity<'_>],
 ) -> Result<Option<IndexMap<String, Declared>>, Memory>
     requires names { length directory.now.names ≤ 65536 }
-    requires groups { length groups.now ≤ 65536 }
-    ensures { IfOk result (λ found. (source : GraphDraft) → are_distinct (faults.names_of source) ≡ true → topics.now ≡ source.topics → directory.now ≡ directory_of source → groups.now ≡ groups_of source →
+    requires links { All (IsLinked directory.now) links.now }
+    requires entities { map (λ linked. linked.placed) links.now ≡ directory.now.entities }
+    ensures { IfOk result (λ found. (source : GraphDraft) → are_distinct (faults.names_of source) ≡ true → topics.now ≡ source.topics → directory.now ≡ directory_of source →
         option_map (λ others. map topic_in source.topics ++ others) (each (entity_in source) (numbers.entities_of source)) ≡ option_map (λ entities. entries_of entities.entries) found) }
 {
     let mut entities = topics_of(alloc, topics)?;
-    for placed in directory.entities() {
-        let Some(is) = declared(alloc, directory, groups, placed)? else {
+    for linked in links {
+        let Some(is) = declared(alloc, directory, linked)? else {
             return Ok(None);
         };
-        append(alloc, placed.entity.name.as_str(), is, &mut entities)?;
+        append(alloc, linked.entity.name.as_str(), is, &mut entities)?;
     }
     Ok(Some(entities))
 }
@@ -138,23 +145,32 @@ fn append(
 fn declared(
     alloc: Global,
     directory: &Directory<'_>,
-    groups: &[CallbackGroup],
-    placed: &PlacedEntity<'_>,
+    linked: &LinkedEntity<'_>,
 ) -> Result<Option<Declared>, Memory>
     requires names { length directory.now.names ≤ 65536 }
-    requires groups { length groups.now ≤ 65536 }
-    ensures { IfOk result (λ found. (source : GraphDraft) → are_distinct (faults.names_of source) ≡ true → directory.now ≡ directory_of source → groups.now ≡ groups_of source →
-        entity_in source placed.now ≡ option_map (titled placed.now) found) }
+    requires linked { IsLinked directory.now linked.now }
+    ensures { IfOk result (λ found. (source : GraphDraft) → are_distinct (faults.names_of source) ≡ true → directory.now ≡ directory_of source →
+        entity_in source linked.now.placed ≡ option_map (titled linked.now.placed) found) }
 {
-    let Some(group) = group_named(groups, placed.node, &placed.entity.group) else {
-        return Ok(None);
-    };
-    let scope = NodeScope::of(directory, placed.node);
-    match resolved(alloc, &scope, &placed.entity.is) {
-        Ok(is) => Ok(Some(Declared::Entity(GraphEntity { group, is }))),
+    let scope = NodeScope::of(directory, linked.node);
+    let reference = entity_no(linked.reference);
+    match resolved(alloc, &scope, reference, &linked.entity.is) {
+        Ok(is) => Ok(Some(Declared::Entity(GraphEntity {
+            group: GroupNo(linked.group as u16),
+            is,
+        }))),
         Err(Unread::Memory) => Err(Memory),
         Err(Unread::Wrong) => Ok(None),
     }
+}
+
+// The number of what an entity refers to, where it refers to something.
+fn entity_no(reference: Option<usize>) -> Option<EntityNo>
+    requires { IfSome reference (λ number. number < 65536) }
+    ensures { result ≡ reference }
+{
+    let number = reference?;
+    Some(EntityNo(number as u16))
 }
 
 // The names of topics and entities at their numbers.

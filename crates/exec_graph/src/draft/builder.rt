@@ -97,14 +97,7 @@ impl GraphBuilder {
         ensures named { IfOk result (λ named. (named ≡ self.now) × (is_well_named self.now ≡ true)) }
         ensures fault { IfErr result (λ fault. (fault ≡ GraphFault.Memory) ⊎ ((fault ≡ GraphFault.Name) × (is_well_named self.now ≡ false))) }
     {
-        match well_named(self.alloc, &self.draft)? {
-            Some(directory) => Ok(NamedGraph {
-                alloc: self.alloc,
-                draft: &self.draft,
-                directory,
-            }),
-            None => Err(GraphFault::Name),
-        }
+        well_named(self.alloc, &self.draft)?.ok_or(GraphFault::Name)
     }
 
     /// The graph of what was declared. The builder is given up on a fault.

@@ -1,28 +1,30 @@
 //! What a graph declares, by name.
-ghost use Rattle.std.specs.Prelude.{◌≡◌, ◌&&◌, ◌==◌, length, map, if◌then◌else◌, Some, None, is_some, ◌<◌, IfOk, IfSome};
+ghost use Rattle.std.specs.Prelude.{◌≡◌, ◌&&◌, ◌==◌, length, map, if◌then◌else◌, Some, None, ◌<◌, IfOk, IfSome};
 ghost use Rattle.std.specs.List.{list_all};
 ghost use Rattle.std.specs.Option.{option_map};
-ghost use Rattle.exec_graph.specs.inner.Directory.{names_from, names_of_groups, where_so, topic_number, placed_named, entity_number, number_in, has_in, has_group, resolves, directory_of};
-ghost use Rattle.exec_graph.specs.Entity.{is_of, refers};
+ghost use Rattle.exec_graph.specs.inner.Directory.{names_from, node_groups_from, where_so, topic_number, placed_named, entity_number, number_in, group_in, referred, linked_in, directory_of};
+ghost use Rattle.exec_graph.specs.Entity.{is_of};
 ghost use Rattle.exec_graph.specs.Faults.{are_names, has_named_groups, names_of};
+ghost use Rattle.exec_graph.specs.Options.{each};
 
+use crate::draft::groups::NodeGroups;
 use crate::draft::naming::add_name;
-use crate::draft::numbers::{PlacedEntity, numbered};
+use crate::draft::numbers::{LinkedEntity, PlacedEntity, numbered};
 use crate::draft::texts::TextSet;
-use crate::draft::{Drafted, EntityDraft, GraphDraft, GroupDraft, NodeDraft};
+use crate::draft::{Drafted, GraphDraft, GroupDraft, NodeDraft};
 use crate::entity::{EntityKind, Referent};
 use exec_msg::Memory;
 use exec_script::WordText;
 use std::alloc::Global;
 use std::marker::Model;
 
-// Topics and entities by their names, and the names of each node's groups.
+// Topics and entities by their names, and each node's groups by theirs.
 #[derive(Drop)]
 pub(crate) struct Directory<'a> {
     // How many of the names are topics'. Those of the entities stand behind them.
     topics: usize,
     names: TextSet<'a>,
-    groups: Vec<TextSet<'a>>,
+    groups: Vec<NodeGroups<'a>>,
     entities: Vec<PlacedEntity<'a>>,
 }
 
@@ -42,7 +44,7 @@ impl<'a> Directory<'a> {
             (list_all has_named_groups draft.now.nodes && are_names (names_of draft.now))
             (directory_of draft.now)) }
     {
-        let Some(groups) = group_names(alloc, draft.nodes.as_slice())? else {
+        let Some(groups) = node_groups(alloc, draft.nodes.as_slice())? else {
             return Ok(None);
         };
         let entities = numbered(alloc, draft.nodes.as_slice())?;
@@ -68,40 +70,49 @@ impl<'a> Directory<'a> {
         self.entities.as_slice()
     }
 
-    // Whether the group of each entity is of its node, and what each refers to is declared.
-    pub(crate) fn is_resolved(&self) -> bool
-        ensures { result ≡ list_all (resolves self.now) self.now.entities }
+    // The entities with the numbers of their groups and of what they refer to, where all of these are declared, each
+    // group by the entity's node.
+    pub(crate) fn linked(&self, alloc: Global) -> Result<Option<Vec<LinkedEntity<'a>>>, Memory>
+        ensures { IfOk result (λ found. option_map (λ linked. linked.items) found ≡ each (linked_in self.now) self.now.entities) }
     {
+        let mut linked = Vec::new(alloc);
         for placed in self.entities() {
-            if !self.resolves(placed) {
-                return false;
-            }
+            let Some(entity) = self.link(placed) else {
+                return Ok(None);
+            };
+            linked.push(entity)?;
         }
-        true
+        Ok(Some(linked))
     }
 
-    fn resolves(&self, placed: &PlacedEntity<'_>) -> bool
-        ensures { result ≡ resolves self.now placed.now }
+    fn link(&self, placed: &PlacedEntity<'a>) -> Option<LinkedEntity<'a>>
+        ensures { result ≡ linked_in self.now placed.now }
     {
-        self.has_group(placed.node, placed.entity) && self.refers(&placed.entity.is)
+        let PlacedEntity { node, entity } = *placed;
+        let group = self.group(node, &entity.group)?;
+        let reference = self.referred(&entity.is)?;
+        Some(LinkedEntity {
+            node,
+            entity,
+            group,
+            reference,
+        })
     }
 
-    fn has_group(&self, node: usize, entity: &EntityDraft) -> bool
-        ensures { result ≡ has_group self.now node entity.now.group }
+    fn group(&self, node: usize, name: &Option<WordText>) -> Option<usize>
+        ensures { result ≡ group_in self.now node name.now }
     {
-        let Some(names) = self.groups.get(node) else {
-            return false;
+        self.groups.get(node)?.number(name)
+    }
+
+    fn referred(&self, entity: &Drafted) -> Option<Option<usize>>
+        ensures { result ≡ referred self.now entity.now }
+    {
+        let Some(reference) = entity.reference() else {
+            return Some(None);
         };
-        has_group_in(names, &entity.group)
-    }
-
-    fn refers(&self, entity: &Drafted) -> bool
-        ensures { result ≡ refers (λ to name. is_some (number_in self.now to name)) entity.now }
-    {
-        match entity.reference() {
-            Some(reference) => self.number(reference.to, reference.name.as_str()).is_some(),
-            None => true,
-        }
+        let number = self.number(reference.to, reference.name.as_str())?;
+        Some(Some(number))
     }
 
     // The number of what a name must be declared as.
@@ -164,16 +175,6 @@ impl<'a> Directory<'a> {
     }
 }
 
-// Whether the names of a node's groups have one; the default group has none.
-fn has_group_in(names: &TextSet<'_>, group: &Option<WordText>) -> bool
-    ensures { result ≡ has_in (Some names.now) group.now }
-{
-    match group {
-        None => true,
-        Some(name) => names.position(name.as_str()).is_some(),
-    }
-}
-
 // Whether the names of nodes are names and differ.
 pub(crate) fn has_node_names(alloc: Global, nodes: &[NodeDraft]) -> Result<bool, Memory>
     ensures { IfOk result (λ lawful. lawful ≡ are_names (map (λ node. node.name) nodes.now)) }
@@ -187,19 +188,22 @@ pub(crate) fn has_node_names(alloc: Global, nodes: &[NodeDraft]) -> Result<bool,
     Ok(true)
 }
 
-// The names of each node's groups, where they are names and differ within each node.
-fn group_names<'a>(
+// The groups of each node, where their names are names and differ within each node.
+fn node_groups<'a>(
     alloc: Global,
     nodes: &'a [NodeDraft],
-) -> Result<Option<Vec<TextSet<'a>>>, Memory>
-    ensures { IfOk result (λ found. option_map (λ groups. groups.items) found ≡ where_so (list_all has_named_groups nodes.now) (map names_of_groups nodes.now)) }
+) -> Result<Option<Vec<NodeGroups<'a>>>, Memory>
+    ensures { IfOk result (λ found. option_map (λ groups. groups.items) found ≡ where_so (list_all has_named_groups nodes.now) (node_groups_from 0 nodes.now)) }
 {
     let mut groups = Vec::new(alloc);
+    let mut first = 0;
     for node in nodes {
         let Some(names) = names_of_groups(alloc, node.groups.as_slice())? else {
             return Ok(None);
         };
-        groups.push(names)?;
+        let of_node = NodeGroups::of(first, names)?;
+        first = of_node.next();
+        groups.push(of_node)?;
     }
     Ok(Some(groups))
 }

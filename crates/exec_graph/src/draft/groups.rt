@@ -1,13 +1,72 @@
 //! Callback groups and their numbers.
-ghost use Rattle.std.specs.Prelude.{◌≡◌, ◌++◌, ◌≤◌, length, map, IfOk, OnOk};
-ghost use Rattle.std.specs.List.{position_from};
-ghost use Rattle.exec_graph.specs.Numbers.{groups_from, named_group, is_group, same_name};
+ghost use Rattle.std.specs.Prelude.{◌≡◌, ◌++◌, map, IfOk, OnOk};
+ghost use Rattle.exec_graph.specs.Numbers.{groups_from, named_group};
 
+use crate::draft::texts::TextSet;
 use crate::draft::{GroupDraft, NodeDraft};
-use crate::entity::{CallbackGroup, GroupNo};
+use crate::entity::CallbackGroup;
 use exec_msg::Memory;
 use exec_script::WordText;
 use std::alloc::Global;
+use std::marker::Model;
+
+// The callback groups of a node, by name.
+#[derive(Drop)]
+pub(crate) struct NodeGroups<'a> {
+    // The number of its default group. Those that have names stand behind it.
+    first: usize,
+    names: TextSet<'a>,
+}
+
+impl<'a> Model for NodeGroups<'a> {
+    ghost use Rattle.std.specs.Prelude.{◌<◌, ◌+◌, ◌^◌, suc, length};
+    ghost use Rattle.exec_graph.specs.inner.Directory.{NodeGroupsData};
+
+    ghost Value = { NodeGroupsData };
+
+    ghost view = { λ groups. record { first = groups.first; names = groups.names } };
+
+    ghost invariant = { λ groups. suc groups.first + length groups.names < 2 ^ 64 };
+}
+
+impl<'a> NodeGroups<'a> {
+    ghost use Rattle.std.specs.Prelude.{◌≡◌, ◌+◌, suc, length, Some, IfOk};
+    ghost use Rattle.exec_graph.specs.inner.Directory.{number_among};
+
+    // The groups of these names, behind the default group of this number. There is no memory for so many that their
+    // numbers have more than 64 bits.
+    pub(crate) fn of(first: usize, names: TextSet<'a>) -> Result<NodeGroups<'a>, Memory>
+        ensures { IfOk result (λ groups. groups ≡ record { first = first; names = names.entry }) }
+    {
+        let behind_default = first.checked_add(1).ok_or(Memory)?;
+        behind_default.checked_add(names.len()).ok_or(Memory)?;
+        Ok(NodeGroups { first, names })
+    }
+
+    // The number of the next node's default group.
+    pub(crate) fn next(&self) -> usize
+        ensures { result ≡ suc self.now.first + length self.now.names }
+    {
+        self.first + 1 + self.names.len()
+    }
+
+    // The number of the group of a name, or of the default group, which has none.
+    pub(crate) fn number(&self, name: &Option<WordText>) -> Option<usize>
+        ensures { result ≡ number_among name.now self.now }
+    {
+        match name {
+            None => Some(self.first),
+            Some(name) => self.number_named(name),
+        }
+    }
+
+    fn number_named(&self, name: &WordText) -> Option<usize>
+        ensures { result ≡ number_among (Some name.now) self.now }
+    {
+        let place = self.names.position(name.as_str())?;
+        Some(self.first + 1 + place)
+    }
+}
 
 // The groups of all nodes in the order of their numbers: each node's default group, and then its named groups.
 pub(crate) fn callback_groups(
@@ -45,37 +104,4 @@ fn append_named(
         })?;
     }
     Ok(())
-}
-
-// The number of a node's group of a name, or of its default group, which has none.
-pub(crate) fn group_named(
-    groups: &[CallbackGroup],
-    node: usize,
-    name: &Option<WordText>,
-) -> Option<GroupNo>
-    requires { length groups.now ≤ 65536 }
-    ensures { result ≡ position_from (is_group node name.now) 0 groups.now }
-{
-    for (number, group) in groups.iter().enumerate() {
-        if is_group(node, name, group) {
-            return Some(GroupNo(number as u16));
-        }
-    }
-    None
-}
-
-fn is_group(node: usize, name: &Option<WordText>, group: &CallbackGroup) -> bool
-    ensures { result ≡ is_group node name.now group.now }
-{
-    group.node == node && is_same_name(&group.name, name)
-}
-
-fn is_same_name(name: &Option<WordText>, other: &Option<WordText>) -> bool
-    ensures { result ≡ same_name name.now other.now }
-{
-    match (name, other) {
-        (None, None) => true,
-        (Some(name), Some(other)) => name.as_str() == other.as_str(),
-        _ => false,
-    }
 }

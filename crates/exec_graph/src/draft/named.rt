@@ -1,6 +1,7 @@
 use crate::draft::GraphDraft;
 use crate::draft::assemble::graph_of;
 use crate::draft::directory::Directory;
+use crate::draft::numbers::LinkedEntity;
 use crate::entity::{EntityKind, Referent};
 use crate::fault::GraphFault;
 use crate::graph::Graph;
@@ -13,19 +14,24 @@ pub struct NamedGraph<'a> {
     pub(crate) alloc: Global,
     pub(crate) draft: &'a GraphDraft,
     pub(crate) directory: Directory<'a>,
+    // The directory's entities, each with the numbers of what it names.
+    pub(crate) linked: Vec<LinkedEntity<'a>>,
 }
 
 impl<'a> Model for NamedGraph<'a> {
     ghost use Rattle.std.specs.Prelude.{◌≡◌, Some};
-    ghost use Rattle.exec_graph.specs.inner.Directory.{directory_of, where_so};
+    ghost use Rattle.exec_graph.specs.inner.Directory.{directory_of, linked_in, where_so};
     ghost use Rattle.exec_graph.specs.declared.draft.GraphDraft.{GraphDraft};
     ghost use Rattle.exec_graph.specs.Faults.{is_well_named};
+    ghost use Rattle.exec_graph.specs.Options.{each};
 
     ghost Value = { GraphDraft };
 
     ghost view = { λ named. named.draft.now };
 
-    ghost invariant = { λ named. Some named.directory ≡ where_so (is_well_named named.draft.now) (directory_of named.draft.now) };
+    ghost invariant = { λ named.
+        (Some named.directory ≡ where_so (is_well_named named.draft.now) (directory_of named.draft.now))
+        × (each (linked_in named.directory) named.directory.entities ≡ Some named.linked.items) };
 }
 
 impl<'a> NamedGraph<'a> {
@@ -58,6 +64,6 @@ impl<'a> NamedGraph<'a> {
         ensures graph { IfOk result (λ graph. (fault_in self.now ≡ None) × (graph_in self.now ≡ Some graph)) }
         ensures fault { IfErr result (λ fault. (fault ≡ GraphFault.Memory) ⊎ (fault_in self.now ≡ Some fault)) }
     {
-        graph_of(self.alloc, self.draft, &self.directory)
+        graph_of(self.alloc, self.draft, &self.directory, &self.linked)
     }
 }

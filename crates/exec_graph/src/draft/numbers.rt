@@ -25,6 +25,27 @@ impl<'a> Model for PlacedEntity<'a> {
     ghost view = { λ placed. record { node = placed.node; entity = placed.entity.now } };
 }
 
+// An entity with the numbers of its node, of its group and, where it refers to something, of that.
+#[derive(Drop)]
+pub(crate) struct LinkedEntity<'a> {
+    pub(crate) node: usize,
+    pub(crate) entity: &'a EntityDraft,
+    pub(crate) group: usize,
+    pub(crate) reference: Option<usize>,
+}
+
+impl<'a> Model for LinkedEntity<'a> {
+    ghost use Rattle.exec_graph.specs.inner.Directory.{Linked};
+
+    ghost Value = { Linked };
+
+    ghost view = { λ linked. record {
+      placed = record { node = linked.node; entity = linked.entity.now };
+      group = linked.group;
+      reference = linked.reference;
+    } };
+}
+
 // The entities of all nodes in the order of their numbers: by kind, then by node, then as the node lists them.
 pub(crate) fn numbered<'a>(
     alloc: Global,

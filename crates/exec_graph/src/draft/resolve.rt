@@ -1,6 +1,6 @@
 //! Entities of a graph, their references resolved and their scripts decoded.
-ghost use Rattle.std.specs.Prelude.{◌≡◌};
-ghost use Rattle.exec_graph.specs.inner.Directory.{number_in, scope_in, resolved_by};
+ghost use Rattle.std.specs.Prelude.{◌≡◌, None};
+ghost use Rattle.exec_graph.specs.inner.Directory.{scope_in, resolved_by};
 ghost use Rattle.exec_graph.specs.Entity.{if_there};
 ghost use Rattle.exec_graph.specs.inner.Gives.{Gives};
 ghost use Rattle.exec_graph.specs.Resolved.{script_in};
@@ -10,8 +10,8 @@ ghost use Rattle.exec_graph.specs.declared.entity.EntityOf.TheVariants as varian
 use crate::draft::Drafted;
 use crate::draft::scope::NodeScope;
 use crate::entity::{
-    ActionClientEntity, ClientEntity, EntityKind, EntityOf, Referent, ServerEntity, ServiceEntity,
-    SubscriptionEntity, TimerEntity,
+    ActionClientEntity, ClientEntity, EntityOf, ServerEntity, ServiceEntity, SubscriptionEntity,
+    TimerEntity,
 };
 use crate::script::{Script, Spelled};
 use exec_msg::EntityNo;
@@ -38,21 +38,22 @@ impl<T: Drop> From<AllocFailed<T>> for Unread {
     }
 }
 
-// What an entity of the scope's node is.
+// What an entity of the scope's node is that refers to this number.
 pub(crate) fn resolved(
     alloc: Global,
     scope: &NodeScope<'_, '_>,
+    reference: Option<EntityNo>,
     entity: &Drafted,
 ) -> Result<Resolved, Unread>
-    ensures { Gives result (resolved_by scope.now entity.now) }
+    ensures { Gives result (resolved_by scope.now reference entity.now) }
 {
     match entity {
         EntityOf::Timer(entity) => timer(alloc, scope, entity),
-        EntityOf::Subscription(entity) => subscription(alloc, scope, entity),
+        EntityOf::Subscription(entity) => subscription(alloc, scope, reference, entity),
         EntityOf::Service(entity) => service(alloc, scope, entity),
-        EntityOf::Client(entity) => client(alloc, scope, entity),
+        EntityOf::Client(entity) => client(alloc, scope, reference, entity),
         EntityOf::Server(entity) => server(alloc, scope, entity),
-        EntityOf::ActionClient(entity) => action_client(alloc, scope, entity),
+        EntityOf::ActionClient(entity) => action_client(alloc, scope, reference, entity),
     }
 }
 
@@ -61,7 +62,7 @@ fn timer(
     scope: &NodeScope<'_, '_>,
     entity: &TimerEntity<Spelled>,
 ) -> Result<Resolved, Unread>
-    ensures { Gives result (resolved_by scope.now (variant.Timer entity.now)) }
+    ensures { Gives result (resolved_by scope.now None (variant.Timer entity.now)) }
 {
     Ok(EntityOf::Timer(TimerEntity {
         period: entity.period,
@@ -72,12 +73,13 @@ fn timer(
 fn subscription(
     alloc: Global,
     scope: &NodeScope<'_, '_>,
+    reference: Option<EntityNo>,
     entity: &SubscriptionEntity<WordText, Spelled>,
 ) -> Result<Resolved, Unread>
-    ensures { Gives result (resolved_by scope.now (variant.Subscription entity.now)) }
+    ensures { Gives result (resolved_by scope.now reference (variant.Subscription entity.now)) }
 {
     Ok(EntityOf::Subscription(SubscriptionEntity {
-        topic: number(scope, Referent::Topic, &entity.topic)?,
+        topic: reference.ok_or(Unread::Wrong)?,
         depth: entity.depth,
         script: script_in(alloc, scope, &entity.script)?,
     }))
@@ -88,7 +90,7 @@ fn service(
     scope: &NodeScope<'_, '_>,
     entity: &ServiceEntity<Spelled>,
 ) -> Result<Resolved, Unread>
-    ensures { Gives result (resolved_by scope.now (variant.Service entity.now)) }
+    ensures { Gives result (resolved_by scope.now None (variant.Service entity.now)) }
 {
     Ok(EntityOf::Service(ServiceEntity {
         depth: entity.depth,
@@ -99,16 +101,13 @@ fn service(
 fn client(
     alloc: Global,
     scope: &NodeScope<'_, '_>,
+    reference: Option<EntityNo>,
     entity: &ClientEntity<WordText, Spelled>,
 ) -> Result<Resolved, Unread>
-    ensures { Gives result (resolved_by scope.now (variant.Client entity.now)) }
+    ensures { Gives result (resolved_by scope.now reference (variant.Client entity.now)) }
 {
     Ok(EntityOf::Client(ClientEntity {
-        service: number(
-            scope,
-            Referent::Entity(EntityKind::Service),
-            &entity.service,
-        )?,
+        service: reference.ok_or(Unread::Wrong)?,
         depth: entity.depth,
         script: script_in(alloc, scope, &entity.script)?,
     }))
@@ -119,7 +118,7 @@ fn server(
     scope: &NodeScope<'_, '_>,
     entity: &ServerEntity<Spelled>,
 ) -> Result<Resolved, Unread>
-    ensures { Gives result (resolved_by scope.now (variant.Server entity.now)) }
+    ensures { Gives result (resolved_by scope.now None (variant.Server entity.now)) }
 {
     Ok(EntityOf::Server(ServerEntity {
         depth: entity.depth,
@@ -133,28 +132,19 @@ fn server(
 fn action_client(
     alloc: Global,
     scope: &NodeScope<'_, '_>,
+    reference: Option<EntityNo>,
     entity: &ActionClientEntity<WordText, Spelled>,
 ) -> Result<Resolved, Unread>
-    ensures { Gives result (resolved_by scope.now (variant.ActionClient entity.now)) }
+    ensures { Gives result (resolved_by scope.now reference (variant.ActionClient entity.now)) }
 {
     Ok(EntityOf::ActionClient(ActionClientEntity {
-        server: number(scope, Referent::Entity(EntityKind::Server), &entity.server)?,
+        server: reference.ok_or(Unread::Wrong)?,
         depth: entity.depth,
         on_response: script_in(alloc, scope, &entity.on_response)?,
         on_code: script_in(alloc, scope, &entity.on_code)?,
         on_feedback: script_in(alloc, scope, &entity.on_feedback)?,
         on_result: result_script_in(alloc, scope, &entity.on_result)?,
     }))
-}
-
-// The number of what a name must be declared as.
-fn number(scope: &NodeScope<'_, '_>, to: Referent, name: &WordText) -> Result<EntityNo, Unread>
-    ensures { Gives result (number_in scope.now.directory to name.now) }
-{
-    match scope.number(to, name.as_str()) {
-        Some(number) => Ok(number),
-        None => Err(Unread::Wrong),
-    }
 }
 
 // The script for results, where an action client has one.

@@ -1,10 +1,10 @@
 //! The names that the scripts of a node may use.
 ghost use Rattle.std.specs.Prelude.{◌≡◌, ◌&&◌, ◌==◌, ◌≤◌, length};
-ghost use Rattle.exec_graph.specs.inner.Directory.{entity_number, number_in};
+ghost use Rattle.exec_graph.specs.inner.Directory.{entity_number};
 ghost use Rattle.exec_graph.specs.Entity.{is_of};
 
 use crate::draft::directory::Directory;
-use crate::entity::{EntityKind, Referent};
+use crate::entity::EntityKind;
 use exec_msg::EntityNo;
 use exec_script::Scope;
 use std::marker::Model;
@@ -34,14 +34,6 @@ impl<'d, 'a> NodeScope<'d, 'a> {
         ensures { result ≡ record { directory = directory.now; node = node } }
     {
         NodeScope { directory, node }
-    }
-
-    // The number of what a name must be declared as, in whatever node.
-    pub(crate) fn number(&self, to: Referent, name: &str) -> Option<EntityNo>
-        ensures { result ≡ number_in self.now.directory to name.now }
-    {
-        let number = self.directory.number(to, name)?;
-        Some(EntityNo(number as u16))
     }
 
     fn entity(&self, kind: EntityKind, name: &str) -> Option<EntityNo>

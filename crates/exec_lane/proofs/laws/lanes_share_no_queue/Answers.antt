@@ -1,12 +1,12 @@
 use Rattle.std.proofs.Common.{◌≤◌, ℕ, subst, sym}
 use Rattle.exec_lane.proofs.Cutting.{lanes_have_all}
 use Rattle.exec_lane.proofs.laws.lanes_share_no_queue.Goals as goal
-use Rattle.exec_world.specs.LawWords.{at_snapshot, is_callback_of}
+use Rattle.exec_world.specs.LawWords.{is_callback_of}
 use Rattle.exec_world.specs.Ready.{ready_list}
-use Rattle.exec_world.specs.Transcript.{first_world, rounds}
+use Rattle.exec_world.specs.Transcript.{at_snapshot, first_world, rounds}
 
 pub returns : goal.returns
 returns c = λ plan number moments next moment entity of other.
     subst (λ (count : ℕ). count ≤ 1)
-    (sym (lanes_have_all plan.graph (is_callback_of entity of) (ready_list plan.graph moment (at_snapshot plan next moment (rounds plan number moments (first_world plan.graph))))))
+    (sym (lanes_have_all plan.graph (is_callback_of entity of) (ready_list moment (at_snapshot plan next moment (rounds plan number moments (first_world plan.graph))))))
     (c.an_entity_has_one_callback_of_a_kind.ensures plan number moments next moment entity of other)

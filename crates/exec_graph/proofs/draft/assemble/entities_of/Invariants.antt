@@ -1,8 +1,8 @@
-use Rattle.std.proofs.Common.{drop}
+use Rattle.std.proofs.Common.{map, drop}
 use Rattle.exec_graph.specs.inner.Entries.{entities_of as entries_of}
 use Rattle.exec_graph.proofs.Appended.{Stands}
 use Rattle.exec_graph.proofs.draft.assemble.entities_of.Given as goal
 
 -- what stands so far, and then what is left, is all
-abbrev pub invariant-loop-placed : goal.invariant-loop-placed
-invariant-loop-placed l = Stands l.topics l.directory l.groups (drop l.placed-index l.placed-items) (entries_of l.entities.entries)
+abbrev pub invariant-loop-linked : goal.invariant-loop-linked
+invariant-loop-linked l = Stands l.topics l.directory (map (λ linked. linked.placed) (drop l.linked-index l.links)) (entries_of l.entities.entries)

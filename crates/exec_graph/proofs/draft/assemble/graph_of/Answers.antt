@@ -1,43 +1,43 @@
-use Rattle.std.proofs.Common.{ℕ, ◌==◌, inl, inr, ap, sym, subst, ◌∙◌, ◌≡◌, ◌≤◌, ◌++◌, length, map, string_bytes, List, true, refl}
+use Rattle.std.proofs.Common.{ℕ, ◌==◌, inl, inr, ap, sym, ◌∙◌, ◌≡◌, ◌++◌, map, string_bytes, List, true}
 use Rattle.std.proofs.lemmas.Result.{err_from_is_err_and}
 use Rattle.exec_graph.specs.inner.Directory.{DirectoryData}
 use Rattle.exec_graph.specs.inner.Entries.{entities_of as entries_of}
 use Rattle.exec_graph.specs.Faults.{is_small}
 use Rattle.exec_graph.specs.Graph.{GraphData}
-use Rattle.exec_graph.specs.Numbers.{Placed, groups_of, groups_from}
-use Rattle.exec_graph.specs.declared.entity.CallbackGroup.{CallbackGroup}
-use Rattle.exec_graph.proofs.Assembled.{few_nodes, few_groups, few_texts, directory_is, distinct, of_unread, of_script, of_variable, of_none, graph_with, graph_is, is_lawful, names_are, nothing_else, mapped_none, mapped_is}
+use Rattle.exec_graph.specs.Numbers.{Placed, groups_from}
+use Rattle.exec_graph.proofs.Assembled.{few_names, few_nodes, few_groups, few_texts, directory_is, distinct, of_unread, of_script, of_variable, of_none, graph_with, graph_is, is_lawful, names_are, nothing_else, mapped_none, mapped_is}
+use Rattle.exec_graph.proofs.Linking.{are_linked, entities_linked}
 use Rattle.exec_graph.proofs.draft.assemble.graph_of.Goals as goal
 
-pub entities_of-requires-clause-groups : goal.entities_of-requires-clause-groups
-entities_of-requires-clause-groups c =
+pub entities_of-requires-clause-links : goal.entities_of-requires-clause-links
+entities_of-requires-clause-links c =
     let draft = c.args.draft.now in
-    let small : is_small draft ≡ true = sym c.in_ok-small.ensures ∙ c.if-not-small.false in
-    subst (λ (groups : List CallbackGroup). length groups ≤ 65536) (sym (c.deref.ensures.value ∙ c.in_ok-groups.ensures ∙ ap (groups_from 0) c.as_slice.ensures)) (few_groups draft c.args.directory.now c.requires small)
+    let small : is_small draft ≡ true = sym c.is_small.ensures ∙ c.if-not-is_small.false in
+    are_linked draft c.args.directory.now (directory_is draft c.args.directory.now c.requires.named) (few_names draft c.args.directory.now c.requires.named small) (few_groups draft c.args.directory.now c.requires.named small) c.args.linked.now c.requires.linked
+
+pub entities_of-requires-clause-entities : goal.entities_of-requires-clause-entities
+entities_of-requires-clause-entities c = entities_linked c.args.directory.now c.args.linked.now c.requires.linked
 
 pub returns-in_default-clause-fault : goal.returns-in_default-clause-fault
 returns-in_default-clause-fault c =
     let draft = c.args.draft.now in
-    let small : is_small draft ≡ true = sym c.in_ok-small.ensures ∙ c.if-not-small.false in
-    let grouped : c.deref.result.now ≡ groups_of draft = c.deref.ensures.value ∙ c.in_ok-groups.ensures ∙ ap (groups_from 0) c.as_slice.ensures in
-    let found = c.in_ok-entities.ensures draft (distinct draft c.args.directory.now c.requires) c.as_slice-2.ensures (directory_is draft c.args.directory.now c.requires) grouped in
-    inr (of_unread draft c.args.directory.now c.requires small (mapped_none _ _ _ found (nothing_else c.in_ok-entities.field-0 c.in_default.not-Some)))
+    let small : is_small draft ≡ true = sym c.is_small.ensures ∙ c.if-not-is_small.false in
+    let found = c.in_ok-entities.ensures draft (distinct draft c.args.directory.now c.requires.named) c.as_slice-2.ensures (directory_is draft c.args.directory.now c.requires.named) in
+    inr (of_unread draft c.args.directory.now c.requires.named small (mapped_none _ _ _ found (nothing_else c.in_ok-entities.field-0 c.in_default.not-Some)))
 
 pub returns-then-is_any_faulty-clause-fault : goal.returns-then-is_any_faulty-clause-fault
 returns-then-is_any_faulty-clause-fault c =
     let draft = c.args.draft.now in
-    let small : is_small draft ≡ true = sym c.in_ok-small.ensures ∙ c.if-not-small.false in
-    let grouped : c.deref.result.now ≡ groups_of draft = c.deref.ensures.value ∙ c.in_ok-groups.ensures ∙ ap (groups_from 0) c.as_slice.ensures in
-    let found = c.in_ok-entities.ensures draft (distinct draft c.args.directory.now c.requires) c.as_slice-2.ensures (directory_is draft c.args.directory.now c.requires) grouped in
-    inr (of_script draft c.args.directory.now c.requires small c.deref-2.result.now (c.deref-2.ensures.value ∙ c.in_ok-groups.ensures ∙ ap (groups_from 0) c.as_slice.ensures) c.in-Some.entities.entries (mapped_is _ _ _ _ found c.in-Some.is) c.deref-3.result.now (c.deref-3.ensures.value ∙ c.in_ok-faults.ensures) (sym c.if-is_any_faulty.true ∙ c.is_any_faulty.ensures))
+    let small : is_small draft ≡ true = sym c.is_small.ensures ∙ c.if-not-is_small.false in
+    let found = c.in_ok-entities.ensures draft (distinct draft c.args.directory.now c.requires.named) c.as_slice-2.ensures (directory_is draft c.args.directory.now c.requires.named) in
+    inr (of_script draft c.args.directory.now c.requires.named small c.deref.result.now (c.deref.ensures.value ∙ c.in_ok-groups.ensures ∙ ap (groups_from 0) c.as_slice.ensures) c.in-Some.entities.entries (mapped_is _ _ _ _ found c.in-Some.is) c.deref-2.result.now (c.deref-2.ensures.value ∙ c.in_ok-faults.ensures) (sym c.if-is_any_faulty.true ∙ c.is_any_faulty.ensures))
 
 pub returns-then-not-is_empty-clause-fault : goal.returns-then-not-is_empty-clause-fault
 returns-then-not-is_empty-clause-fault c =
     let draft = c.args.draft.now in
-    let small : is_small draft ≡ true = sym c.in_ok-small.ensures ∙ c.if-not-small.false in
-    let grouped : c.deref.result.now ≡ groups_of draft = c.deref.ensures.value ∙ c.in_ok-groups.ensures ∙ ap (groups_from 0) c.as_slice.ensures in
-    let found = c.in_ok-entities.ensures draft (distinct draft c.args.directory.now c.requires) c.as_slice-2.ensures (directory_is draft c.args.directory.now c.requires) grouped in
-    inr (of_variable draft c.args.directory.now c.requires small c.deref-2.result.now (c.deref-2.ensures.value ∙ c.in_ok-groups.ensures ∙ ap (groups_from 0) c.as_slice.ensures) c.in-Some.entities.entries (mapped_is _ _ _ _ found c.in-Some.is) c.deref-3.result.now (c.deref-3.ensures.value ∙ c.in_ok-faults.ensures) (sym c.if-is_any_faulty.false ∙ c.is_any_faulty.ensures) (ap (λ (n : ℕ). n == 0) c.deref-3.ensures.len ∙ sym c.is_empty.ensures ∙ c.if-not-is_empty.true))
+    let small : is_small draft ≡ true = sym c.is_small.ensures ∙ c.if-not-is_small.false in
+    let found = c.in_ok-entities.ensures draft (distinct draft c.args.directory.now c.requires.named) c.as_slice-2.ensures (directory_is draft c.args.directory.now c.requires.named) in
+    inr (of_variable draft c.args.directory.now c.requires.named small c.deref.result.now (c.deref.ensures.value ∙ c.in_ok-groups.ensures ∙ ap (groups_from 0) c.as_slice.ensures) c.in-Some.entities.entries (mapped_is _ _ _ _ found c.in-Some.is) c.deref-2.result.now (c.deref-2.ensures.value ∙ c.in_ok-faults.ensures) (sym c.if-is_any_faulty.false ∙ c.is_any_faulty.ensures) (ap (λ (n : ℕ). n == 0) c.deref-2.ensures.len ∙ sym c.is_empty.ensures ∙ c.if-not-is_empty.true))
 
 pub returns-in_err-names-clause-fault : goal.returns-in_err-names-clause-fault
 returns-in_err-names-clause-fault c =
@@ -47,26 +47,25 @@ returns-in_err-names-clause-fault c =
 pub of-requires-2 : goal.of-requires-2
 of-requires-2 c =
     let draft = c.args.draft.now in
-    let small : is_small draft ≡ true = sym c.in_ok-small.ensures ∙ c.if-not-small.false in
-    few_texts draft c.args.directory.now c.requires small c.in_ok-names.names.items string_bytes c.entities-3.result.now (c.in_ok-names.ensures ∙ ap (λ (topics : List (List ℕ)). topics ++ map (λ placed. placed.entity.name) c.entities-3.result.now) c.as_slice-3.ensures) c.entities-3.ensures
+    let small : is_small draft ≡ true = sym c.is_small.ensures ∙ c.if-not-is_small.false in
+    few_texts draft c.args.directory.now c.requires.named small c.in_ok-names.names.items string_bytes c.entities-3.result.now (c.in_ok-names.ensures ∙ ap (λ (topics : List (List ℕ)). topics ++ map (λ placed. placed.entity.name) c.entities-3.result.now) c.as_slice-3.ensures) c.entities-3.ensures
 
 pub of-requires : goal.of-requires
 of-requires c =
     let draft = c.args.draft.now in
-    let small : is_small draft ≡ true = sym c.in_ok-small.ensures ∙ c.if-not-small.false in
-    few_nodes draft c.args.directory.now c.requires small c.in_ok-nodes.nodes.items string_bytes (c.in_ok-nodes.ensures ∙ ap (map (λ node. node.name)) c.as_slice-4.ensures)
+    let small : is_small draft ≡ true = sym c.is_small.ensures ∙ c.if-not-is_small.false in
+    few_nodes draft c.args.directory.now c.requires.named small c.in_ok-nodes.nodes.items string_bytes (c.in_ok-nodes.ensures ∙ ap (map (λ node. node.name)) c.as_slice-4.ensures)
 
 pub invariant_of-result : goal.invariant_of-result
 invariant_of-result c =
     let draft = c.args.draft.now in
-    let small : is_small draft ≡ true = sym c.in_ok-small.ensures ∙ c.if-not-small.false in
-    let grouped : c.deref.result.now ≡ groups_of draft = c.deref.ensures.value ∙ c.in_ok-groups.ensures ∙ ap (groups_from 0) c.as_slice.ensures in
-    let found = c.in_ok-entities.ensures draft (distinct draft c.args.directory.now c.requires) c.as_slice-2.ensures (directory_is draft c.args.directory.now c.requires) grouped in
-    let faultless = of_none draft c.args.directory.now c.requires small c.deref-2.result.now (c.deref-2.ensures.value ∙ c.in_ok-groups.ensures ∙ ap (groups_from 0) c.as_slice.ensures) c.in-Some.entities.entries (mapped_is _ _ _ _ found c.in-Some.is) c.deref-3.result.now (c.deref-3.ensures.value ∙ c.in_ok-faults.ensures) (sym c.if-is_any_faulty.false ∙ c.is_any_faulty.ensures) (ap (λ (n : ℕ). n == 0) c.deref-3.ensures.len ∙ sym c.is_empty.ensures ∙ c.if-not-is_empty.false) in
+    let small : is_small draft ≡ true = sym c.is_small.ensures ∙ c.if-not-is_small.false in
+    let found = c.in_ok-entities.ensures draft (distinct draft c.args.directory.now c.requires.named) c.as_slice-2.ensures (directory_is draft c.args.directory.now c.requires.named) in
+    let faultless = of_none draft c.args.directory.now c.requires.named small c.deref.result.now (c.deref.ensures.value ∙ c.in_ok-groups.ensures ∙ ap (groups_from 0) c.as_slice.ensures) c.in-Some.entities.entries (mapped_is _ _ _ _ found c.in-Some.is) c.deref-2.result.now (c.deref-2.ensures.value ∙ c.in_ok-faults.ensures) (sym c.if-is_any_faulty.false ∙ c.is_any_faulty.ensures) (ap (λ (n : ℕ). n == 0) c.deref-2.ensures.len ∙ sym c.is_empty.ensures ∙ c.if-not-is_empty.false) in
     let made : GraphData = graph_with c.of.result c.in_ok-groups.groups.items (entries_of c.in-Some.entities.entries) in
     let nodes = c.of.ensures ∙ c.in_ok-nodes.ensures ∙ ap (map (λ node. node.name)) c.as_slice-4.ensures in
     let gathered = c.in_ok-groups.ensures ∙ ap (groups_from 0) c.as_slice.ensures in
-    let placed = c.entities-3.ensures ∙ ap (λ (directory : DirectoryData). directory.entities) (directory_is draft c.args.directory.now c.requires) in
+    let placed = c.entities-3.ensures ∙ ap (λ (directory : DirectoryData). directory.entities) (directory_is draft c.args.directory.now c.requires.named) in
     let names =
     c.of-2.ensures ∙ c.in_ok-names.ensures ∙ ap (λ (topics : List (List ℕ)). topics ++ map (λ placed. placed.entity.name) c.entities-3.result.now) c.as_slice-3.ensures ∙ ap (λ (placed : List Placed). c.args.draft.now.topics ++ map (λ placed. placed.entity.name) placed) placed
     ∙ names_are draft made nodes gathered (mapped_is _ _ _ _ found c.in-Some.is) in
@@ -75,9 +74,8 @@ invariant_of-result c =
 pub returns-clause-graph : goal.returns-clause-graph
 returns-clause-graph c =
     let draft = c.args.draft.now in
-    let small : is_small draft ≡ true = sym c.in_ok-small.ensures ∙ c.if-not-small.false in
-    let grouped : c.deref.result.now ≡ groups_of draft = c.deref.ensures.value ∙ c.in_ok-groups.ensures ∙ ap (groups_from 0) c.as_slice.ensures in
-    let found = c.in_ok-entities.ensures draft (distinct draft c.args.directory.now c.requires) c.as_slice-2.ensures (directory_is draft c.args.directory.now c.requires) grouped in
-    let faultless = of_none draft c.args.directory.now c.requires small c.deref-2.result.now (c.deref-2.ensures.value ∙ c.in_ok-groups.ensures ∙ ap (groups_from 0) c.as_slice.ensures) c.in-Some.entities.entries (mapped_is _ _ _ _ found c.in-Some.is) c.deref-3.result.now (c.deref-3.ensures.value ∙ c.in_ok-faults.ensures) (sym c.if-is_any_faulty.false ∙ c.is_any_faulty.ensures) (ap (λ (n : ℕ). n == 0) c.deref-3.ensures.len ∙ sym c.is_empty.ensures ∙ c.if-not-is_empty.false) in
+    let small : is_small draft ≡ true = sym c.is_small.ensures ∙ c.if-not-is_small.false in
+    let found = c.in_ok-entities.ensures draft (distinct draft c.args.directory.now c.requires.named) c.as_slice-2.ensures (directory_is draft c.args.directory.now c.requires.named) in
+    let faultless = of_none draft c.args.directory.now c.requires.named small c.deref.result.now (c.deref.ensures.value ∙ c.in_ok-groups.ensures ∙ ap (groups_from 0) c.as_slice.ensures) c.in-Some.entities.entries (mapped_is _ _ _ _ found c.in-Some.is) c.deref-2.result.now (c.deref-2.ensures.value ∙ c.in_ok-faults.ensures) (sym c.if-is_any_faulty.false ∙ c.is_any_faulty.ensures) (ap (λ (n : ℕ). n == 0) c.deref-2.ensures.len ∙ sym c.is_empty.ensures ∙ c.if-not-is_empty.false) in
     let made : GraphData = graph_with c.of.result c.in_ok-groups.groups.items (entries_of c.in-Some.entities.entries) in
     (faultless, graph_is draft made (c.of.ensures ∙ c.in_ok-nodes.ensures ∙ ap (map (λ node. node.name)) c.as_slice-4.ensures) (c.in_ok-groups.ensures ∙ ap (groups_from 0) c.as_slice.ensures) (mapped_is _ _ _ _ found c.in-Some.is))

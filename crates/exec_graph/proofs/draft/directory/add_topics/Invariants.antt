@@ -1,4 +1,4 @@
-use Rattle.std.proofs.Common.{◌≡◌, map, drop, string_bytes}
+use Rattle.std.proofs.Common.{◌≡◌, map, drop}
 use Rattle.exec_graph.specs.inner.Directory.{names_from}
 use Rattle.exec_graph.proofs.draft.directory.add_topics.Given as goal
 

@@ -1,4 +1,4 @@
-use Rattle.std.proofs.Common.{◌≡◌, ◌∙◌, ◌&&◌, ap, sym, is_some, bytes_eq, List}
+use Rattle.std.proofs.Common.{◌∙◌, ◌&&◌, ap, sym, is_some, bytes_eq, List}
 use Rattle.std.specs.List.{list_any}
 use Rattle.exec_graph.specs.declared.draft.GraphDraft.{GraphDraft}
 use Rattle.exec_graph.specs.Entity.{is_of}

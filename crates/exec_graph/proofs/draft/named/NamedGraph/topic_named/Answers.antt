@@ -12,6 +12,6 @@ returns c =
     let draft : GraphDraft = c.self.inside.draft.now in
     c.is_some.ensures
     ∙ ap is_some (c.number.ensures.number
-    ∙ ap (λ (directory : DirectoryData). number_in directory referent.Topic c.args.name.now) (directory_is draft c.self.inside.directory c.self.invariant)
-    ∙ number_same draft (distinct draft c.self.inside.directory c.self.invariant) referent.Topic c.args.name.now)
+    ∙ ap (λ (directory : DirectoryData). number_in directory referent.Topic c.args.name.now) (directory_is draft c.self.inside.directory c.self.invariant.0)
+    ∙ number_same draft (distinct draft c.self.inside.directory c.self.invariant.0) referent.Topic c.args.name.now)
     ∙ ap (λ (draft : GraphDraft). is_some (topic_named draft c.args.name.now)) c.self.view_is

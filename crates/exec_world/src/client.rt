@@ -1,0 +1,84 @@
+use exec_msg::{EntityNo, Memory};
+use exec_task::PendingCall;
+use indexmap::IndexMap;
+use std::alloc::Global;
+use std::marker::Model;
+
+// A service client.
+#[derive(Drop)]
+pub(crate) struct Client {
+    entity: EntityNo,
+    service: EntityNo,
+    // The number of its last call.
+    calls: u64,
+    // The calls without a reply, each by its number.
+    pending: IndexMap<u64, PendingCall>,
+}
+
+impl Model for Client {
+    ghost use Rattle.std.specs.List.{All};
+    ghost use Rattle.std.specs.Map.{keys_of};
+    ghost use Rattle.std.specs.Prelude.{◌≤◌};
+    ghost use Rattle.exec_world.specs.World.{ClientEntry};
+
+    ghost Value = { ClientEntry };
+
+    ghost view = { λ client. record { entity = client.entity; service = client.service; calls = client.calls; pending = keys_of client.pending.entries } };
+
+    ghost invariant = { λ client. All (λ number. number ≤ client.calls) (keys_of client.pending.entries) };
+}
+
+impl Client {
+    ghost use Rattle.std.specs.Prelude.{◌≡◌, ◌+◌, ◌<◌, ◌^◌, [], ◌==◌, length, OnOk, OnErr, IfOk};
+    ghost use Rattle.exec_msg.specs.Lists.{drop_first};
+    ghost use Rattle.exec_world.specs.World.{client_called};
+
+    // A client of a service that hasn't called yet. It takes no memory.
+    pub(crate) fn new(alloc: Global, entity: EntityNo, service: EntityNo) -> Client
+        ensures { result ≡ record { entity = entity; service = service; calls = 0; pending = [] } }
+    {
+        Client {
+            entity,
+            service,
+            calls: 0,
+            pending: IndexMap::new(alloc),
+        }
+    }
+
+    // Its service.
+    pub(crate) fn service(&self) -> EntityNo
+        ensures { result ≡ self.now.service }
+    {
+        self.service
+    }
+
+    // Makes its next call, which pends, and gives the call's number, from 1.
+    pub(crate) fn call(&mut self) -> Result<u64, Memory>
+        requires { self.old.calls < 2 ^ 63 }
+        ensures number { IfOk result (λ number. number ≡ self.old.calls + 1) }
+        ensures called { OnOk result (self.new ≡ client_called self.old) }
+        ensures refused { OnErr result (self.new ≡ self.old) }
+    {
+        let number = self.calls + 1;
+        self.pending.insert(number, PendingCall::new(number))?;
+        self.calls = number;
+        Ok(number)
+    }
+
+    // Gives a call its reply, after which it pends no more. A call that doesn't pend stays answered.
+    pub(crate) fn complete(&mut self, number: u64, value: i64)
+        ensures { self.new ≡ record self.old { pending = drop_first (λ call. call == number) self.old.pending } }
+    {
+        if let Some(mut call) = self.pending.shift_remove(&number) {
+            // The call is new to a reply: it pends.
+            let _ = call.complete(value);
+        }
+    }
+
+    // How many calls pend.
+    pub(crate) fn pending(&self) -> usize
+        ensures { result ≡ length self.now.pending }
+    {
+        self.pending.len()
+    }
+}
