@@ -5,6 +5,9 @@ pub mod Depths
 pub mod Displaced
 pub mod Ended
 pub mod Expiring
+pub mod Filled
+pub mod FirstPlaces
+pub mod FoundQueues
 pub mod Growing
 pub mod Handling
 pub mod HeldEntries

@@ -1,4 +1,6 @@
 pub mod Keeping
 pub mod Numbered
+pub mod Places
 pub mod Polling
+pub mod Queues
 pub mod Server

@@ -1,5 +1,8 @@
+ghost use Rattle.std.specs.Prelude.{◌≡◌};
+ghost use Rattle.exec_world.specs.Item.{taker_of, id_of};
+
 use exec_goal::CancelRequest;
-use exec_msg::{EntityNo, GoalId, GoalStatus, ReturnCode};
+use exec_msg::{EntityNo, GoalId, GoalStatus, Kind, ReturnCode};
 
 /// What stands in a queue until a callback takes it.
 #[derive(Clone, Copy, Debug, PartialEq, Eq)]
@@ -56,4 +59,40 @@ pub enum Item {
         status: GoalStatus,
         value: i64,
     },
+}
+
+impl Item {
+    /// The kind of callback that takes it.
+    pub fn kind(&self) -> Kind
+        ensures { result ≡ taker_of self.now }
+    {
+        match self {
+            Item::Message { .. } => Kind::Message,
+            Item::Request { .. } => Kind::Request,
+            Item::Reply { .. } => Kind::Reply,
+            Item::Goal { .. } => Kind::Goal,
+            Item::Cancel { .. } => Kind::Cancel,
+            Item::Ask { .. } => Kind::Ask,
+            Item::Response { .. } => Kind::Response,
+            Item::Code { .. } => Kind::Code,
+            Item::Feedback { .. } => Kind::Feedback,
+            Item::Result { .. } => Kind::Result,
+        }
+    }
+
+    /// The identifier on the line of its callback.
+    pub fn id(&self) -> Option<GoalId>
+        ensures { result ≡ id_of self.now }
+    {
+        match self {
+            Item::Message { .. } | Item::Request { .. } | Item::Reply { .. } | Item::Code { .. } =>
+                None,
+            Item::Cancel { request, .. } => Some(request.id),
+            Item::Goal { id, .. }
+            | Item::Ask { id, .. }
+            | Item::Response { id, .. }
+            | Item::Feedback { id, .. }
+            | Item::Result { id, .. } => Some(*id),
+        }
+    }
 }

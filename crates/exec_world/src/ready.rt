@@ -1,7 +1,10 @@
+ghost use Rattle.std.specs.Prelude.{◌≡◌};
+ghost use Rattle.exec_world.specs.Ready.{kind_of, id_for};
+
 use crate::item::Item;
 use exec_goal::GoalInfo;
 use exec_graph::{GroupNo, Script};
-use exec_msg::{EntityNo, GoalId, Items, Moment};
+use exec_msg::{EntityNo, GoalId, Items, Kind, Moment};
 
 /// Why a callback is ready.
 #[derive(Clone, Copy, Debug, PartialEq, Eq)]
@@ -38,4 +41,28 @@ pub struct Ready {
     /// What runs, of a cancel request once for each candidate. None for an ask, and none for a goal request whose identifier
     /// is held, or that finds no room, at the snapshot.
     pub script: Option<Script>,
+}
+
+impl Cause {
+    /// The kind of the callback.
+    pub fn kind(&self) -> Kind
+        ensures { result ≡ kind_of self.now }
+    {
+        match self {
+            Cause::Due => Kind::Timer,
+            Cause::Took(item) => item.kind(),
+            Cause::Woke { .. } => Kind::Poll,
+        }
+    }
+
+    /// The identifier on the callback's line.
+    pub fn id(&self) -> Option<GoalId>
+        ensures { result ≡ id_for self.now }
+    {
+        match self {
+            Cause::Due => None,
+            Cause::Took(item) => item.id(),
+            Cause::Woke { id, .. } => Some(*id),
+        }
+    }
 }

@@ -1,0 +1,162 @@
+-- A look-up by entity and kind gives the place of the first such queue, and places with items are covered.
+use Rattle.std.proofs.Common.{◌≡◌, ℕ, zero, suc, ◌+◌, ◌*◌, ◌-◌, ◌<◌, ◌≤◌, ◌&&◌, ◌==◌, ◌⊎◌, inl, inr, ⊎_elim, Bool, true, false, not, length, List, [], ◌∷◌, ◌++◌, Option, Some, None, IfSome, slice_get, take, refl, sym, ap, subst, ◌∙◌, arith}
+use Rattle.std.specs.List.{Contains}
+use Rattle.std.specs.Option.{option_map_or, option_flatten, option_to_list}
+use Rattle.std.proofs.lemmas.Bool.{eqb-true, eq-eqb, both_ways}
+use Rattle.std.proofs.lemmas.List.{length_push}
+use Rattle.exec_msg.specs.KeepLast.{displaced}
+use Rattle.exec_msg.specs.Kind.{ready_number}
+use Rattle.exec_msg.specs.declared.kind.Kind.{Kind}
+use Rattle.exec_msg.specs.declared.kind.Kind.TheVariants as kind
+use Rattle.exec_world.proofs.FirstPlaces.{first_place-changed, first_place-behind, place_or}
+use Rattle.exec_world.specs.World.{Queue, is_queue, queue_after}
+use Rattle.exec_world.specs.declared.item.Item.{Item}
+use Rattle.exec_world.specs.inner.Places.{first_place, change_at, noted}
+use Rattle.exec_world.specs.inner.Queues.{slot_of, has_item, is_filled_at, FindsQueues, CoversFilled}
+
+-- what a look-up gives is the first place
+pub looked_up : (places : List (Option ℕ)) (queues held : List Queue) → FindsQueues places queues → queues ≡ held
+    → (entity : ℕ) (given of : Kind) → given ≡ of → (asked : List (Option ℕ)) (slot : ℕ) → asked ≡ places → slot ≡ slot_of entity given
+    → (found : Option ℕ) → found ≡ option_flatten (slice_get asked slot) → first_place (is_queue entity of) held ≡ found
+looked_up places queues held finds views entity given of named asked slot same counted found is =
+    ap (first_place (is_queue entity of)) (sym views)
+    ∙ sym (finds entity of)
+    ∙ (λ i. option_flatten (slice_get (sym same i) ((ap (slot_of entity) (sym named) ∙ sym counted) i)))
+    ∙ sym is
+
+-- a queue that an item is sent to is found as before
+pub finds_after : (places : List (Option ℕ)) (queues after : List Queue) (place : ℕ) (item : Item) → FindsQueues places queues
+    → after ≡ change_at place (queue_after item) queues → FindsQueues places after
+finds_after places queues after place item finds is = λ entity kind.
+    finds entity kind
+    ∙ sym (first_place-changed (is_queue entity kind) (queue_after item) (λ queue. refl) place queues)
+    ∙ ap (first_place (is_queue entity kind)) (sym is)
+
+-- ---- what is changed at a place
+
+up : {a b : ℕ} {P : Type 0} → (a ≡ b) ⊎ P → (suc a ≡ suc b) ⊎ P
+up (inl same) = inl (ap suc same)
+up (inr other) = inr other
+
+-- another place keeps its element
+there_or_same : {A : Type 0} (change : A → A) (place other : ℕ) (xs : List A) → (place ≡ other) ⊎ (slice_get (change_at place change xs) other ≡ slice_get xs other)
+there_or_same change place other [] = inr refl
+there_or_same change zero zero (x ∷ xs) = inl refl
+there_or_same change zero (suc other) (x ∷ xs) = inr refl
+there_or_same change (suc place) zero (x ∷ xs) = inr refl
+there_or_same change (suc place) (suc other) (x ∷ xs) = up (there_or_same change place other xs)
+
+-- the filled queues stay covered
+pub covers_after : (old new : List ℕ) (queues after : List Queue) (place : ℕ) (change : Queue → Queue) → CoversFilled old queues
+    → ((other : ℕ) → Contains old other → Contains new other) → Contains new place → after ≡ change_at place change queues → CoversFilled new after
+covers_after old new queues after place change covers keeps has is = λ other filled.
+    ⊎_elim
+    (λ same. subst (Contains new) same has)
+    (λ kept. keeps other (covers other (ap (λ found. option_map_or has_item found false) (sym kept) ∙ ap (λ these. is_filled_at these other) (sym is) ∙ filled)))
+    (there_or_same change place other queues)
+
+-- ---- one queue more
+
+number_bound : (of : Kind) → ready_number of ≤ 12
+number_bound kind.Timer = omega arith
+number_bound kind.Message = omega arith
+number_bound kind.Request = omega arith
+number_bound kind.Reply = omega arith
+number_bound kind.Goal = omega arith
+number_bound kind.Cancel = omega arith
+number_bound kind.Ask = omega arith
+number_bound kind.Poll = omega arith
+number_bound kind.Response = omega arith
+number_bound kind.Code = omega arith
+number_bound kind.Feedback = omega arith
+number_bound kind.Result = omega arith
+
+both_true : (a b m n : ℕ) → (a ≡ b) → (m ≡ n) → ((a == b) && (m == n)) ≡ true
+both_true a b m n first second = (λ i. (eq-eqb a b first i) && (eq-eqb m n second i))
+
+left_of : (p q : Bool) → (p && q) ≡ true → p ≡ true
+left_of true q is = refl
+left_of false q is = is
+
+right_of : (p q : Bool) → (p && q) ≡ true → q ≡ true
+right_of true q is = is
+right_of false true is = refl
+right_of false false is = is
+
+same_slot : (a b m n : ℕ) → ((a == b) && (m == n)) ≡ true → a * 13 + m ≡ b * 13 + n
+same_slot a b m n is = λ i. eqb-true a b (left_of (a == b) (m == n) is) i * 13 + eqb-true m n (right_of (a == b) (m == n) is) i
+
+other_slot : (a b m n : ℕ) → m ≤ 12 → n ≤ 12 → ((a == b) && (m == n)) ≡ false → a * 13 + m ≡ b * 13 + n → ⊥
+other_slot a b m n low high is same =
+    let first : a ≡ b = omega arith in
+    let second : m ≡ n = omega arith in
+    both_ways ((a == b) && (m == n)) is (both_true a b m n first second)
+
+-- a slot that exists finds the place that is noted in it
+there_at : (n slot : ℕ) (made : List (Option ℕ)) → slot < length made
+    → option_flatten (slice_get (change_at slot (noted n) made) slot) ≡ place_or (option_flatten (slice_get made slot)) true n
+there_at n slot [] within = absurd (omega arith)
+there_at n zero (None ∷ made) within = refl
+there_at n zero (Some place ∷ made) within = refl
+there_at n (suc slot) (place ∷ made) within = there_at n slot made (omega arith)
+
+not_noted : (found : Option ℕ) (n : ℕ) → found ≡ place_or found false n
+not_noted None n = refl
+not_noted (Some place) n = refl
+
+noted_at : (b : Bool) (n slot other : ℕ) (made : List (Option ℕ)) → slot < length made → (b ≡ true → slot ≡ other) → (b ≡ false → slot ≡ other → ⊥)
+    → option_flatten (slice_get (change_at slot (noted n) made) other) ≡ place_or (option_flatten (slice_get made other)) b n
+noted_at true n slot other made within same apart =
+    subst (λ at. option_flatten (slice_get (change_at slot (noted n) made) at) ≡ place_or (option_flatten (slice_get made at)) true n) (same refl) (there_at n slot made within)
+noted_at false n slot other made within same apart =
+    ⊎_elim
+    (λ here. absurd (apart refl here))
+    (λ kept. ap option_flatten kept ∙ not_noted (option_flatten (slice_get made other)) n)
+    (there_or_same (noted n) slot other made)
+
+-- each look-up finds as before, or the queue that is declared
+pub finds_behind : (old made new : List (Option ℕ)) (queues : List Queue) (queue : Queue) (entity slot : ℕ) (of : Kind) → FindsQueues old queues
+    → ((other : ℕ) → option_flatten (slice_get made other) ≡ option_flatten (slice_get old other)) → slot < length made
+    → slot ≡ slot_of entity of → queue.handler.entity ≡ entity → queue.kind ≡ of → new ≡ change_at slot (noted (length queues)) made
+    → FindsQueues new (queues ++ queue ∷ [])
+finds_behind old made new queues queue entity slot of finds same within counted is_entity is_kind is = λ other kind.
+    ap (λ places. option_flatten (slice_get places (slot_of other kind))) is
+    ∙ noted_at (is_queue other kind queue) (length queues) slot (slot_of other kind) made within
+    (λ yes. at ∙ same_slot queue.handler.entity other (ready_number queue.kind) (ready_number kind) yes)
+    (λ no here. other_slot queue.handler.entity other (ready_number queue.kind) (ready_number kind) (number_bound queue.kind) (number_bound kind) no (sym at ∙ here))
+    ∙ ap (λ found. place_or found (is_queue other kind queue) (length queues)) (same (slot_of other kind) ∙ finds other kind)
+    ∙ sym (first_place-behind (is_queue other kind) queues queue)
+  where
+    at : slot ≡ slot_of queue.handler.entity queue.kind
+    at = counted ∙ (λ i. slot_of (sym is_entity i) (sym is_kind i))
+
+filled_behind : (queues : List Queue) (queue : Queue) (place : ℕ) → queue.items ≡ [] → is_filled_at (queues ++ queue ∷ []) place ≡ is_filled_at queues place
+filled_behind [] queue zero is = ap (λ items. not (length items == 0)) is
+filled_behind [] queue (suc place) is = refl
+filled_behind (first ∷ queues) queue zero is = refl
+filled_behind (first ∷ queues) queue (suc place) is = filled_behind queues queue place is
+
+-- an empty queue needs no place
+pub covers_behind : (filled : List ℕ) (queues : List Queue) (queue : Queue) → CoversFilled filled queues → queue.items ≡ [] → CoversFilled filled (queues ++ queue ∷ [])
+covers_behind filled queues queue covers empty = λ place is. covers place (sym (filled_behind queues queue place empty) ∙ is)
+
+-- ---- what is lost
+
+one_at_most : {A : Type 0} (n : ℕ) (xs : List A) → n ≤ 1 → option_to_list (slice_get (take n xs) 0) ≡ take n xs
+one_at_most zero xs low = refl
+one_at_most (suc zero) [] low = refl
+one_at_most (suc zero) (x ∷ xs) low = refl
+one_at_most (suc (suc n)) xs low = absurd (omega arith)
+
+lost_of : (found : Option Queue) (item : Item) → IfSome found (λ queue. length queue.items ≤ queue.depth)
+    → option_to_list (option_map_or (λ queue. slice_get (displaced queue.depth item queue.items) 0) found None) ≡ option_map_or (λ queue. displaced queue.depth item queue.items) found []
+lost_of None item bound = refl
+lost_of (Some queue) item bound =
+    let long = length_push queue.items item in
+    one_at_most (length (queue.items ++ item ∷ []) - queue.depth) (queue.items ++ item ∷ []) (omega (arith, long))
+
+-- what a queue loses is no more than one item
+pub lost_is : (found : Option Queue) (item : Item) (lost : Option Item) → IfSome found (λ queue. length queue.items ≤ queue.depth)
+    → lost ≡ option_map_or (λ queue. slice_get (displaced queue.depth item queue.items) 0) found None
+    → option_to_list lost ≡ option_map_or (λ queue. displaced queue.depth item queue.items) found []
+lost_is found item lost bound is = ap option_to_list is ∙ lost_of found item bound

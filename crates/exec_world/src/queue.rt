@@ -1,0 +1,373 @@
+//! The queues of a plan's entities in ready order, found by entity and kind. A snapshot walks over those that have an item,
+//! and over no other.
+ghost use Rattle.std.specs.Prelude.{◌≡◌, ◌==◌, ◌&&◌, ℕ, ◌<◌, ◌≤◌, ◌^◌, [], ◌∷◌, ◌++◌, false, None, Some, length, map, slice_get, OnOk, OnErr, IfOk, IfSome};
+ghost use Rattle.std.specs.List.{Contains, filter, find};
+ghost use Rattle.std.specs.List.Sorted.{IsStrictlyIncreasing};
+ghost use Rattle.std.specs.Option.{option_copied, option_flatten, option_map, option_map_or, option_to_list};
+ghost use Rattle.exec_msg.specs.KeepLast.{displaced};
+ghost use Rattle.exec_msg.specs.Kind.{ready_number};
+ghost use Rattle.exec_msg.specs.Lists.{change_first};
+ghost use Rattle.exec_msg.specs.declared.limits.TheConstants.{DEPTH};
+ghost use Rattle.exec_world.specs.Item.{taker_of};
+ghost use Rattle.exec_world.specs.Ready.{is_before_polls, queue_taken};
+ghost use Rattle.exec_world.specs.World.{Queue, is_queue, queue_after};
+ghost use Rattle.exec_world.specs.inner.Places.{change_at, change_each, noted, places_where};
+ghost use Rattle.exec_world.specs.inner.Queues.{slot_of, CoversFilled, has_item, is_filled_at, is_in_part, is_in_part_at, lost_from};
+
+use crate::handler::Handler;
+use crate::item::Item;
+use exec_msg::{EntityNo, Kind, LazyQueue, Memory};
+use std::alloc::Global;
+use std::marker::Model;
+
+// The queue of an entity from which its callback of a kind takes.
+#[derive(Drop)]
+struct Cell {
+    handler: Handler,
+    kind: Kind,
+    queue: LazyQueue<Item>,
+}
+
+impl Model for Cell {
+    ghost use Rattle.exec_world.specs.World.{Queue};
+
+    ghost Value = { Queue };
+
+    ghost view = { λ cell. record { handler = cell.handler; kind = cell.kind; depth = cell.queue.depth; items = cell.queue.items } };
+}
+
+impl Cell {
+    fn send(&mut self, item: Item) -> Result<Option<Item>, Memory>
+        ensures ok { OnOk result (self.new ≡ queue_after item self.old) }
+        ensures lost { IfOk result (λ lost. lost ≡ slice_get (displaced self.old.depth item self.old.items) 0) }
+        ensures err { OnErr result (self.new ≡ self.old) }
+    {
+        let lost = self.queue.send(item)?;
+        Ok(lost)
+    }
+
+    fn take(&mut self)
+        ensures { self.new ≡ queue_taken self.old }
+    {
+        self.queue.take();
+    }
+
+    fn front(&self) -> Option<Item>
+        ensures { result ≡ slice_get self.now.items 0 }
+    {
+        match self.queue.front() {
+            None => None,
+            Some(item) => Some(*item),
+        }
+    }
+
+    fn is_empty(&self) -> bool
+        ensures value { result ≡ (length self.now.items == 0) }
+        ensures bound { length self.now.items ≤ self.now.depth }
+    {
+        self.queue.len() == 0
+    }
+
+    fn handler(&self) -> &Handler
+        ensures { result.now ≡ self.now.handler }
+    {
+        &self.handler
+    }
+
+    fn is_before_polls(&self) -> bool
+        ensures { result ≡ is_before_polls self.now.kind }
+    {
+        number(self.kind) <= number(Kind::Poll)
+    }
+}
+
+/// Queues in the order in which they were declared.
+#[derive(Drop)]
+pub(crate) struct Queues {
+    alloc: Global,
+    cells: Vec<Cell>,
+    // By entity and kind. A round finds a queue by it, and walks over none.
+    places: Vec<Option<usize>>,
+    // The places of the queues that have an item, and of some that had one.
+    filled: Vec<usize>,
+}
+
+impl Model for Queues {
+    ghost use Rattle.std.specs.Prelude.{List};
+    ghost use Rattle.exec_world.specs.World.{Queue};
+    ghost use Rattle.exec_world.specs.inner.Queues.{FindsQueues, CoversFilled};
+
+    ghost Value = { List Queue };
+
+    ghost view = { λ queues. queues.cells.items };
+
+    ghost invariant = { λ queues. FindsQueues queues.places.items queues.cells.items × CoversFilled queues.filled.items queues.cells.items };
+}
+
+impl Queues {
+    /// No queues. It takes no memory.
+    pub(crate) fn new(alloc: Global) -> Queues
+        ensures { result ≡ [] }
+    {
+        Queues {
+            alloc,
+            cells: Vec::new(alloc),
+            places: Vec::new(alloc),
+            filled: Vec::new(alloc),
+        }
+    }
+
+    /// Declares an empty queue behind the others, of a depth from 1 to [`DEPTH`](exec_msg::limits::DEPTH) items. Where memory
+    /// is refused, the queues stay as they were.
+    pub(crate) fn declare(
+        &mut self,
+        handler: Handler,
+        kind: Kind,
+        depth: usize,
+    ) -> Result<(), Memory>
+        requires { (1 ≤ depth) × (depth ≤ DEPTH) }
+        ensures ok { OnOk result (self.new ≡ self.old ++ record { handler = handler; kind = kind; depth = depth; items = [] } ∷ []) }
+        ensures err { OnErr result (self.new ≡ self.old) }
+    {
+        let slot = slot(handler.entity, kind);
+        make_slot(&mut self.places, slot)?;
+        let place = count(&self.cells);
+        let queue = LazyQueue::new(self.alloc, depth);
+        self.cells.push(Cell {
+            handler,
+            kind,
+            queue,
+        })?;
+        note_place(&mut self.places, slot, place);
+        Ok(())
+    }
+
+    /// Sends an item to an entity's queue of its kind, and answers the item that is lost by it, the oldest of a full queue.
+    /// Where there is no such queue nothing changes. Where memory is refused, the queues stay as they were.
+    pub(crate) fn send(&mut self, entity: EntityNo, item: Item) -> Result<Option<Item>, Memory>
+        ensures ok { OnOk result (self.new ≡ change_first (is_queue entity (taker_of item)) (queue_after item) self.old) }
+        ensures lost { IfOk result (λ lost. option_to_list lost ≡ lost_from entity item self.old) }
+        ensures err { OnErr result (self.new ≡ self.old) }
+    {
+        let Some(place) = place_at(&self.places, slot(entity, item.kind())) else {
+            return Ok(None);
+        };
+        note_filled(&mut self.filled, &self.cells, place)?;
+        let lost = send_at(&mut self.cells, place, item)?;
+        Ok(lost)
+    }
+
+    /// Sets places to those of the queues that have an item, either of the kinds before polls or of those behind them, in
+    /// ascending order. Where there is room for them it takes no memory; where memory is refused, the queues stay as they
+    /// were.
+    pub(crate) fn filled(
+        &mut self,
+        before_polls: bool,
+        places: &mut Vec<usize>,
+    ) -> Result<(), Memory>
+        ensures same { self.new ≡ self.old }
+        ensures places { OnOk result (places.new.items ≡ places_where (λ queue. has_item queue && is_in_part before_polls queue) self.old) }
+    {
+        settle(&mut self.filled, &self.cells);
+        places.clear();
+        places.extend_from_slice(&self.filled)?;
+        keep_part(places, &self.cells, before_polls);
+        Ok(())
+    }
+
+    /// Takes the first item of each queue that has one.
+    pub(crate) fn take_first(&mut self)
+        ensures { self.new ≡ map queue_taken self.old }
+    {
+        settle(&mut self.filled, &self.cells);
+        take_each(&mut self.cells, &self.filled);
+    }
+
+    /// The number of queues.
+    pub(crate) fn len(&self) -> usize
+        ensures { result ≡ length self.now }
+    {
+        count(&self.cells)
+    }
+
+    /// Whose callback takes from the queue at a place.
+    pub(crate) fn handler(&self, place: usize) -> Option<&Handler>
+        ensures { option_copied result ≡ option_map (λ queue. queue.handler) (slice_get self.now place) }
+    {
+        handler_at(&self.cells, place)
+    }
+
+    /// The oldest item of the queue at a place.
+    pub(crate) fn front(&self, place: usize) -> Option<Item>
+        ensures { result ≡ option_map_or (λ queue. slice_get queue.items 0) (slice_get self.now place) None }
+    {
+        front_at(&self.cells, place)
+    }
+}
+
+fn handler_at(cells: &[Cell], place: usize) -> Option<&Handler>
+    ensures { option_copied result ≡ option_map (λ queue. queue.handler) (slice_get cells.now place) }
+{
+    match cells.get(place) {
+        None => None,
+        Some(cell) => Some(cell.handler()),
+    }
+}
+
+fn front_at(cells: &[Cell], place: usize) -> Option<Item>
+    ensures { result ≡ option_map_or (λ queue. slice_get queue.items 0) (slice_get cells.now place) None }
+{
+    match cells.get(place) {
+        None => None,
+        Some(cell) => cell.front(),
+    }
+}
+
+// The number by which a queue is found.
+fn slot(entity: EntityNo, kind: Kind) -> usize
+    ensures value { result ≡ slot_of entity kind }
+    ensures bound { result < 2 ^ 32 }
+{
+    entity.0 as usize * 13 + number(kind)
+}
+
+fn number(kind: Kind) -> usize
+    ensures value { result ≡ ready_number kind }
+    ensures bound { result ≤ 12 }
+{
+    match kind {
+        Kind::Timer => 1,
+        Kind::Message => 2,
+        Kind::Request => 3,
+        Kind::Reply => 4,
+        Kind::Goal => 5,
+        Kind::Cancel => 6,
+        Kind::Ask => 7,
+        Kind::Poll => 8,
+        Kind::Response => 9,
+        Kind::Code => 10,
+        Kind::Feedback => 11,
+        Kind::Result => 12,
+    }
+}
+
+fn count(cells: &[Cell]) -> usize
+    ensures { result ≡ length cells.now }
+{
+    cells.len()
+}
+
+fn place_at(places: &[Option<usize>], slot: usize) -> Option<usize>
+    ensures { result ≡ option_flatten (slice_get places.now slot) }
+{
+    match places.get(slot) {
+        None => None,
+        Some(place) => *place,
+    }
+}
+
+// Makes a slot, which finds what it found.
+fn make_slot(places: &mut Vec<Option<usize>>, slot: usize) -> Result<(), Memory>
+    requires { slot < 2 ^ 32 }
+    ensures room { OnOk result (slot < length places.new.items) }
+    ensures same { (other : ℕ) → option_flatten (slice_get places.new.items other) ≡ option_flatten (slice_get places.old.items other) }
+{
+    if slot >= places.len() {
+        places.resize(slot + 1, None)?;
+    }
+    Ok(())
+}
+
+// Lets a slot find a place, where it finds none.
+fn note_place(places: &mut Vec<Option<usize>>, slot: usize, place: usize)
+    ensures { places.new.items ≡ change_at slot (noted place) places.old.items }
+{
+    if let Some(found) = places.get_mut(slot) {
+        *found = Some(found.unwrap_or(place));
+    }
+}
+
+fn is_filled(cells: &[Cell], place: usize) -> bool
+    ensures value { result ≡ is_filled_at cells.now place }
+    ensures bound { IfSome (slice_get cells.now place) (λ queue. length queue.items ≤ queue.depth) }
+{
+    match cells.get(place) {
+        None => false,
+        Some(cell) => !cell.is_empty(),
+    }
+}
+
+// Notes a place at which an item is about to stand.
+fn note_filled(filled: &mut Vec<usize>, cells: &[Cell], place: usize) -> Result<(), Memory>
+    ensures keeps { (other : ℕ) → Contains filled.old.items other → Contains filled.new.items other }
+    ensures has { OnOk result (CoversFilled filled.old.items cells.now → Contains filled.new.items place) }
+    ensures bound { IfSome (slice_get cells.now place) (λ queue. length queue.items ≤ queue.depth) }
+{
+    if !is_filled(cells, place) {
+        filled.push(place)?;
+    }
+    Ok(())
+}
+
+fn send_at(cells: &mut Vec<Cell>, place: usize, item: Item) -> Result<Option<Item>, Memory>
+    ensures ok { OnOk result (cells.new.items ≡ change_at place (queue_after item) cells.old.items) }
+    ensures lost { IfOk result (λ lost. lost ≡ option_map_or (λ queue. slice_get (displaced queue.depth item queue.items) 0) (slice_get cells.old.items place) None) }
+    ensures err { OnErr result (cells.new.items ≡ cells.old.items) }
+{
+    match cells.get_mut(place) {
+        None => Ok(None),
+        Some(cell) => {
+            let lost = cell.send(item)?;
+            Ok(lost)
+        }
+    }
+}
+
+// Leaves the places of the queues that have an item, in ascending order.
+fn settle(places: &mut Vec<usize>, cells: &[Cell])
+    ensures value { CoversFilled places.old.items cells.now → places.new.items ≡ places_where has_item cells.now }
+    ensures covers { CoversFilled places.old.items cells.now → CoversFilled places.new.items cells.now }
+{
+    sort_places(places);
+    places.retain(|place| is_filled(cells, *place));
+}
+
+fn sort_places(places: &mut Vec<usize>)
+    ensures rises { IsStrictlyIncreasing places.new.items }
+    ensures keeps { (place : ℕ) → Contains places.old.items place → Contains places.new.items place }
+{
+    places.sort_unstable();
+    places.dedup();
+}
+
+fn take_at(cells: &mut Vec<Cell>, place: usize)
+    ensures { cells.new.items ≡ change_at place queue_taken cells.old.items }
+{
+    if let Some(cell) = cells.get_mut(place) {
+        cell.take();
+    }
+}
+
+fn take_each(cells: &mut Vec<Cell>, places: &[usize])
+    ensures { cells.new.items ≡ change_each places.now queue_taken cells.old.items }
+{
+    for &place in places {
+        take_at(cells, place);
+    }
+}
+
+// Leaves the places of the queues of one part.
+fn keep_part(places: &mut Vec<usize>, cells: &[Cell], before_polls: bool)
+    ensures { places.new.items ≡ filter (λ place. is_in_part_at before_polls cells.now place) places.old.items }
+{
+    places.retain(|place| is_in_part(cells, *place, before_polls));
+}
+
+fn is_in_part(cells: &[Cell], place: usize, before_polls: bool) -> bool
+    ensures { result ≡ is_in_part_at before_polls cells.now place }
+{
+    match cells.get(place) {
+        None => false,
+        Some(cell) => cell.is_before_polls() == before_polls,
+    }
+}
