@@ -1,5 +1,6 @@
 -- What stands in queues: which callbacks take it, and what it hands them.
 use Rattle.std.specs.Prelude.{ℕ, ℤ, pos, ◌+◌, ◌*◌, ◌^◌, ◌%◌, if◌then◌else◌, Option, None, Some}
+use Rattle.std.specs.Int.{w64, cast_signed}
 use Rattle.exec_msg.specs.Goal.{status_number, code_number}
 use Rattle.exec_msg.specs.declared.kind.Kind.{Kind}
 use Rattle.exec_msg.specs.declared.kind.Kind.TheVariants as kind
@@ -17,6 +18,10 @@ goal_id place number = (place + 1) * 2 ^ 64 + number
 -- the number in such an identifier
 abbrev pub goal_number : GoalId → ℕ
 goal_number id = id % 2 ^ 64
+
+-- a number as a script sees it: its 64 bits as a signed value, which is the number itself below 2^63
+abbrev pub as_value : ℕ → ℤ
+as_value number = cast_signed w64 number
 
 -- the kind of callback that takes an item
 abbrev pub taker_of : Item → Kind
@@ -37,7 +42,7 @@ first_of (item.Message value) = value
 first_of (item.Request client number value) = value
 first_of (item.Reply number value) = value
 first_of (item.Goal id client value) = value
-first_of (item.Cancel request client) = pos request.stamp
+first_of (item.Cancel request client) = as_value request.stamp
 first_of (item.Ask id client) = pos 0
 first_of (item.Response id accepted) = if accepted then pos 1 else pos 0
 first_of (item.Code returned moved) = pos (code_number returned)
@@ -48,13 +53,13 @@ first_of (item.Result id status value) = value
 abbrev pub aux_of : Item → ℕ → ℤ
 aux_of (item.Message value) candidates = pos 0
 aux_of (item.Request client number value) candidates = pos 0
-aux_of (item.Reply number value) candidates = pos number
+aux_of (item.Reply number value) candidates = as_value number
 aux_of (item.Goal id client value) candidates = pos 0
-aux_of (item.Cancel request client) candidates = pos candidates
+aux_of (item.Cancel request client) candidates = as_value candidates
 aux_of (item.Ask id client) candidates = pos 0
-aux_of (item.Response id accepted) candidates = pos (goal_number id)
-aux_of (item.Code returned moved) candidates = pos moved
-aux_of (item.Feedback id value) candidates = pos (goal_number id)
+aux_of (item.Response id accepted) candidates = as_value (goal_number id)
+aux_of (item.Code returned moved) candidates = as_value moved
+aux_of (item.Feedback id value) candidates = as_value (goal_number id)
 aux_of (item.Result id status value) candidates = pos (status_number status)
 
 -- the identifier on the line of its callback

@@ -1,5 +1,5 @@
 ghost use Rattle.std.specs.Prelude.{◌≡◌};
-ghost use Rattle.exec_world.specs.Item.{taker_of, id_of};
+ghost use Rattle.exec_world.specs.Item.{taker_of, first_of, aux_of, id_of, goal_number};
 
 use exec_goal::CancelRequest;
 use exec_msg::{EntityNo, GoalId, GoalStatus, Kind, ReturnCode};
@@ -95,4 +95,43 @@ impl Item {
             | Item::Result { id, .. } => Some(*id),
         }
     }
+
+    /// Its `in`.
+    pub fn first(&self) -> i64
+        ensures { result ≡ first_of self.now }
+    {
+        match self {
+            Item::Cancel { request, .. } => request.stamp.cast_signed(),
+            Item::Ask { .. } => 0,
+            Item::Response { accepted, .. } => i64::from(*accepted),
+            Item::Code { code, .. } => i64::from(code.number()),
+            Item::Message { value }
+            | Item::Request { value, .. }
+            | Item::Reply { value, .. }
+            | Item::Goal { value, .. }
+            | Item::Feedback { value, .. }
+            | Item::Result { value, .. } => *value,
+        }
+    }
+
+    /// Its `aux`, where it is a cancel request with so many candidates.
+    pub fn aux(&self, candidates: usize) -> i64
+        ensures { result ≡ aux_of self.now candidates }
+    {
+        match self {
+            Item::Reply { number, .. } => number.cast_signed(),
+            Item::Cancel { .. } => (candidates as u64).cast_signed(),
+            Item::Response { id, .. } | Item::Feedback { id, .. } => goal_number(*id).cast_signed(),
+            Item::Code { moved, .. } => moved.cast_signed(),
+            Item::Result { status, .. } => i64::from(status.number()),
+            Item::Message { .. } | Item::Request { .. } | Item::Goal { .. } | Item::Ask { .. } => 0,
+        }
+    }
+}
+
+// The number of a client's goal among the goals of that client.
+fn goal_number(id: GoalId) -> u64
+    ensures { result ≡ goal_number id }
+{
+    (id.number() & 0xffff_ffff_ffff_ffff) as u64
 }

@@ -1,10 +1,11 @@
 ghost use Rattle.std.specs.Prelude.{◌≡◌};
-ghost use Rattle.exec_world.specs.Ready.{kind_of, id_for};
+ghost use Rattle.exec_world.specs.Ready.{kind_of, id_for, input_at, input_of, run_line};
 
 use crate::item::Item;
 use exec_goal::GoalInfo;
 use exec_graph::{GroupNo, Script};
-use exec_msg::{EntityNo, GoalId, Items, Kind, Moment};
+use exec_msg::{EntityNo, GoalId, Items, Kind, Line, Moment};
+use exec_script::Input;
 
 /// Why a callback is ready.
 #[derive(Clone, Copy, Debug, PartialEq, Eq)]
@@ -64,5 +65,68 @@ impl Cause {
             Cause::Took(item) => item.id(),
             Cause::Woke { id, .. } => Some(*id),
         }
+    }
+}
+
+impl Ready {
+    /// The kind of the callback.
+    pub fn kind(&self) -> Kind
+        ensures { result ≡ kind_of self.now.cause }
+    {
+        self.cause.kind()
+    }
+
+    /// What the callback is handed; a cancel handler is handed something else for each candidate.
+    pub fn input(&self) -> Input
+        ensures { result ≡ input_of self.now }
+    {
+        input_at(self.moment, &self.cause, self.candidates.len())
+    }
+
+    /// The identifier on the callback's line.
+    pub fn id(&self) -> Option<GoalId>
+        ensures { result ≡ id_for self.now.cause }
+    {
+        self.cause.id()
+    }
+
+    /// The line with which the callback begins.
+    pub fn run_line(&self) -> Line
+        ensures { result ≡ run_line self.now }
+    {
+        let input = self.input();
+        Line::Run {
+            entity: self.entity,
+            kind: self.kind(),
+            input: input.first,
+            aux: input.aux,
+            id: self.id(),
+        }
+    }
+}
+
+fn input_at(moment: Moment, cause: &Cause, candidates: usize) -> Input
+    ensures { result ≡ input_at moment cause.now candidates }
+{
+    match cause {
+        Cause::Due => Input {
+            first: moment.ticks() as i64,
+            aux: 0,
+            moment,
+        },
+        Cause::Took(item) => Input {
+            first: item.first(),
+            aux: item.aux(candidates),
+            moment,
+        },
+        Cause::Woke {
+            value,
+            canceling,
+            ..
+        } => Input {
+            first: *value,
+            aux: i64::from(*canceling),
+            moment,
+        },
     }
 }
