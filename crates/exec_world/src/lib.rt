@@ -7,6 +7,7 @@ pub mod examples;
 mod handler;
 mod item;
 pub mod laws;
+mod mail;
 mod queue;
 mod ready;
 mod server;
