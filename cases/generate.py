@@ -252,7 +252,8 @@ def two_results_in_one_round(chance):
 def resent_identifiers(chance):
     script = chance.choice(([["succeed", "in"]], [["yield"], ["succeed", "now"]], [["wait", 3], ["abort", 1]]))
     feed = [fed_goal(chance, at, chance.choice((1, 1, 2)), at) for at in range(1, 8) for _ in range(chance.choice((0, 1, 2)))]
-    return plan([node(actions=[server(chance, script, result_timeout=chance.choice((0, 1, 2)))])], moments(chance, 9), feed)
+    servers = [server(chance, script, result_timeout=chance.choice((0, 1, 2)), depth=chance.choice((1, 2, 10)))]
+    return plan([node(actions=servers)], moments(chance, 9), feed)
 
 
 def canceled_where_it_ends(chance):
