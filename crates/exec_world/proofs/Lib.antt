@@ -15,6 +15,7 @@ pub mod Identifiers
 pub mod Keeping
 pub mod Lawful
 pub mod Lending
+pub mod Listing
 pub mod Lives
 pub mod Numbered
 pub mod OfKinds

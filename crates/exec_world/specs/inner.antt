@@ -1,4 +1,5 @@
 pub mod Keeping
+pub mod Listing
 pub mod Mail
 pub mod Numbered
 pub mod Places

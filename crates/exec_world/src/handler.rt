@@ -1,5 +1,7 @@
+use crate::ready::{Cause, Ready};
+use exec_goal::GoalInfo;
 use exec_graph::{GroupNo, Script};
-use exec_msg::EntityNo;
+use exec_msg::{EntityNo, Items, Memory, Moment};
 use std::marker::Model;
 
 // Whose callback it is: an entity's, of a callback group that is mutually exclusive or not, and with which script.
@@ -17,4 +19,39 @@ impl Model for Handler {
     ghost Value = { Data };
 
     ghost view = { λ handler. record { entity = handler.entity; group = handler.group; exclusive = handler.exclusive; script = handler.script } };
+}
+
+impl Handler {
+    ghost use Rattle.std.specs.Prelude.{◌≡◌, IfOk};
+    ghost use Rattle.exec_world.specs.Ready.{ready_for};
+
+    // The callback's script, which is shared.
+    pub(crate) fn share_script(&self) -> Result<Script, Memory>
+        ensures { IfOk result (λ script. script ≡ self.now.script) }
+    {
+        let instructions = self.script.shared().clone()?;
+        Ok(Script::of(instructions))
+    }
+
+    // The callback where it is ready; its place in the ready list isn't known yet.
+    pub(crate) fn ready(
+        &self,
+        moment: Moment,
+        cause: Cause,
+        candidates: Items<GoalInfo>,
+        script: Option<Script>,
+    ) -> Ready
+        ensures { result ≡ ready_for moment self.now cause candidates script }
+    {
+        Ready {
+            position: 0,
+            entity: self.entity,
+            group: self.group,
+            exclusive: self.exclusive,
+            moment,
+            cause,
+            candidates,
+            script,
+        }
+    }
 }

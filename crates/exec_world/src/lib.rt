@@ -10,7 +10,9 @@ pub mod laws;
 mod mail;
 mod queue;
 mod ready;
+mod ready_list;
 mod server;
+mod timer;
 
 pub use item::Item;
 pub use ready::{Cause, Ready};

@@ -1,0 +1,81 @@
+ghost use Rattle.std.specs.Prelude.{◌≡◌, map, OnOk};
+ghost use Rattle.std.specs.List.{flat_map};
+ghost use Rattle.exec_world.specs.Ready.{due_ready, timer_taken};
+ghost use Rattle.exec_world.specs.inner.Listing.{listed_behind};
+
+use crate::handler::Handler;
+use crate::ready::Cause;
+use crate::ready_list::ReadyList;
+use exec_msg::{Items, Memory, Moment, Timer};
+use std::alloc::Global;
+use std::marker::Model;
+
+// A timer of a graph, with its callback.
+#[derive(Drop)]
+pub(crate) struct EntityTimer {
+    handler: Handler,
+    timer: Timer,
+}
+
+impl Model for EntityTimer {
+    ghost use Rattle.exec_world.specs.World.{TimerEntry};
+
+    ghost Value = { TimerEntry };
+
+    ghost view = { λ entry. record { handler = entry.handler; timer = entry.timer } };
+}
+
+impl EntityTimer {
+    ghost use Rattle.std.specs.Prelude.{◌≡◌, OnOk};
+    ghost use Rattle.exec_msg.specs.Timer.{IsPeriod};
+    ghost use Rattle.exec_world.specs.Ready.{due_ready, timer_taken};
+    ghost use Rattle.exec_world.specs.inner.Listing.{listed_behind};
+
+    // A timer that is made at moment 0.
+    pub(crate) fn new(handler: Handler, period: u64) -> EntityTimer
+        requires { IsPeriod period }
+        ensures { result ≡ record { handler = handler; timer = record { next = period; period = period } } }
+    {
+        EntityTimer {
+            handler,
+            timer: Timer::new(period),
+        }
+    }
+
+    // Makes the timer's call where it is due, and then lists its callback.
+    pub(crate) fn take_into(
+        &mut self,
+        alloc: Global,
+        now: Moment,
+        list: &mut ReadyList,
+    ) -> Result<(), Memory>
+        ensures timer { OnOk result (self.new ≡ timer_taken now self.old) }
+        ensures listed { OnOk result (list.new ≡ listed_behind list.old (due_ready now self.old)) }
+    {
+        if self.timer.due(now) {
+            self.timer.call(now);
+            let script = self.handler.share_script()?;
+            let ready = self
+                .handler
+                .ready(now, Cause::Due, Items::new(alloc), Some(script));
+            list.push(ready)?;
+        }
+        Ok(())
+    }
+}
+
+// Makes the call of each timer that is due, and lists their callbacks.
+pub(crate) fn take_due_into(
+    alloc: Global,
+    timers: &mut [EntityTimer],
+    now: Moment,
+    list: &mut ReadyList,
+) -> Result<(), Memory>
+    ensures timers { OnOk result (timers.new ≡ map (timer_taken now) timers.old) }
+    ensures listed { OnOk result (list.new ≡ listed_behind list.old (flat_map (due_ready now) timers.old)) }
+{
+    for place in 0..timers.len() {
+        timers[place].take_into(alloc, now, list)?;
+    }
+    Ok(())
+}
