@@ -12,6 +12,7 @@ mod queue;
 mod ready;
 mod ready_list;
 mod server;
+mod taken;
 mod timer;
 
 pub use item::Item;
