@@ -21,6 +21,7 @@ pub mod Numbered
 pub mod OfKinds
 pub mod Pairs
 pub mod Pending
+pub mod Polls
 pub mod ReadyLists
 pub mod Running
 pub mod Serving

@@ -33,10 +33,10 @@ next_is f xs ys i x within so_far read =
     ∙ get_or_at (map f (take i xs)) (get_or xs i x) (drop (i + 1) xs) x i (length-map (take i xs) f ∙ length-take-le i xs (omega arith))
 
 -- what an element gives is listed next
-pub listed_next : {X : Type 0} (f : X → List Ready) (xs : List X) (i : ℕ) (x : X) (before after whole : List Ready) → i < length xs → x ≡ get_or xs i x → after ≡ listed_behind before (f x) →
+pub listed_next : {X : Type 0} (f : X → List Ready) (xs : List X) (i : ℕ) (d : X) (before after whole : List Ready) → i < length xs → after ≡ listed_behind before (f (get_or xs i d)) →
     listed_behind before (flat_map f (drop i xs)) ≡ whole → listed_behind after (flat_map f (drop (i + 1) xs)) ≡ whole
-listed_next f xs i x before after whole within there given so_far =
+listed_next f xs i d before after whole within given so_far =
     ap (λ (list : List Ready). listed_behind list (flat_map f (drop (i + 1) xs))) given
-    ∙ listed_more before (f x) (flat_map f (drop (i + 1) xs))
-    ∙ ap (λ (rest : List Ready). listed_behind before rest) (sym (rw (drop_more xs i x within, ← there) refl))
+    ∙ listed_more before (f (get_or xs i d)) (flat_map f (drop (i + 1) xs))
+    ∙ ap (λ (rest : List _). listed_behind before (flat_map f rest)) (sym (drop_more xs i d within))
     ∙ so_far

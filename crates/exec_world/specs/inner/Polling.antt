@@ -1,7 +1,8 @@
 -- What a poll makes of a server, and what a task that is taken from it leaves.
-use Rattle.std.specs.Prelude.{List, [], Option, None, Some}
+use Rattle.std.specs.Prelude.{List, [], ◌∷◌, if◌then◌else◌, Option, None, Some}
 use Rattle.std.specs.List.{find}
 use Rattle.std.specs.Option.{option_map}
+use Rattle.exec_goal.specs.Table.{GoalRecord}
 use Rattle.exec_msg.specs.Lists.{change_first}
 use Rattle.exec_script.specs.Script.{listed}
 use Rattle.exec_script.specs.declared.effects.Effect.{Effect}
@@ -10,7 +11,9 @@ use Rattle.exec_task.specs.Task.{TaskState}
 use Rattle.exec_task.specs.declared.wait.Turn.{Turn}
 use Rattle.exec_world.specs.Callback.{Outcome, poll}
 use Rattle.exec_world.specs.Item.{GoalId}
-use Rattle.exec_world.specs.World.{GoalWork, HeldGoal, ServerEntry, Variables, is_for}
+use Rattle.exec_world.specs.Ready.{is_goal_awake, ready_for, woken}
+use Rattle.exec_world.specs.World.{GoalWork, HeldGoal, Moment, ServerEntry, Variables, is_for}
+use Rattle.exec_world.specs.declared.ready.Ready.{Ready}
 
 -- the work that a task does
 abbrev pub work_of : GoalTaskState → GoalWork
@@ -41,3 +44,8 @@ poll_listed turn work variables = poll listed turn work variables []
 -- a poll of a server's goal
 abbrev pub goal_polled : Turn → GoalId → ServerEntry → Variables → Outcome (List Effect)
 goal_polled turn id entry variables = poll_listed turn (option_map (λ held. held.work) (find (is_for id) entry.held)) variables
+
+-- the poll of a server's goal where that is awake at a moment
+abbrev pub goal_ready : Moment → ServerEntry → GoalRecord → List Ready
+goal_ready moment entry goal =
+    if is_goal_awake moment entry.held goal then ready_for moment entry.handler (woken goal) [] (Some entry.handler.script) ∷ [] else []

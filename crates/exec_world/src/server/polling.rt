@@ -6,8 +6,10 @@ ghost use Rattle.exec_world.specs.Callback.{close_of_answer};
 ghost use Rattle.exec_world.specs.inner.Polling.{poll_listed, work_after, work_of};
 
 use super::{Held, Server};
+use crate::ready::{Cause, Ready};
+use crate::ready_list::ReadyList;
 use exec_goal::GoalInfo;
-use exec_msg::{GoalId, Memory, Moment};
+use exec_msg::{GoalId, Items, Memory, Moment};
 use exec_script::{Bank, Close, EffectList};
 use exec_task::{Answer, GoalTask, Turn, is_awake, poll_goal};
 use futures::task::Context;
@@ -28,9 +30,10 @@ impl Server {
     ghost use Rattle.exec_goal.specs.State.{is_canceling};
     ghost use Rattle.exec_goal.specs.Table.{GoalRecord, working};
     ghost use Rattle.exec_task.specs.Task.{new_task};
-    ghost use Rattle.exec_world.specs.Ready.{is_goal_awake, is_task_awake, turn_at};
+    ghost use Rattle.exec_world.specs.Ready.{is_goal_awake, is_task_awake, poll_ready, ready_for, turn_at, woken};
     ghost use Rattle.exec_world.specs.World.{is_for};
-    ghost use Rattle.exec_world.specs.inner.Polling.{goal_polled, server_polled, server_with_work};
+    ghost use Rattle.exec_world.specs.inner.Listing.{listed_behind};
+    ghost use Rattle.exec_world.specs.inner.Polling.{goal_polled, goal_ready, server_polled, server_with_work};
 
     // How many goals the server works on; where there are none, none is awake. It looks at no goal.
     pub(crate) fn working(&self) -> usize
@@ -62,6 +65,79 @@ impl Server {
             None => false,
             Some(held) => is_awake(&held.task, moment, goal.state.is_canceling()),
         }
+    }
+
+    // Lists a poll for each goal that is awake at a moment, in the order of acceptance.
+    pub(crate) fn list_polls(
+        &self,
+        alloc: Global,
+        moment: Moment,
+        list: &mut ReadyList,
+    ) -> Result<(), Memory>
+        ensures { OnOk result (list.new ≡ listed_behind list.old (poll_ready moment self.now)) }
+    {
+        if self.working() == 0 {
+            return Ok(());
+        }
+        self.list_awake(alloc, moment, list)
+    }
+
+    fn list_awake(
+        &self,
+        alloc: Global,
+        moment: Moment,
+        list: &mut ReadyList,
+    ) -> Result<(), Memory>
+        ensures { OnOk result (list.new ≡ listed_behind list.old (poll_ready moment self.now)) }
+    {
+        for index in 0..self.len() {
+            self.list_poll(alloc, moment, index, list)?;
+        }
+        Ok(())
+    }
+
+    // Lists a poll of the goal at this place, from 0, in the order of acceptance, where it is awake.
+    fn list_poll(
+        &self,
+        alloc: Global,
+        moment: Moment,
+        index: usize,
+        list: &mut ReadyList,
+    ) -> Result<(), Memory>
+        requires { index < length self.now.goals }
+        ensures { OnOk result ((d : GoalRecord) → list.new ≡ listed_behind list.old (goal_ready moment self.now (slice_index_or self.now.goals index d))) }
+    {
+        let goal = self.goal_at(index);
+        self.list_goal(alloc, moment, &goal, list)
+    }
+
+    fn list_goal(
+        &self,
+        alloc: Global,
+        moment: Moment,
+        info: &GoalInfo,
+        list: &mut ReadyList,
+    ) -> Result<(), Memory>
+        ensures { OnOk result ((goal : GoalRecord) → info.now ≡ info_of goal → list.new ≡ listed_behind list.old (goal_ready moment self.now goal)) }
+    {
+        if self.is_goal_awake(info, moment) {
+            list.push(self.poll_of(alloc, moment, info)?)?;
+        }
+        Ok(())
+    }
+
+    fn poll_of(&self, alloc: Global, moment: Moment, info: &GoalInfo) -> Result<Ready, Memory>
+        ensures { IfOk result (λ ready. (goal : GoalRecord) → info.now ≡ info_of goal → ready ≡ ready_for moment self.now.handler (woken goal) [] (Some self.now.handler.script)) }
+    {
+        let script = self.handler.share_script()?;
+        let cause = Cause::Woke {
+            id: info.id,
+            value: info.value,
+            canceling: info.state.is_canceling(),
+        };
+        Ok(self
+            .handler
+            .ready(moment, cause, Items::new(alloc), Some(script)))
     }
 
     // Polls a goal in a turn, with the variables of its callback group, in a context that the caller has made. One that isn't

@@ -15,6 +15,6 @@ loop-place-preserved c =
     let there = next_is (timer_taken c.args.now) c.args.timers.now c.loop-place.timers place entry within c.loop-place.invariant.0 read in (
       ap (λ (one : TimerEntry). slice_set c.loop-place.timers place one) (c.in_ok-take_into.ensures.timer ∙ ap (timer_taken c.args.now) (sym read))
           ∙ map_over_more (timer_taken c.args.now) c.args.timers.now c.loop-place.timers place entry within c.loop-place.invariant.0 read,
-      listed_next (due_ready c.args.now) c.args.timers.now place entry c.loop-place.list _ _ within there
-          (c.in_ok-take_into.ensures.listed ∙ ap (λ (one : TimerEntry). listed_behind c.loop-place.list (due_ready c.args.now one)) (sym read)) c.loop-place.invariant.1,
+      listed_next (due_ready c.args.now) c.args.timers.now place entry c.loop-place.list _ _ within
+          (c.in_ok-take_into.ensures.listed ∙ ap (λ (one : TimerEntry). listed_behind c.loop-place.list (due_ready c.args.now one)) (sym read ∙ there)) c.loop-place.invariant.1,
     )
