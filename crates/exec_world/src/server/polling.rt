@@ -82,12 +82,7 @@ impl Server {
         self.list_awake(alloc, moment, list)
     }
 
-    fn list_awake(
-        &self,
-        alloc: Global,
-        moment: Moment,
-        list: &mut ReadyList,
-    ) -> Result<(), Memory>
+    fn list_awake(&self, alloc: Global, moment: Moment, list: &mut ReadyList) -> Result<(), Memory>
         ensures { OnOk result (list.new ≡ listed_behind list.old (poll_ready moment self.now)) }
     {
         for index in 0..self.len() {
@@ -135,9 +130,10 @@ impl Server {
             value: info.value,
             canceling: info.state.is_canceling(),
         };
-        Ok(self
-            .handler
-            .ready(moment, cause, Items::new(alloc), Some(script)))
+        Ok(
+            self.handler
+                .ready(moment, cause, Items::new(alloc), Some(script)),
+        )
     }
 
     // Polls a goal in a turn, with the variables of its callback group, in a context that the caller has made. One that isn't
