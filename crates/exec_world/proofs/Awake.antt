@@ -1,7 +1,7 @@
 -- Which goals of a server are awake, and what a poll of one is.
-use Rattle.std.proofs.Common.{◌≡◌, ℕ, zero, suc, List, [], ◌∷◌, map, length, Bool, true, false, cond, if◌then◌else◌, Option, None, Some, slice_get, slice_index_or, refl, ap}
+use Rattle.std.proofs.Common.{◌≡◌, ℕ, zero, suc, List, [], ◌∷◌, map, length, Bool, true, false, cond, if◌then◌else◌, Option, None, Some, slice_get, slice_index_or, refl, ap, ◌∙◌}
 use Rattle.std.specs.List.{find, filter}
-use Rattle.std.specs.Option.{option_map}
+use Rattle.std.specs.Option.{option_and_then, option_map}
 use Rattle.exec_goal.specs.Info.{info_of}
 use Rattle.exec_goal.specs.State.{is_worked_on}
 use Rattle.exec_goal.specs.Table.{GoalRecord, working}
@@ -10,7 +10,7 @@ use Rattle.exec_msg.specs.Lists.{change_first}
 use Rattle.exec_task.specs.Task.{TaskState}
 use Rattle.exec_task.specs.declared.wait.Turn.{Turn}
 use Rattle.exec_world.specs.Ready.{is_goal_awake}
-use Rattle.exec_world.specs.World.{HeldGoal, ServerEntry, Variables, is_for}
+use Rattle.exec_world.specs.World.{GoalWork, HeldGoal, ServerEntry, Variables, is_for}
 use Rattle.exec_world.specs.inner.Polling.{goal_polled, poll_listed, server_polled, work_after}
 
 -- what is told of the goal at a place
@@ -30,8 +30,8 @@ none-awake moment held (goal ∷ goals) none = by (is_worked_on goal.state) refl
     by false is none others = rw is (others none)
 
 -- a poll of a goal of which it is known what is kept
-pub polled-in : (turn : Turn) (id : ℕ) (entry : ServerEntry) (variables : Variables) (found : Option HeldGoal) → find (is_for id) entry.held ≡ found → goal_polled turn id entry variables ≡ poll_listed turn (option_map (λ held. held.work) found) variables
-polled-in turn id entry variables found is = ap (λ (found : Option HeldGoal). poll_listed turn (option_map (λ held. held.work) found) variables) is
+pub polled-in : (turn : Turn) (id : ℕ) (entry : ServerEntry) (variables : Variables) (found : Option HeldGoal) → find (is_for id) entry.held ≡ found → goal_polled turn id entry variables ≡ poll_listed turn (option_and_then (λ held. held.work) found) variables
+polled-in turn id entry variables found is = ap (λ (found : Option HeldGoal). poll_listed turn (option_and_then (λ held. held.work) found) variables) is
 
 -- where each element is changed to itself a list stays
 pub unchanged_first : {A : Type 0} (test : A → Bool) (xs : List A) → change_first test (λ (x : A). x) xs ≡ xs
@@ -53,8 +53,14 @@ unchanged-none {A} test change (x ∷ xs) none = by (test x) none (unchanged-non
 
 -- a goal's work after a poll, and the server after it
 abbrev pub after_poll_of : Option TaskState → HeldGoal → HeldGoal
-after_poll_of task one = record one { work = work_after task one.work }
+after_poll_of task one = record one { work = option_map (work_after task) one.work }
+
+unpolled_work : (work : Option GoalWork) → option_map (work_after None) work ≡ work
+unpolled_work None = refl
+unpolled_work (Some work) = refl
 
 pub server-polled : (id : ℕ) (task : Option TaskState) (entry : ServerEntry) → record entry { held = change_first (is_for id) (after_poll_of task) entry.held } ≡ server_polled id task entry
-server-polled id None entry = ap (λ (held : List HeldGoal). record entry { held = held }) (unchanged_first (is_for id) entry.held)
+server-polled id None entry =
+    ap (λ (change : HeldGoal → HeldGoal). record entry { held = change_first (is_for id) change entry.held }) (λ i one. record one { work = unpolled_work one.work i })
+    ∙ ap (λ (held : List HeldGoal). record entry { held = held }) (unchanged_first (is_for id) entry.held)
 server-polled id (Some task) entry = refl

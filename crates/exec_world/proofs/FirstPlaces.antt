@@ -1,10 +1,10 @@
 -- What is found and changed first stands at the first place.
-use Rattle.std.proofs.Common.{◌≡◌, ℕ, zero, suc, ◌≤◌, Bool, true, false, cond, if◌then◌else◌, length, List, [], ◌∷◌, ◌++◌, Option, Some, None, find, slice_get, slice_set, get_or, nat_lt, refl, sym, ap, ◌∙◌, arith}
+use Rattle.std.proofs.Common.{◌≡◌, ℕ, zero, suc, ◌<◌, ◌≤◌, ◌⊎◌, inl, inr, ⊎_elim, Bool, true, false, cond, if◌then◌else◌, length, List, [], ◌∷◌, ◌++◌, Option, Some, None, find, slice_get, slice_set, get_or, nat_lt, refl, sym, ap, subst, ◌∙◌, arith}
 use Rattle.std.proofs.lemmas.Bool.{ltb-true, ltb-false}
 use Rattle.std.proofs.lemmas.Option.{slice_get-get_or, slice_get_past}
-use Rattle.std.specs.Option.{option_map}
+use Rattle.std.specs.Option.{option_flatten, option_map}
 use Rattle.exec_msg.specs.Lists.{change_first}
-use Rattle.exec_world.specs.inner.Places.{first_place, change_at}
+use Rattle.exec_world.specs.inner.Places.{first_place, change_at, noted}
 
 -- the first place once an element more stands behind
 abbrev pub place_or : Option ℕ → Bool → ℕ → Option ℕ
@@ -33,6 +33,24 @@ module _ {A : Type 0} (test : A → Bool) where
   pub find-first_place : (xs : List A) (i : ℕ) → first_place test xs ≡ Some i → find test xs ≡ slice_get xs i
   find-first_place [] i is = absurd cc
   find-first_place (x ∷ xs) i is = found_by (test x) i x xs (first_place test xs) (find test xs) is (find-first_place xs)
+
+  within_by : (b : Bool) (i : ℕ) (xs : List A) (place : Option ℕ) → (if b then Some zero else option_map suc place) ≡ Some i → ((j : ℕ) → place ≡ Some j → j < length xs) → i < suc (length xs)
+  within_by true zero xs place is later = omega arith
+  within_by true (suc i) xs place is later = absurd cc
+  within_by false i xs None is later = absurd cc
+  within_by false zero xs (Some j) is later = omega arith
+  within_by false (suc i) xs (Some j) is later = let below : i < length xs = later i cc in omega (arith, below)
+
+  -- the first place is one of the list's
+  pub first_place-within : (xs : List A) (i : ℕ) → first_place test xs ≡ Some i → i < length xs
+  first_place-within [] i is = absurd cc
+  first_place-within (x ∷ xs) i is = within_by (test x) i xs (first_place test xs) is (first_place-within xs)
+
+  -- an element that the test doesn't tell from another leaves the first place
+  pub first_place-set : (xs : List A) (i : ℕ) (x after : A) → x ≡ get_or xs i x → test after ≡ test x → first_place test (slice_set xs i after) ≡ first_place test xs
+  first_place-set [] i x after reads keeps = refl
+  first_place-set (y ∷ xs) zero x after reads keeps = ap (λ (b : Bool). if b then Some zero else option_map suc (first_place test xs)) (keeps ∙ ap test reads)
+  first_place-set (y ∷ xs) (suc i) x after reads keeps = ap (λ (place : Option ℕ). if test y then Some zero else option_map suc place) (first_place-set xs i x after reads keeps)
 
   module _ (change : A → A) where
     same_by : (b : Bool) (x : A) (xs changed : List A) (place : Option ℕ) → (if b then Some zero else option_map suc place) ≡ None → (place ≡ None → changed ≡ xs) → (if b then change x ∷ xs else x ∷ changed) ≡ x ∷ xs
@@ -85,6 +103,12 @@ written change [] i x after is sets = refl
 written change (y ∷ xs) zero x after is sets = ap (λ z. z ∷ xs) (sets ∙ ap change is)
 written change (y ∷ xs) (suc i) x after is sets = ap (λ ys. y ∷ ys) (written change xs i x after is sets)
 
+-- a write of what stands there is no change
+pub set_same : {A : Type 0} (xs : List A) (i : ℕ) (x after : A) → x ≡ get_or xs i x → after ≡ x → slice_set xs i after ≡ xs
+set_same [] i x after is sets = refl
+set_same (y ∷ xs) zero x after is sets = ap (λ z. z ∷ xs) (sets ∙ is)
+set_same (y ∷ xs) (suc i) x after is sets = ap (λ ys. y ∷ ys) (set_same xs i x after is sets)
+
 -- a change at no place is none
 change_at-past : {A : Type 0} (change : A → A) (xs : List A) (i : ℕ) → length xs ≤ i → xs ≡ change_at i change xs
 change_at-past change [] i past = refl
@@ -101,3 +125,39 @@ read_at xs i x within is = slice_get-get_or xs i x (ltb-true i (length xs) (sym 
 -- nothing stands at no place
 pub none_beyond : {A : Type 0} (xs : List A) (i : ℕ) → false ≡ nat_lt i (length xs) → slice_get xs i ≡ None
 none_beyond xs i is = slice_get_past xs i (ltb-false i (length xs) (sym is))
+
+-- ---- what is changed at a place
+
+up : {a b : ℕ} {P : Type 0} → (a ≡ b) ⊎ P → (suc a ≡ suc b) ⊎ P
+up (inl same) = inl (ap suc same)
+up (inr other) = inr other
+
+-- another place keeps its element
+pub there_or_same : {A : Type 0} (change : A → A) (place other : ℕ) (xs : List A) → (place ≡ other) ⊎ (slice_get (change_at place change xs) other ≡ slice_get xs other)
+there_or_same change place other [] = inr refl
+there_or_same change zero zero (x ∷ xs) = inl refl
+there_or_same change zero (suc other) (x ∷ xs) = inr refl
+there_or_same change (suc place) zero (x ∷ xs) = inr refl
+there_or_same change (suc place) (suc other) (x ∷ xs) = up (there_or_same change place other xs)
+
+-- a slot that exists finds the place that is noted in it
+there_at : (n slot : ℕ) (made : List (Option ℕ)) → slot < length made
+    → option_flatten (slice_get (change_at slot (noted n) made) slot) ≡ place_or (option_flatten (slice_get made slot)) true n
+there_at n slot [] within = absurd (omega arith)
+there_at n zero (None ∷ made) within = refl
+there_at n zero (Some place ∷ made) within = refl
+there_at n (suc slot) (place ∷ made) within = there_at n slot made (omega arith)
+
+not_noted : (found : Option ℕ) (n : ℕ) → found ≡ place_or found false n
+not_noted None n = refl
+not_noted (Some place) n = refl
+
+pub noted_at : (b : Bool) (n slot other : ℕ) (made : List (Option ℕ)) → slot < length made → (b ≡ true → slot ≡ other) → (b ≡ false → slot ≡ other → ⊥)
+    → option_flatten (slice_get (change_at slot (noted n) made) other) ≡ place_or (option_flatten (slice_get made other)) b n
+noted_at true n slot other made within same apart =
+    subst (λ at. option_flatten (slice_get (change_at slot (noted n) made) at) ≡ place_or (option_flatten (slice_get made at)) true n) (same refl) (there_at n slot made within)
+noted_at false n slot other made within same apart =
+    ⊎_elim
+    (λ here. absurd (apart refl here))
+    (λ kept. ap option_flatten kept ∙ not_noted (option_flatten (slice_get made other)) n)
+    (there_or_same (noted n) slot other made)

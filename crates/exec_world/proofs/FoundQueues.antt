@@ -1,5 +1,5 @@
 -- A look-up by entity and kind gives the place of the first such queue, and places with items are covered.
-use Rattle.std.proofs.Common.{◌≡◌, ℕ, zero, suc, ◌+◌, ◌*◌, ◌-◌, ◌<◌, ◌≤◌, ◌&&◌, ◌==◌, ◌⊎◌, inl, inr, ⊎_elim, Bool, true, false, not, length, List, [], ◌∷◌, ◌++◌, Option, Some, None, IfSome, slice_get, take, refl, sym, ap, subst, ◌∙◌, arith}
+use Rattle.std.proofs.Common.{◌≡◌, ℕ, zero, suc, ◌+◌, ◌*◌, ◌-◌, ◌<◌, ◌≤◌, ◌&&◌, ◌==◌, ⊎_elim, Bool, true, false, not, length, List, [], ◌∷◌, ◌++◌, Option, Some, None, IfSome, slice_get, take, refl, sym, ap, subst, ◌∙◌, arith}
 use Rattle.std.specs.List.{Contains}
 use Rattle.std.specs.Option.{option_map_or, option_flatten, option_to_list}
 use Rattle.std.proofs.lemmas.Bool.{eqb-true, eq-eqb, both_ways}
@@ -8,7 +8,7 @@ use Rattle.exec_msg.specs.KeepLast.{displaced}
 use Rattle.exec_msg.specs.Kind.{ready_number}
 use Rattle.exec_msg.specs.declared.kind.Kind.{Kind}
 use Rattle.exec_msg.specs.declared.kind.Kind.TheVariants as kind
-use Rattle.exec_world.proofs.FirstPlaces.{first_place-changed, first_place-behind, place_or}
+use Rattle.exec_world.proofs.FirstPlaces.{first_place-changed, first_place-behind, noted_at, place_or, there_or_same}
 use Rattle.exec_world.specs.World.{Queue, is_queue, queue_after}
 use Rattle.exec_world.specs.declared.item.Item.{Item}
 use Rattle.exec_world.specs.inner.Places.{first_place, change_at, noted}
@@ -31,20 +31,6 @@ finds_after places queues after place item finds is = λ entity kind.
     finds entity kind
     ∙ sym (first_place-changed (is_queue entity kind) (queue_after item) (λ queue. refl) place queues)
     ∙ ap (first_place (is_queue entity kind)) (sym is)
-
--- ---- what is changed at a place
-
-up : {a b : ℕ} {P : Type 0} → (a ≡ b) ⊎ P → (suc a ≡ suc b) ⊎ P
-up (inl same) = inl (ap suc same)
-up (inr other) = inr other
-
--- another place keeps its element
-there_or_same : {A : Type 0} (change : A → A) (place other : ℕ) (xs : List A) → (place ≡ other) ⊎ (slice_get (change_at place change xs) other ≡ slice_get xs other)
-there_or_same change place other [] = inr refl
-there_or_same change zero zero (x ∷ xs) = inl refl
-there_or_same change zero (suc other) (x ∷ xs) = inr refl
-there_or_same change (suc place) zero (x ∷ xs) = inr refl
-there_or_same change (suc place) (suc other) (x ∷ xs) = up (there_or_same change place other xs)
 
 -- the filled queues stay covered
 pub covers_after : (old new : List ℕ) (queues after : List Queue) (place : ℕ) (change : Queue → Queue) → CoversFilled old queues
@@ -91,28 +77,6 @@ other_slot a b m n low high is same =
     let first : a ≡ b = omega arith in
     let second : m ≡ n = omega arith in
     both_ways ((a == b) && (m == n)) is (both_true a b m n first second)
-
--- a slot that exists finds the place that is noted in it
-there_at : (n slot : ℕ) (made : List (Option ℕ)) → slot < length made
-    → option_flatten (slice_get (change_at slot (noted n) made) slot) ≡ place_or (option_flatten (slice_get made slot)) true n
-there_at n slot [] within = absurd (omega arith)
-there_at n zero (None ∷ made) within = refl
-there_at n zero (Some place ∷ made) within = refl
-there_at n (suc slot) (place ∷ made) within = there_at n slot made (omega arith)
-
-not_noted : (found : Option ℕ) (n : ℕ) → found ≡ place_or found false n
-not_noted None n = refl
-not_noted (Some place) n = refl
-
-noted_at : (b : Bool) (n slot other : ℕ) (made : List (Option ℕ)) → slot < length made → (b ≡ true → slot ≡ other) → (b ≡ false → slot ≡ other → ⊥)
-    → option_flatten (slice_get (change_at slot (noted n) made) other) ≡ place_or (option_flatten (slice_get made other)) b n
-noted_at true n slot other made within same apart =
-    subst (λ at. option_flatten (slice_get (change_at slot (noted n) made) at) ≡ place_or (option_flatten (slice_get made at)) true n) (same refl) (there_at n slot made within)
-noted_at false n slot other made within same apart =
-    ⊎_elim
-    (λ here. absurd (apart refl here))
-    (λ kept. ap option_flatten kept ∙ not_noted (option_flatten (slice_get made other)) n)
-    (there_or_same (noted n) slot other made)
 
 -- each look-up finds as before, or the queue that is declared
 pub finds_behind : (old made new : List (Option ℕ)) (queues : List Queue) (queue : Queue) (entity slot : ℕ) (of : Kind) → FindsQueues old queues

@@ -1,7 +1,7 @@
 -- The goals of a server where some server is changed: no two of them have one identifier.
 use Rattle.std.proofs.Common.{◌≡◌, ◌⊎◌, inl, inr, ℕ, Bool, true, false, ◌||◌, not, ◌==◌, List, [], ◌∷◌, ◌++◌, map, Option, None, refl, sym, ap, subst, ◌∙◌, true≢false}
 use Rattle.std.specs.List.{AllByRecursion, IsDistinct, filter, find, list_any}
-use Rattle.std.specs.Option.{option_map_or}
+use Rattle.std.specs.Option.{option_map, option_map_or}
 use Rattle.std.proofs.lemmas.Bool.{eqb-true, eq-eqb}
 use Rattle.exec_goal.specs.Table.{GoalRecord, holds, has_id, is_full, is_expired, new_goal, unexpired}
 use Rattle.exec_graph.specs.Entity.{EntityNo}
@@ -14,7 +14,7 @@ use Rattle.exec_world.proofs.Running.{KeptByRounds, rounds_keep}
 use Rattle.exec_world.specs.Close.{GoalRequest, server_accepting, accept}
 use Rattle.exec_world.specs.Item.{GoalId}
 use Rattle.exec_world.specs.Transcript.{server_expired, first_world, new_server, rounds}
-use Rattle.exec_world.specs.World.{WorldState, Moment, ServerEntry, is_server_at, is_for, goals_of, has_room_for}
+use Rattle.exec_world.specs.World.{WorldState, GoalWork, Moment, ServerEntry, is_server_at, is_for, goals_of, has_room_for}
 
 -- ---- lists of goals
 
@@ -84,7 +84,7 @@ pub changing : (change : List GoalRecord → List GoalRecord) → Makes (λ entr
 changing change = record { stays = λ entry. refl; makes = λ entry. refl }
 
 abbrev tasked : GoalId → TaskState → ServerEntry → ServerEntry
-tasked id task entry = record entry { held = change_first (is_for id) (λ held. record held { work = record held.work { task = task } }) entry.held }
+tasked id task entry = record entry { held = change_first (is_for id) (λ held. record held { work = option_map (λ (work : GoalWork). record work { task = task }) held.work }) entry.held }
 
 pub tasking : (id : GoalId) (task : TaskState) → Makes (tasked id task) (λ goals. goals)
 tasking id task = record { stays = λ entry. refl; makes = λ entry. refl }

@@ -1,5 +1,5 @@
 -- A server's polls, goal by goal.
-use Rattle.std.proofs.Common.{◌≡◌, Bool, true, false, cond, List, [], ◌∷◌, ◌++◌, map, Some, refl, ap}
+use Rattle.std.proofs.Common.{◌≡◌, Bool, true, false, List, [], ◌∷◌, map, Some, refl, ap}
 use Rattle.std.specs.List.{filter, flat_map}
 use Rattle.exec_goal.specs.Table.{GoalRecord}
 use Rattle.exec_world.specs.Ready.{is_goal_awake, poll_ready, ready_for, woken}

@@ -62,7 +62,7 @@ accepted_lines server id decision =
 -- what a server keeps beside the record of a goal that it accepts
 abbrev pub held_goal : Script → GoalRequest → HeldGoal
 held_goal script request =
-    record { id = request.id; client = request.client; work = record { script = script; value = request.value; task = new_task } }
+    record { id = request.id; client = request.client; work = Some (record { script = script; value = request.value; task = new_task }) }
 
 -- a server that holds one more goal, accepted at a moment
 abbrev pub server_accepting : Moment → ℕ → GoalRequest → ServerEntry → ServerEntry

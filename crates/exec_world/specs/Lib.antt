@@ -1,4 +1,5 @@
 pub mod Callback
+pub mod Calls
 pub mod Close
 pub mod Examples
 pub mod Give

@@ -1,6 +1,7 @@
 -- The callbacks that are ready at a snapshot, and what the snapshot takes.
 use Rattle.std.specs.Prelude.{ℕ, suc, pos, List, [], ◌∷◌, ◌++◌, length, map, drop, nat_le, Bool, false, not, ◌&&◌, ◌==◌, if◌then◌else◌, Option, None, Some}
-use Rattle.std.specs.List.{filter, find, flat_map}
+use Rattle.std.specs.List.{filter, find, flat_map, fold}
+use Rattle.std.specs.Option.{option_map_or}
 use Rattle.exec_goal.specs.Cancel.{candidates}
 use Rattle.exec_goal.specs.Info.{info_of}
 use Rattle.exec_goal.specs.State.{is_canceling, is_worked_on}
@@ -8,7 +9,7 @@ use Rattle.exec_goal.specs.Table.{GoalRecord}
 use Rattle.exec_goal.specs.declared.info.GoalInfo.{GoalInfo}
 use Rattle.exec_graph.specs.Entity.{EntityNo, Script}
 use Rattle.exec_msg.specs.Kind.{ready_number}
-use Rattle.exec_msg.specs.Lists.{drop_first}
+use Rattle.exec_msg.specs.Lists.{change_first, drop_first}
 use Rattle.exec_msg.specs.Timer.{is_due, called}
 use Rattle.exec_msg.specs.declared.kind.Kind.{Kind}
 use Rattle.exec_msg.specs.declared.kind.Kind.TheVariants as kind
@@ -18,7 +19,7 @@ use Rattle.exec_script.specs.Script.{CallInput}
 use Rattle.exec_task.specs.Task.{is_awake, poll_input}
 use Rattle.exec_task.specs.declared.wait.Turn.{Turn}
 use Rattle.exec_world.specs.Item.{GoalId, taker_of, first_of, aux_of, id_of}
-use Rattle.exec_world.specs.World.{WorldState, Moment, Handler, TimerEntry, Queue, ServerEntry, ClientEntry, HeldGoal, items_in, goals_of, has_room_for, is_for}
+use Rattle.exec_world.specs.World.{WorldState, Moment, Handler, TimerEntry, Queue, ServerEntry, ClientEntry, HeldGoal, goals_of, has_room_for, is_client_at, is_for}
 use Rattle.exec_world.specs.declared.item.Item.{Item}
 use Rattle.exec_world.specs.declared.item.Item.TheVariants as item
 use Rattle.exec_world.specs.declared.ready.Cause.{Cause}
@@ -102,10 +103,10 @@ item_ready moment handler goals (first ∷ items) =
 abbrev pub queue_ready : Moment → WorldState → Queue → List Ready
 queue_ready moment world queue = item_ready moment queue.handler (goals_of queue.handler.entity world) queue.items
 
--- whether the task of a goal is awake in a turn; one that isn't there never is
+-- whether the task of a goal is awake in a turn; one that isn't there or is out never is
 abbrev pub is_task_awake : Turn → Option HeldGoal → Bool
 is_task_awake turn None = false
-is_task_awake turn (Some held) = is_awake held.work.task turn
+is_task_awake turn (Some held) = option_map_or (λ work. is_awake work.task turn) held.work false
 
 -- whether a goal is awake at a moment, where its server keeps this beside its goals
 abbrev pub is_goal_awake : Moment → List HeldGoal → GoalRecord → Bool
@@ -129,13 +130,21 @@ abbrev pub placed_from : ℕ → List Ready → List Ready
 placed_from position [] = []
 placed_from position (one ∷ others) = record one { position = position } ∷ placed_from (suc position) others
 
+-- the queues whose callbacks are ready before polls, those of replies among them
+abbrev pub queues_before_polls : WorldState → List Queue
+queues_before_polls world = filter (λ queue. is_before_polls queue.kind) world.queues
+
+-- the queues whose callbacks are ready behind polls
+abbrev pub queues_behind_polls : WorldState → List Queue
+queues_behind_polls world = filter (λ queue. not (is_before_polls queue.kind)) world.queues
+
 -- the ready list: timers, then what takes from queues, with polls at their place among the kinds
 abbrev pub ready_list : Moment → WorldState → List Ready
 ready_list moment world = placed_from 1
     (flat_map (due_ready moment) world.timers
-    ++ flat_map (queue_ready moment world) (filter (λ queue. is_before_polls queue.kind) world.queues)
+    ++ flat_map (queue_ready moment world) (queues_before_polls world)
     ++ flat_map (poll_ready moment) world.servers
-    ++ flat_map (queue_ready moment world) (filter (λ queue. not (is_before_polls queue.kind)) world.queues))
+    ++ flat_map (queue_ready moment world) (queues_behind_polls world))
 
 -- ---- what is taken
 
@@ -147,16 +156,20 @@ timer_taken moment entry = if is_due entry.timer moment then record entry { time
 abbrev pub queue_taken : Queue → Queue
 queue_taken queue = record queue { items = drop 1 queue.items }
 
--- calls of which the one is done that the first of these items replies to
-abbrev pub without_answered : List Item → List ℕ → List ℕ
-without_answered (item.Reply number value ∷ items) pending = drop_first (λ call. call == number) pending
-without_answered _ pending = pending
+-- a service client whose call of a number is answered
+abbrev pub call_answered : ℕ → ClientEntry → ClientEntry
+call_answered number entry = record entry { pending = drop_first (λ call. call == number) entry.pending }
 
--- a service client after it: the call that its first reply answers is no longer pending
-abbrev pub client_taken : WorldState → ClientEntry → ClientEntry
-client_taken world entry = record entry { pending = without_answered (items_in entry.entity kind.Reply world) entry.pending }
+-- service clients after an entity's queue hands on the first of these items: a reply answers a call
+abbrev pub answered_by_first : EntityNo → List Item → List ClientEntry → List ClientEntry
+answered_by_first entity (item.Reply number value ∷ items) clients = change_first (is_client_at entity) (call_answered number) clients
+answered_by_first entity _ clients = clients
+
+-- service clients after a queue hands on its first item
+abbrev pub reply_taken : List ClientEntry → Queue → List ClientEntry
+reply_taken clients queue = answered_by_first queue.handler.entity queue.items clients
 
 -- the world after each input is taken
 abbrev pub take_inputs : Moment → WorldState → WorldState
 take_inputs moment world =
-    record world { timers = map (timer_taken moment) world.timers; queues = map queue_taken world.queues; clients = map (client_taken world) world.clients }
+    record world { timers = map (timer_taken moment) world.timers; queues = map queue_taken world.queues; clients = fold reply_taken world.clients (queues_before_polls world) }

@@ -1,7 +1,7 @@
 -- The world: what changes while a plan is run.
 use Rattle.std.specs.Prelude.{ℕ, ◌+◌, ℤ, List, [], ◌∷◌, ◌++◌, map, Bool, not, ◌&&◌, ◌||◌, ◌==◌, Option, None, Some, slice_index_or, slice_set}
 use Rattle.std.specs.List.{find}
-use Rattle.std.specs.Option.{option_map_or}
+use Rattle.std.specs.Option.{option_and_then, option_map, option_map_or}
 use Rattle.exec_goal.specs.Table.{GoalRecord, holds, is_full}
 use Rattle.exec_graph.specs.Entity.{EntityNo, Script}
 use Rattle.exec_graph.specs.Graph.{GroupNo}
@@ -13,6 +13,7 @@ use Rattle.exec_msg.specs.declared.kind.Kind.{Kind}
 use Rattle.exec_msg.specs.declared.line.Line.{Line}
 use Rattle.exec_msg.specs.declared.line.Line.TheVariants as line
 use Rattle.exec_script.specs.Zeros.{zeros}
+use Rattle.exec_task.specs.Goal.{GoalTaskState}
 use Rattle.exec_task.specs.Task.{TaskState}
 use Rattle.exec_world.specs.Item.{GoalId, taker_of, first_of}
 use Rattle.exec_world.specs.declared.item.Item.{Item}
@@ -55,12 +56,16 @@ pub record GoalWork : Type 0 where
   pub value : ℤ
   pub task : TaskState
 
+-- the work that a task does
+abbrev pub work_of : GoalTaskState → GoalWork
+work_of task = record { script = task.script; value = task.value; task = task.task }
+
 -- what a server keeps beside a goal's record, by identifier: the action client that sent the goal (none where it was fed),
--- and the goal's work
+-- and the goal's work (none while its task is out)
 pub record HeldGoal : Type 0 where
   pub id : GoalId
   pub client : Option EntityNo
-  pub work : GoalWork
+  pub work : Option GoalWork
 
 -- a server: the callback that polls its goals, for how many ticks it keeps a result (without end where there is none), the
 -- records of its goals in order of acceptance, and what it keeps beside each
@@ -123,10 +128,6 @@ with_variables group variables world = record world { variables = slice_set worl
 -- whether a queue is that of an entity and a kind
 abbrev pub is_queue : EntityNo → Kind → Queue → Bool
 is_queue entity kind queue = (queue.handler.entity == entity) && (ready_number queue.kind == ready_number kind)
-
--- the items in an entity's queue of a kind
-abbrev pub items_in : EntityNo → Kind → WorldState → List Item
-items_in entity kind world = option_map_or (λ queue. queue.items) (find (is_queue entity kind) world.queues) []
 
 -- the line of an item that an entity's queue lost
 abbrev pub drop_line : EntityNo → Item → Line
@@ -193,10 +194,19 @@ is_for id held = held.id == id
 abbrev pub held_for : EntityNo → GoalId → WorldState → Option HeldGoal
 held_for server id world = find (is_for id) (held_by server world)
 
--- the world in which the task of a server's goal stands so
+-- the work of a server's goal, if it holds the goal and its task isn't out
+abbrev pub work_at : EntityNo → GoalId → WorldState → Option GoalWork
+work_at server id world = option_and_then (λ held. held.work) (held_for server id world)
+
+-- the world in which this is put in the place of that work; where it is none, the goal's task is out
+abbrev pub with_work : EntityNo → GoalId → Option GoalWork → WorldState → WorldState
+with_work server id work world =
+    change_server server (λ entry. record entry { held = change_first (is_for id) (λ held. record held { work = work }) entry.held }) world
+
+-- the world in which the task of a server's goal stands so, if it isn't out
 abbrev pub with_task : EntityNo → GoalId → TaskState → WorldState → WorldState
 with_task server id task world =
-    change_server server (λ entry. record entry { held = change_first (is_for id) (λ held. record held { work = record held.work { task = task } }) entry.held }) world
+    change_server server (λ entry. record entry { held = change_first (is_for id) (λ held. record held { work = option_map (λ (work : GoalWork). record work { task = task }) held.work }) entry.held }) world
 
 -- ---- clients
 

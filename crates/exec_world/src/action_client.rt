@@ -1,4 +1,5 @@
-use exec_msg::{EntityNo, GoalId};
+use crate::by_number::{ByNumber, Numbered};
+use exec_msg::{EntityNo, GoalId, Memory};
 use std::marker::Model;
 
 // An action client.
@@ -23,7 +24,7 @@ impl Model for ActionClient {
 }
 
 impl ActionClient {
-    ghost use Rattle.std.specs.Prelude.{◌≡◌, ◌+◌, ◌<◌, ◌^◌};
+    ghost use Rattle.std.specs.Prelude.{◌≡◌, ◌+◌, OnOk, OnErr, IfOk};
     ghost use Rattle.exec_world.specs.Item.{goal_id};
 
     // A client that hasn't sent a goal yet.
@@ -60,13 +61,50 @@ impl ActionClient {
         GoalId::new((self.place as u128 + 1) * (1 << 64) + number as u128)
     }
 
-    // Counts its next goal, and gives the goal's number, from 1.
-    pub(crate) fn send_goal(&mut self) -> u64
-        requires { self.old.goals < 2 ^ 63 }
-        ensures number { result ≡ self.old.goals + 1 }
-        ensures sent { self.new ≡ record self.old { goals = self.old.goals + 1 } }
+    // Counts its next goal, and gives the goal's number, from 1. Where memory is refused, the client stays as it was.
+    pub(crate) fn send_goal(&mut self) -> Result<u64, Memory>
+        ensures number { IfOk result (λ number. number ≡ self.old.goals + 1) }
+        ensures sent { OnOk result (self.new ≡ record self.old { goals = self.old.goals + 1 }) }
+        ensures refused { OnErr result (self.new ≡ self.old) }
     {
-        self.goals += 1;
-        self.goals
+        // Each goal has a line, so no run comes to a number that doesn't fit.
+        self.goals = self.goals.checked_add(1).ok_or(Memory)?;
+        Ok(self.goals)
     }
 }
+
+impl Numbered for ActionClient {
+    ghost number_of = { λ client. client.entity };
+
+    fn number(&self) -> EntityNo {
+        self.entity
+    }
+}
+
+impl ByNumber<ActionClient> {
+    ghost use Rattle.std.specs.Prelude.{◌≡◌, ◌+◌, find, None, OnOk, IfOk};
+    ghost use Rattle.std.specs.Option.{option_map};
+    ghost use Rattle.exec_msg.specs.Lists.{change_first};
+    ghost use Rattle.exec_world.specs.Item.{goal_id};
+    ghost use Rattle.exec_world.specs.World.{is_action_client_at};
+
+    // A client counts its next goal. Answers its server and the goal's identifier, or `None` where there is no such client.
+    pub(crate) fn send_goal(
+        &mut self,
+        client: EntityNo,
+    ) -> Result<Option<(EntityNo, GoalId)>, Memory>
+        ensures made { IfOk result (λ made. made ≡ option_map (λ entry. (entry.server, goal_id entry.place (entry.goals + 1))) (find (is_action_client_at client) self.old)) }
+        ensures sent { OnOk result (self.new ≡ change_first (is_action_client_at client) (λ entry. record entry { goals = entry.goals + 1 }) self.old) }
+        ensures absent { IfOk result (λ made. made ≡ None → self.new ≡ self.old) }
+    {
+        let place = self.place(client);
+        let Some(entry) = self.entries.get_mut(place) else {
+            return Ok(None);
+        };
+        let number = entry.send_goal()?;
+        Ok(Some((entry.server(), entry.goal_id(number))))
+    }
+}
+
+// The action clients of a graph.
+pub(crate) type ActionClients = ByNumber<ActionClient>;

@@ -1,3 +1,4 @@
+use crate::by_number::{ByNumber, Numbered};
 use exec_msg::{EntityNo, Memory};
 use exec_task::PendingCall;
 use indexmap::IndexMap;
@@ -29,8 +30,8 @@ impl Model for Client {
 }
 
 impl Client {
-    ghost use Rattle.std.specs.Prelude.{◌≡◌, ◌+◌, ◌<◌, ◌^◌, [], ◌==◌, length, OnOk, OnErr, IfOk};
-    ghost use Rattle.exec_msg.specs.Lists.{drop_first};
+    ghost use Rattle.std.specs.Prelude.{◌≡◌, ◌+◌, [], length, OnOk, OnErr, IfOk};
+    ghost use Rattle.exec_world.specs.Ready.{call_answered};
     ghost use Rattle.exec_world.specs.World.{client_called};
 
     // A client of a service that hasn't called yet. It takes no memory.
@@ -54,12 +55,12 @@ impl Client {
 
     // Makes its next call, which pends, and gives the call's number, from 1.
     pub(crate) fn call(&mut self) -> Result<u64, Memory>
-        requires { self.old.calls < 2 ^ 63 }
         ensures number { IfOk result (λ number. number ≡ self.old.calls + 1) }
         ensures called { OnOk result (self.new ≡ client_called self.old) }
         ensures refused { OnErr result (self.new ≡ self.old) }
     {
-        let number = self.calls + 1;
+        // Each call has a line, so no run comes to a number that doesn't fit.
+        let number = self.calls.checked_add(1).ok_or(Memory)?;
         self.pending.insert(number, PendingCall::new(number))?;
         self.calls = number;
         Ok(number)
@@ -67,7 +68,7 @@ impl Client {
 
     // Gives a call its reply, after which it pends no more. A call that doesn't pend stays answered.
     pub(crate) fn complete(&mut self, number: u64, value: i64)
-        ensures { self.new ≡ record self.old { pending = drop_first (λ call. call == number) self.old.pending } }
+        ensures { self.new ≡ call_answered number self.old }
     {
         if let Some(mut call) = self.pending.shift_remove(&number) {
             // The call is new to a reply: it pends.
@@ -82,3 +83,48 @@ impl Client {
         self.pending.len()
     }
 }
+
+impl Numbered for Client {
+    ghost number_of = { λ client. client.entity };
+
+    fn number(&self) -> EntityNo {
+        self.entity
+    }
+}
+
+impl ByNumber<Client> {
+    ghost use Rattle.std.specs.Prelude.{◌≡◌, ◌+◌, find, None, OnOk, IfOk};
+    ghost use Rattle.std.specs.Option.{option_map};
+    ghost use Rattle.exec_msg.specs.Lists.{change_first};
+    ghost use Rattle.exec_world.specs.Ready.{call_answered};
+    ghost use Rattle.exec_world.specs.World.{client_called, is_client_at};
+
+    // A client makes its next call, which pends. Answers its service and the call's number, from 1, or `None` where there is no
+    // such client.
+    pub(crate) fn call(&mut self, client: EntityNo) -> Result<Option<(EntityNo, u64)>, Memory>
+        ensures made { IfOk result (λ made. made ≡ option_map (λ entry. (entry.service, entry.calls + 1)) (find (is_client_at client) self.old)) }
+        ensures called { OnOk result (self.new ≡ change_first (is_client_at client) client_called self.old) }
+        ensures absent { IfOk result (λ made. made ≡ None → self.new ≡ self.old) }
+    {
+        let place = self.place(client);
+        let Some(entry) = self.entries.get_mut(place) else {
+            return Ok(None);
+        };
+        let number = entry.call()?;
+        Ok(Some((entry.service(), number)))
+    }
+
+    // A client's call is given its reply, after which it pends no more.
+    pub(crate) fn complete(&mut self, client: EntityNo, number: u64, value: i64)
+        ensures { self.new ≡ change_first (is_client_at client) (call_answered number) self.old }
+    {
+        let place = self.place(client);
+        let Some(entry) = self.entries.get_mut(place) else {
+            return;
+        };
+        entry.complete(number, value);
+    }
+}
+
+// The service clients of a graph.
+pub(crate) type Clients = ByNumber<Client>;

@@ -16,9 +16,16 @@ ghost use Rattle.exec_world.specs.Callback.{Handling, handle};
 ghost use Rattle.exec_world.specs.Item.{taker_of};
 ghost use Rattle.exec_world.specs.LawWords.{is_loss, AreLawful, IsDecision, is_callback_of, shape_of, statuses_of, IsFinal, MayCome};
 ghost use Rattle.exec_world.specs.Ready.{ready_list};
+ghost use Rattle.exec_world.specs.Run.{apart, brought_home, commit, effects_of, run};
 ghost use Rattle.exec_world.specs.Transcript.{at_snapshot, first_world, lines_of, round, rounds};
 ghost use Rattle.exec_world.specs.World.{WorldState, goals_of};
 ghost use Rattle.exec_world.specs.declared.ready.Ready.{Ready};
+
+/// A callback may run apart from the world: where its effects are listed, its variables and its goal's task are brought home
+/// and it is committed then, the world is as if each effect had been given to it at its instruction.
+pub fn callbacks_may_run_apart()
+    ensures { (one : Ready) (world : WorldState) → run one world ≡ commit one (effects_of (apart one world)) (brought_home one (apart one world) world) }
+{}
 
 /// Where a cancel handler ran for candidates, the decisions are those before, followed by one for each candidate, with
 /// its identifier, in order, and each of these is 1 or 2. `S` is whatever the handler's effects go into.

@@ -2,18 +2,26 @@
 #![tactic(auto)]
 
 mod action_client;
+mod by_number;
+mod callback;
 mod client;
 pub mod examples;
+mod first_world;
 mod handler;
 mod item;
 pub mod laws;
 mod mail;
+mod places;
 mod queue;
 mod ready;
 mod ready_list;
 mod server;
+mod state;
 mod taken;
 mod timer;
+mod topic;
+mod world;
 
 pub use item::Item;
 pub use ready::{Cause, Ready};
+pub use world::{World, WorldFault, run_plan};

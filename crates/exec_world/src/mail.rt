@@ -19,10 +19,61 @@ impl<L: Lines> Model for Mail<L> {
 }
 
 impl<L: Lines> Mail<L> {
-    ghost use Rattle.std.specs.Prelude.{◌≡◌, ◌++◌, map, OnOk};
+    ghost use Rattle.std.specs.Prelude.{◌≡◌, ◌++◌, ◌&&◌, map, OnOk};
     ghost use Rattle.std.specs.Option.{option_to_list};
     ghost use Rattle.exec_world.specs.World.{drop_line};
+    ghost use Rattle.exec_world.specs.Ready.{queue_taken};
+    ghost use Rattle.exec_world.specs.inner.Places.{places_where};
+    ghost use Rattle.exec_world.specs.inner.Queues.{has_item, is_in_part};
     ghost use Rattle.exec_world.specs.inner.Mail.{with_line, sent_to, sent_to_any, sent_to_each};
+
+    // Empty queues, and where lines go.
+    pub(crate) fn new(queues: Queues, lines: L) -> Mail<L>
+        ensures { result ≡ record { queues = queues; lines = L.lines lines } }
+    {
+        Mail { queues, lines }
+    }
+
+    // Where the lines go.
+    pub(crate) fn lines(&self) -> &L
+        ensures { L.lines result.now ≡ self.now.lines }
+    {
+        &self.lines
+    }
+
+    // Where the lines went.
+    pub(crate) fn into_lines(self) -> L
+        ensures { L.lines result ≡ self.lines }
+    {
+        self.lines
+    }
+
+    // The queues.
+    pub(crate) fn queues(&self) -> &Queues
+        ensures { result.now ≡ self.now.queues }
+    {
+        &self.queues
+    }
+
+    // Sets places to those of the queues that have an item, either of the kinds before polls or of those behind them, in
+    // ascending order.
+    pub(crate) fn filled(
+        &mut self,
+        before_polls: bool,
+        places: &mut Vec<usize>,
+    ) -> Result<(), Memory>
+        ensures same { self.new ≡ self.old }
+        ensures places { OnOk result (places.new.items ≡ places_where (λ queue. has_item queue && is_in_part before_polls queue) self.old.queues) }
+    {
+        self.queues.filled(before_polls, places)
+    }
+
+    // Takes the first item of each queue that has one.
+    pub(crate) fn take_first(&mut self)
+        ensures { self.new ≡ record self.old { queues = map queue_taken self.old.queues } }
+    {
+        self.queues.take_first();
+    }
 
     // Adds a line.
     pub(crate) fn add_line(&mut self, line: Line) -> Result<(), Memory>

@@ -16,6 +16,7 @@ ghost use Rattle.exec_world.specs.inner.Queues.{slot_of, CoversFilled, has_item,
 
 use crate::handler::Handler;
 use crate::item::Item;
+use crate::places::{make_room, note_place, place_at};
 use exec_msg::{EntityNo, Kind, LazyQueue, Memory};
 use std::alloc::Global;
 use std::marker::Model;
@@ -130,7 +131,7 @@ impl Queues {
         ensures err { OnErr result (self.new ≡ self.old) }
     {
         let slot = slot(handler.entity, kind);
-        make_slot(&mut self.places, slot)?;
+        make_room(&mut self.places, slot)?;
         let place = count(&self.cells);
         let queue = LazyQueue::new(self.alloc, depth);
         self.cells.push(Cell {
@@ -255,36 +256,6 @@ fn count(cells: &[Cell]) -> usize
     ensures { result ≡ length cells.now }
 {
     cells.len()
-}
-
-fn place_at(places: &[Option<usize>], slot: usize) -> Option<usize>
-    ensures { result ≡ option_flatten (slice_get places.now slot) }
-{
-    match places.get(slot) {
-        None => None,
-        Some(place) => *place,
-    }
-}
-
-// Makes a slot, which finds what it found.
-fn make_slot(places: &mut Vec<Option<usize>>, slot: usize) -> Result<(), Memory>
-    requires { slot < 2 ^ 32 }
-    ensures room { OnOk result (slot < length places.new.items) }
-    ensures same { (other : ℕ) → option_flatten (slice_get places.new.items other) ≡ option_flatten (slice_get places.old.items other) }
-{
-    if slot >= places.len() {
-        places.resize(slot + 1, None)?;
-    }
-    Ok(())
-}
-
-// Lets a slot find a place, where it finds none.
-fn note_place(places: &mut Vec<Option<usize>>, slot: usize, place: usize)
-    ensures { places.new.items ≡ change_at slot (noted place) places.old.items }
-{
-    if let Some(found) = places.get_mut(slot) {
-        *found = Some(found.unwrap_or(place));
-    }
 }
 
 fn is_filled(cells: &[Cell], place: usize) -> bool

@@ -40,6 +40,20 @@ impl ReadyList {
         Ok(())
     }
 
+    // Drops all callbacks; the room for them stays.
+    pub(crate) fn clear(&mut self)
+        ensures { self.new ≡ [] }
+    {
+        self.items.clear();
+    }
+
+    // The callbacks in their order.
+    pub(crate) fn as_slice(&self) -> &[Ready]
+        ensures { result.now ≡ self.now }
+    {
+        self.items.as_slice()
+    }
+
     // The vector of the callbacks. It takes no memory.
     pub(crate) fn into_vec(self) -> Vec<Ready>
         ensures { result.items ≡ self }

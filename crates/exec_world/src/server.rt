@@ -7,12 +7,14 @@ ghost use Rattle.exec_world.specs.World.{is_for};
 ghost use Rattle.exec_world.specs.inner.Server.{held_goal_of, held_goals_of};
 
 mod expiring;
+mod found;
 mod polling;
 
 use crate::handler::Handler;
 use exec_goal::{Asked, CancelAnswer, CancelRequest, GoalInfo, Goals, State};
 use exec_msg::{EntityNo, Event, GoalId, Items, Memory, Moment};
 use exec_task::GoalTask;
+pub(crate) use found::Servers;
 use indexmap::IndexMap;
 use std::alloc::Global;
 use std::marker::Model;
@@ -35,11 +37,12 @@ impl Model for GoalRequest {
     ghost inverse = { λ request. record { id = request.id; client = request.client; value = request.value } };
 }
 
-// What a server keeps beside a goal's record: the action client that sent the goal, if one did, and its work.
+// What a server keeps beside a goal's record: the action client that sent the goal, if one did, and its task, `None` while
+// that is out.
 #[derive(Drop)]
 pub(crate) struct Held {
     pub(crate) client: Option<EntityNo>,
-    pub(crate) task: GoalTask,
+    pub(crate) task: Option<GoalTask>,
 }
 
 // A server: the callback that polls its goals, for how many ticks it keeps a result (without end where there is none), its
@@ -150,7 +153,7 @@ impl Server {
         let task = self.new_task(request.value)?;
         let held = Held {
             client: request.client,
-            task,
+            task: Some(task),
         };
         self.held.reserve(1)?;
         // Room and identifier are as they must be, so that memory alone may be refused.

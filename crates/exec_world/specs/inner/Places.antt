@@ -1,11 +1,15 @@
 -- Places in lists.
-use Rattle.std.specs.Prelude.{ℕ, zero, suc, List, [], ◌∷◌, Bool, if◌then◌else◌, Option, None, Some}
+use Rattle.std.specs.Prelude.{ℕ, zero, suc, List, [], ◌∷◌, length, Bool, if◌then◌else◌, Option, None, Some}
 use Rattle.std.specs.Option.{option_map, unwrap_or}
 
 -- the place of the first element that passes a test
 abbrev pub first_place : {A : Type 0} → (A → Bool) → List A → Option ℕ
 first_place test [] = None
 first_place test (x ∷ xs) = if test x then Some zero else option_map suc (first_place test xs)
+
+-- the same, or the number of elements where none passes
+abbrev pub place_in : {A : Type 0} → (A → Bool) → List A → ℕ
+place_in test xs = unwrap_or (first_place test xs) (length xs)
 
 -- the places of the elements that pass a test, the first of which has this place
 abbrev pub places_from : {A : Type 0} → ℕ → (A → Bool) → List A → List ℕ

@@ -1,7 +1,7 @@
 -- What a poll makes of a server, and what a task that is taken from it leaves.
 use Rattle.std.specs.Prelude.{List, [], ◌∷◌, if◌then◌else◌, Option, None, Some}
 use Rattle.std.specs.List.{find}
-use Rattle.std.specs.Option.{option_map}
+use Rattle.std.specs.Option.{option_and_then, option_map}
 use Rattle.exec_goal.specs.Table.{GoalRecord}
 use Rattle.exec_msg.specs.Lists.{change_first}
 use Rattle.exec_script.specs.Script.{listed}
@@ -15,27 +15,23 @@ use Rattle.exec_world.specs.Ready.{is_goal_awake, ready_for, woken}
 use Rattle.exec_world.specs.World.{GoalWork, HeldGoal, Moment, ServerEntry, Variables, is_for}
 use Rattle.exec_world.specs.declared.ready.Ready.{Ready}
 
--- the work that a task does
-abbrev pub work_of : GoalTaskState → GoalWork
-work_of task = record { script = task.script; value = task.value; task = task.task }
-
 -- a goal's work after a poll that left its task so, if it was polled
 abbrev pub work_after : Option TaskState → GoalWork → GoalWork
 work_after None work = work
 work_after (Some task) work = record work { task = task }
 
--- what is kept of a goal, with this work
-abbrev pub with_work : GoalWork → HeldGoal → HeldGoal
-with_work work held = record held { work = work }
+-- what is kept of a goal, with this work, or with none where its task is out
+abbrev pub doing : Option GoalWork → HeldGoal → HeldGoal
+doing work held = record held { work = work }
 
 -- a server whose goal of an identifier does this work
-abbrev pub server_with_work : GoalId → GoalWork → ServerEntry → ServerEntry
-server_with_work id work entry = record entry { held = change_first (is_for id) (with_work work) entry.held }
+abbrev pub server_with_work : GoalId → Option GoalWork → ServerEntry → ServerEntry
+server_with_work id work entry = record entry { held = change_first (is_for id) (doing work) entry.held }
 
 -- the same where a poll left its task so, if it was polled
 abbrev pub server_polled : GoalId → Option TaskState → ServerEntry → ServerEntry
 server_polled id None entry = entry
-server_polled id (Some task) entry = record entry { held = change_first (is_for id) (λ held. record held { work = record held.work { task = task } }) entry.held }
+server_polled id (Some task) entry = record entry { held = change_first (is_for id) (λ held. record held { work = option_map (λ (work : GoalWork). record work { task = task }) held.work }) entry.held }
 
 -- a poll of this work, if there is any, with its effects listed
 abbrev pub poll_listed : Turn → Option GoalWork → Variables → Outcome (List Effect)
@@ -43,7 +39,7 @@ poll_listed turn work variables = poll listed turn work variables []
 
 -- a poll of a server's goal
 abbrev pub goal_polled : Turn → GoalId → ServerEntry → Variables → Outcome (List Effect)
-goal_polled turn id entry variables = poll_listed turn (option_map (λ held. held.work) (find (is_for id) entry.held)) variables
+goal_polled turn id entry variables = poll_listed turn (option_and_then (λ held. held.work) (find (is_for id) entry.held)) variables
 
 -- the poll of a server's goal where that is awake at a moment
 abbrev pub goal_ready : Moment → ServerEntry → GoalRecord → List Ready

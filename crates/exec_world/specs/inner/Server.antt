@@ -1,6 +1,7 @@
 -- What the body of a server keeps.
 use Rattle.std.specs.Prelude.{ℕ, List, map}
-use Rattle.exec_world.specs.World.{HeldGoal}
+use Rattle.std.specs.Option.{option_map}
+use Rattle.exec_world.specs.World.{HeldGoal, work_of}
 use Rattle.exec_world.specs.declared.server.Held.{Held}
 
 -- what an entry of the map stands for: its key is the goal's identifier
@@ -8,7 +9,7 @@ abbrev pub held_goal_of : ℕ × Held → HeldGoal
 held_goal_of entry = record {
   id = entry.0;
   client = entry.1.client;
-  work = record { script = entry.1.task.script; value = entry.1.task.value; task = entry.1.task.task };
+  work = option_map work_of entry.1.task;
 }
 
 -- what the entries of a map stand for

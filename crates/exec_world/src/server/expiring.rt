@@ -1,6 +1,12 @@
 //! Goals that a server forgets.
+ghost use Rattle.std.specs.Prelude.{◌≡◌, ◌++◌, map, OnOk};
+ghost use Rattle.std.specs.List.{flat_map};
+ghost use Rattle.exec_world.specs.Transcript.{expire_lines, server_expired};
+
 use super::{Server, remove};
-use exec_msg::{GoalId, Moment};
+use crate::by_number::ByNumber;
+use crate::mail::Mail;
+use exec_msg::{GoalId, Line, Lines, Memory, Moment};
 
 impl Server {
     ghost use Rattle.std.specs.Prelude.{◌≡◌, drop, slice_get, IfNone};
@@ -21,4 +27,55 @@ impl Server {
         remove(&mut self.held, id);
         Some(id)
     }
+}
+
+impl ByNumber<Server> {
+    ghost use Rattle.std.specs.Prelude.{◌≡◌, ◌++◌, map, OnOk};
+    ghost use Rattle.std.specs.List.{flat_map};
+    ghost use Rattle.exec_world.specs.Transcript.{expire_lines, server_expired};
+
+    // Forgets the goals whose results are kept no longer at a moment, each with its line, server by server.
+    pub(crate) fn expire<L: Lines>(
+        &mut self,
+        moment: Moment,
+        mail: &mut Mail<L>,
+    ) -> Result<(), Memory>
+        ensures servers { OnOk result (self.new ≡ map (server_expired moment) self.old) }
+        ensures lines { OnOk result (mail.new ≡ record mail.old { lines = mail.old.lines ++ flat_map (expire_lines moment) self.old }) }
+    {
+        expire_each(&mut self.entries, moment, mail)
+    }
+}
+
+fn expire_each<L: Lines>(
+    servers: &mut [Server],
+    moment: Moment,
+    mail: &mut Mail<L>,
+) -> Result<(), Memory>
+    ensures servers { OnOk result (servers.new ≡ map (server_expired moment) servers.old) }
+    ensures lines { OnOk result (mail.new ≡ record mail.old { lines = mail.old.lines ++ flat_map (expire_lines moment) servers.old }) }
+    ensures numbers { map (λ server. server.handler.entity) servers.new ≡ map (λ server. server.handler.entity) servers.old }
+{
+    for place in 0..servers.len() {
+        expire_goals(&mut servers[place], moment, mail)?;
+    }
+    Ok(())
+}
+
+fn expire_goals<L: Lines>(
+    server: &mut Server,
+    moment: Moment,
+    mail: &mut Mail<L>,
+) -> Result<(), Memory>
+    ensures server { OnOk result (server.new ≡ server_expired moment server.old) }
+    ensures lines { OnOk result (mail.new ≡ record mail.old { lines = mail.old.lines ++ expire_lines moment server.old }) }
+    ensures number { server.new.handler.entity ≡ server.old.handler.entity }
+{
+    while let Some(id) = server.expire(moment) {
+        mail.add_line(Line::Expire {
+            server: server.number(),
+            id,
+        })?;
+    }
+    Ok(())
 }

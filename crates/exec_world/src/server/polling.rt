@@ -1,36 +1,32 @@
 //! Polls of a server's goals.
-ghost use Rattle.std.specs.Prelude.{◌≡◌, [], Some, IfOk, OnErr, OnOk};
+ghost use Rattle.std.specs.Prelude.{◌≡◌, [], false, Some, IfOk, OnErr, OnOk};
+ghost use Rattle.std.specs.Option.{option_map, option_map_or};
 ghost use Rattle.exec_script.specs.declared.effects.Close.TheVariants as close;
 ghost use Rattle.exec_task.specs.Goal.{meaning_of};
+ghost use Rattle.exec_task.specs.Task.{is_awake};
 ghost use Rattle.exec_world.specs.Callback.{close_of_answer};
-ghost use Rattle.exec_world.specs.inner.Polling.{poll_listed, work_after, work_of};
+ghost use Rattle.exec_world.specs.Ready.{turn_at};
+ghost use Rattle.exec_world.specs.World.{work_of};
+ghost use Rattle.exec_world.specs.inner.Polling.{poll_listed, work_after};
 
 use super::{Held, Server};
 use crate::ready::{Cause, Ready};
 use crate::ready_list::ReadyList;
 use exec_goal::GoalInfo;
 use exec_msg::{GoalId, Items, Memory, Moment};
-use exec_script::{Bank, Close, EffectList};
+use exec_script::{Bank, Close, EffectList, Effects};
 use exec_task::{Answer, GoalTask, Turn, is_awake, poll_goal};
 use futures::task::Context;
 use std::alloc::Global;
 use std::mem;
 
-// What a poll of a goal gives: its effects, in their order, and what closes it.
-#[derive(Drop)]
-pub(crate) struct Polling {
-    pub(crate) effects: EffectList,
-    pub(crate) close: Close,
-}
-
 impl Server {
-    ghost use Rattle.std.specs.Prelude.{ℕ, ◌<◌, pos, length, filter, find, slice_index_or};
-    ghost use Rattle.std.specs.Option.{option_map};
+    ghost use Rattle.std.specs.Prelude.{ℕ, ◌<◌, None, length, filter, find, slice_index_or};
+    ghost use Rattle.std.specs.Option.{option_and_then};
     ghost use Rattle.exec_goal.specs.Info.{info_of};
     ghost use Rattle.exec_goal.specs.State.{is_canceling};
     ghost use Rattle.exec_goal.specs.Table.{GoalRecord, working};
-    ghost use Rattle.exec_task.specs.Task.{new_task};
-    ghost use Rattle.exec_world.specs.Ready.{is_goal_awake, is_task_awake, poll_ready, ready_for, turn_at, woken};
+    ghost use Rattle.exec_world.specs.Ready.{is_goal_awake, is_task_awake, poll_ready, ready_for, woken};
     ghost use Rattle.exec_world.specs.World.{is_for};
     ghost use Rattle.exec_world.specs.inner.Listing.{listed_behind};
     ghost use Rattle.exec_world.specs.inner.Polling.{goal_polled, goal_ready, server_polled, server_with_work};
@@ -63,7 +59,7 @@ impl Server {
     {
         match self.held.get(&goal.id) {
             None => false,
-            Some(held) => is_awake(&held.task, moment, goal.state.is_canceling()),
+            Some(held) => is_any_awake(&held.task, moment, goal.state.is_canceling()),
         }
     }
 
@@ -137,7 +133,8 @@ impl Server {
     }
 
     // Polls a goal in a turn, with the variables of its callback group, in a context that the caller has made. One that isn't
-    // held or isn't awake isn't polled, and pends. Where memory is refused, the server and the bank stay as they were.
+    // held or isn't awake, or whose task is out, isn't polled, and pends. Where memory is refused, the server and the bank stay
+    // as they were.
     pub(crate) fn poll(
         &mut self,
         alloc: Global,
@@ -145,8 +142,8 @@ impl Server {
         turn: &Turn,
         bank: &mut Bank,
         cx: &mut Context<'_>,
-    ) -> Result<Polling, Memory>
-        ensures effects { IfOk result (λ polling. polling.effects ≡ (goal_polled turn.now id self.old bank.old).given) }
+    ) -> Result<Effects, Memory>
+        ensures effects { IfOk result (λ polling. polling.list ≡ (goal_polled turn.now id self.old bank.old).given) }
         ensures close { IfOk result (λ polling. polling.close ≡ (goal_polled turn.now id self.old bank.old).close) }
         ensures variables { OnOk result (bank.new ≡ (goal_polled turn.now id self.old bank.old).variables) }
         ensures task { OnOk result (self.new ≡ server_polled id (goal_polled turn.now id self.old bank.old).task self.old) }
@@ -156,51 +153,55 @@ impl Server {
         let Some(held) = self.held.get_mut(&id) else {
             return Ok(unpolled(alloc));
         };
-        let polling = poll_task(alloc, &mut held.task, turn, bank, cx)?;
+        let polling = poll_any(alloc, &mut held.task, turn, bank, cx)?;
         Ok(polling)
     }
 
-    // Takes the task of a goal, if it is held, and leaves one that hasn't begun. Where memory is refused, the server stays as
-    // it was.
-    pub(crate) fn take_task(&mut self, id: GoalId) -> Result<Option<GoalTask>, Memory>
-        ensures taken { IfOk result (λ taken. option_map work_of taken ≡ option_map (λ held. held.work) (find (is_for id) self.old.held)) }
-        ensures others { OnOk result (self.new ≡ server_with_work id (record { script = self.old.handler.script; value = pos 0; task = new_task }) self.old) }
-        ensures refused { OnErr result (self.new ≡ self.old) }
+    // Takes the task of a goal out, and answers `None` where no such goal is held or its task is out.
+    pub(crate) fn take_task(&mut self, id: GoalId) -> Option<GoalTask>
+        ensures taken { option_map work_of result ≡ option_and_then (λ held. held.work) (find (is_for id) self.old.held) }
+        ensures out { self.new ≡ server_with_work id None self.old }
     {
-        let fresh = self.new_task(0)?;
-        let Some(held) = self.held.get_mut(&id) else {
-            return Ok(None);
-        };
-        let task = replace_task(held, fresh);
-        Ok(Some(task))
+        let held = self.held.get_mut(&id)?;
+        replace_task(held, None)
     }
 
     // Puts a goal's task in its place. Where no such goal is held, nothing changes.
     pub(crate) fn put_task(&mut self, id: GoalId, task: GoalTask)
-        ensures { self.new ≡ server_with_work id (work_of task) self.old }
+        ensures { self.new ≡ server_with_work id (Some (work_of task)) self.old }
     {
         let Some(held) = self.held.get_mut(&id) else {
             return;
         };
-        let _replaced = replace_task(held, task);
+        let _replaced = replace_task(held, Some(task));
     }
 }
 
-// Puts a task in the place of a goal's, which it answers.
-fn replace_task(held: &mut Held, task: GoalTask) -> GoalTask
+// Puts a task, or none, in the place of a goal's, which it answers.
+fn replace_task(held: &mut Held, task: Option<GoalTask>) -> Option<GoalTask>
     ensures taken { result ≡ held.old.task }
     ensures put { held.new ≡ record held.old { task = task } }
 {
     mem::replace(&mut held.task, task)
 }
 
+// Whether a task is awake; one that is out never is.
+fn is_any_awake(task: &Option<GoalTask>, moment: Moment, canceling: bool) -> bool
+    ensures { result ≡ option_map_or (λ work. is_awake work.task (turn_at moment canceling)) (option_map work_of task.now) false }
+{
+    match task {
+        None => false,
+        Some(task) => is_awake(task, moment, canceling),
+    }
+}
+
 // Nothing is done, and the goal pends.
-fn unpolled(alloc: Global) -> Polling
-    ensures effects { result.effects ≡ [] }
+pub(super) fn unpolled(alloc: Global) -> Effects
+    ensures effects { result.list ≡ [] }
     ensures close { result.close ≡ close.Pending }
 {
-    Polling {
-        effects: EffectList::new(alloc),
+    Effects {
+        list: EffectList::new(alloc),
         close: Close::Pending,
     }
 }
@@ -215,6 +216,28 @@ fn close_of(answer: Answer) -> Close
     }
 }
 
+// Polls a task where it isn't out and is awake.
+fn poll_any(
+    alloc: Global,
+    task: &mut Option<GoalTask>,
+    turn: &Turn,
+    bank: &mut Bank,
+    cx: &mut Context<'_>,
+) -> Result<Effects, Memory>
+    ensures effects { IfOk result (λ polling. polling.list ≡ (poll_listed turn.now (option_map work_of task.old) bank.old).given) }
+    ensures close { IfOk result (λ polling. polling.close ≡ (poll_listed turn.now (option_map work_of task.old) bank.old).close) }
+    ensures variables { OnOk result (bank.new ≡ (poll_listed turn.now (option_map work_of task.old) bank.old).variables) }
+    ensures task { OnOk result (option_map work_of task.new ≡ option_map (work_after (poll_listed turn.now (option_map work_of task.old) bank.old).task) (option_map work_of task.old)) }
+    ensures refused { OnErr result (option_map work_of task.new ≡ option_map work_of task.old) }
+    ensures refused_variables { OnErr result (bank.new ≡ bank.old) }
+{
+    let Some(task) = task else {
+        return Ok(unpolled(alloc));
+    };
+    let polling = poll_task(alloc, task, turn, bank, cx)?;
+    Ok(polling)
+}
+
 // Polls a task where it is awake.
 fn poll_task(
     alloc: Global,
@@ -222,8 +245,8 @@ fn poll_task(
     turn: &Turn,
     bank: &mut Bank,
     cx: &mut Context<'_>,
-) -> Result<Polling, Memory>
-    ensures effects { IfOk result (λ polling. polling.effects ≡ (poll_listed turn.now (Some (work_of task.old)) bank.old).given) }
+) -> Result<Effects, Memory>
+    ensures effects { IfOk result (λ polling. polling.list ≡ (poll_listed turn.now (Some (work_of task.old)) bank.old).given) }
     ensures close { IfOk result (λ polling. polling.close ≡ (poll_listed turn.now (Some (work_of task.old)) bank.old).close) }
     ensures variables { OnOk result (bank.new ≡ (poll_listed turn.now (Some (work_of task.old)) bank.old).variables) }
     ensures task { OnOk result (work_of task.new ≡ work_after (poll_listed turn.now (Some (work_of task.old)) bank.old).task (work_of task.old)) }
@@ -235,8 +258,8 @@ fn poll_task(
     }
     let polled = poll_goal(alloc, task, bank, turn, cx)?;
     let close = close_of(polled.answer);
-    Ok(Polling {
-        effects: polled.effects,
+    Ok(Effects {
+        list: polled.effects,
         close,
     })
 }

@@ -1,7 +1,6 @@
 use Rattle.std.proofs.Common.{length, [], Some, IfSome, ◌≤◌, slice_get, ap, subst, sym, ◌∙◌}
 use Rattle.std.specs.Option.{option_map_or}
 use Rattle.exec_msg.specs.KeepLast.{displaced}
-use Rattle.exec_msg.specs.Lists.{change_first}
 use Rattle.exec_world.proofs.FirstPlaces.{find-nowhere, find-first_place, change_first-nowhere, change_first-first_place}
 use Rattle.exec_world.proofs.FoundQueues.{looked_up, finds_after, covers_after, lost_is}
 use Rattle.exec_world.specs.Item.{taker_of}

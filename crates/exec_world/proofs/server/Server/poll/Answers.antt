@@ -1,5 +1,6 @@
 use Rattle.std.proofs.Common.{◌≡◌, List, Option, None, Some, ap, sym, subst, ◌∙◌, refl}
 use Rattle.std.specs.List.{find}
+use Rattle.std.specs.Option.{option_map}
 use Rattle.exec_goal.proofs.Entries.{ids_decide, on_err}
 use Rattle.exec_msg.specs.Lists.{change_first}
 use Rattle.exec_script.specs.declared.effects.Effect.{Effect}
@@ -8,9 +9,9 @@ use Rattle.exec_world.proofs.Awake.{polled-in, unchanged_first, after_poll_of, s
 use Rattle.exec_world.proofs.HeldEntries.{key_test, found-in, changed-in}
 use Rattle.exec_world.proofs.Serving.{kept-same, changed-ids, held_ids}
 use Rattle.exec_world.specs.Callback.{Outcome}
-use Rattle.exec_world.specs.World.{GoalWork, HeldGoal, ServerEntry, is_for}
+use Rattle.exec_world.specs.World.{GoalWork, HeldGoal, ServerEntry, is_for, work_of}
 use Rattle.exec_world.specs.inner.Keeping.{AreKept}
-use Rattle.exec_world.specs.inner.Polling.{poll_listed, server_polled, work_of}
+use Rattle.exec_world.specs.inner.Polling.{poll_listed, server_polled}
 use Rattle.exec_world.specs.inner.Server.{held_goal_of, held_goals_of}
 use Rattle.exec_world.specs.declared.server.Held.{Held}
 use Rattle.exec_world.proofs.server.Server.poll.Goals as goal
@@ -42,8 +43,8 @@ returns-in_default-clause-task c =
 
 pub invariant_of-self-in_err-polling : goal.invariant_of-self-in_err-polling
 invariant_of-self-in_err-polling c =
-    let after : Held = record { client = c.in-Some.held.now.client; task = c.poll_task.new.task } in
-    let changes : held_goal_of (c.args.id, after) ≡ held_goal_of (c.args.id, c.in-Some.held.now) = ap (λ (work : GoalWork). record (held_goal_of (c.args.id, c.in-Some.held.now)) { work = work }) c.in_err-polling.ensures.refused in
+    let after : Held = record { client = c.in-Some.held.now.client; task = c.poll_any.new.task } in
+    let changes : held_goal_of (c.args.id, after) ≡ held_goal_of (c.args.id, c.in-Some.held.now) = ap (λ (work : Option GoalWork). record (held_goal_of (c.args.id, c.in-Some.held.now)) { work = work }) c.in_err-polling.ensures.refused in
     let stays : held_goals_of (c.get_mut.follows.lender after).entries ≡ held_goals_of c.self.inside.held.entries =
     changed-in _ c.args.id (key_test _ (λ a b. ids_decide a b) c.args.id) (λ (one : HeldGoal). one) c.in-Some.held.now after changes c.self.inside.held.entries (c.get_mut.follows.lender after).entries (held_goals_of c.self.inside.held.entries) refl c.in-Some.ensures.value (c.get_mut.follows.holds after).0
     ∙ unchanged_first (is_for c.args.id) (held_goals_of c.self.inside.held.entries) in
@@ -51,8 +52,8 @@ invariant_of-self-in_err-polling c =
 
 pub returns-in_err-polling-clause-refused : goal.returns-in_err-polling-clause-refused
 returns-in_err-polling-clause-refused c =
-    let after : Held = record { client = c.in-Some.held.now.client; task = c.poll_task.new.task } in
-    let changes : held_goal_of (c.args.id, after) ≡ held_goal_of (c.args.id, c.in-Some.held.now) = ap (λ (work : GoalWork). record (held_goal_of (c.args.id, c.in-Some.held.now)) { work = work }) c.in_err-polling.ensures.refused in
+    let after : Held = record { client = c.in-Some.held.now.client; task = c.poll_any.new.task } in
+    let changes : held_goal_of (c.args.id, after) ≡ held_goal_of (c.args.id, c.in-Some.held.now) = ap (λ (work : Option GoalWork). record (held_goal_of (c.args.id, c.in-Some.held.now)) { work = work }) c.in_err-polling.ensures.refused in
     let stays : held_goals_of (c.get_mut.follows.lender after).entries ≡ held_goals_of c.self.inside.held.entries =
     changed-in _ c.args.id (key_test _ (λ a b. ids_decide a b) c.args.id) (λ (one : HeldGoal). one) c.in-Some.held.now after changes c.self.inside.held.entries (c.get_mut.follows.lender after).entries (held_goals_of c.self.inside.held.entries) refl c.in-Some.ensures.value (c.get_mut.follows.holds after).0
     ∙ unchanged_first (is_for c.args.id) (held_goals_of c.self.inside.held.entries) in
@@ -61,9 +62,9 @@ returns-in_err-polling-clause-refused c =
 
 pub invariant_of-self-2 : goal.invariant_of-self-2
 invariant_of-self-2 c =
-    let after : Held = record { client = c.in-Some.held.now.client; task = c.poll_task.new.task } in
-    let task : Option TaskState = (poll_listed c.args.turn.now (Some (work_of c.in-Some.held.now.task)) c.args.bank.now).task in
-    let changes : held_goal_of (c.args.id, after) ≡ after_poll_of task (held_goal_of (c.args.id, c.in-Some.held.now)) = ap (λ (work : GoalWork). record (held_goal_of (c.args.id, c.in-Some.held.now)) { work = work }) c.in_ok-polling.ensures.task in
+    let after : Held = record { client = c.in-Some.held.now.client; task = c.poll_any.new.task } in
+    let task : Option TaskState = (poll_listed c.args.turn.now (option_map work_of c.in-Some.held.now.task) c.args.bank.now).task in
+    let changes : held_goal_of (c.args.id, after) ≡ after_poll_of task (held_goal_of (c.args.id, c.in-Some.held.now)) = ap (λ (work : Option GoalWork). record (held_goal_of (c.args.id, c.in-Some.held.now)) { work = work }) c.in_ok-polling.ensures.task in
     let moved : held_goals_of (c.get_mut.follows.lender after).entries ≡ change_first (is_for c.args.id) (after_poll_of task) (held_goals_of c.self.inside.held.entries) =
     changed-in _ c.args.id (key_test _ (λ a b. ids_decide a b) c.args.id) (after_poll_of task) c.in-Some.held.now after changes c.self.inside.held.entries (c.get_mut.follows.lender after).entries (held_goals_of c.self.inside.held.entries) refl c.in-Some.ensures.value (c.get_mut.follows.holds after).0 in
     kept-same c.self.inside.goals c.self.inside.goals (held_goals_of c.self.inside.held.entries) (held_goals_of (c.get_mut.follows.lender after).entries) refl (ap held_ids moved ∙ changed-ids (λ (one : HeldGoal). one.id) (is_for c.args.id) (after_poll_of task) (λ one. refl) (held_goals_of c.self.inside.held.entries)) c.self.invariant
@@ -90,9 +91,9 @@ pub returns-clause-task : goal.returns-clause-task
 returns-clause-task c =
     let found = found-in _ c.args.id (key_test _ (λ a b. ids_decide a b) c.args.id) c.self.inside.held.entries c.args.self.now.held (Some c.in-Some.held.now) (ap (λ (server : ServerEntry). server.held) c.self.view_is) c.in-Some.ensures.value in
     let is = polled-in c.args.turn.now c.args.id c.args.self.now c.args.bank.now (Some (held_goal_of (c.args.id, c.in-Some.held.now))) found in
-    let after : Held = record { client = c.in-Some.held.now.client; task = c.poll_task.new.task } in
-    let task : Option TaskState = (poll_listed c.args.turn.now (Some (work_of c.in-Some.held.now.task)) c.args.bank.now).task in
-    let changes : held_goal_of (c.args.id, after) ≡ after_poll_of task (held_goal_of (c.args.id, c.in-Some.held.now)) = ap (λ (work : GoalWork). record (held_goal_of (c.args.id, c.in-Some.held.now)) { work = work }) c.in_ok-polling.ensures.task in
+    let after : Held = record { client = c.in-Some.held.now.client; task = c.poll_any.new.task } in
+    let task : Option TaskState = (poll_listed c.args.turn.now (option_map work_of c.in-Some.held.now.task) c.args.bank.now).task in
+    let changes : held_goal_of (c.args.id, after) ≡ after_poll_of task (held_goal_of (c.args.id, c.in-Some.held.now)) = ap (λ (work : Option GoalWork). record (held_goal_of (c.args.id, c.in-Some.held.now)) { work = work }) c.in_ok-polling.ensures.task in
     let moved : held_goals_of (c.get_mut.follows.lender after).entries ≡ change_first (is_for c.args.id) (after_poll_of task) c.args.self.now.held =
     changed-in _ c.args.id (key_test _ (λ a b. ids_decide a b) c.args.id) (after_poll_of task) c.in-Some.held.now after changes c.self.inside.held.entries (c.get_mut.follows.lender after).entries c.args.self.now.held (ap (λ (server : ServerEntry). server.held) c.self.view_is) c.in-Some.ensures.value (c.get_mut.follows.holds after).0 in
     (λ i. record (c.self.view_is i) { held = moved i }) ∙ server-polled c.args.id task c.args.self.now ∙ sym (ap (λ (done : Outcome (List Effect)). server_polled c.args.id done.task c.args.self.now) is)

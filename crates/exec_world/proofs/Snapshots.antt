@@ -1,0 +1,113 @@
+-- What a snapshot makes of the queues that have an item is what it makes of all.
+use Rattle.std.proofs.Common.{◌≡◌, ℕ, suc, ◌+◌, ◌&&◌, ◌==◌, Bool, true, false, not, cond, if◌then◌else◌, length, filter, List, [], ◌∷◌, ◌++◌, slice_get, refl, sym, ap, ◌∙◌, arith}
+use Rattle.std.specs.List.{flat_map, fold}
+use Rattle.std.specs.Option.{option_map_or}
+use Rattle.std.proofs.lemmas.Bool.{eqb-true}
+use Rattle.exec_goal.specs.Table.{GoalRecord}
+use Rattle.exec_graph.specs.Entity.{EntityNo}
+use Rattle.exec_world.proofs.Filled.{given_each}
+use Rattle.exec_world.proofs.Listing.{listed_more}
+use Rattle.exec_world.specs.Ready.{answered_by_first, due_ready, item_ready, placed_from, poll_ready, queue_ready, queues_before_polls, queues_behind_polls, ready_list, reply_taken}
+use Rattle.exec_world.specs.World.{ClientEntry, Handler, Moment, Queue, ServerEntry, TimerEntry, WorldState}
+use Rattle.exec_world.specs.declared.item.Item.{Item}
+use Rattle.exec_world.specs.declared.ready.Ready.{Ready}
+use Rattle.exec_world.specs.inner.Listing.{listed_behind}
+use Rattle.exec_world.specs.inner.Mail.{MailState, mail_of}
+use Rattle.exec_world.specs.inner.Places.{places_from, places_where}
+use Rattle.exec_world.specs.inner.Queues.{has_item, is_in_part}
+use Rattle.exec_world.specs.inner.Snapshots.{fronts_at, replies_at, reply_at}
+
+has_one : (item : Item) (items : List Item) → not (length (item ∷ items) == 0) ≡ false → ⊥
+has_one item items is = let none = eqb-true (length (item ∷ items)) 0 (no (length (item ∷ items) == 0) is) in omega arith
+  where
+    no : (b : Bool) → not b ≡ false → b ≡ true
+    no true is = refl
+    no false is = sym is
+
+-- ---- the callbacks that take from them
+
+none_ready : (moment : Moment) (handler : Handler) (goals : List GoalRecord) (items : List Item) → not (length items == 0) ≡ false → item_ready moment handler goals items ≡ []
+none_ready moment handler goals [] is = refl
+none_ready moment handler goals (item ∷ items) is = absurd (has_one item items is)
+
+module _ (moment : Moment) (world : WorldState) where
+  pub ready_before : fronts_at moment world.servers world.queues (places_where (λ queue. has_item queue && is_in_part true queue) world.queues) ≡ flat_map (queue_ready moment world) (queues_before_polls world)
+  ready_before = given_each (is_in_part true) (queue_ready moment world) (λ queue is. none_ready moment queue.handler _ queue.items is) world.queues
+
+  pub ready_behind : fronts_at moment world.servers world.queues (places_where (λ queue. has_item queue && is_in_part false queue) world.queues) ≡ flat_map (queue_ready moment world) (queues_behind_polls world)
+  ready_behind = given_each (is_in_part false) (queue_ready moment world) (λ queue is. none_ready moment queue.handler _ queue.items is) world.queues
+
+-- ---- the calls that they answer
+
+none_answered : (entity : EntityNo) (items : List Item) (clients : List ClientEntry) → not (length items == 0) ≡ false → answered_by_first entity items clients ≡ clients
+none_answered entity [] clients is = refl
+none_answered entity (item ∷ items) clients is = absurd (has_one item items is)
+
+module _ {B : Type 0} (test : Queue → Bool) (f : B → Queue → B) (step : B → ℕ → B) where
+  stepped_by : (b c : Bool) (n : ℕ) (queue : Queue) (places : List ℕ) (rest : List Queue) (so_far : B) → step so_far n ≡ f so_far queue → (b ≡ false → f so_far queue ≡ so_far)
+      → ((next : B) → fold step next places ≡ fold f next rest) → fold step so_far (if (b && c) then n ∷ places else places) ≡ fold f so_far (cond c (queue ∷ rest) rest)
+  stepped_by true true n queue places rest so_far reads none is = ap (λ next. fold step next places) reads ∙ is (f so_far queue)
+  stepped_by true false n queue places rest so_far reads none is = is so_far
+  stepped_by false true n queue places rest so_far reads none is = is so_far ∙ ap (λ next. fold f next rest) (sym (none refl))
+  stepped_by false false n queue places rest so_far reads none is = is so_far
+
+  stepped_from : ((so_far : B) (queue : Queue) → has_item queue ≡ false → f so_far queue ≡ so_far) → (n : ℕ) (queues : List Queue)
+      → ((k : ℕ) (so_far : B) → step so_far (n + k) ≡ option_map_or (f so_far) (slice_get queues k) so_far)
+      → (so_far : B) → fold step so_far (places_from n (λ queue. has_item queue && test queue) queues) ≡ fold f so_far (filter test queues)
+  stepped_from none n [] reads so_far = refl
+  stepped_from none n (queue ∷ queues) reads so_far =
+      let e : n ≡ n + 0 = omega arith in
+      stepped_by (has_item queue) (test queue) n queue (places_from (suc n) (λ queue. has_item queue && test queue) queues) (filter test queues) so_far (ap (step so_far) e ∙ reads 0 so_far) (none so_far queue)
+      (stepped_from none (suc n) queues (λ k next. let e : suc n + k ≡ n + suc k = omega arith in ap (step next) e ∙ reads (suc k) next))
+
+pub answered_before : (world : WorldState) → replies_at world.queues world.clients (places_where (λ queue. has_item queue && is_in_part true queue) world.queues) ≡ fold reply_taken world.clients (queues_before_polls world)
+answered_before world =
+    stepped_from (is_in_part true) reply_taken (reply_at world.queues) (λ clients queue is. none_answered queue.handler.entity queue.items clients is) 0 world.queues
+    (λ k clients. let e : 0 + k ≡ k = omega arith in ap (reply_at world.queues clients) e) world.clients
+
+-- ---- what a world's snapshot makes of them
+
+module _ {inner held : WorldState} (same : inner ≡ held) (read : List Queue) (places : List ℕ) where
+  -- the callbacks that are listed before polls
+  pub listed_before : (moment : Moment) (before after : List Ready) → read ≡ inner.queues → places ≡ places_where (λ queue. has_item queue && is_in_part true queue) inner.queues
+      → after ≡ listed_behind before (fronts_at moment inner.servers read places) → after ≡ listed_behind before (flat_map (queue_ready moment held) (queues_before_polls held))
+  listed_before moment before after reads at is =
+      is ∙ ap (listed_behind before) ((λ i. fronts_at moment inner.servers (reads i) (at i)) ∙ ready_before moment inner ∙ ap (λ (world : WorldState). flat_map (queue_ready moment world) (queues_before_polls world)) same)
+
+  -- those that are listed behind them
+  pub listed_after : (moment : Moment) (before after : List Ready) → read ≡ inner.queues → places ≡ places_where (λ queue. has_item queue && is_in_part false queue) inner.queues
+      → after ≡ listed_behind before (fronts_at moment inner.servers read places) → after ≡ listed_behind before (flat_map (queue_ready moment held) (queues_behind_polls held))
+  listed_after moment before after reads at is =
+      is ∙ ap (listed_behind before) ((λ i. fronts_at moment inner.servers (reads i) (at i)) ∙ ready_behind moment inner ∙ ap (λ (world : WorldState). flat_map (queue_ready moment world) (queues_behind_polls world)) same)
+
+  -- the calls that are answered
+  pub answered : (mail : MailState) (clients : List ClientEntry) → mail ≡ mail_of inner → read ≡ inner.queues → places ≡ places_where (λ queue. has_item queue && is_in_part true queue) inner.queues
+      → clients ≡ replies_at read inner.clients places
+      → record inner { queues = mail.queues; lines = mail.lines; clients = clients } ≡ record held { clients = fold reply_taken held.clients (queues_before_polls held) }
+  answered mail clients mail_is reads at is =
+      (λ i. record inner { queues = (mail_is i).queues; lines = (mail_is i).lines; clients = (is ∙ (λ j. replies_at (reads j) inner.clients (at j)) ∙ answered_before inner) i })
+      ∙ ap (λ (world : WorldState). record world { clients = fold reply_taken world.clients (queues_before_polls world) }) same
+
+-- ---- the whole
+
+in_turn : (due before polls behind : List Ready) → listed_behind (listed_behind (listed_behind (listed_behind [] due) before) polls) behind ≡ placed_from 1 (due ++ before ++ polls ++ behind)
+in_turn due before polls behind =
+    ap (λ (list : List Ready). listed_behind list behind)
+    (ap (λ (list : List Ready). listed_behind list polls) (listed_more [] due before) ∙ listed_more [] (due ++ before) polls)
+    ∙ listed_more [] (due ++ before ++ polls) behind
+
+-- a list that is made part by part, the second half of it in a world that has other timers and clients
+pub all_listed : {inner held second : WorldState} (timers due : List TimerEntry) (clients : List ClientEntry) (servers : List ServerEntry) (moment : Moment) (list with_due with_before with_polls whole : List Ready)
+    → inner ≡ held → second ≡ record inner { timers = timers; clients = clients } → due ≡ inner.timers → servers ≡ second.servers → list ≡ [] → with_due ≡ listed_behind list (flat_map (due_ready moment) due)
+    → with_before ≡ listed_behind with_due (flat_map (queue_ready moment inner) (queues_before_polls inner)) → with_polls ≡ listed_behind with_before (flat_map (poll_ready moment) servers)
+    → whole ≡ listed_behind with_polls (flat_map (queue_ready moment second) (queues_behind_polls second)) → whole ≡ ready_list moment held
+all_listed {inner} {held} {second} timers due clients servers moment list with_due with_before with_polls whole same later reads there clear is_due is_before is_polls is_whole =
+    is_whole
+    ∙ (λ i. listed_behind
+    ((is_polls ∙ (λ j. listed_behind
+    ((is_before ∙ ap (λ (so_far : List Ready). listed_behind so_far (flat_map (queue_ready moment inner) (queues_before_polls inner)))
+    (is_due ∙ (λ k. listed_behind (clear k) (flat_map (due_ready moment) (reads k))))) j)
+    (flat_map (poll_ready moment) ((there ∙ ap (λ (world : WorldState). world.servers) later) j)))) i)
+    (flat_map (queue_ready moment (later i)) (queues_behind_polls (later i))))
+    ∙ in_turn (flat_map (due_ready moment) inner.timers) (flat_map (queue_ready moment inner) (queues_before_polls inner)) (flat_map (poll_ready moment) inner.servers) (flat_map (queue_ready moment inner) (queues_behind_polls inner))
+    ∙ ap (ready_list moment) same

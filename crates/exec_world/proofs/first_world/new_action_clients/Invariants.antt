@@ -1,0 +1,11 @@
+use Rattle.std.proofs.Common.{◌≡◌, ◌≤◌, ◌++◌, length}
+use Rattle.exec_world.proofs.Wired.{clients_from}
+use Rattle.exec_world.specs.Transcript.{first_world}
+use Rattle.exec_world.proofs.first_world.new_action_clients.Given as goal
+
+-- no more clients than numbers, and those so far are followed by those of the numbers that are left
+abbrev pub invariant-loop-number : goal.invariant-loop-number
+invariant-loop-number l = record {
+  few : length l.clients ≤ l.number;
+  listed : l.clients ++ clients_from l.graph (length l.clients) l.number ≡ (first_world l.graph).action_clients;
+}

@@ -1,0 +1,7 @@
+use Rattle.std.proofs.Common.{◌≡◌}
+use Rattle.exec_world.specs.inner.Rounds.{world_after}
+use Rattle.exec_world.proofs.world.World.run_rounds.Given as goal
+
+-- so many rounds are done
+abbrev pub invariant-loop-done : goal.invariant-loop-done
+invariant-loop-done g l = l.self ≡ world_after l.done l.initial.self.plan

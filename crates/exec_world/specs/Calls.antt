@@ -1,0 +1,74 @@
+-- A world as its calls see it.
+use Rattle.std.specs.Prelude.{◌≡◌, ℕ, suc, ◌+◌, ◌-◌, ◌≤◌, List, length, Bool, true, false, ◌==◌, if◌then◌else◌, slice_index_or}
+use Rattle.exec_graph.specs.Plan.{PlanData}
+use Rattle.exec_script.specs.declared.effects.Effects.{Effects}
+use Rattle.exec_world.specs.Ready.{ready_list, take_inputs}
+use Rattle.exec_world.specs.Run.{commit}
+use Rattle.exec_world.specs.Transcript.{at_snapshot, first_world, finish, round}
+use Rattle.exec_world.specs.World.{Moment, WorldState}
+use Rattle.exec_world.specs.declared.ready.Ready.{Ready}
+use Rattle.exec_world.specs.declared.world.WorldFault.{WorldFault}
+use Rattle.exec_world.specs.declared.world.WorldFault.TheVariants as fault
+
+-- a world: its plan, what changes while that is run, how many rounds are done, how many callbacks of the last snapshot aren't
+-- committed yet, and whether it has failed, so that nothing else of it counts
+pub record WorldData : Type 0 where
+  pub plan : PlanData
+  pub state : WorldState
+  pub rounds : ℕ
+  pub left : ℕ
+  pub failed : Bool
+
+-- the world of a plan before its first round
+abbrev pub new_world : PlanData → WorldData
+new_world plan = record { plan = plan; state = first_world plan.graph; rounds = 0; left = 0; failed = false }
+
+-- a round is the next one of a world, and one of its plan, and the round before is done
+pub record IsNext (number : ℕ) (world : WorldData) : Type 0 where
+  pub next : number ≡ world.rounds + 1
+  pub within : number ≤ length world.plan.moments
+  pub done : world.left ≡ 0
+
+-- the moment of a round
+abbrev pub moment_of : ℕ → PlanData → Moment
+moment_of number plan = slice_index_or plan.moments (number - 1) 0
+
+-- a world of which so many callbacks are still to be committed: where there are none, its round is done
+abbrev pub with_left : ℕ → WorldData → WorldData
+with_left left world = record world { left = left; rounds = if left == 0 then suc world.rounds else world.rounds }
+
+-- the state of which the snapshot of a round is taken
+abbrev pub state_at : ℕ → WorldData → WorldState
+state_at number world = at_snapshot world.plan number (moment_of number world.plan) world.state
+
+-- the callbacks that are ready in a round
+abbrev pub ready_in : ℕ → WorldData → List Ready
+ready_in number world = ready_list (moment_of number world.plan) (state_at number world)
+
+-- a world after the snapshot of a round
+abbrev pub after_snapshot : ℕ → WorldData → WorldData
+after_snapshot number world =
+    with_left (length (ready_in number world)) (record world { state = take_inputs (moment_of number world.plan) (state_at number world) })
+
+-- a world after one of the callbacks of the last snapshot is committed
+abbrev pub after_commit : Ready → Effects → WorldData → WorldData
+after_commit one effects world = with_left (world.left - 1) (record world { state = commit one effects world.state })
+
+-- a world after a whole round
+abbrev pub after_round : ℕ → WorldData → WorldData
+after_round number world = with_left 0 (record world { state = round world.plan number (moment_of number world.plan) world.state })
+
+-- a world whose transcript is closed
+abbrev pub after_finish : WorldData → WorldData
+after_finish world = record world { state = finish world.rounds world.state }
+
+-- what a call answers that came to nothing: a failed world says so and is left as it was, and one that is refused memory has
+-- failed from then on
+abbrev pub HasFailed : WorldFault → WorldData → WorldData → Type 0
+HasFailed fault.Memory before after = (before.failed ≡ false) × (after.failed ≡ true)
+HasFailed fault.Failed before after = (before.failed ≡ true) × (after ≡ before)
+
+-- the number of a fault
+abbrev pub world_fault_number : WorldFault → ℕ
+world_fault_number fault.Memory = 1
+world_fault_number fault.Failed = 2

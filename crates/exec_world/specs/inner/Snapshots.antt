@@ -1,0 +1,35 @@
+-- What a snapshot makes of the queues at places.
+use Rattle.std.specs.Prelude.{ℕ, List, [], slice_get}
+use Rattle.std.specs.List.{flat_map, fold}
+use Rattle.std.specs.Option.{option_map_or}
+use Rattle.exec_world.specs.Ready.{candidates_for, item_ready, ready_for, reply_taken, script_for}
+use Rattle.exec_world.specs.World.{ClientEntry, Handler, Moment, Queue, ServerEntry}
+use Rattle.exec_world.specs.declared.item.Item.{Item}
+use Rattle.exec_world.specs.declared.ready.Cause.TheVariants as cause
+use Rattle.exec_world.specs.declared.ready.Ready.{Ready}
+use Rattle.exec_world.specs.inner.Servers.{goals_in}
+
+-- the callback that takes an item, where these are the servers
+abbrev pub taking : Moment → List ServerEntry → Handler → Item → Ready
+taking moment servers handler taken = ready_for moment handler (cause.Took taken)
+    (candidates_for taken (goals_in handler.entity servers)) (script_for taken (goals_in handler.entity servers) handler.script)
+
+-- the callback that takes from a queue where that has an item
+abbrev pub front_of : Moment → List ServerEntry → Queue → List Ready
+front_of moment servers queue = item_ready moment queue.handler (goals_in queue.handler.entity servers) queue.items
+
+-- the callback that takes from the queue at a place, if there is one
+abbrev pub front_at : Moment → List ServerEntry → List Queue → ℕ → List Ready
+front_at moment servers queues place = option_map_or (front_of moment servers) (slice_get queues place) []
+
+-- the callbacks that take from the queues at these places
+abbrev pub fronts_at : Moment → List ServerEntry → List Queue → List ℕ → List Ready
+fronts_at moment servers queues places = flat_map (front_at moment servers queues) places
+
+-- service clients after the queue at a place hands on its first item
+abbrev pub reply_at : List Queue → List ClientEntry → ℕ → List ClientEntry
+reply_at queues clients place = option_map_or (reply_taken clients) (slice_get queues place) clients
+
+-- service clients after the queues at these places do
+abbrev pub replies_at : List Queue → List ClientEntry → List ℕ → List ClientEntry
+replies_at queues clients places = fold (reply_at queues) clients places

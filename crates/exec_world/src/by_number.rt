@@ -1,0 +1,82 @@
+ghost use Rattle.std.specs.Prelude.{◌≡◌, ℕ};
+
+use crate::places::{make_room, note_place, place_at};
+use exec_msg::{EntityNo, Memory};
+use std::alloc::Global;
+use std::marker::Model;
+
+// What belongs to an entity of a graph, which has a number.
+pub(crate) trait Numbered: Drop {
+    ghost number_of: { Self → ℕ };
+
+    // The entity's number.
+    fn number(&self) -> EntityNo
+        ensures { result ≡ number_of self.now };
+}
+
+// Entries in the order in which they were declared, each found by its entity's number without a walk over others.
+#[derive(Drop)]
+pub(crate) struct ByNumber<E: Numbered> {
+    pub(crate) entries: Vec<E>,
+    places: Vec<Option<usize>>,
+}
+
+impl<E: Numbered> Model for ByNumber<E> {
+    ghost use Rattle.std.specs.Prelude.{List};
+    ghost use Rattle.exec_world.specs.inner.Numbered.{FindsByNumber};
+
+    ghost Value = { List E };
+
+    ghost view = { λ entries. entries.entries.items };
+
+    ghost invariant = { λ entries. FindsByNumber E.number_of entries.places.items entries.entries.items };
+}
+
+impl<E: Numbered> ByNumber<E> {
+    ghost use Rattle.std.specs.Prelude.{◌≡◌, ◌==◌, [], ◌∷◌, ◌++◌, find, OnOk};
+    ghost use Rattle.std.specs.Option.{option_copied};
+    ghost use Rattle.exec_world.specs.inner.Places.{place_in};
+
+    // No entries. It takes no memory.
+    pub(crate) fn new(alloc: Global) -> ByNumber<E>
+        ensures { result ≡ [] }
+    {
+        ByNumber {
+            entries: Vec::new(alloc),
+            places: Vec::new(alloc),
+        }
+    }
+
+    // Declares an entry behind the others.
+    pub(crate) fn declare(&mut self, entry: E) -> Result<(), Memory>
+        ensures { OnOk result (self.new ≡ self.old ++ entry ∷ []) }
+    {
+        let number = entry.number().0 as usize;
+        make_room(&mut self.places, number)?;
+        let place = self.entries.as_slice().len();
+        self.entries.push(entry)?;
+        note_place(&mut self.places, number, place);
+        Ok(())
+    }
+
+    // The place of the first entry of an entity, from 0, or the number of entries where there is none.
+    pub(crate) fn place(&self, entity: EntityNo) -> usize
+        ensures { result ≡ place_in (λ entry. E.number_of entry == entity) self.now }
+    {
+        place_at(&self.places, entity.0 as usize).unwrap_or(self.entries.len())
+    }
+
+    // The first entry of an entity.
+    pub(crate) fn find(&self, entity: EntityNo) -> Option<&E>
+        ensures { option_copied result ≡ find (λ entry. E.number_of entry == entity) self.now }
+    {
+        self.entries.get(self.place(entity))
+    }
+
+    // All entries in their order.
+    pub(crate) fn as_slice(&self) -> &[E]
+        ensures { result.now ≡ self.now }
+    {
+        self.entries.as_slice()
+    }
+}

@@ -1,0 +1,123 @@
+//! What a callback does apart from the world, its effects listed.
+ghost use Rattle.std.specs.Prelude.{◌≡◌, IfOk, OnOk};
+ghost use Rattle.exec_script.specs.Script.{called, listed};
+ghost use Rattle.exec_world.specs.Callback.{call_in, candidate_input, decision_by, handle_all, instructions_of, take_item};
+ghost use Rattle.exec_world.specs.Close.{decision_in};
+
+use crate::item::Item;
+use crate::ready::Ready;
+use exec_goal::GoalInfo;
+use exec_msg::{Memory, Moment};
+use exec_script::{Bank, Close, DecisionList, EffectList, Input, Instr, Role, run_call_into};
+use std::alloc::Global;
+
+// Runs a callback that took an item, and puts its effects behind those that are listed.
+pub(crate) fn take_item(
+    alloc: Global,
+    item: &Item,
+    one: &Ready,
+    bank: &mut Bank,
+    effects: &mut EffectList,
+) -> Result<Close, Memory>
+    ensures variables { OnOk result (bank.new ≡ (take_item item.now listed one.now bank.old effects.old).variables) }
+    ensures effects { OnOk result (effects.new ≡ (take_item item.now listed one.now bank.old effects.old).given) }
+    ensures close { IfOk result (λ close. close ≡ (take_item item.now listed one.now bank.old effects.old).close) }
+{
+    match item {
+        Item::Cancel { .. } => handle_all(alloc, one, bank, effects),
+        Item::Request { .. } => call_in(Role::Service, one, bank, effects),
+        Item::Goal { .. } => call_in(Role::GoalHandler, one, bank, effects),
+        Item::Message { .. }
+        | Item::Reply { .. }
+        | Item::Ask { .. }
+        | Item::Response { .. }
+        | Item::Code { .. }
+        | Item::Feedback { .. }
+        | Item::Result { .. } => call_in(Role::Callback, one, bank, effects),
+    }
+}
+
+// Runs a callback's script once in a role, and puts its effects behind those that are listed.
+pub(crate) fn call_in(
+    role: Role,
+    one: &Ready,
+    bank: &mut Bank,
+    effects: &mut EffectList,
+) -> Result<Close, Memory>
+    ensures variables { OnOk result (bank.new ≡ (call_in role listed one.now bank.old effects.old).variables) }
+    ensures effects { OnOk result (effects.new ≡ (call_in role listed one.now bank.old effects.old).given) }
+    ensures close { IfOk result (λ close. close ≡ (call_in role listed one.now bank.old effects.old).close) }
+{
+    let close = run_call_into(instructions_of(one), role, bank, &one.input(), effects)?;
+    Ok(close)
+}
+
+// The instructions of a callback's script; none is empty.
+fn instructions_of(one: &Ready) -> &[Instr]
+    ensures { result.now ≡ instructions_of one.now.script }
+{
+    match &one.script {
+        Some(script) => script.as_slice(),
+        None => &[],
+    }
+}
+
+fn handle_all(
+    alloc: Global,
+    one: &Ready,
+    bank: &mut Bank,
+    effects: &mut EffectList,
+) -> Result<Close, Memory>
+    ensures variables { OnOk result (bank.new ≡ (handle_all listed one.now bank.old effects.old).variables) }
+    ensures effects { OnOk result (effects.new ≡ (handle_all listed one.now bank.old effects.old).given) }
+    ensures close { IfOk result (λ close. close ≡ (handle_all listed one.now bank.old effects.old).close) }
+{
+    let mut decisions = Vec::new(alloc);
+    for candidate in one.candidates.as_slice() {
+        let decision = handle(one, candidate, bank, effects)?;
+        decisions.push((candidate.id, decision))?;
+    }
+    Ok(Close::Decisions(DecisionList::of(decisions)))
+}
+
+// Runs a cancel handler for a candidate, and answers its decision.
+fn handle(
+    one: &Ready,
+    candidate: &GoalInfo,
+    bank: &mut Bank,
+    effects: &mut EffectList,
+) -> Result<u8, Memory>
+    ensures variables { OnOk result (bank.new ≡ (called listed (instructions_of one.now.script) bank.old (candidate_input one.now.moment candidate.now) effects.old).variables) }
+    ensures effects { OnOk result (effects.new ≡ (called listed (instructions_of one.now.script) bank.old (candidate_input one.now.moment candidate.now) effects.old).given) }
+    ensures decision { IfOk result (λ decision. decision ≡ decision_by (called listed (instructions_of one.now.script) bank.old (candidate_input one.now.moment candidate.now) effects.old).answer) }
+{
+    let input = candidate_input(one.moment, candidate);
+    let close = run_call_into(
+        instructions_of(one),
+        Role::CancelHandler,
+        bank,
+        &input,
+        effects,
+    )?;
+    Ok(decision_in(&close))
+}
+
+fn candidate_input(moment: Moment, candidate: &GoalInfo) -> Input
+    ensures { result ≡ candidate_input moment candidate.now }
+{
+    Input {
+        first: candidate.value,
+        aux: i64::from(candidate.state.status().number()),
+        moment,
+    }
+}
+
+// The decision that closes a callback; any other closing rejects.
+pub(crate) fn decision_in(closing: &Close) -> u8
+    ensures { result ≡ decision_in closing.now }
+{
+    match closing {
+        Close::Decide(decision) => *decision,
+        _ => 1,
+    }
+}

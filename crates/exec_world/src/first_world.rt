@@ -1,0 +1,522 @@
+//! The parts of the first world of a graph.
+ghost use Rattle.std.specs.Prelude.{◌≡◌, ◌<◌, ◌^◌, ◌++◌, [], false, true, length, map, replicate, IsTrue, OnOk, IfOk};
+ghost use Rattle.std.specs.Option.{unwrap_or};
+ghost use Rattle.exec_graph.specs.Entity.{is_within};
+ghost use Rattle.exec_graph.specs.Graph.{callback_script, cons_if, entities_where, has_kind, in_group, is_action_client, is_client, is_exclusive, is_server, is_timer, is_topic, of_entity, queue_depth};
+ghost use Rattle.exec_graph.specs.declared.entity.EntityOf.TheVariants as resolved;
+ghost use Rattle.exec_script.specs.Zeros.{zeros};
+ghost use Rattle.exec_world.specs.Transcript.{first_world, new_topic, subscribes_to, takes_from_queue};
+ghost use Rattle.exec_world.specs.inner.Parts.{action_client_for, client_for, new_queue_of, queue_for, queues_of, server_for, timer_for};
+
+use crate::action_client::{ActionClient, ActionClients};
+use crate::client::{Client, Clients};
+use crate::handler::Handler;
+use crate::queue::Queues;
+use crate::server::{Server, Servers};
+use crate::timer::EntityTimer;
+use crate::topic::{Topic, Topics};
+use exec_graph::{
+    ActionClientEntity, ClientEntity, Declared, EntityOf, Graph, GraphEntity, Script, ServerEntity,
+    ServiceEntity, SubscriptionEntity, TimerEntity,
+};
+use exec_msg::{EntityNo, Kind, Memory};
+use exec_script::Bank;
+use std::alloc::Global;
+use std::sync::Arc;
+
+// The kinds of callbacks in ready order.
+const KINDS: [Kind; 12] = [
+    Kind::Timer,
+    Kind::Message,
+    Kind::Request,
+    Kind::Reply,
+    Kind::Goal,
+    Kind::Cancel,
+    Kind::Ask,
+    Kind::Poll,
+    Kind::Response,
+    Kind::Code,
+    Kind::Feedback,
+    Kind::Result,
+];
+
+// The timers of a graph, in the order of declaration.
+pub(crate) fn new_timers(alloc: Global, graph: &Graph) -> Result<Vec<EntityTimer>, Memory>
+    ensures { IfOk result (λ timers. timers.items ≡ (first_world graph.now).timers) }
+{
+    let mut timers = Vec::new(alloc);
+    for number in 0..graph.len() {
+        let entity = EntityNo(number as u16);
+        push_timer(&mut timers, graph, entity, graph.declared(entity))?;
+    }
+    Ok(timers)
+}
+
+fn push_timer(
+    timers: &mut Vec<EntityTimer>,
+    graph: &Graph,
+    entity: EntityNo,
+    declared: &Declared,
+) -> Result<(), Memory>
+    requires { IsTrue (of_entity true is_within declared.now) }
+    ensures { OnOk result (timers.new.items ≡ timers.old.items ++ cons_if (is_timer declared.now) (timer_for graph.now entity declared.now) []) }
+{
+    match declared {
+        Declared::Topic => Ok(()),
+        Declared::Entity(found) => push_timer_of(timers, graph, entity, found),
+    }
+}
+
+fn push_timer_of(
+    timers: &mut Vec<EntityTimer>,
+    graph: &Graph,
+    entity: EntityNo,
+    found: &GraphEntity,
+) -> Result<(), Memory>
+    requires { IsTrue (is_within found.now.is) }
+    ensures { OnOk result (timers.new.items ≡ timers.old.items ++ cons_if (is_timer (in_group found.now.group found.now.is)) (timer_for graph.now entity (in_group found.now.group found.now.is)) []) }
+{
+    if let EntityOf::Timer(timer) = &found.is {
+        let script = share(&timer.script)?;
+        let handler = handler(graph, entity, found, script);
+        timers.push(EntityTimer::new(handler, timer.period))?;
+    }
+    Ok(())
+}
+
+// The queues of a graph in ready order, all empty.
+pub(crate) fn new_queues(alloc: Global, graph: &Graph) -> Result<Queues, Memory>
+    ensures { IfOk result (λ queues. queues ≡ (first_world graph.now).queues) }
+{
+    let mut queues = Queues::new(alloc);
+    for kind in KINDS {
+        declare_kind(alloc, &mut queues, graph, kind)?;
+    }
+    Ok(queues)
+}
+
+fn declare_kind(alloc: Global, queues: &mut Queues, graph: &Graph, kind: Kind) -> Result<(), Memory>
+    ensures { OnOk result (queues.new ≡ queues.old ++ queues_of graph.now kind) }
+{
+    if takes_from_queue(kind) {
+        declare_all(alloc, queues, graph, kind)
+    } else {
+        Ok(())
+    }
+}
+
+fn takes_from_queue(kind: Kind) -> bool
+    ensures { result ≡ takes_from_queue kind }
+{
+    match kind {
+        Kind::Timer | Kind::Poll => false,
+        _ => true,
+    }
+}
+
+// Declares the queue of each entity that has callbacks of a kind.
+fn declare_all(alloc: Global, queues: &mut Queues, graph: &Graph, kind: Kind) -> Result<(), Memory>
+    requires { takes_from_queue kind ≡ true }
+    ensures { OnOk result (queues.new ≡ queues.old ++ map (new_queue_of graph.now kind) (entities_where (has_kind kind) graph.now)) }
+{
+    for number in 0..graph.len() {
+        let entity = EntityNo(number as u16);
+        declare_queue(alloc, queues, graph, kind, entity, graph.declared(entity))?;
+    }
+    Ok(())
+}
+
+fn declare_queue(
+    alloc: Global,
+    queues: &mut Queues,
+    graph: &Graph,
+    kind: Kind,
+    entity: EntityNo,
+    declared: &Declared,
+) -> Result<(), Memory>
+    requires taken { takes_from_queue kind ≡ true }
+    requires within { IsTrue (of_entity true is_within declared.now) }
+    ensures { OnOk result (queues.new ≡ queues.old ++ cons_if (has_kind kind declared.now) (queue_for graph.now kind entity declared.now) []) }
+{
+    match declared {
+        Declared::Topic => Ok(()),
+        Declared::Entity(found) => declare_queue_of(alloc, queues, graph, kind, entity, found),
+    }
+}
+
+fn declare_queue_of(
+    alloc: Global,
+    queues: &mut Queues,
+    graph: &Graph,
+    kind: Kind,
+    entity: EntityNo,
+    found: &GraphEntity,
+) -> Result<(), Memory>
+    requires taken { takes_from_queue kind ≡ true }
+    requires within { IsTrue (is_within found.now.is) }
+    ensures { OnOk result (queues.new ≡ queues.old ++ cons_if (has_kind kind (in_group found.now.group found.now.is)) (queue_for graph.now kind entity (in_group found.now.group found.now.is)) []) }
+{
+    let Some(script) = callback_script(alloc, kind, &found.is)? else {
+        return Ok(());
+    };
+    let handler = handler(graph, entity, found, script);
+    let depth = queue_depth(&found.is) as usize;
+    queues.declare(handler, kind, depth)
+}
+
+// How many items each of an entity's queues holds; a timer has none.
+fn queue_depth(is: &EntityOf<EntityNo, Script>) -> u64
+    ensures { result ≡ queue_depth is.now }
+{
+    match is {
+        EntityOf::Timer(_) => 0,
+        EntityOf::Subscription(entity) => entity.depth,
+        EntityOf::Service(entity) => entity.depth,
+        EntityOf::Client(entity) => entity.depth,
+        EntityOf::Server(entity) => entity.depth,
+        EntityOf::ActionClient(entity) => entity.depth,
+    }
+}
+
+// The servers of a graph, in the order of declaration, none with a goal.
+pub(crate) fn new_servers(alloc: Global, graph: &Graph) -> Result<Servers, Memory>
+    ensures { IfOk result (λ servers. servers ≡ (first_world graph.now).servers) }
+{
+    let mut servers = Servers::new(alloc);
+    for number in 0..graph.len() {
+        let entity = EntityNo(number as u16);
+        declare_server(alloc, &mut servers, graph, entity, graph.declared(entity))?;
+    }
+    Ok(servers)
+}
+
+fn declare_server(
+    alloc: Global,
+    servers: &mut Servers,
+    graph: &Graph,
+    entity: EntityNo,
+    declared: &Declared,
+) -> Result<(), Memory>
+    ensures { OnOk result (servers.new ≡ servers.old ++ cons_if (is_server declared.now) (server_for graph.now entity declared.now) []) }
+{
+    match declared {
+        Declared::Topic => Ok(()),
+        Declared::Entity(found) => declare_server_of(alloc, servers, graph, entity, found),
+    }
+}
+
+fn declare_server_of(
+    alloc: Global,
+    servers: &mut Servers,
+    graph: &Graph,
+    entity: EntityNo,
+    found: &GraphEntity,
+) -> Result<(), Memory>
+    ensures { OnOk result (servers.new ≡ servers.old ++ cons_if (is_server (in_group found.now.group found.now.is)) (server_for graph.now entity (in_group found.now.group found.now.is)) []) }
+{
+    if let EntityOf::Server(server) = &found.is {
+        let script = share(&server.script)?;
+        let handler = handler(graph, entity, found, script);
+        servers.declare(Server::new(alloc, handler, server.result_timeout))?;
+    }
+    Ok(())
+}
+
+// The service clients of a graph, in the order of declaration, none with a call.
+pub(crate) fn new_clients(alloc: Global, graph: &Graph) -> Result<Clients, Memory>
+    ensures { IfOk result (λ clients. clients ≡ (first_world graph.now).clients) }
+{
+    let mut clients = Clients::new(alloc);
+    for number in 0..graph.len() {
+        let entity = EntityNo(number as u16);
+        declare_client(alloc, &mut clients, entity, graph.declared(entity))?;
+    }
+    Ok(clients)
+}
+
+fn declare_client(
+    alloc: Global,
+    clients: &mut Clients,
+    entity: EntityNo,
+    declared: &Declared,
+) -> Result<(), Memory>
+    ensures { OnOk result (clients.new ≡ clients.old ++ cons_if (is_client declared.now) (client_for entity declared.now) []) }
+{
+    match declared {
+        Declared::Topic => Ok(()),
+        Declared::Entity(found) => declare_client_of(alloc, clients, entity, found),
+    }
+}
+
+fn declare_client_of(
+    alloc: Global,
+    clients: &mut Clients,
+    entity: EntityNo,
+    found: &GraphEntity,
+) -> Result<(), Memory>
+    ensures { OnOk result (clients.new ≡ clients.old ++ cons_if (is_client (in_group found.now.group found.now.is)) (client_for entity (in_group found.now.group found.now.is)) []) }
+{
+    if let EntityOf::Client(client) = &found.is {
+        clients.declare(Client::new(alloc, entity, client.service))?;
+    }
+    Ok(())
+}
+
+// The action clients of a graph, in the order of declaration, each with its place among them, and none with a goal.
+pub(crate) fn new_action_clients(alloc: Global, graph: &Graph) -> Result<ActionClients, Memory>
+    ensures { IfOk result (λ clients. clients ≡ (first_world graph.now).action_clients) }
+{
+    let mut clients = ActionClients::new(alloc);
+    for number in 0..graph.len() {
+        let entity = EntityNo(number as u16);
+        declare_action_client(&mut clients, entity, graph.declared(entity))?;
+    }
+    Ok(clients)
+}
+
+fn declare_action_client(
+    clients: &mut ActionClients,
+    entity: EntityNo,
+    declared: &Declared,
+) -> Result<(), Memory>
+    requires { length clients.old < 2 ^ 16 }
+    ensures { OnOk result (clients.new ≡ clients.old ++ cons_if (is_action_client declared.now) (action_client_for (length clients.old) entity declared.now) []) }
+{
+    match declared {
+        Declared::Topic => Ok(()),
+        Declared::Entity(found) => declare_action_client_of(clients, entity, found),
+    }
+}
+
+fn declare_action_client_of(
+    clients: &mut ActionClients,
+    entity: EntityNo,
+    found: &GraphEntity,
+) -> Result<(), Memory>
+    requires { length clients.old < 2 ^ 16 }
+    ensures { OnOk result (clients.new ≡ clients.old ++ cons_if (is_action_client (in_group found.now.group found.now.is)) (action_client_for (length clients.old) entity (in_group found.now.group found.now.is)) []) }
+{
+    if let EntityOf::ActionClient(client) = &found.is {
+        let place = clients.as_slice().len() as u16;
+        let asks = client.on_result.is_some();
+        clients.declare(ActionClient::new(entity, place, client.server, asks))?;
+    }
+    Ok(())
+}
+
+// The topics of a graph, in the order of declaration, each with its subscriptions.
+pub(crate) fn new_topics(alloc: Global, graph: &Graph) -> Result<Topics, Memory>
+    ensures { IfOk result (λ topics. topics ≡ (first_world graph.now).topics) }
+{
+    let mut topics = Topics::new(alloc);
+    for number in 0..graph.len() {
+        let entity = EntityNo(number as u16);
+        declare_topic(alloc, &mut topics, graph, entity, graph.declared(entity))?;
+    }
+    Ok(topics)
+}
+
+fn declare_topic(
+    alloc: Global,
+    topics: &mut Topics,
+    graph: &Graph,
+    entity: EntityNo,
+    declared: &Declared,
+) -> Result<(), Memory>
+    ensures { OnOk result (topics.new ≡ topics.old ++ cons_if (is_topic declared.now) (new_topic graph.now entity) []) }
+{
+    match declared {
+        Declared::Topic => {
+            let subscribers = subscribers_of(alloc, graph, entity)?;
+            topics.declare(Topic {
+                entity,
+                subscribers,
+            })
+        }
+        Declared::Entity(_) => Ok(()),
+    }
+}
+
+// The subscriptions of a topic, in the order of declaration.
+fn subscribers_of(alloc: Global, graph: &Graph, topic: EntityNo) -> Result<Vec<EntityNo>, Memory>
+    ensures { IfOk result (λ subscribers. subscribers.items ≡ entities_where (of_entity false (subscribes_to topic)) graph.now) }
+{
+    let mut subscribers = Vec::new(alloc);
+    for number in 0..graph.len() {
+        let entity = EntityNo(number as u16);
+        push_subscriber(&mut subscribers, topic, entity, graph.declared(entity))?;
+    }
+    Ok(subscribers)
+}
+
+fn push_subscriber(
+    subscribers: &mut Vec<EntityNo>,
+    topic: EntityNo,
+    entity: EntityNo,
+    declared: &Declared,
+) -> Result<(), Memory>
+    ensures { OnOk result (subscribers.new.items ≡ subscribers.old.items ++ cons_if (of_entity false (subscribes_to topic) declared.now) entity []) }
+{
+    if subscribes(declared, topic) {
+        subscribers.push(entity)?;
+    }
+    Ok(())
+}
+
+fn subscribes(declared: &Declared, topic: EntityNo) -> bool
+    ensures { result ≡ of_entity false (subscribes_to topic) declared.now }
+{
+    match declared {
+        Declared::Topic => false,
+        Declared::Entity(found) => subscribes_to(&found.is, topic),
+    }
+}
+
+fn subscribes_to(is: &EntityOf<EntityNo, Script>, topic: EntityNo) -> bool
+    ensures { result ≡ subscribes_to topic is.now }
+{
+    match is {
+        EntityOf::Subscription(subscription) => subscription.topic == topic,
+        _ => false,
+    }
+}
+
+// The variables of each callback group.
+pub(crate) fn new_banks(alloc: Global, graph: &Graph) -> Result<Vec<Bank>, Memory>
+    ensures { IfOk result (λ banks. banks.items ≡ (first_world graph.now).variables) }
+{
+    let mut banks = Vec::new(alloc);
+    for _ in 0..graph.groups().len() {
+        banks.push(Bank::new())?;
+    }
+    Ok(banks)
+}
+
+// A callback of an entity, with its script.
+fn handler(graph: &Graph, entity: EntityNo, found: &GraphEntity, script: Script) -> Handler
+    ensures { result ≡ record { entity = entity; group = found.now.group; exclusive = is_exclusive graph.now found.now.group; script = script } }
+{
+    Handler {
+        entity,
+        group: found.group,
+        exclusive: graph.is_exclusive(found.group),
+        script,
+    }
+}
+
+fn share(script: &Script) -> Result<Script, Memory>
+    ensures { IfOk result (λ shared. shared ≡ script.now) }
+{
+    let instructions = script.shared().clone()?;
+    Ok(Script::of(instructions))
+}
+
+// The script of an entity's callbacks of a kind, where it has such callbacks. That of an ask is empty, and so is that of a
+// result for which the action client has none.
+fn callback_script(
+    alloc: Global,
+    kind: Kind,
+    is: &EntityOf<EntityNo, Script>,
+) -> Result<Option<Script>, Memory>
+    ensures { IfOk result (λ script. script ≡ callback_script kind is.now) }
+{
+    match is {
+        EntityOf::Timer(entity) => timer_script(kind, entity),
+        EntityOf::Subscription(entity) => subscription_script(kind, entity),
+        EntityOf::Service(entity) => service_script(kind, entity),
+        EntityOf::Client(entity) => client_script(kind, entity),
+        EntityOf::Server(entity) => server_script(alloc, kind, entity),
+        EntityOf::ActionClient(entity) => action_client_script(alloc, kind, entity),
+    }
+}
+
+fn timer_script(kind: Kind, entity: &TimerEntity<Script>) -> Result<Option<Script>, Memory>
+    ensures { IfOk result (λ script. script ≡ callback_script kind (resolved.Timer entity.now)) }
+{
+    match kind {
+        Kind::Timer => Ok(Some(share(&entity.script)?)),
+        _ => Ok(None),
+    }
+}
+
+fn subscription_script(
+    kind: Kind,
+    entity: &SubscriptionEntity<EntityNo, Script>,
+) -> Result<Option<Script>, Memory>
+    ensures { IfOk result (λ script. script ≡ callback_script kind (resolved.Subscription entity.now)) }
+{
+    match kind {
+        Kind::Message => Ok(Some(share(&entity.script)?)),
+        _ => Ok(None),
+    }
+}
+
+fn service_script(kind: Kind, entity: &ServiceEntity<Script>) -> Result<Option<Script>, Memory>
+    ensures { IfOk result (λ script. script ≡ callback_script kind (resolved.Service entity.now)) }
+{
+    match kind {
+        Kind::Request => Ok(Some(share(&entity.script)?)),
+        _ => Ok(None),
+    }
+}
+
+fn client_script(
+    kind: Kind,
+    entity: &ClientEntity<EntityNo, Script>,
+) -> Result<Option<Script>, Memory>
+    ensures { IfOk result (λ script. script ≡ callback_script kind (resolved.Client entity.now)) }
+{
+    match kind {
+        Kind::Reply => Ok(Some(share(&entity.script)?)),
+        _ => Ok(None),
+    }
+}
+
+fn server_script(
+    alloc: Global,
+    kind: Kind,
+    entity: &ServerEntity<Script>,
+) -> Result<Option<Script>, Memory>
+    ensures { IfOk result (λ script. script ≡ callback_script kind (resolved.Server entity.now)) }
+{
+    match kind {
+        Kind::Goal => Ok(Some(share(&entity.on_goal)?)),
+        Kind::Cancel => Ok(Some(share(&entity.on_cancel)?)),
+        Kind::Ask => Ok(Some(empty(alloc)?)),
+        Kind::Poll => Ok(Some(share(&entity.script)?)),
+        _ => Ok(None),
+    }
+}
+
+fn action_client_script(
+    alloc: Global,
+    kind: Kind,
+    entity: &ActionClientEntity<EntityNo, Script>,
+) -> Result<Option<Script>, Memory>
+    ensures { IfOk result (λ script. script ≡ callback_script kind (resolved.ActionClient entity.now)) }
+{
+    match kind {
+        Kind::Response => Ok(Some(share(&entity.on_response)?)),
+        Kind::Code => Ok(Some(share(&entity.on_code)?)),
+        Kind::Feedback => Ok(Some(share(&entity.on_feedback)?)),
+        Kind::Result => Ok(Some(share_or_empty(alloc, &entity.on_result)?)),
+        _ => Ok(None),
+    }
+}
+
+fn share_or_empty(alloc: Global, script: &Option<Script>) -> Result<Script, Memory>
+    ensures { IfOk result (λ shared. shared ≡ unwrap_or script.now []) }
+{
+    match script {
+        None => empty(alloc),
+        Some(script) => share(script),
+    }
+}
+
+// A script that does nothing.
+fn empty(alloc: Global) -> Result<Script, Memory>
+    ensures { IfOk result (λ script. script ≡ []) }
+{
+    let instructions = Arc::new(alloc, Vec::new(alloc))?;
+    Ok(Script::of(instructions))
+}

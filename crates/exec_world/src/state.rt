@@ -1,0 +1,120 @@
+//! What changes while a plan is run.
+mod act;
+mod close;
+mod give;
+mod lend;
+mod round;
+mod snapshot;
+
+use crate::action_client::ActionClients;
+use crate::client::Clients;
+use crate::first_world::{
+    new_action_clients, new_banks, new_clients, new_queues, new_servers, new_timers, new_topics,
+};
+use crate::mail::Mail;
+use crate::server::Servers;
+use crate::timer::EntityTimer;
+use crate::topic::Topics;
+use exec_graph::{Graph, GroupNo};
+use exec_msg::{EntityNo, Line, Lines, Memory};
+use exec_script::Bank;
+use exec_task::Poller;
+use std::alloc::Global;
+use std::marker::Model;
+
+// The world of a graph: its topics, timers, queues, servers and clients, the variables of its callback groups, and the lines
+// so far.
+#[derive(Drop)]
+pub(crate) struct State<L: Lines> {
+    alloc: Global,
+    poller: Poller,
+    topics: Topics,
+    timers: Vec<EntityTimer>,
+    servers: Servers,
+    clients: Clients,
+    action_clients: ActionClients,
+    banks: Vec<Bank>,
+    mail: Mail<L>,
+    // The places of queues that a snapshot takes from; room that is used again.
+    places: Vec<usize>,
+}
+
+impl<L: Lines> Model for State<L> {
+    ghost use Rattle.exec_world.specs.World.{WorldState};
+
+    ghost Value = { WorldState };
+
+    ghost view = { λ state. record {
+      topics = state.topics;
+      timers = state.timers.items;
+      queues = state.mail.queues;
+      servers = state.servers;
+      clients = state.clients;
+      action_clients = state.action_clients;
+      variables = state.banks.items;
+      lines = state.mail.lines;
+    } };
+}
+
+impl<L: Lines> State<L> {
+    ghost use Rattle.std.specs.Prelude.{◌≡◌, [], IfOk, OnOk};
+    ghost use Rattle.exec_world.specs.Transcript.{first_world};
+    ghost use Rattle.exec_world.specs.World.{add_line, variables_of, with_variables};
+
+    // The world of a graph before its first round, with no lines yet.
+    pub(crate) fn new(alloc: Global, graph: &Graph, lines: L) -> Result<State<L>, Memory>
+        requires { L.lines lines ≡ [] }
+        ensures { IfOk result (λ state. state ≡ first_world graph.now) }
+    {
+        Ok(State {
+            alloc,
+            poller: Poller::new(alloc)?,
+            topics: new_topics(alloc, graph)?,
+            timers: new_timers(alloc, graph)?,
+            servers: new_servers(alloc, graph)?,
+            clients: new_clients(alloc, graph)?,
+            action_clients: new_action_clients(alloc, graph)?,
+            banks: new_banks(alloc, graph)?,
+            mail: Mail::new(new_queues(alloc, graph)?, lines),
+            places: Vec::new(alloc),
+        })
+    }
+
+    // Where the lines go.
+    pub(crate) fn lines(&self) -> &L
+        ensures { L.lines result.now ≡ self.now.lines }
+    {
+        self.mail.lines()
+    }
+
+    // Where the lines went.
+    pub(crate) fn into_lines(self) -> L
+        ensures { L.lines result ≡ self.lines }
+    {
+        self.mail.into_lines()
+    }
+
+    fn add_line(&mut self, line: Line) -> Result<(), Memory>
+        ensures { OnOk result (self.new ≡ add_line line self.old) }
+    {
+        self.mail.add_line(line)
+    }
+
+    // The variables of a group; no group but the graph's has any.
+    pub(crate) fn bank(&self, group: GroupNo) -> Bank
+        ensures { result ≡ variables_of group self.now }
+    {
+        match self.banks.get(group.0 as usize) {
+            Some(bank) => *bank,
+            None => Bank::new(),
+        }
+    }
+
+    pub(crate) fn set_bank(&mut self, group: GroupNo, bank: Bank)
+        ensures { self.new ≡ with_variables group bank self.old }
+    {
+        if let Some(place) = self.banks.get_mut(group.0 as usize) {
+            *place = bank;
+        }
+    }
+}

@@ -1,0 +1,327 @@
+//! What closes a callback in the world, behind its effects.
+ghost use Rattle.std.specs.Prelude.{◌≡◌};
+ghost use Rattle.exec_world.specs.Close.{reply_in};
+
+use super::State;
+use crate::callback::decision_in;
+use crate::item::Item;
+use crate::ready::{Cause, Ready};
+use crate::server::GoalRequest;
+use exec_goal::{Asked, CancelRequest};
+use exec_msg::{EntityNo, Event, GoalId, GoalStatus, Line, Lines, Memory, Moment};
+use exec_script::Close;
+
+impl<L: Lines> State<L> {
+    ghost use Rattle.std.specs.Prelude.{◌≡◌, ◌⊎◌, ℕ, true, map, OnOk};
+    ghost use Rattle.std.specs.List.{fold};
+    ghost use Rattle.exec_goal.specs.Calls.{askers_in};
+    ghost use Rattle.exec_msg.specs.declared.goal.GoalStatus.TheVariants as status;
+    ghost use Rattle.exec_msg.specs.declared.line.Line.TheVariants as line;
+    ghost use Rattle.exec_world.specs.declared.item.Item.TheVariants as item;
+    ghost use Rattle.exec_goal.specs.Table.{is_accepting};
+    ghost use Rattle.exec_world.specs.Close.{accept, answer_goal, ask, cancel, close_callback, close_item, close_poll, decide, decisions_in, end, reply_to, respond, tell};
+    ghost use Rattle.exec_world.specs.World.{action_client_at, add_line, add_lines, goals_of, has_room_for, push};
+
+    // Closes a ready callback.
+    pub(super) fn close(&mut self, one: &Ready, closing: &Close) -> Result<(), Memory>
+        ensures { OnOk result (self.new ≡ close_callback one.now closing.now self.old) }
+    {
+        match &one.cause {
+            Cause::Due => Ok(()),
+            Cause::Took(item) => self.close_item(one.entity, one.moment, item, closing),
+            Cause::Woke { id, .. } => self.close_poll(one.entity, *id, one.moment, closing),
+        }
+    }
+
+    fn close_item(
+        &mut self,
+        entity: EntityNo,
+        moment: Moment,
+        item: &Item,
+        closing: &Close,
+    ) -> Result<(), Memory>
+        ensures { OnOk result (self.new ≡ close_item entity moment item.now closing.now self.old) }
+    {
+        match item {
+            Item::Request { client, number, .. } => {
+                self.reply_to(entity, *client, *number, reply_in(closing))
+            }
+            Item::Goal { id, client, value } => {
+                let request = GoalRequest {
+                    id: *id,
+                    client: *client,
+                    value: *value,
+                };
+                self.answer_goal(entity, moment, decision_in(closing), &request)
+            }
+            Item::Cancel { request, client } => self.close_cancel(
+                entity, request, *client, closing,
+            ),
+            Item::Ask { id, client } => self.ask(entity, *id, *client),
+            Item::Response { id, accepted } => self.respond(entity, *id, *accepted),
+            Item::Message { .. }
+            | Item::Reply { .. }
+            | Item::Code { .. }
+            | Item::Feedback { .. }
+            | Item::Result { .. } => Ok(()),
+        }
+    }
+
+    fn reply_to(
+        &mut self,
+        service: EntityNo,
+        client: EntityNo,
+        number: u64,
+        value: i64,
+    ) -> Result<(), Memory>
+        ensures { OnOk result (self.new ≡ reply_to service client number value self.old) }
+    {
+        self.add_line(Line::Reply { service, value })?;
+        self.push(client, Item::Reply { number, value })
+    }
+
+    fn answer_goal(
+        &mut self,
+        server: EntityNo,
+        moment: Moment,
+        decision: u8,
+        request: &GoalRequest,
+    ) -> Result<(), Memory>
+        ensures { OnOk result (self.new ≡ answer_goal server moment decision request.now self.old) }
+    {
+        if self.servers.has_room_for(server, request.id) {
+            self.decide(server, moment, decision, request)
+        } else {
+            self.decide(server, moment, 1, request)
+        }
+    }
+
+    fn decide(
+        &mut self,
+        server: EntityNo,
+        moment: Moment,
+        decision: u8,
+        request: &GoalRequest,
+    ) -> Result<(), Memory>
+        requires { is_accepting decision ≡ true → has_room_for request.now.id (goals_of server self.old) ≡ true }
+        ensures { OnOk result (self.new ≡ decide server moment decision request.now self.old) }
+    {
+        self.add_line(Line::Decide {
+            server,
+            id: request.id,
+            decision,
+        })?;
+        let accepted = decision == 2 || decision == 3;
+        if accepted {
+            self.accept(server, moment, decision, request)?;
+        }
+        self.push_any(
+            request.client,
+            Item::Response {
+                id: request.id,
+                accepted,
+            },
+        )
+    }
+
+    fn accept(
+        &mut self,
+        server: EntityNo,
+        moment: Moment,
+        decision: u8,
+        request: &GoalRequest,
+    ) -> Result<(), Memory>
+        requires decision { (decision ≡ 2) ⊎ (decision ≡ 3) }
+        requires room { has_room_for request.now.id (goals_of server self.old) ≡ true }
+        ensures { OnOk result (self.new ≡ accept server moment decision request.now self.old) }
+    {
+        self.servers.accept(server, moment, decision, request)?;
+        self.add_state(server, request.id, GoalStatus::Accepted)?;
+        if decision == 2 {
+            self.add_state(server, request.id, GoalStatus::Executing)?;
+        }
+        Ok(())
+    }
+
+    fn add_state(&mut self, server: EntityNo, id: GoalId, status: GoalStatus) -> Result<(), Memory>
+        ensures { OnOk result (self.new ≡ add_line (line.State server id status) self.old) }
+    {
+        self.add_line(Line::State { server, id, status })
+    }
+
+    fn close_cancel(
+        &mut self,
+        server: EntityNo,
+        request: &CancelRequest,
+        client: Option<EntityNo>,
+        closing: &Close,
+    ) -> Result<(), Memory>
+        ensures { OnOk result (self.new ≡ cancel server request.now client (decisions_in closing.now) self.old) }
+    {
+        match closing {
+            Close::Decisions(decisions) => {
+                self.cancel(server, request, client, decisions.as_slice())
+            }
+            _ => self.cancel(server, request, client, &[]),
+        }
+    }
+
+    fn cancel(
+        &mut self,
+        server: EntityNo,
+        request: &CancelRequest,
+        client: Option<EntityNo>,
+        decisions: &[(GoalId, u8)],
+    ) -> Result<(), Memory>
+        ensures { OnOk result (self.new ≡ cancel server request.now client decisions.now self.old) }
+    {
+        let answer = self.servers.cancel(self.alloc, server, request, decisions)?;
+        self.add_moved(server, answer.moved.as_slice())?;
+        let moved = answer.moved.len() as u64;
+        self.add_line(Line::Code {
+            server,
+            code: answer.code,
+            moved,
+        })?;
+        self.push_any(
+            client,
+            Item::Code {
+                code: answer.code,
+                moved,
+            },
+        )
+    }
+
+    // Tells of each of these goals that it is being canceled.
+    fn add_moved(&mut self, server: EntityNo, goals: &[GoalId]) -> Result<(), Memory>
+        ensures { OnOk result (self.new ≡ add_lines (map (λ (id : ℕ). line.State server id status.Canceling) goals.now) self.old) }
+    {
+        for id in goals {
+            self.add_state(server, *id, GoalStatus::Canceling)?;
+        }
+        Ok(())
+    }
+
+    fn ask(&mut self, server: EntityNo, id: GoalId, client: EntityNo) -> Result<(), Memory>
+        ensures { OnOk result (self.new ≡ ask server id client self.old) }
+    {
+        match self.servers.ask(server, id, client)? {
+            Asked::Now(status, value) => self.tell(server, id, status, value, client),
+            Asked::Unknown => self.tell(server, id, GoalStatus::Unknown, 0, client),
+            Asked::Later => Ok(()),
+        }
+    }
+
+    fn tell(
+        &mut self,
+        server: EntityNo,
+        id: GoalId,
+        status: GoalStatus,
+        value: i64,
+        client: EntityNo,
+    ) -> Result<(), Memory>
+        ensures { OnOk result (self.new ≡ tell server id status value client self.old) }
+    {
+        self.add_line(Line::Result {
+            server,
+            id,
+            status,
+            value,
+        })?;
+        self.push(client, Item::Result { id, status, value })
+    }
+
+    fn respond(&mut self, client: EntityNo, id: GoalId, accepted: bool) -> Result<(), Memory>
+        ensures { OnOk result (self.new ≡ respond (action_client_at client self.old) id accepted self.old) }
+    {
+        match self.action_clients.find(client) {
+            None => Ok(()),
+            Some(found) => {
+                if accepted && found.asks() {
+                    let server = found.server();
+                    self.ask_for(client, server, id)?;
+                }
+                Ok(())
+            }
+        }
+    }
+
+    fn ask_for(&mut self, client: EntityNo, server: EntityNo, id: GoalId) -> Result<(), Memory>
+        ensures { OnOk result (self.new ≡ push server (item.Ask id client) (add_line (line.Ask client id) self.old)) }
+    {
+        self.add_line(Line::Ask { client, id })?;
+        self.push(server, Item::Ask { id, client })
+    }
+
+    fn close_poll(
+        &mut self,
+        server: EntityNo,
+        id: GoalId,
+        moment: Moment,
+        closing: &Close,
+    ) -> Result<(), Memory>
+        ensures { OnOk result (self.new ≡ close_poll server id moment closing.now self.old) }
+    {
+        match closing {
+            Close::Ended(event, value) => self.end(server, id, *event, *value, moment),
+            _ => Ok(()),
+        }
+    }
+
+    fn end(
+        &mut self,
+        server: EntityNo,
+        id: GoalId,
+        event: Event,
+        value: i64,
+        moment: Moment,
+    ) -> Result<(), Memory>
+        ensures { OnOk result (self.new ≡ end server id event value moment self.old) }
+    {
+        match self.servers.end(server, id, event, value, moment) {
+            None => Ok(()),
+            Some(reached) => self.tell_end(server, id, reached.status(), value),
+        }
+    }
+
+    // Tells that a goal ended with a status and a result.
+    fn tell_end(
+        &mut self,
+        server: EntityNo,
+        id: GoalId,
+        status: GoalStatus,
+        value: i64,
+    ) -> Result<(), Memory>
+        ensures { OnOk result (self.new ≡ fold (λ before client. tell server id status value client before) (add_line (line.State server id status) self.old) (askers_in id (goals_of server self.old))) }
+    {
+        self.add_state(server, id, status)?;
+        self.tell_askers(server, id, status, value)
+    }
+
+    // Tells each action client that asked for a goal's result, in the order of asking.
+    fn tell_askers(
+        &mut self,
+        server: EntityNo,
+        id: GoalId,
+        status: GoalStatus,
+        value: i64,
+    ) -> Result<(), Memory>
+        ensures { OnOk result (self.new ≡ fold (λ before client. tell server id status value client before) self.old (askers_in id (goals_of server self.old))) }
+    {
+        let mut index: usize = 0;
+        while let Some(client) = self.servers.asker(server, id, index) {
+            self.tell(server, id, status, value, client)?;
+            index = index.checked_add(1).ok_or(Memory)?;
+        }
+        Ok(())
+    }
+}
+
+fn reply_in(closing: &Close) -> i64
+    ensures { result ≡ reply_in closing.now }
+{
+    match closing {
+        Close::Reply(value) => *value,
+        _ => 0,
+    }
+}

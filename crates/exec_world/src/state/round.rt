@@ -1,0 +1,130 @@
+//! Rounds, from the first line to the last.
+ghost use Rattle.std.specs.Prelude.{◌≡◌, ◌++◌, length, OnOk};
+ghost use Rattle.std.specs.List.{flat_map};
+ghost use Rattle.exec_world.specs.Transcript.{pending_by};
+
+use super::State;
+use crate::by_number::Numbered;
+use crate::client::Client;
+use crate::item::Item;
+use crate::mail::Mail;
+use crate::ready::Ready;
+use crate::ready_list::ReadyList;
+use exec_goal::CancelRequest;
+use exec_graph::{Fed, Feed};
+use exec_msg::{Line, Lines, Memory, Moment};
+use exec_script::EffectList;
+
+impl<L: Lines> State<L> {
+    ghost use Rattle.std.specs.Prelude.{◌≡◌, OnOk};
+    ghost use Rattle.exec_msg.specs.declared.line.Line.TheVariants as line;
+    ghost use Rattle.exec_world.specs.Transcript.{closing_lines, expire, feed, feed_one, finish, run_all, snapshot_and_run};
+    ghost use Rattle.exec_world.specs.World.{add_line};
+
+    // Begins the round of a number at a moment: its line, expiry, and what is fed in it.
+    pub(crate) fn open_round(
+        &mut self,
+        number: u64,
+        moment: Moment,
+        fed: &[Feed],
+    ) -> Result<(), Memory>
+        ensures { OnOk result (self.new ≡ feed fed.now (expire moment (add_line (line.Round number moment) self.old))) }
+    {
+        self.add_line(Line::Round { number, moment })?;
+        self.expire(moment)?;
+        self.feed(fed)?;
+        Ok(())
+    }
+
+    // Runs the callbacks that are ready at a moment. The lists have room that is used again.
+    pub(crate) fn snapshot_and_run(
+        &mut self,
+        moment: Moment,
+        list: &mut ReadyList,
+        effects: &mut EffectList,
+    ) -> Result<(), Memory>
+        ensures { OnOk result (self.new ≡ snapshot_and_run moment self.old) }
+    {
+        self.snapshot(moment, list)?;
+        self.run_all(list.as_slice(), effects)?;
+        Ok(())
+    }
+
+    fn run_all(&mut self, list: &[Ready], effects: &mut EffectList) -> Result<(), Memory>
+        ensures { OnOk result (self.new ≡ run_all list.now self.old) }
+    {
+        for one in list {
+            self.run(one, effects)?;
+        }
+        Ok(())
+    }
+
+    fn expire(&mut self, moment: Moment) -> Result<(), Memory>
+        ensures { OnOk result (self.new ≡ expire moment self.old) }
+    {
+        self.servers.expire(moment, &mut self.mail)
+    }
+
+    fn feed(&mut self, entries: &[Feed]) -> Result<(), Memory>
+        ensures { OnOk result (self.new ≡ feed entries.now self.old) }
+    {
+        for entry in entries {
+            self.feed_one(&entry.fed)?;
+        }
+        Ok(())
+    }
+
+    fn feed_one(&mut self, fed: &Fed) -> Result<(), Memory>
+        ensures { OnOk result (self.new ≡ feed_one fed.now self.old) }
+    {
+        match *fed {
+            Fed::Message { topic, value } => self.publish(topic, value),
+            Fed::Goal { server, id, value } => self.push(
+                server,
+                Item::Goal {
+                    id,
+                    client: None,
+                    value,
+                },
+            ),
+            Fed::Cancel { server, id, stamp } => self.push(
+                server,
+                Item::Cancel {
+                    request: CancelRequest { id, stamp },
+                    client: None,
+                },
+            ),
+        }
+    }
+
+    // Closes the transcript after so many rounds.
+    pub(crate) fn finish(&mut self, rounds: u64) -> Result<(), Memory>
+        ensures { OnOk result (self.new ≡ finish rounds self.old) }
+    {
+        add_pending(self.clients.as_slice(), &mut self.mail)?;
+        self.add_line(Line::End { rounds })
+    }
+}
+
+// Adds a line for each client that has calls without a reply.
+fn add_pending<L: Lines>(clients: &[Client], mail: &mut Mail<L>) -> Result<(), Memory>
+    ensures { OnOk result (mail.new ≡ record mail.old { lines = mail.old.lines ++ flat_map (λ entry. pending_by entry.entity (length entry.pending)) clients.now }) }
+{
+    for client in clients {
+        add_pending_of(client, mail)?;
+    }
+    Ok(())
+}
+
+fn add_pending_of<L: Lines>(client: &Client, mail: &mut Mail<L>) -> Result<(), Memory>
+    ensures { OnOk result (mail.new ≡ record mail.old { lines = mail.old.lines ++ pending_by client.now.entity (length client.now.pending) }) }
+{
+    let calls = client.pending() as u64;
+    if calls > 0 {
+        mail.add_line(Line::Pending {
+            client: client.number(),
+            calls,
+        })?;
+    }
+    Ok(())
+}

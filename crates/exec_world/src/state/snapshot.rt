@@ -1,0 +1,157 @@
+//! The snapshot of a round.
+ghost use Rattle.std.specs.Prelude.{◌≡◌, [], ◌∷◌, IfOk, OnOk};
+ghost use Rattle.exec_world.specs.Ready.{answered_by_first};
+ghost use Rattle.exec_world.specs.inner.Listing.{listed_behind};
+ghost use Rattle.exec_world.specs.inner.Snapshots.{front_at, fronts_at, replies_at, reply_at, taking};
+
+use super::State;
+use crate::client::Clients;
+use crate::handler::Handler;
+use crate::item::Item;
+use crate::queue::Queues;
+use crate::ready::Ready;
+use crate::ready_list::ReadyList;
+use crate::server::Servers;
+use crate::taken::ready_for_item;
+use crate::timer::take_due_into;
+use exec_msg::{EntityNo, Lines, Memory, Moment};
+use std::alloc::Global;
+
+impl<L: Lines> State<L> {
+    ghost use Rattle.std.specs.Prelude.{◌≡◌, OnOk};
+    ghost use Rattle.std.specs.List.{flat_map, fold};
+    ghost use Rattle.exec_world.specs.Ready.{queue_ready, queues_before_polls, queues_behind_polls, ready_list, reply_taken, take_inputs};
+    ghost use Rattle.exec_world.specs.inner.Listing.{listed_behind};
+
+    // Takes each input at a moment. The list then has the callbacks that are ready, and these alone.
+    pub(crate) fn snapshot(&mut self, moment: Moment, list: &mut ReadyList) -> Result<(), Memory>
+        ensures list { OnOk result (list.new ≡ ready_list moment self.old) }
+        ensures taken { OnOk result (self.new ≡ take_inputs moment self.old) }
+    {
+        list.clear();
+        take_due_into(self.alloc, &mut self.timers, moment, list)?;
+        self.list_before_polls(moment, list)?;
+        self.servers.list_polls(self.alloc, moment, list)?;
+        self.list_behind_polls(moment, list)?;
+        self.mail.take_first();
+        Ok(())
+    }
+
+    // Lists the callbacks that take from queues and are ready before polls, and gives calls the replies that are taken.
+    fn list_before_polls(&mut self, moment: Moment, list: &mut ReadyList) -> Result<(), Memory>
+        ensures list { OnOk result (list.new ≡ listed_behind list.old (flat_map (queue_ready moment self.old) (queues_before_polls self.old))) }
+        ensures taken { OnOk result (self.new ≡ record self.old { clients = fold reply_taken self.old.clients (queues_before_polls self.old) }) }
+    {
+        self.mail.filled(true, &mut self.places)?;
+        list_fronts(
+            self.alloc,
+            moment,
+            &self.places,
+            self.mail.queues(),
+            &self.servers,
+            list,
+        )?;
+        answer_calls(&mut self.clients, self.mail.queues(), &self.places);
+        Ok(())
+    }
+
+    // Lists the callbacks that take from queues and are ready behind polls.
+    fn list_behind_polls(&mut self, moment: Moment, list: &mut ReadyList) -> Result<(), Memory>
+        ensures list { OnOk result (list.new ≡ listed_behind list.old (flat_map (queue_ready moment self.old) (queues_behind_polls self.old))) }
+        ensures same { self.new ≡ self.old }
+    {
+        self.mail.filled(false, &mut self.places)?;
+        list_fronts(
+            self.alloc,
+            moment,
+            &self.places,
+            self.mail.queues(),
+            &self.servers,
+            list,
+        )?;
+        Ok(())
+    }
+}
+
+// Lists the callbacks that take from the queues at these places.
+fn list_fronts(
+    alloc: Global,
+    moment: Moment,
+    places: &[usize],
+    queues: &Queues,
+    servers: &Servers,
+    list: &mut ReadyList,
+) -> Result<(), Memory>
+    ensures { OnOk result (list.new ≡ listed_behind list.old (fronts_at moment servers.now queues.now places.now)) }
+{
+    for place in places {
+        list_front(alloc, moment, *place, queues, servers, list)?;
+    }
+    Ok(())
+}
+
+// Lists the callback that takes from the queue at a place, if there is one and it has an item.
+fn list_front(
+    alloc: Global,
+    moment: Moment,
+    place: usize,
+    queues: &Queues,
+    servers: &Servers,
+    list: &mut ReadyList,
+) -> Result<(), Memory>
+    ensures { OnOk result (list.new ≡ listed_behind list.old (front_at moment servers.now queues.now place)) }
+{
+    let Some(handler) = queues.handler(place) else {
+        return Ok(());
+    };
+    let Some(item) = queues.front(place) else {
+        return Ok(());
+    };
+    let ready = ready_to_take(alloc, moment, handler, item, servers)?;
+    list.push(ready)
+}
+
+// The callback that takes an item.
+fn ready_to_take(
+    alloc: Global,
+    moment: Moment,
+    handler: &Handler,
+    item: Item,
+    servers: &Servers,
+) -> Result<Ready, Memory>
+    ensures { IfOk result (λ ready. ready ≡ taking moment servers.now handler.now item) }
+{
+    let server = servers.find(handler.entity);
+    ready_for_item(alloc, moment, handler, server, item)
+}
+
+// Gives calls the replies that stand first in the queues at these places.
+fn answer_calls(clients: &mut Clients, queues: &Queues, places: &[usize])
+    ensures { clients.new ≡ replies_at queues.now clients.old places.now }
+{
+    for place in places {
+        answer_call(clients, queues, *place);
+    }
+}
+
+// Gives a call the reply that stands first in the queue at a place, if one does.
+fn answer_call(clients: &mut Clients, queues: &Queues, place: usize)
+    ensures { clients.new ≡ reply_at queues.now clients.old place }
+{
+    let Some(handler) = queues.handler(place) else {
+        return;
+    };
+    let Some(item) = queues.front(place) else {
+        return;
+    };
+    answer_by(clients, handler.entity, item);
+}
+
+// Gives a client's call the reply that this item is, if it is one.
+fn answer_by(clients: &mut Clients, entity: EntityNo, item: Item)
+    ensures { clients.new ≡ answered_by_first entity (item ∷ []) clients.old }
+{
+    if let Item::Reply { number, value } = item {
+        clients.complete(entity, number, value);
+    }
+}

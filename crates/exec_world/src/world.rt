@@ -1,0 +1,337 @@
+ghost use Rattle.std.specs.Prelude.{◌≡◌, [], IfOk};
+ghost use Rattle.std.specs.Arc.{arc_value};
+ghost use Rattle.exec_world.specs.Transcript.{lines_of};
+
+use crate::ready::Ready;
+use crate::ready_list::ReadyList;
+use crate::state::State;
+use exec_graph::{FeedByRound, GroupNo, Plan};
+use exec_msg::{EntityNo, GoalId, Line, LineList, Lines, Memory};
+use exec_script::{Bank, EffectList, Effects};
+use exec_task::GoalTask;
+use std::alloc::Global;
+use std::marker::Model;
+use std::sync::Arc;
+use thiserror::Error;
+
+/// Why a call of a world came to nothing.
+#[derive(Clone, Copy, Debug, PartialEq, Eq, Error)]
+pub enum WorldFault {
+    /// A growth or a clone was refused. The world has failed from then on.
+    #[error("a growth was refused")]
+    Memory = 1,
+    /// The world had failed before. Nothing changes.
+    #[error("the world has failed")]
+    Failed = 2,
+}
+
+impl WorldFault {
+    ghost use Rattle.std.specs.Prelude.{◌≡◌};
+    ghost use Rattle.exec_world.specs.Calls.{world_fault_number};
+
+    /// Its number.
+    pub fn number(self) -> u8
+        ensures { result ≡ world_fault_number self }
+    {
+        self as u8
+    }
+}
+
+/// What a plan's rounds change, and its transcript, whose lines go to `L`. A world that has failed answers
+/// [`WorldFault::Failed`] from then on, and never changes.
+#[derive(Drop)]
+pub struct World<L: Lines = LineList> {
+    alloc: Global,
+    plan: Arc<Plan>,
+    feed: FeedByRound,
+    state: State<L>,
+    // The last round that began, and how many of its callbacks aren't committed yet.
+    round: usize,
+    left: usize,
+    failed: bool,
+    // Room that is used again.
+    list: ReadyList,
+    effects: EffectList,
+}
+
+impl<L: Lines> Model for World<L> {
+    ghost use Rattle.std.specs.Prelude.{◌≡◌, length};
+    ghost use Rattle.std.specs.Arc.{arc_value};
+    ghost use Rattle.exec_graph.specs.Feeding.{feeds_by_round};
+    ghost use Rattle.exec_world.specs.Calls.{WorldData};
+    ghost use Rattle.exec_world.specs.inner.Rounds.{HasBegun, rounds_in};
+
+    ghost Value = { WorldData };
+
+    ghost view = { λ world. record { plan = arc_value world.plan; state = world.state; rounds = rounds_in world.round world.left; left = world.left; failed = world.failed } };
+
+    ghost invariant = { λ world. (world.feed ≡ feeds_by_round (arc_value world.plan)) × (length world.feed ≡ length (arc_value world.plan).moments) × HasBegun world.round world.left };
+}
+
+impl World<LineList> {
+    ghost use Rattle.std.specs.Prelude.{◌≡◌, false, IfOk};
+    ghost use Rattle.std.specs.Arc.{arc_value};
+    ghost use Rattle.exec_world.specs.Calls.{new_world};
+
+    /// The world of a plan before its first round.
+    ///
+    /// # Errors
+    /// [`Memory`] where a growth or a clone was refused.
+    pub fn new(alloc: Global, plan: Arc<Plan>) -> Result<World<LineList>, Memory>
+        ensures { IfOk result (λ world. world ≡ new_world (arc_value plan)) }
+    {
+        World::with_lines(alloc, plan, LineList::new(alloc))
+    }
+
+    /// The lines of the transcript so far.
+    pub fn transcript(&self) -> &[Line]
+        requires { self.now.failed ≡ false }
+        ensures { result.now ≡ self.now.state.lines }
+    {
+        self.state.lines().as_slice()
+    }
+}
+
+impl<L: Lines> World<L> {
+    ghost use Rattle.std.specs.Prelude.{◌≡◌, ◌<◌, [], length, true, false, None, Some, IfOk, IfErr, OnOk};
+    ghost use Rattle.std.specs.Arc.{arc_value};
+    ghost use Rattle.exec_world.specs.Calls.{HasFailed, IsNext, after_commit, after_finish, after_round, after_snapshot, new_world, ready_in};
+    ghost use Rattle.exec_world.specs.declared.world.WorldFault.TheVariants as fault;
+    ghost use Rattle.exec_world.specs.inner.Rounds.{world_after};
+    ghost use Rattle.exec_world.specs.World.{GoalWork, variables_of, with_variables, with_work, work_at, work_of};
+
+    /// The world of a plan before its first round, whose lines go where there are none yet.
+    ///
+    /// # Errors
+    /// [`Memory`] where a growth or a clone was refused.
+    pub fn with_lines(alloc: Global, plan: Arc<Plan>, lines: L) -> Result<World<L>, Memory>
+        requires { L.lines lines ≡ [] }
+        ensures { IfOk result (λ world. world ≡ new_world (arc_value plan)) }
+    {
+        let feed = FeedByRound::of(alloc, &plan)?;
+        let state = State::new(alloc, plan.graph(), lines)?;
+        Ok(World {
+            alloc,
+            plan,
+            feed,
+            state,
+            round: 0,
+            left: 0,
+            failed: false,
+            list: ReadyList::new(alloc),
+            effects: EffectList::new(alloc),
+        })
+    }
+
+    /// Whether a call was refused memory, after which the world answers nothing else.
+    pub fn is_failed(&self) -> bool
+        ensures { result ≡ self.now.failed }
+    {
+        self.failed
+    }
+
+    /// How many rounds are done: each is with its last commit, or at its snapshot where nothing is ready.
+    pub fn rounds_done(&self) -> usize
+        ensures { result ≡ self.now.rounds }
+    {
+        if self.left == 0 {
+            self.round
+        } else {
+            self.round - 1
+        }
+    }
+
+    /// Marks the world as failed.
+    pub fn fail(&mut self)
+        ensures { self.new ≡ record self.old { failed = true } }
+    {
+        self.failed = true;
+    }
+
+    fn check(&self) -> Result<(), WorldFault>
+        ensures ok { OnOk result (self.now.failed ≡ false) }
+        ensures err { IfErr result (λ why. (why ≡ fault.Failed) × (self.now.failed ≡ true)) }
+    {
+        if self.failed {
+            return Err(WorldFault::Failed);
+        }
+        Ok(())
+    }
+
+    // Marks the world as failed, since it was refused memory.
+    fn refused(&mut self) -> WorldFault
+        ensures fault { result ≡ fault.Memory }
+        ensures failed { self.new ≡ record self.old { failed = true } }
+    {
+        self.fail();
+        WorldFault::Memory
+    }
+
+    /// Begins a round, and takes its inputs: gives the callbacks that are ready in it, in the order in which they run. Each is to
+    /// be committed, in that order.
+    ///
+    /// # Errors
+    /// [`WorldFault::Memory`] where a growth or a clone was refused, [`WorldFault::Failed`] where the world had failed before.
+    pub fn snapshot(&mut self, round: usize) -> Result<Vec<Ready>, WorldFault>
+        requires { self.old.failed ≡ false → IsNext round self.old }
+        ensures ready { IfOk result (λ list. list.items ≡ ready_in round self.old) }
+        ensures taken { OnOk result (self.new ≡ after_snapshot round self.old) }
+        ensures unfailed { OnOk result (self.old.failed ≡ false) }
+        ensures fault { IfErr result (λ why. HasFailed why self.old self.new) }
+    {
+        self.check()?;
+        match self.take_snapshot(round) {
+            Ok(list) => Ok(list),
+            Err(Memory) => Err(self.refused()),
+        }
+    }
+
+    fn take_snapshot(&mut self, round: usize) -> Result<Vec<Ready>, Memory>
+        requires { IsNext round self.old }
+        ensures ready { IfOk result (λ list. list.items ≡ ready_in round self.old) }
+        ensures taken { OnOk result (self.new ≡ after_snapshot round self.old) }
+    {
+        let moment = self.plan.moments()[round - 1];
+        self.state
+            .open_round(round as u64, moment, self.feed.fed_in(round))?;
+        let mut list = ReadyList::new(self.alloc);
+        self.state.snapshot(moment, &mut list)?;
+        self.round = round;
+        self.left = list.as_slice().len();
+        Ok(list.into_vec())
+    }
+
+    /// Gives to the world what the next of the last snapshot's callbacks did: its line, its effects and what closes it.
+    ///
+    /// # Errors
+    /// [`WorldFault::Memory`] where a growth was refused, [`WorldFault::Failed`] where the world had failed before.
+    pub fn commit(&mut self, one: &Ready, effects: Effects) -> Result<(), WorldFault>
+        requires { self.old.failed ≡ false → 0 < self.old.left }
+        ensures committed { OnOk result (self.new ≡ after_commit one.now effects self.old) }
+        ensures unfailed { OnOk result (self.old.failed ≡ false) }
+        ensures fault { IfErr result (λ why. HasFailed why self.old self.new) }
+    {
+        self.check()?;
+        match self
+            .state
+            .commit(one, effects.list.as_slice(), &effects.close)
+        {
+            Ok(()) => {
+                self.left -= 1;
+                Ok(())
+            }
+            Err(Memory) => Err(self.refused()),
+        }
+    }
+
+    /// The variables of a callback group, which [`put_bank`](World::put_bank) brings home.
+    pub fn take_bank(&mut self, group: GroupNo) -> Bank
+        ensures bank { result ≡ variables_of group self.old.state }
+        ensures same { self.new ≡ self.old }
+    {
+        self.state.bank(group)
+    }
+
+    /// Brings the variables of a callback group home.
+    pub fn put_bank(&mut self, group: GroupNo, bank: Bank)
+        ensures { self.new ≡ record self.old { state = with_variables group bank self.old.state } }
+    {
+        self.state.set_bank(group, bank);
+    }
+
+    /// Takes the task of a goal that a server holds, and whose task isn't out: [`put_task`](World::put_task) brings it home.
+    pub fn take_task(&mut self, server: EntityNo, id: GoalId) -> GoalTask
+        requires { (work : GoalWork) × (work_at server id self.old.state ≡ Some work) }
+        ensures task { Some (work_of result) ≡ work_at server id self.old.state }
+        ensures out { self.new ≡ record self.old { state = with_work server id None self.old.state } }
+    {
+        self.state.take_task(server, id).unwrap()
+    }
+
+    /// Brings the task of a goal home. Where the server holds no such goal, nothing changes.
+    pub fn put_task(&mut self, server: EntityNo, id: GoalId, task: GoalTask)
+        ensures { self.new ≡ record self.old { state = with_work server id (Some (work_of task)) self.old.state } }
+    {
+        self.state.put_task(server, id, task);
+    }
+
+    /// Runs a whole round. Where memory is refused, the world is given up.
+    ///
+    /// # Errors
+    /// [`Memory`] where a growth or a clone was refused.
+    pub fn round_alone(self, round: usize) -> Result<World<L>, Memory>
+        requires unfailed { self.failed ≡ false }
+        requires next { IsNext round self }
+        ensures { IfOk result (λ world. world ≡ after_round round self) }
+    {
+        let mut world = self;
+        world.run_round(round)?;
+        Ok(world)
+    }
+
+    fn run_round(&mut self, round: usize) -> Result<(), Memory>
+        requires { IsNext round self.old }
+        ensures { OnOk result (self.new ≡ after_round round self.old) }
+    {
+        let moment = self.plan.moments()[round - 1];
+        self.state
+            .open_round(round as u64, moment, self.feed.fed_in(round))?;
+        self.state
+            .snapshot_and_run(moment, &mut self.list, &mut self.effects)?;
+        self.round = round;
+        self.left = 0;
+        Ok(())
+    }
+
+    // Runs all rounds of a world that is new, and answers how many there are.
+    fn run_rounds(&mut self) -> Result<u64, Memory>
+        requires { self.old ≡ new_world self.old.plan }
+        ensures rounds { IfOk result (λ rounds. rounds ≡ length self.old.plan.moments) }
+        ensures world { OnOk result (self.new ≡ world_after (length self.old.plan.moments) self.old.plan) }
+    {
+        let rounds = self.plan.moments().len();
+        for done in 0..rounds {
+            self.run_round(done + 1)?;
+        }
+        Ok(rounds as u64)
+    }
+
+    /// Closes the transcript after the rounds that are done: the plan's, each of them.
+    ///
+    /// # Errors
+    /// [`WorldFault::Memory`] where a growth was refused, [`WorldFault::Failed`] where the world had failed before.
+    pub fn finish(&mut self) -> Result<(), WorldFault>
+        ensures closed { OnOk result (self.new ≡ after_finish self.old) }
+        ensures unfailed { OnOk result (self.old.failed ≡ false) }
+        ensures fault { IfErr result (λ why. HasFailed why self.old self.new) }
+    {
+        self.check()?;
+        let rounds = self.rounds_done() as u64;
+        match self.state.finish(rounds) {
+            Ok(()) => Ok(()),
+            Err(Memory) => Err(self.refused()),
+        }
+    }
+
+    /// Where the lines of the transcript went.
+    pub fn into_lines(self) -> L
+        requires { self.failed ≡ false }
+        ensures { L.lines result ≡ self.state.lines }
+    {
+        self.state.into_lines()
+    }
+}
+
+/// Runs all rounds of a plan on one thread, and closes its transcript, whose lines go where there are none yet.
+///
+/// # Errors
+/// [`Memory`] where a growth or a clone was refused.
+pub fn run_plan<L: Lines>(alloc: Global, plan: Arc<Plan>, lines: L) -> Result<L, Memory>
+    requires { L.lines lines ≡ [] }
+    ensures { IfOk result (λ lines. L.lines lines ≡ lines_of (arc_value plan)) }
+{
+    let mut world = World::with_lines(alloc, plan, lines)?;
+    let rounds = world.run_rounds()?;
+    world.state.finish(rounds)?;
+    Ok(world.into_lines())
+}
