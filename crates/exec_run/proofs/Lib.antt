@@ -1,6 +1,1 @@
 mod KnownBytes
-mod Listing
-mod OnTimers
-mod Rounds
-mod Starting
-mod Taking

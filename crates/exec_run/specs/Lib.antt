@@ -2,4 +2,3 @@ pub mod Alone
 pub mod Examples
 pub mod Program
 pub mod Words
-pub mod inner

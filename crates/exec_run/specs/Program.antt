@@ -1,17 +1,17 @@
 -- What a run of the program comes to: what it does to its streams, what it says where it writes no whole transcript, and
 -- which status it ends with.
-use Rattle.std.specs.Prelude.{◌≡◌, ◌≢◌, ◌⊎◌, ◌↔◌, ℕ, ◌+◌, ◌<◌, ◌≤◌, List, [], ◌∷◌, ◌++◌, length, take, Bool, true, codes, decimal, map, string_bytes, String, Option, IfSome, Result, Ok, Err, IfErr, OnOk, OnErr, IsOkAnd}
+use Rattle.std.specs.Prelude.{◌≡◌, ◌≢◌, ◌⊎◌, ◌↔◌, ℕ, ◌+◌, ◌<◌, ◌≤◌, List, [], ◌∷◌, ◌++◌, length, take, Bool, true, codes, decimal, map, string_bytes, String, Option, Some, IfSome, Result, Ok, Err, IfErr, OnOk, OnErr, IsOkAnd}
 use Rattle.std.specs.Io.KnownBytes.{Keeps, Appends, Consumes, IsAtEnd}
 use Rattle.std.specs.declared.alloc.Global.{Global}
 use Rattle.std.specs.Global.{Vec}
+use Rattle.exec_doc.specs.Document.{document_of}
 use Rattle.exec_doc.specs.Refusals.{number_of}
+use Rattle.exec_doc.specs.declared.refused.Refused.{Refused}
 use Rattle.exec_doc.specs.declared.refused.Refused.TheVariants as refused
 use Rattle.exec_graph.specs.Plan.{PlanData}
 use Rattle.exec_msg.specs.declared.limits.TheConstants.{DOCUMENT}
-use Rattle.exec_run.specs.Alone.{SaysTimers, IsFaultOf}
+use Rattle.exec_run.specs.Alone.{IsRefusalOf}
 use Rattle.exec_run.specs.Words.{AreSettings}
-use Rattle.exec_run.specs.declared.fault.AloneFault.{AloneFault}
-use Rattle.exec_run.specs.declared.fault.AloneFault.TheVariants as fault
 use Rattle.exec_run.specs.declared.program.Failure.{Failure}
 use Rattle.exec_run.specs.declared.program.Failure.TheVariants as failure
 use Rattle.exec_run.specs.declared.program.Status.{Status}
@@ -26,18 +26,13 @@ use Rattle.exec_world.specs.Transcript.{text_of}
 abbrev pub AreGoodWords : Result (Vec (String Global)) WordsFault → Type 0
 AreGoodWords given = IsOkAnd given (λ words. AreSettings (map string_bytes words.items))
 
--- the number of a document that isn't run: that of its code, or 11
-abbrev pub fault_number : AloneFault → ℕ
-fault_number (fault.Refused code) = number_of code
-fault_number fault.Later = 11
-
--- its line on standard error, with its line feed
-abbrev pub refused_line : AloneFault → List ℕ
-refused_line told = codes "refused " ++ decimal (fault_number told) ++ 10 ∷ []
+-- the line of a refusal on standard error, with its line feed
+abbrev pub refused_line : Refused → List ℕ
+refused_line code = codes "refused " ++ decimal (number_of code) ++ 10 ∷ []
 
 -- the line of a failure
 abbrev pub failure_line : Failure → List ℕ
-failure_line (failure.Refused told) = refused_line told
+failure_line (failure.Refused code) = refused_line code
 failure_line failure.Usage = codes "usage: exec_run <workers 1-64> <quantum 1-1024>" ++ 10 ∷ []
 failure_line failure.WriteFailed = codes "write failed" ++ 10 ∷ []
 failure_line failure.ReadFailed = codes "read failed" ++ 10 ∷ []
@@ -59,12 +54,12 @@ failure_status failure.ReadFailed = status.ReadFailed
 
 -- a growth that was refused while the words were read refuses the document; words that aren't text are wrong
 abbrev pub failure_of_words : WordsFault → Failure
-failure_of_words words_fault.Memory = failure.Refused (fault.Refused refused.Memory)
+failure_of_words words_fault.Memory = failure.Refused refused.Memory
 failure_of_words words_fault.NotText = failure.Usage
 
 -- so does one while the document was read; the reader's own failures are one
 abbrev pub failure_of_read : ReadFault → Failure
-failure_of_read reading.Memory = failure.Refused (fault.Refused refused.Memory)
+failure_of_read reading.Memory = failure.Refused refused.Memory
 failure_of_read reading.Failed = failure.ReadFailed
 failure_of_read reading.TooLong = failure.ReadFailed
 
@@ -96,22 +91,22 @@ Left stream = Keeps stream.before stream.after
 pub record HasRun {Value : Type 0} (words : Result (Vec (String Global)) WordsFault) (input output : StreamRun) (flushed : Bool) (outcome : Result Value Failure) : Type 0 where
   -- wrong words and nothing else are told as such, and nothing is read then
   pub usage : (outcome ≡ Err failure.Usage) ↔ (¬ AreGoodWords words × words ≢ Err words_fault.Memory)
-  pub no_memory_for_words : words ≡ Err words_fault.Memory → outcome ≡ Err (failure.Refused (fault.Refused refused.Memory))
+  pub no_memory_for_words : words ≡ Err words_fault.Memory → outcome ≡ Err (failure.Refused refused.Memory)
   pub words_first : ¬ AreGoodWords words → Left input
   -- how much is read, and when that fails
   pub taken : (bytes : List ℕ) × Took input bytes × (length bytes ≤ DOCUMENT + 1)
   pub too_long : AreGoodWords words → IfSome input.before (λ bytes. DOCUMENT < length bytes
-      → (outcome ≡ Err failure.ReadFailed) ⊎ (outcome ≡ Err (failure.Refused (fault.Refused refused.Memory))))
+      → (outcome ≡ Err failure.ReadFailed) ⊎ (outcome ≡ Err (failure.Refused refused.Memory)))
   pub read_failed : outcome ≡ Err failure.ReadFailed → (input.failed ≡ true) ⊎ ((bytes : List ℕ) × Took input bytes × (DOCUMENT < length bytes))
   -- a refusal has the code of the document, or is one of memory
-  pub refused : (told : AloneFault) → outcome ≡ Err (failure.Refused told) → told ≢ fault.Refused refused.Memory
-      → AreGoodWords words × IfSome input.before (λ document. IsFaultOf document told)
+  pub refused : (code : Refused) → outcome ≡ Err (failure.Refused code) → code ≢ refused.Memory
+      → AreGoodWords words × IfSome input.before (λ document. IsRefusalOf document code)
   -- what is written: the whole text of the whole document, flushed; a front of it where the output failed; else nothing
   pub whole_document : OnOk outcome (IsAtEnd input.after)
-  pub written : OnOk outcome (IfSome input.before (λ document. (plan : PlanData) × SaysTimers document plan × Gave output (text_of plan)))
+  pub written : OnOk outcome (IfSome input.before (λ document. (plan : PlanData) × (document_of document ≡ Some plan) × Gave output (text_of plan)))
   pub flushed_then : OnOk outcome (flushed ≡ true)
   pub cut_off : outcome ≡ Err failure.WriteFailed → IfSome input.before (λ document. (plan : PlanData) × (count : ℕ)
-      × SaysTimers document plan × Gave output (take count (text_of plan)))
+      × (document_of document ≡ Some plan) × Gave output (take count (text_of plan)))
   pub write_failed : outcome ≡ Err failure.WriteFailed → output.failed ≡ true
   pub unwritten : OnErr outcome (outcome ≢ Err failure.WriteFailed → Left output)
 

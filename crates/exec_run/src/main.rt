@@ -5,7 +5,6 @@ mod alone;
 mod examples;
 mod fault;
 mod program;
-mod world;
 
 use program::{InputStream, OutputStream, execute, read_words};
 use std::process::ExitCode;

@@ -9,7 +9,7 @@ ghost use Rattle.exec_run.specs.declared.program.Failure.{Failure};
 ghost use Rattle.exec_run.specs.declared.program.Failure.TheVariants.{Refused, WriteFailed};
 
 use crate::alone::run_alone;
-use crate::fault::AloneFault;
+use crate::fault::code_line;
 use exec_doc::Refused;
 use std::alloc::Global;
 use std::io::{Read, Write};
@@ -44,7 +44,7 @@ impl Status {
 #[derive(Clone, Copy, Debug, PartialEq, Eq)]
 pub enum Failure {
     /// The document is refused, or a growth was.
-    Refused(AloneFault),
+    Refused(Refused),
     /// The words are wrong.
     Usage,
     /// Standard output failed.
@@ -59,7 +59,7 @@ impl Failure {
         ensures { result.now ≡ failure_line self }
     {
         match self {
-            Failure::Refused(fault) => fault.line(),
+            Failure::Refused(code) => code_line(code),
             Failure::Usage => "usage: exec_run <workers 1-64> <quantum 1-1024>\n",
             Failure::WriteFailed => "write failed\n",
             Failure::ReadFailed => "read failed\n",
@@ -84,7 +84,7 @@ impl From<WordsFault> for Failure {
 
     fn from(fault: WordsFault) -> Failure {
         match fault {
-            WordsFault::Memory => Failure::Refused(AloneFault::Refused(Refused::Memory)),
+            WordsFault::Memory => Failure::Refused(Refused::Memory),
             WordsFault::NotText => Failure::Usage,
         }
     }
@@ -95,17 +95,17 @@ impl From<ReadFault> for Failure {
 
     fn from(fault: ReadFault) -> Failure {
         match fault {
-            ReadFault::Memory => Failure::Refused(AloneFault::Refused(Refused::Memory)),
+            ReadFault::Memory => Failure::Refused(Refused::Memory),
             ReadFault::Failed | ReadFault::TooLong => Failure::ReadFailed,
         }
     }
 }
 
-impl From<AloneFault> for Failure {
-    ghost from_gives = { λ fault failure. failure ≡ Refused fault };
+impl From<Refused> for Failure {
+    ghost from_gives = { λ code failure. failure ≡ Refused code };
 
-    fn from(fault: AloneFault) -> Failure {
-        Failure::Refused(fault)
+    fn from(code: Refused) -> Failure {
+        Failure::Refused(code)
     }
 }
 

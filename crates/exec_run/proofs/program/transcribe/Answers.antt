@@ -1,25 +1,32 @@
-use Rattle.std.proofs.Common.{◌≡◌, ℕ, List, take, Option, None, Some, IfSome, refl, subst, ◌∙◌, rules}
+use Rattle.std.proofs.Common.{◌≡◌, ℕ, ◌<◌, ◌≤◌, List, length, take, Option, None, Some, IfSome, refl, ap, subst, ◌∙◌, arith, rules}
+use Rattle.exec_msg.specs.declared.limits.TheConstants.{DOCUMENT}
 use Rattle.std.proofs.lemmas.Result.{err_from_is_err_and}
 use Rattle.std.specs.Io.KnownBytes.{Appends}
 use Rattle.exec_graph.specs.Plan.{PlanData}
-use Rattle.exec_run.specs.Alone.{IsFaultOf, SaysTimers}
-use Rattle.exec_run.specs.declared.fault.AloneFault.{AloneFault}
+use Rattle.exec_doc.specs.Document.{document_of}
+use Rattle.exec_doc.specs.declared.refused.Refused.{Refused}
+use Rattle.exec_run.specs.Alone.{IsRefusalOf}
 use Rattle.exec_world.specs.Transcript.{text_of}
 use Rattle.exec_run.proofs.program.transcribe.Goals as goal
 
 -- where the bytes that were read are known, this is their fault
-known_fault : (known : Option (List ℕ)) (document : List ℕ) (fault : AloneFault) → IfSome known (λ bytes. document ≡ bytes) → IsFaultOf document fault → IfSome known (λ bytes. IsFaultOf bytes fault)
-known_fault None document fault whole is = tt
-known_fault (Some bytes) document fault whole is = subst (λ (read : List ℕ). IsFaultOf read fault) whole is
+known_refusal : (known : Option (List ℕ)) (document : List ℕ) (code : Refused) → IfSome known (λ bytes. document ≡ bytes) → IsRefusalOf document code → IfSome known (λ bytes. IsRefusalOf bytes code)
+known_refusal None document code whole is = tt
+known_refusal (Some bytes) document code whole is = subst (λ (read : List ℕ). IsRefusalOf read code) whole is
 
 -- and they say this plan
-known_plan : (known : Option (List ℕ)) (document : List ℕ) (P : PlanData → Type 0) → IfSome known (λ bytes. document ≡ bytes) → (plan : PlanData) → SaysTimers document plan → P plan → IfSome known (λ bytes. (one : PlanData) × SaysTimers bytes one × P one)
+known_plan : (known : Option (List ℕ)) (document : List ℕ) (P : PlanData → Type 0) → IfSome known (λ bytes. document ≡ bytes) → (plan : PlanData) → document_of document ≡ Some plan → P plan → IfSome known (λ bytes. (one : PlanData) × (document_of bytes ≡ Some one) × P one)
 known_plan None document P whole plan says holds = tt
-known_plan (Some bytes) document P whole plan says holds = (plan, subst (λ (read : List ℕ). SaysTimers read plan) whole says, holds)
+known_plan (Some bytes) document P whole plan says holds = (plan, subst (λ (read : List ℕ). document_of read ≡ Some plan) whole says, holds)
 
-known_front : (known : Option (List ℕ)) (document : List ℕ) (P : PlanData → ℕ → Type 0) → IfSome known (λ bytes. document ≡ bytes) → (plan : PlanData) (count : ℕ) → SaysTimers document plan → P plan count → IfSome known (λ bytes. (one : PlanData) × (some : ℕ) × SaysTimers bytes one × P one some)
+known_front : (known : Option (List ℕ)) (document : List ℕ) (P : PlanData → ℕ → Type 0) → IfSome known (λ bytes. document ≡ bytes) → (plan : PlanData) (count : ℕ) → document_of document ≡ Some plan → P plan count → IfSome known (λ bytes. (one : PlanData) × (some : ℕ) × (document_of bytes ≡ Some one) × P one some)
 known_front None document P whole plan count says holds = tt
-known_front (Some bytes) document P whole plan count says holds = (plan, count, subst (λ (read : List ℕ). SaysTimers read plan) whole says, holds)
+known_front (Some bytes) document P whole plan count says holds = (plan, count, subst (λ (read : List ℕ). document_of read ≡ Some plan) whole says, holds)
+
+-- and a document that was read isn't too long
+fits_so : (P : Type 0) (known : Option (List ℕ)) (document : List ℕ) → IfSome known (λ bytes. document ≡ bytes) → length document ≤ DOCUMENT → IfSome known (λ bytes. DOCUMENT < length bytes → P)
+fits_so P None document whole fits = tt
+fits_so P (Some bytes) document whole fits = λ over. absurd (omega (arith, over, fits, ap length whole))
 
 pub returns-in_err-text : goal.returns-in_err-text
 returns-in_err-text g c =
@@ -28,17 +35,19 @@ returns-in_err-text g c =
       no_memory_for_words = search rules;
       words_first = search rules;
       taken = search rules;
-      too_long = search rules;
+      too_long = λ good.
+          let fits : length c.in_ok-document.document.items ≤ DOCUMENT = omega (arith, c.in_ok-document.ensures.fits, c.deref-2.ensures.len, ap length c.deref-2.ensures.value) in
+          fits_so _ (g.R.Read.remaining c.args.input.now.reader) c.in_ok-document.document.items c.in_ok-document.ensures.whole fits;
       read_failed = search rules;
       refused = λ told is_told other.
           let p = err_from_is_err_and c.from_residual-in_err-text.result c.from_residual-in_err-text.ensures.1 in
           let passed = p.1 in
           let kept = p.2 in
           let here : c.in_err-text.field-0.0 ≡ told = cc in
-          let is = rw c.deref-2.ensures.value at c.in_err-text.ensures.fault in
+          let is = rw c.deref-2.ensures.value at c.in_err-text.ensures.refused in
           let lawful = rw c.deref.ensures.value at (c.from_words.ensures.lawful.0 (rw c.in_ok-_settings.ensures.ok_part refl)) in (
             rw c.in_ok-words.was lawful,
-            known_fault (g.R.Read.remaining c.args.input.now.reader) c.in_ok-document.document.items told c.in_ok-document.ensures.whole (subst (IsFaultOf c.in_ok-document.document.items) here is),
+            known_refusal (g.R.Read.remaining c.args.input.now.reader) c.in_ok-document.document.items told c.in_ok-document.ensures.whole (subst (IsRefusalOf c.in_ok-document.document.items) here is),
           );
       whole_document = search rules;
       written = search rules;
@@ -67,7 +76,7 @@ returns-in_err-write_text g c =
           known_front (g.R.Read.remaining c.args.input.now.reader) c.in_ok-document.document.items
           (λ plan count. Appends (g.O.Write.contents c.args.output.now.writer) (g.O.Write.contents c.write_text.new.output.writer) (take count (text_of plan)))
           c.in_ok-document.ensures.whole said.0 front.0
-          (subst (λ (read : List ℕ). SaysTimers read said.0) c.deref-2.ensures.value said.1)
+          (subst (λ (read : List ℕ). document_of read ≡ Some said.0) c.deref-2.ensures.value said.1)
           (subst (λ (text : List ℕ). Appends (g.O.Write.contents c.args.output.now.writer) (g.O.Write.contents c.write_text.new.output.writer) (take front.0 text)) (c.deref-3.ensures.value ∙ said.2) front.1);
       write_failed = search rules;
       unwritten = search rules;
@@ -89,7 +98,7 @@ returns g c =
           known_plan (g.R.Read.remaining c.args.input.now.reader) c.in_ok-document.document.items
           (λ plan. Appends (g.O.Write.contents c.args.output.now.writer) (g.O.Write.contents c.write_text.new.output.writer) (text_of plan))
           c.in_ok-document.ensures.whole said.0
-          (subst (λ (read : List ℕ). SaysTimers read said.0) c.deref-2.ensures.value said.1)
+          (subst (λ (read : List ℕ). document_of read ≡ Some said.0) c.deref-2.ensures.value said.1)
           (subst (λ (text : List ℕ). Appends (g.O.Write.contents c.args.output.now.writer) (g.O.Write.contents c.write_text.new.output.writer) text) (c.deref-3.ensures.value ∙ said.2) c.in_ok-write_text.ensures.ok);
       flushed_then = search rules;
       cut_off = search rules;

@@ -1,8 +1,0 @@
-use Rattle.std.proofs.Common.{◌≡◌, take}
-use Rattle.exec_run.specs.inner.Timers.{world_of}
-use Rattle.exec_world.specs.Give.{give_all}
-use Rattle.exec_run.proofs.world.World.give_all.Given as goal
-
--- the effects so far are given
-abbrev pub invariant-loop-effect : goal.invariant-loop-effect
-invariant-loop-effect g l = world_of l.self ≡ give_all l.one (take l.effect-index l.effects) (world_of l.initial.self)
