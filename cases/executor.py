@@ -3,7 +3,7 @@ nothing of the program.
 
 transcript(document) gives the lines of the bytes, and raises codes.Refused where they say no plan; lines_of(read) gives those
 of a lawful document that is read already. As a program it reads a document on standard input, and writes its transcript or
-the line of its refusal. It runs every plan: it knows no code 11."""
+the line of its refusal."""
 import collections
 import json
 import re
