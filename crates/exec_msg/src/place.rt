@@ -54,10 +54,12 @@ fn place_short(bytes: &mut [u8], at: usize, text: &str) -> usize
     ensures end { result ≡ at + length text.now }
 {
     let length = text.len();
-    if length > 32 || length < 2 {
+    if length > 64 || length < 2 {
         return place(bytes, at, text);
     }
-    if length >= 16 {
+    if length >= 32 {
+        place_ends::<32>(bytes, at, text.as_bytes())
+    } else if length >= 16 {
         place_ends::<16>(bytes, at, text.as_bytes())
     } else if length >= 8 {
         place_ends::<8>(bytes, at, text.as_bytes())
@@ -156,16 +158,11 @@ fn place_digits(bytes: &mut [u8], at: usize, number: u64) -> usize
 // How many digits a number has.
 #[inline(always)]
 fn count_digits(number: u64) -> usize
+    requires { 0 < number }
     ensures value { result ≡ length (decimal number) }
     ensures bound { result ≤ 20 }
 {
-    let mut count = 1;
-    let mut power = 10;
-    while count < 19 && number >= power {
-        count += 1;
-        power *= 10;
-    }
-    if number >= power { count + 1 } else { count }
+    number.ilog10() as usize + 1
 }
 
 // An identifier with a space before it.

@@ -70,6 +70,7 @@ impl<'a, K: Named> Text<'a, K> {
 impl<'a, K: Named> Lines for Text<'a, K> {
     ghost lines = { λ lines. lines };
 
+    #[inline(always)]
     fn add(&mut self, line: &Line) -> Result<(), Memory> {
         let room = room_behind(self.end, self.names)?;
         if self.bytes.len() < room {

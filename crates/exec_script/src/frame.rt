@@ -143,19 +143,28 @@ impl Frame {
     ghost use Rattle.exec_script.specs.Script.{value_of, registers_after, variables_after};
     ghost use Rattle.exec_script.specs.inner.Cells.{operand_at, constant_of};
 
-    pub fn of(regs: &Regs, bank: &Bank, input: &Input) -> Frame
-        ensures { result ≡ record { registers = regs.now; variables = bank.now; input = input.now } }
+    // All are 0. A frame is filled where it stands: one that is handed on is copied as a whole just after it was filled, for
+    // which a processor waits.
+    #[inline(always)]
+    pub fn new() -> Frame {
+        Frame { values: [0; 20] }
+    }
+
+    // Fills it with what a run begins with.
+    #[inline(always)]
+    pub fn fill(&mut self, regs: &Regs, bank: &Bank, input: &Input)
+        ensures { self.new ≡ record { registers = regs.now; variables = bank.now; input = input.now } }
     {
-        let mut values = [0; 20];
-        values[..8].copy_from_slice(regs.as_array());
-        values[8..16].copy_from_slice(bank.as_array());
-        values[16] = input.first;
-        values[17] = input.aux;
-        values[18] = input.moment.ticks() as i64;
-        Frame { values }
+        self.values = [0; 20];
+        self.values[..8].copy_from_slice(regs.as_array());
+        self.values[8..16].copy_from_slice(bank.as_array());
+        self.values[16] = input.first;
+        self.values[17] = input.aux;
+        self.values[18] = input.moment.ticks() as i64;
     }
 
     // The registers, at the end of a run.
+    #[inline(always)]
     pub fn regs(&self) -> Regs
         ensures { result ≡ self.now.registers }
     {
@@ -165,6 +174,7 @@ impl Frame {
     }
 
     // The variables, at the end of a run.
+    #[inline(always)]
     pub fn bank(&self) -> Bank
         ensures { result ≡ self.now.variables }
     {

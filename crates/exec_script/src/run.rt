@@ -56,6 +56,7 @@ pub fn run_call(
 
 /// Runs a script as [`run_call`] does, and puts its effects behind those that are listed: a list that is used again and
 /// again has room already. Where memory is refused, the bank and the effects stay as they were.
+#[inline(always)]
 pub fn run_call_into(
     script: &[Instr],
     role: Role,
@@ -69,8 +70,12 @@ pub fn run_call_into(
     ensures err_variables { OnErr result (bank.new ≡ bank.old) }
     ensures err_effects { OnErr result (effects.new ≡ effects.old) }
 {
+    if script.is_empty() {
+        return Ok(close_of(role, None));
+    }
     effects.items.reserve(script.len())?;
-    let mut frame = Frame::of(&Regs::new(), bank, input);
+    let mut frame = Frame::new();
+    frame.fill(&Regs::new(), bank, input);
     let mut answer = None;
     follow(script, 0, &mut frame, &mut answer, &mut effects.items);
     *bank = frame.bank();
@@ -98,7 +103,8 @@ pub fn run_from(
     ensures err_effects { OnErr result (effects.new ≡ effects.old) }
 {
     effects.items.reserve(script.len().saturating_sub(place))?;
-    let mut frame = Frame::of(regs, bank, input);
+    let mut frame = Frame::new();
+    frame.fill(regs, bank, input);
     let mut answer = None;
     let stop = follow(script, place, &mut frame, &mut answer, &mut effects.items);
     *regs = frame.regs();
@@ -142,6 +148,7 @@ fn follow(
     Stop::End
 }
 
+#[inline(always)]
 fn close_of(role: Role, answer: Option<i64>) -> Close
     ensures { result ≡ close_of role answer }
 {

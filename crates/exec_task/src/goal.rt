@@ -6,7 +6,7 @@ ghost use Rattle.exec_task.specs.Task.{new_task, has_ended, is_awake, answer_of,
 ghost use Rattle.exec_script.specs.Script.{listed};
 
 use crate::progress::Progress;
-use crate::wait::{Polled, Turn, Wait};
+use crate::wait::{Answer, Polled, Turn, Wait};
 use crate::wake::WakeSource;
 use exec_msg::{Memory, Moment};
 use exec_script::{Bank, EffectList, Instr};
@@ -146,14 +146,43 @@ pub fn poll_goal(
     ensures ended { has_ended task.old.task ≡ true → OnOk result (task.new ≡ task.old) }
     ensures takes_none { task.old.failed ≡ false → is_awake task.old.task turn.now ≡ false → IsOk result }
 {
+    let mut effects = EffectList::new(alloc);
+    let answer = poll_goal_into(task, bank, turn, cx, &mut effects)?;
+    Ok(Polled { effects, answer })
+}
+
+/// Polls a goal as [`poll_goal`] does. The list then has its effects, and these alone: one that is used again and again has
+/// room already.
+pub fn poll_goal_into(
+    task: &mut GoalTask,
+    bank: &mut Bank,
+    turn: &Turn,
+    cx: &mut Context<'_>,
+    effects: &mut EffectList,
+) -> Result<Answer, Memory>
+    ensures effects { OnOk result (effects.new ≡ (poll_of task.old bank.old turn.now).given) }
+    ensures answer { IfOk result (λ answer. meaning_of answer ≡ answer_of (poll_of task.old bank.old turn.now).task) }
+    ensures task { OnOk result (task.new.task ≡ (poll_of task.old bank.old turn.now).task) }
+    ensures variables { OnOk result (bank.new ≡ (poll_of task.old bank.old turn.now).variables) }
+    ensures same { IsSameGoal task.old task.new }
+    ensures registered { IfOk result (λ answer. IfPending answer (Covers cx.new (GoalNeeds task.new))) }
+    ensures wakers { IfOk result (λ answer. IfPending answer (LeftWakers cx.old cx.new task.new)) }
+    ensures ending { OnOk result (has_ended task.old.task ≡ false → has_ended task.new.task ≡ true → HoldsNoWaker task.new) }
+    ensures kept { Keeps cx.old cx.new }
+    ensures refused { OnErr result (task.new ≡ record task.old { failed = true }) }
+    ensures refused_variables { OnErr result (bank.new ≡ bank.old) }
+    ensures failed { task.old.failed ≡ true → IsErr result }
+    ensures unfailed { OnOk result (task.new.failed ≡ false) }
+    ensures ended { has_ended task.old.task ≡ true → OnOk result (task.new ≡ task.old) }
+    ensures takes_none { task.old.failed ≡ false → is_awake task.old.task turn.now ≡ false → IsOk result }
+{
     if task.failed {
         return Err(Memory);
     }
-    let mut effects = EffectList::new(alloc);
+    effects.clear();
     if is_awake(task, turn.moment, turn.canceling) {
-        task.run(bank, turn, &mut effects)?;
+        task.run(bank, turn, effects)?;
     }
     task.listen(cx);
-    let answer = task.progress.answer();
-    Ok(Polled { effects, answer })
+    Ok(task.progress.answer())
 }

@@ -2,7 +2,7 @@ use Rattle.std.proofs.Common.{◌≡◌, length, w64, arith, rules, ◌∙◌}
 use Rattle.std.proofs.lemmas.Grind.{common_steps}
 use mir.Val.{SFits}
 use Rattle.exec_script.proofs.Frames.{new_is, new_kept}
-use Rattle.exec_script.proofs.frame.Frame.of.Goals as goal
+use Rattle.exec_script.proofs.frame.Frame.fill.Goals as goal
 
 pub returns : goal.returns
 returns c =
@@ -13,8 +13,8 @@ returns c =
     new_is c.copy_from_slice.new.self c.copy_from_slice-2.new.self c.input.inside.first c.input.inside.aux c.ticks.result c.input.inside.moment c.args.regs.now c.args.bank.now c.args.input.now p q first aux c.ticks.ensures.bound
     (c.copy_from_slice.ensures.after ∙ c.as_array.ensures) (c.copy_from_slice-2.ensures.after ∙ c.as_array-2.ensures) c.ticks.ensures.value c.input.view_is
 
-pub invariant_of-result : goal.invariant_of-result
-invariant_of-result c =
+pub invariant_of-self : goal.invariant_of-self
+invariant_of-self c =
     let p : length c.copy_from_slice.new.self ≡ 8 = c.copy_from_slice.ensures.len in
     let q : length c.copy_from_slice-2.new.self ≡ 8 = grind (arith, common_steps) in
     let first : SFits w64 c.input.inside.first = search rules in
