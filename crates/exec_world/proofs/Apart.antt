@@ -1,7 +1,7 @@
 -- A callback's variables and its goal's task may come home before its effects are given.
-use Rattle.std.proofs.Common.{◌≡◌, ℕ, ◌+◌, ℤ, Bool, true, false, List, [], ◌∷◌, map, Option, None, Some, refl, sym, ap, ◌∙◌}
+use Rattle.std.proofs.Common.{◌≡◌, ℕ, ◌+◌, ◌==◌, ℤ, Bool, true, false, if◌then◌else◌, List, [], ◌∷◌, map, Option, None, Some, refl, sym, ap, ◌∙◌}
 use Rattle.std.specs.List.{find, fold}
-use Rattle.std.specs.Option.{option_map_or}
+use Rattle.std.specs.Option.{option_map, option_map_or}
 use Rattle.exec_goal.specs.Cancel.{CancelRequest}
 use Rattle.exec_goal.specs.State.{is_accepted, status_of}
 use Rattle.exec_goal.specs.Table.{GoalRecord, has_id, after_event}
@@ -20,8 +20,8 @@ use Rattle.exec_world.specs.Close.{close_callback}
 use Rattle.exec_world.specs.Give.{publish, call_by, send_goal_by, send_cancel, cancel_all_by, cancel_goal_by, execute_goal, execute, client_of, give_feedback, give, give_all}
 use Rattle.exec_world.specs.Item.{GoalId, goal_id}
 use Rattle.exec_world.specs.Ready.{run_line}
-use Rattle.exec_world.specs.Run.{work_for, with_polled, brought_home, after_callback, run, apart, effects_of, commit}
-use Rattle.exec_world.specs.World.{WorldState, TopicEntry, Queue, ServerEntry, ClientEntry, ActionClientEntry, Variables, add_line, add_lines, drop_line, lost_by, queued, push, push_any, subscribers_of, is_server_at, goals_of, change_goals, is_for, with_task, client_at, with_call, action_client_at, with_goal_sent, variables_of, with_variables}
+use Rattle.exec_world.specs.Run.{work_for, with_polled, variables_for, with_variables_for, brought_home, after_callback, run, apart, effects_of, commit}
+use Rattle.exec_world.specs.World.{WorldState, TopicEntry, GoalWork, HeldGoal, Queue, ServerEntry, ClientEntry, ActionClientEntry, Variables, add_line, add_lines, drop_line, lost_by, queued, push, push_any, subscribers_of, is_server_at, goals_of, change_server, change_goals, is_for, with_task, client_at, with_call, action_client_at, with_goal_sent, with_variables}
 use Rattle.exec_world.specs.declared.item.Item.{Item}
 use Rattle.exec_world.specs.declared.item.Item.TheVariants as item
 use Rattle.exec_world.specs.declared.ready.Cause.{Cause}
@@ -30,32 +30,32 @@ use Rattle.exec_world.specs.declared.ready.Ready.{Ready}
 
 -- a change that comes to the same before each change that an effect makes and behind it, and that leaves all that effects
 -- read
-record StandsApart (home : WorldState → WorldState) : Type 0 where
-  lines_apart : (lines : List Line) (world : WorldState) → home (add_lines lines world) ≡ add_lines lines (home world)
-  queued_apart : (entity : EntityNo) (new : Item) (world : WorldState) → home (queued entity new world) ≡ queued entity new (home world)
-  calls_apart : (client : EntityNo) (world : WorldState) → home (with_call client world) ≡ with_call client (home world)
-  sending_apart : (client : EntityNo) (world : WorldState) → home (with_goal_sent client world) ≡ with_goal_sent client (home world)
-  goals_apart : (server : EntityNo) (change : List GoalRecord → List GoalRecord) (world : WorldState) → home (change_goals server change world) ≡ change_goals server change (home world)
-  topics_same : (world : WorldState) → (home world).topics ≡ world.topics
-  queues_same : (world : WorldState) → (home world).queues ≡ world.queues
-  clients_same : (world : WorldState) → (home world).clients ≡ world.clients
-  action_clients_same : (world : WorldState) → (home world).action_clients ≡ world.action_clients
-  goals_same : (server : EntityNo) (world : WorldState) → goals_of server (home world) ≡ goals_of server world
-  senders_same : (server : EntityNo) (id : GoalId) (world : WorldState) → client_of server id (home world) ≡ client_of server id world
+pub record StandsApart (home : WorldState → WorldState) : Type 0 where
+  pub lines_apart : (lines : List Line) (world : WorldState) → home (add_lines lines world) ≡ add_lines lines (home world)
+  pub queued_apart : (entity : EntityNo) (new : Item) (world : WorldState) → home (queued entity new world) ≡ queued entity new (home world)
+  pub calls_apart : (client : EntityNo) (world : WorldState) → home (with_call client world) ≡ with_call client (home world)
+  pub sending_apart : (client : EntityNo) (world : WorldState) → home (with_goal_sent client world) ≡ with_goal_sent client (home world)
+  pub goals_apart : (server : EntityNo) (change : List GoalRecord → List GoalRecord) (world : WorldState) → home (change_goals server change world) ≡ change_goals server change (home world)
+  pub topics_same : (world : WorldState) → (home world).topics ≡ world.topics
+  pub queues_same : (world : WorldState) → (home world).queues ≡ world.queues
+  pub clients_same : (world : WorldState) → (home world).clients ≡ world.clients
+  pub action_clients_same : (world : WorldState) → (home world).action_clients ≡ world.action_clients
+  pub goals_same : (server : EntityNo) (world : WorldState) → goals_of server (home world) ≡ goals_of server world
+  pub senders_same : (server : EntityNo) (id : GoalId) (world : WorldState) → client_of server id (home world) ≡ client_of server id world
 
 -- ---- effects
 
 module _ {home : WorldState → WorldState} (a : StandsApart home) where
-  line_apart : (one : Line) (world : WorldState) → home (add_line one world) ≡ add_line one (home world)
+  pub line_apart : (one : Line) (world : WorldState) → home (add_line one world) ≡ add_line one (home world)
   line_apart one world = a.lines_apart (one ∷ []) world
 
-  push_apart : (entity : EntityNo) (new : Item) (world : WorldState) → home (push entity new world) ≡ push entity new (home world)
+  pub push_apart : (entity : EntityNo) (new : Item) (world : WorldState) → home (push entity new world) ≡ push entity new (home world)
   push_apart entity new world =
       a.lines_apart (map (drop_line entity) (lost_by entity new world)) (queued entity new world)
       ∙ ap (λ (after : WorldState). add_lines (map (drop_line entity) (lost_by entity new world)) after) (a.queued_apart entity new world)
       ∙ ap (λ (queues : List Queue). add_lines (map (drop_line entity) (lost_by entity new (record world { queues = queues }))) (queued entity new (home world))) (sym (a.queues_same world))
 
-  push_any_apart : (entity : Option EntityNo) (new : Item) (world : WorldState) → home (push_any entity new world) ≡ push_any entity new (home world)
+  pub push_any_apart : (entity : Option EntityNo) (new : Item) (world : WorldState) → home (push_any entity new world) ≡ push_any entity new (home world)
   push_any_apart None new world = refl
   push_any_apart (Some entity) new world = push_apart entity new world
 
@@ -140,10 +140,10 @@ module _ {home : WorldState → WorldState} (a : StandsApart home) where
   give_apart one (effect.Log value) world = line_apart (line.Log one.entity value) world
   give_apart one (effect.Feedback value) world = feedback_apart one.entity one.cause value world
 
-  all_apart : (one : Ready) (effects : List Effect) (world : WorldState) → home (give_all one effects world) ≡ give_all one effects (home world)
-  all_apart one [] world = refl
-  all_apart one (given ∷ effects) world =
-      all_apart one effects (give one given world)
+  pub effects_apart : (one : Ready) (effects : List Effect) (world : WorldState) → home (give_all one effects world) ≡ give_all one effects (home world)
+  effects_apart one [] world = refl
+  effects_apart one (given ∷ effects) world =
+      effects_apart one effects (give one given world)
       ∙ ap (λ (after : WorldState). give_all one effects after) (give_apart one given world)
 
 -- ---- what comes home
@@ -161,7 +161,7 @@ changed_in_turn {A} test other change another kept left same (x ∷ xs) = by (te
     by false false e f rest = rw (e, f, e) (ap (λ (others : List A). x ∷ others) rest)
 
 -- what is read of the first element that passes a test stays, where a change leaves that and the test
-read_unchanged : {A B : Type 0} (part : A → B) (none : B) (test other : A → Bool) (change : A → A) → ((x : A) → other (change x) ≡ other x) → ((x : A) → part (change x) ≡ part x) → (xs : List A) → option_map_or part (find other (change_first test change xs)) none ≡ option_map_or part (find other xs) none
+pub read_unchanged : {A B : Type 0} (part : A → B) (none : B) (test other : A → Bool) (change : A → A) → ((x : A) → other (change x) ≡ other x) → ((x : A) → part (change x) ≡ part x) → (xs : List A) → option_map_or part (find other (change_first test change xs)) none ≡ option_map_or part (find other xs) none
 read_unchanged part none test other change left same [] = refl
 read_unchanged part none test other change left same (x ∷ xs) = by (test x) (other x) refl refl (read_unchanged part none test other change left same xs)
   where
@@ -179,14 +179,18 @@ sender_found : (id : GoalId) (found : Option ServerEntry) → option_map_or (λ 
 sender_found id None = refl
 sender_found id (Some entry) = refl
 
-module _ (server : EntityNo) (goal : GoalId) (task : TaskState) where
-  task_apart : StandsApart (λ world. with_task server goal task world)
-  task_apart = record {
+-- what a server keeps beside a goal is changed, under its identifier and its sender
+module _ (server : EntityNo) (goal : GoalId) (change : HeldGoal → HeldGoal) (id_same : (held : HeldGoal) → (change held).id ≡ held.id) (client_same : (held : HeldGoal) → (change held).client ≡ held.client) where
+  abbrev pub held_changed : WorldState → WorldState
+  held_changed world = change_server server (λ entry. record entry { held = change_first (is_for goal) change entry.held }) world
+
+  pub held_apart : StandsApart held_changed
+  held_apart = record {
     lines_apart = λ lines world. refl;
     queued_apart = λ entity new world. refl;
     calls_apart = λ client world. refl;
     sending_apart = λ client world. refl;
-    goals_apart = λ other change world.
+    goals_apart = λ other by world.
         ap (λ (servers : List ServerEntry). record world { servers = servers })
         (changed_in_turn (is_server_at server) (is_server_at other) _ _ (λ entry. refl) (λ entry. refl) (λ entry. refl) world.servers);
     topics_same = λ world. refl;
@@ -196,13 +200,16 @@ module _ (server : EntityNo) (goal : GoalId) (task : TaskState) where
     goals_same = λ other world.
         read_unchanged (λ entry. entry.goals) [] (is_server_at server) (is_server_at other) _ (λ entry. refl) (λ entry. refl) world.servers;
     senders_same = λ other id world.
-        sender_found id (find (is_server_at other) (with_task server goal task world).servers)
+        sender_found id (find (is_server_at other) (held_changed world).servers)
         ∙ read_unchanged (sender_in id) None (is_server_at server) (is_server_at other) _ (λ entry. refl)
-        (λ entry. read_unchanged (λ held. held.client) None (is_for goal) (is_for id) _ (λ held. refl) (λ held. refl) entry.held) world.servers
+        (λ entry. read_unchanged (λ held. held.client) None (is_for goal) (is_for id) change (λ held. ap (λ (n : GoalId). n == id) (id_same held)) client_same entry.held) world.servers
         ∙ sym (sender_found id (find (is_server_at other) world.servers));
   }
 
-variables_apart : (group : GroupNo) (variables : Variables) → StandsApart (λ world. with_variables group variables world)
+task_apart : (server : EntityNo) (goal : GoalId) (task : TaskState) → StandsApart (λ world. with_task server goal task world)
+task_apart server goal task = held_apart server goal (λ held. record held { work = option_map (λ (work : GoalWork). record work { task = task }) held.work }) (λ held. refl) (λ held. refl)
+
+pub variables_apart : (group : GroupNo) (variables : Variables) → StandsApart (λ world. with_variables group variables world)
 variables_apart group variables = record {
   lines_apart = λ lines world. refl;
   queued_apart = λ entity new world. refl;
@@ -232,6 +239,13 @@ nothing_apart = record {
   senders_same = λ server id world. refl;
 }
 
+variables_for_apart : (one : Ready) (variables : Variables) → StandsApart (λ world. with_variables_for one variables world)
+variables_for_apart one variables = by one.exclusive
+  where
+    by : (b : Bool) → StandsApart (λ world. if b then with_variables one.group variables world else world)
+    by true = variables_apart one.group variables
+    by false = nothing_apart
+
 polled_apart : (server : EntityNo) (why : Cause) (task : Option TaskState) → StandsApart (λ world. with_polled server why task world)
 polled_apart server cause.Due task = nothing_apart
 polled_apart server (cause.Took taken) task = nothing_apart
@@ -254,15 +268,15 @@ both_apart {first} {next} a b = record {
   senders_same = λ server id world. b.senders_same server id (first world) ∙ a.senders_same server id world;
 }
 
-home_apart : {S : Type 0} (one : Ready) (outcome : Outcome S) → StandsApart (λ world. brought_home one outcome world)
-home_apart one outcome = both_apart (variables_apart one.group outcome.variables) (polled_apart one.entity one.cause outcome.task)
+pub home_apart : {S : Type 0} (one : Ready) (outcome : Outcome S) → StandsApart (λ world. brought_home one outcome world)
+home_apart one outcome = both_apart (variables_for_apart one outcome.variables) (polled_apart one.entity one.cause outcome.task)
 
 -- a callback may run apart from the world
 pub runs_apart : (one : Ready) (world : WorldState) → run one world ≡ commit one (effects_of (apart one world)) (brought_home one (apart one world) world)
 runs_apart one world =
     let outcome : Outcome (List Effect) = apart one world in
     ap (λ (after : Outcome WorldState). after_callback one after)
-    (callback_later (give one) (add_line (run_line one) world) one (work_for one.entity one.cause world) (variables_of one.group world))
+    (callback_later (give one) (add_line (run_line one) world) one (work_for one.entity one.cause world) (variables_for one world))
     ∙ ap (λ (after : WorldState). close_callback one outcome.close after)
-    (all_apart (home_apart one outcome) one outcome.given (add_line (run_line one) world)
+    (effects_apart (home_apart one outcome) one outcome.given (add_line (run_line one) world)
     ∙ ap (λ (after : WorldState). give_all one outcome.given after) (line_apart (home_apart one outcome) (run_line one) world))

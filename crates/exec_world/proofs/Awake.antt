@@ -11,7 +11,8 @@ use Rattle.exec_task.specs.Task.{TaskState}
 use Rattle.exec_task.specs.declared.wait.Turn.{Turn}
 use Rattle.exec_world.specs.Ready.{is_goal_awake}
 use Rattle.exec_world.specs.World.{GoalWork, HeldGoal, ServerEntry, Variables, is_for}
-use Rattle.exec_world.specs.inner.Polling.{goal_polled, poll_listed, server_polled, work_after}
+use Rattle.exec_world.specs.Run.{work_after}
+use Rattle.exec_world.specs.inner.Polling.{goal_polled, poll_listed, server_polled}
 
 -- what is told of the goal at a place
 pub info-at : (goals : List GoalRecord) (i : ℕ) (info : GoalInfo) (d : GoalRecord) → slice_get (map info_of goals) i ≡ Some info → info ≡ info_of (slice_index_or goals i d)

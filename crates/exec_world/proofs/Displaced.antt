@@ -1,8 +1,7 @@
 -- Through rounds, no answer is displaced.
-use Rattle.std.proofs.Common.{◌≡◌, ℕ, zero, suc, ◌+◌, ◌≤◌, Bool, true, false, not, ◌&&◌, ◌==◌, List, [], ◌∷◌, ◌++◌, length, map, take, Option, None, Some, refl, sym, ap, subst, ◌∙◌, arith}
+use Rattle.std.proofs.Common.{◌≡◌, ℕ, zero, suc, ◌+◌, ◌≤◌, Bool, true, false, not, ◌&&◌, ◌==◌, List, [], ◌∷◌, ◌++◌, length, map, Option, None, Some, refl, sym, ap, subst, ◌∙◌, arith}
 use Rattle.std.specs.List.{AllByRecursion, filter, find, flat_map, list_any}
 use Rattle.std.specs.Option.{option_map_or}
-use Rattle.std.proofs.lemmas.Bool.{eqb-true, and_parts}
 use Rattle.std.proofs.lemmas.List.Elements.{recursion_from_All}
 use Rattle.exec_goal.specs.Cancel.{moved}
 use Rattle.exec_goal.specs.Table.{GoalRecord, after_event, after_end, has_id, expired}
@@ -22,17 +21,17 @@ use Rattle.exec_msg.specs.declared.line.Line.TheVariants as line
 use Rattle.exec_world.proofs.Addresses.{routes_of, client_knows, action_client_knows, IsAddressed, addressed_after, addressed_taken, addressed_first}
 use Rattle.exec_world.proofs.Channels.{Channel, replies, responses, codes, asks, takes, sends_to, weigh, total, count, none_taken, total_after, total_taken, none_lost, channel_of, its_channel, cause_sent, answers_send}
 use Rattle.exec_world.proofs.Identifiers.{or_false}
-use Rattle.exec_world.proofs.Keeping.{Moves, moves_kept, push_kept, feed_keeps, ids_changed, state_said, is_sent_well, Routes, canceled}
-use Rattle.exec_world.proofs.OfKinds.{IsOfItsKind, AreOfTheirKinds, kinds_kept, kinds_first, same_kind}
+use Rattle.exec_world.proofs.Keeping.{Moves, Tells, publish_kept, moves_kept, push_kept, feed_keeps, ids_changed, state_said, is_sent_well, Routes, canceled}
+use Rattle.exec_world.proofs.OfKinds.{IsOfItsKind, AreOfTheirKinds, kinds_kept, kinds_first, lost_of_kind}
 use Rattle.exec_world.proofs.Pairs.{all_append, all_filter, all_flat, all_flat_where, all_map, all_mapped, all_unmapped, all_weaker}
 use Rattle.exec_world.proofs.ReadyLists.{IsOf, due_of, poll_of, list_apart, one_at_most, all_placed}
-use Rattle.exec_world.proofs.Running.{Answers, run_keeps, KeptByRounds}
+use Rattle.exec_world.proofs.Running.{Answers, ends_told, asks_told, run_keeps, KeptByRounds}
 use Rattle.exec_world.proofs.Shapes.{shape_kept}
 use Rattle.exec_world.proofs.Wiring.{wired}
 use Rattle.exec_world.specs.Close.{accepted_lines, moved_lines, accept, with_ended, goal_at}
 use Rattle.exec_world.specs.Item.{taker_of}
 use Rattle.exec_world.specs.LawWords.{queue_shape, shape_of, is_callback_of, is_answer, is_loss}
-use Rattle.exec_world.specs.Ready.{due_ready, item_ready, queue_ready, poll_ready, is_before_polls, placed_from, ready_list, take_inputs}
+use Rattle.exec_world.specs.Ready.{due_ready, item_ready, queue_ready, poll_ready, is_before_polls, placed_from, ready_list, run_line, take_inputs}
 use Rattle.exec_world.specs.Run.{run}
 use Rattle.exec_world.specs.Transcript.{takes_from_queue, first_world, expire_lines, expire, at_snapshot, run_all, round, rounds, pending_by, closing_lines, lines_of, new_queue}
 use Rattle.exec_world.specs.World.{WorldState, Moment, Queue, TimerEntry, ServerEntry, ClientEntry, add_line, is_queue, drop_line, lost_by, push, goals_of, change_goals, add_lines, with_task, with_call, with_goal_sent, with_variables}
@@ -58,25 +57,10 @@ drops_lossless : (entity : EntityNo) (items : List Item) → AllByRecursion (λ 
 drops_lossless entity [] p = refl
 drops_lossless entity (first ∷ items) p = rw p.0 (drops_lossless entity items p.1)
 
-all_taken : {A : Type 0} (P : A → Type 0) (many : ℕ) (all : List A) → AllByRecursion P all → AllByRecursion P (take many all)
-all_taken P zero all p = tt
-all_taken P (suc many) [] p = tt
-all_taken P (suc many) (one ∷ all) p = (p.0, all_taken P many all p.1)
-
 -- what an item that answers nothing displaces answers nothing
 lost_free : (entity : EntityNo) (new : Item) (queues : List Queue) → is_answer (taker_of new) ≡ false → AllByRecursion IsOfItsKind queues → AllByRecursion (λ one. is_answer (taker_of one) ≡ false) (option_map_or (λ queue. displaced queue.depth new queue.items) (find (is_queue entity (taker_of new)) queues) [])
-lost_free entity new [] free p = tt
-lost_free entity new (queue ∷ queues) free p = by (is_queue entity (taker_of new) queue) refl (lost_free entity new queues free p.1)
-  where
-    by : (b : Bool) → is_queue entity (taker_of new) queue ≡ b → AllByRecursion (λ one. is_answer (taker_of one) ≡ false) (option_map_or (λ one. displaced one.depth new one.items) (find (is_queue entity (taker_of new)) queues) []) →
-        AllByRecursion (λ one. is_answer (taker_of one) ≡ false) (option_map_or (λ one. displaced one.depth new one.items) (find (is_queue entity (taker_of new)) (queue ∷ queues)) [])
-    by true e rest =
-        let same : queue.kind ≡ taker_of new = same_kind queue.kind (taker_of new) (eqb-true (ready_number queue.kind) (ready_number (taker_of new)) (and_parts (queue.handler.entity == entity) (ready_number queue.kind == ready_number (taker_of new)) e).1) in
-        rw e (all_taken (λ one. is_answer (taker_of one) ≡ false) _ (queue.items ++ new ∷ [])
-        (all_append (λ one. is_answer (taker_of one) ≡ false) queue.items (new ∷ [])
-        (all_weaker (λ one. taker_of one ≡ queue.kind) (λ one. is_answer (taker_of one) ≡ false) (λ one is. ap (λ (k : Kind). is_answer k) (is ∙ same) ∙ free) queue.items (recursion_from_All (λ one. taker_of one ≡ queue.kind) queue.items p.0))
-        (free, tt)))
-    by false e rest = rw e rest
+lost_free entity new queues free p =
+    all_weaker (λ one. taker_of one ≡ taker_of new) (λ one. is_answer (taker_of one) ≡ false) (λ one is. ap (λ (k : Kind). is_answer k) is ∙ free) _ (lost_of_kind entity new queues p)
 
 moved_lossless : (server : EntityNo) (goals : List GoalRecord) → IsLossless (moved_lines server goals)
 moved_lossless server [] = refl
@@ -211,22 +195,34 @@ module _ (graph : GraphData) (deep_first : AllByRecursion (λ queue. 1 ≤ queue
   shapes : KeptByRounds (λ world. shape_of world ≡ shape_of (first_world graph))
   shapes = shape_kept (shape_of (first_world graph))
 
+  -- a line that loses nothing
+  quietly : (rest : List Ready) (one : Line) (world : WorldState) → IsLossless (one ∷ []) → IsLight rest world → IsLight rest (add_line one world)
+  quietly rest one world none s = kept rest world (add_line one world) (one ∷ []) s s.shape refl refl none
+
   moves : (rest : List Ready) → Moves (routes_of graph) (IsLight rest)
   moves rest = record {
-    lines_kept = λ lines world quiet s. kept rest world (add_lines lines world) lines s s.shape refl refl quiet.1;
-    pushes_kept = freely rest;
-    clients_known = λ number client world found s. client_knows graph world s.shape number client found;
+    lines_kept = λ lines world quiet s. kept rest world (add_lines lines world) lines s s.shape refl refl quiet.1.0;
+    pushes_kept = λ entity new world well free message request result s. freely rest entity new world well free s;
+    publications_kept = λ topic value world s. publish_kept {P = IsLight rest} (λ entity sent before q. freely rest entity (item.Message sent) before refl refl q) topic value (add_line (line.Pub topic value) world) (quietly rest (line.Pub topic value) world refl s);
+    calls_kept = λ number client value world found s.
+        freely rest client.service (item.Request client.entity (client.calls + 1) value) (add_line (line.Call client.entity (client.calls + 1) value) (with_call client.entity world)) (client_knows graph world s.shape number client found) refl
+        (quietly rest (line.Call client.entity (client.calls + 1) value) (with_call client.entity world) refl
+        (same_lines rest world (with_call client.entity world) s (shapes.basic.calls_kept client.entity world s.shape) refl refl));
     action_clients_known = λ number client world found s. action_client_knows graph world s.shape number client found;
-    held_kept = λ server id change world same unmoved s. same_lines rest world (change_goals server (change_first (has_id id) change) world) s (shapes.basic.goals_kept server (change_first (has_id id) change) world (ids_changed id change same) s.shape) refl refl;
     execution_kept = λ server goal world found s.
         kept rest world (execute_goal server (Some goal) world) (line.State server goal.id (status_of (after_event event.Execute goal).state) ∷ []) s ((moves_kept shapes.basic).execution_kept server goal world found s.shape) refl refl refl;
     answer_kept = λ server decisions returned many world s.
         kept rest world (canceled server decisions returned many world) (moved_lines server (moved decisions (goals_of server world)) ++ line.Code server returned many ∷ []) s ((moves_kept shapes.basic).answer_kept server decisions returned many world s.shape) refl refl
         (lossless_more (moved_lines server (moved decisions (goals_of server world))) (line.Code server returned many ∷ []) (moved_lossless server (moved decisions (goals_of server world))) refl);
     tasks_kept = λ server id task world s. same_lines rest world (with_task server id task world) s (shapes.basic.tasks_kept server id task world s.shape) refl refl;
-    calls_kept = λ client world s. same_lines rest world (with_call client world) s (shapes.basic.calls_kept client world s.shape) refl refl;
     sending_kept = λ client world s. same_lines rest world (with_goal_sent client world) s (shapes.basic.sending_kept client world s.shape) refl refl;
     variables_kept = λ group variables world s. same_lines rest world (with_variables group variables world) s (shapes.basic.variables_kept group variables world s.shape) refl refl;
+  }
+
+  tells : (rest : List Ready) → Tells (IsLight rest)
+  tells rest = record {
+    results_kept = λ server id status value client world s. freely rest client (item.Result id status value) (add_line (line.Result server id status value) world) refl refl (quietly rest (line.Result server id status value) world refl s);
+    notes_kept = λ server id change world same unmoved s. same_lines rest world (change_goals server (change_first (has_id id) change) world) s (shapes.basic.goals_kept server (change_first (has_id id) change) world (ids_changed id change same) s.shape) refl refl;
   }
 
   said : (rest : List Ready) (server : EntityNo) (goal : Option GoalRecord) (world : WorldState) → IsLight rest world → IsLight rest (state_said server goal world)
@@ -236,14 +232,17 @@ module _ (graph : GraphData) (deep_first : AllByRecursion (λ queue. 1 ≤ queue
   -- a callback that runs isn't left
   run_light : (one : Ready) (rest : List Ready) (world : WorldState) → cause_sent (routes_of graph) one.entity one.cause ≡ true → IsLight (one ∷ rest) world → IsLight rest (run one world)
   run_light one rest world well s =
-      run_keeps {P = IsLight (one ∷ rest)} {Q = IsLight rest} (moves (one ∷ rest))
-      (λ before q. record { shape = q.shape; kinds = q.kinds; addressed = q.addressed; light = λ channel. let was = q.light channel in omega (arith, was); lossless = q.lossless }) one
+      run_keeps {P = IsLight (one ∷ rest)} {Q = IsLight rest} (moves (one ∷ rest)) one (λ before none q. lighter before q)
       (λ request decision before same room q.
       kept (one ∷ rest) before (accept one.entity one.moment decision request before) (accepted_lines one.entity request.id decision) q (shapes.accepts_kept one.entity one.moment decision request before room q.shape) refl refl (accepted_lossless one.entity request.id decision (decision == 2) refl))
-      (λ id by value reached before leads q.
+      (ends_told (moves (one ∷ rest)) (tells (one ∷ rest)) one (λ id goal canceling by value reached before same leads q.
       said (one ∷ rest) one.entity (goal_at one.entity id (with_ended one.entity id by value one.moment before)) (with_ended one.entity id by value one.moment before)
-      (same_lines (one ∷ rest) before (with_ended one.entity id by value one.moment before) q (shapes.basic.goals_kept one.entity (change_first (has_id id) (after_end by value one.moment)) before (ids_changed id (after_end by value one.moment) (λ goal. refl)) q.shape) refl refl))
-      (λ entity new before a q. answered one rest well entity new before a q) world s
+      (same_lines (one ∷ rest) before (with_ended one.entity id by value one.moment before) q (shapes.basic.goals_kept one.entity (change_first (has_id id) (after_end by value one.moment)) before (ids_changed id (after_end by value one.moment) (λ goal. refl)) q.shape) refl refl)))
+      (asks_told {Q = IsLight rest} (moves (one ∷ rest)) (tells (one ∷ rest)) one lighter)
+      (λ entity new before a q. answered one rest well entity new before a q) world (quietly (one ∷ rest) (run_line one) world refl s)
+    where
+      lighter : (before : WorldState) → IsLight (one ∷ rest) before → IsLight rest before
+      lighter before q = record { shape = q.shape; kinds = q.kinds; addressed = q.addressed; light = λ channel. let was = q.light channel in omega (arith, was); lossless = q.lossless }
 
   run_all_light : (list : List Ready) (world : WorldState) → AllByRecursion (λ one. cause_sent (routes_of graph) one.entity one.cause ≡ true) list → IsLight list world → IsLight [] (run_all list world)
   run_all_light [] world p s = s
@@ -411,7 +410,7 @@ module _ (plan : PlanData) (deep_first : AllByRecursion (λ queue. 1 ≤ queue.d
   snapshot_light number moment world s =
       let begun : WorldState = add_line (line.Round number moment) world in
       let first : Light [] begun = kept plan.graph deep_first [] world begun (line.Round number moment ∷ []) s s.shape refl refl refl in
-      feed_keeps (moves plan.graph deep_first []) (fed_in number plan.feed) (expire moment begun)
+      feed_keeps (moves plan.graph deep_first []) (publish_kept {P = Light []} (λ entity value before q. freely plan.graph deep_first [] entity (item.Message value) before refl refl q)) (fed_in number plan.feed) (expire moment begun)
       (kept plan.graph deep_first [] begun (expire moment begun) (flat_map (expire_lines moment) begun.servers) first ((shape_kept (shape_of (first_world plan.graph))).expiry_kept moment begun first.shape) refl refl (expiry_lossless moment begun.servers))
 
   rounds_light : (number : ℕ) (moments : List Moment) (world : WorldState) → Light [] world → Light [] (rounds plan number moments world)

@@ -117,6 +117,12 @@ module _ (queues : List Queue) (places sorted new : List ℕ) (rises : IsStrictl
       let held = keeps place (covers place filled) in
       subst (λ ps. Contains ps place) (sym is) (contains_kept (λ place. is_filled_at queues place) sorted place held.0 held.1 held.2 filled)
 
+-- places that cover the filled queues do so without those of empty ones
+pub filled_covers : (queues : List Queue) (places new : List ℕ) → new ≡ filter (λ place. is_filled_at queues place) places → CoversFilled places queues → CoversFilled new queues
+filled_covers queues places new is covers = λ place filled.
+    let held = covers place filled in
+    subst (λ ps. Contains ps place) (sym is) (contains_kept (λ place. is_filled_at queues place) places place held.0 held.1 held.2 filled)
+
 -- ---- what is changed at each place
 
 module _ {A : Type 0} (test : A → Bool) (change : A → A) where

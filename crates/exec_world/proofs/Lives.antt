@@ -1,5 +1,5 @@
 -- Through rounds, the statuses of each goal are lawful.
-use Rattle.std.proofs.Common.{◌≡◌, ◌⊎◌, inl, inr, ℕ, ℤ, zero, suc, ◌||◌, Bool, true, false, ◌==◌, List, [], ◌∷◌, ◌++◌, map, length, Option, None, Some, refl, sym, ap, subst, ◌∙◌}
+use Rattle.std.proofs.Common.{◌≡◌, ◌+◌, ◌⊎◌, inl, inr, ℕ, ℤ, zero, suc, ◌||◌, Bool, true, false, ◌==◌, List, [], ◌∷◌, ◌++◌, map, length, Option, None, Some, refl, sym, ap, subst, ◌∙◌}
 use Rattle.std.specs.List.{AllByRecursion, IsDistinct, filter, find, flat_map, list_any}
 use Rattle.std.proofs.lemmas.Bool.{eqb-true}
 use Rattle.std.proofs.lemmas.List.{append-nil}
@@ -21,9 +21,9 @@ use Rattle.exec_msg.specs.declared.goal.ReturnCode.{ReturnCode}
 use Rattle.exec_msg.specs.declared.line.Line.{Line}
 use Rattle.exec_msg.specs.declared.line.Line.TheVariants as line
 use Rattle.exec_world.proofs.Identifiers.{Distinct, goals_in, Makes, changing, tasking, accepting, goals_apart, goals_here, expired_goals, first_goals, room_without}
-use Rattle.exec_world.proofs.Keeping.{ids_changed, Moves, canceled, state_said, feed_keeps, anywhere}
+use Rattle.exec_world.proofs.Keeping.{ids_changed, Moves, Tells, publish_kept, canceled, state_said, feed_keeps, anywhere}
 use Rattle.exec_world.proofs.ReadyLists.{IsListed, list_listed}
-use Rattle.exec_world.proofs.Running.{ended, run_keeps, snapshot_keeps, round_keeps}
+use Rattle.exec_world.proofs.Running.{ended, ends_told, asks_told, run_keeps, snapshot_keeps, round_keeps}
 use Rattle.exec_world.proofs.OfKinds.{AreOfTheirKinds, kinds_kept, kinds_first}
 use Rattle.exec_world.proofs.Shapes.{shape_kept, part_changed, part_mapped}
 use Rattle.exec_world.proofs.Statuses.{state_left}
@@ -33,11 +33,12 @@ use Rattle.exec_world.specs.Close.{GoalRequest, accepted_lines, moved_lines, acc
 use Rattle.exec_world.specs.Give.{oldest_accepted, execute_goal}
 use Rattle.exec_world.specs.Item.{GoalId}
 use Rattle.exec_world.specs.LawWords.{AreLawful, shape_of, statuses_of}
-use Rattle.exec_world.specs.Ready.{kind_of, ready_list, take_inputs}
+use Rattle.exec_world.specs.Ready.{kind_of, ready_list, run_line, take_inputs}
 use Rattle.exec_world.specs.Run.{run}
 use Rattle.exec_world.specs.Transcript.{takes_from_queue, first_world, server_expired, expire_lines, expire, at_snapshot, run_all, round, rounds, pending_by, closing_lines, lines_of}
-use Rattle.exec_world.specs.World.{WorldState, drop_line, lost_by, queued, push, Moment, ServerEntry, ClientEntry, is_server_at, add_line, add_lines, goals_of, change_goals, has_room_for}
+use Rattle.exec_world.specs.World.{WorldState, drop_line, lost_by, queued, push, Moment, ServerEntry, ClientEntry, is_server_at, add_line, add_lines, goals_of, change_goals, has_room_for, with_call}
 use Rattle.exec_world.specs.declared.item.Item.{Item}
+use Rattle.exec_world.specs.declared.item.Item.TheVariants as item
 use Rattle.exec_world.specs.declared.ready.Cause.{Cause}
 use Rattle.exec_world.specs.declared.ready.Ready.{Ready}
 
@@ -104,17 +105,19 @@ module _ (server : EntityNo) (id : GoalId) (listed : List EntityNo) where
   view_moves : Moves anywhere View
   view_moves = record {
     lines_kept = λ lines world quiet v. view_lines lines world (quiet.0 server id) v;
-    pushes_kept = λ entity new world well free v. push_view entity new world v;
-    clients_known = λ number client world found v. refl;
+    pushes_kept = λ entity new world well free message request result v. push_view entity new world v;
+    publications_kept = λ topic value world v. publish_kept {P = View} (λ entity sent before q. push_view entity (item.Message sent) before q) topic value (add_line (line.Pub topic value) world) (view_lines (line.Pub topic value ∷ []) world refl v);
+    calls_kept = λ number client value world found v. push_view client.service (item.Request client.entity (client.calls + 1) value) (add_line (line.Call client.entity (client.calls + 1) value) (with_call client.entity world)) (view_lines (line.Call client.entity (client.calls + 1) value ∷ []) (with_call client.entity world) refl v);
     action_clients_known = λ number client world found v. refl;
-    held_kept = held_view;
     execution_kept = execution_view;
     answer_kept = answer_view;
     tasks_kept = λ other goal task world v. changed (tasking goal task) other world.lines world (λ is. v.0) (λ differs. v.0) (λ is. inr refl) v.1;
-    calls_kept = λ client world v. v;
     sending_kept = λ client world v. v;
     variables_kept = λ group variables world v. v;
   }
+
+  view_tells : Tells View
+  view_tells = record { results_kept = λ other goal status value client world v. push_view client (item.Result goal status value) (add_line (line.Result other goal status value) world) (view_lines (line.Result other goal status value ∷ []) world refl v); notes_kept = held_view }
 
   -- ---- acceptances and ends
 
@@ -186,10 +189,14 @@ module _ (moves : (before : State) (by : Event) (reached : State) → after befo
 
   run_view : (one : Ready) (world : WorldState) → IsListed plan.graph one → PlanView world → PlanView (run one world)
   run_view one world is_there v =
-      run_keeps (view_moves server id (entities_where is_server plan.graph)) (λ before q. q) one
+      let moves_view = view_moves server id (entities_where is_server plan.graph) in
+      let tells_view = view_tells server id (entities_where is_server plan.graph) in
+      run_keeps moves_view one (λ before none q. q)
       (λ request decision before same room q. accept_view server id (entities_where is_server plan.graph) one.entity one.moment decision request before (is_there (ap (λ (why : Cause). kind_of why) same)) room q)
-      (λ goal by value reached before leads q. end_view server id (entities_where is_server plan.graph) moves one.entity goal by value one.moment reached before leads q)
-      (λ entity new before answers q. push_view server id (entities_where is_server plan.graph) entity new before q) world v
+      (ends_told moves_view tells_view one (λ goal sent canceling by value reached before same leads q. end_view server id (entities_where is_server plan.graph) moves one.entity goal by value one.moment reached before leads q))
+      (asks_told moves_view tells_view one (λ before q. q))
+      (λ entity new before answers q. push_view server id (entities_where is_server plan.graph) entity new before q) world
+      (view_lines server id (entities_where is_server plan.graph) (run_line one ∷ []) world refl v)
 
   run_all_view : (list : List Ready) (world : WorldState) → AllByRecursion (IsListed plan.graph) list → PlanView world → PlanView (run_all list world)
   run_all_view [] world p v = v
@@ -197,7 +204,8 @@ module _ (moves : (before : State) (by : Event) (reached : State) → after befo
 
   snapshot_view : (number : ℕ) (moment : Moment) (world : WorldState) → PlanView world → PlanView (at_snapshot plan number moment world)
   snapshot_view number moment world v =
-      feed_keeps (view_moves server id (entities_where is_server plan.graph)) (fed_in number plan.feed) _
+      feed_keeps (view_moves server id (entities_where is_server plan.graph))
+      (publish_kept {P = PlanView} (λ entity value before q. push_view server id (entities_where is_server plan.graph) entity (item.Message value) before q)) (fed_in number plan.feed) _
       (expire_view server id (entities_where is_server plan.graph) moment (add_line (line.Round number moment) world) (view_lines server id (entities_where is_server plan.graph) (line.Round number moment ∷ []) world refl v))
 
   -- a world of a run, between rounds

@@ -1,15 +1,18 @@
 -- Each queue holds items of its kind alone.
-use Rattle.std.proofs.Common.{◌≡◌, ℕ, ◌-◌, Bool, true, false, ◌==◌, List, [], ◌∷◌, ◌++◌, length, map, get_or, refl, sym, ap, ◌∙◌}
-use Rattle.std.specs.List.{All, AllByRecursion, filter}
+use Rattle.std.proofs.Common.{◌≡◌, ℕ, zero, suc, ◌-◌, Bool, true, false, ◌==◌, List, [], ◌∷◌, ◌++◌, length, map, take, get_or, refl, sym, ap, ◌∙◌}
+use Rattle.std.specs.List.{All, AllByRecursion, filter, find}
+use Rattle.std.specs.Option.{option_map_or}
 use Rattle.std.proofs.lemmas.Bool.{and_parts, eqb-true}
-use Rattle.std.proofs.lemmas.List.Elements.{All-nil, All-push, All-drop, All-from_recursion}
+use Rattle.std.proofs.lemmas.List.Elements.{All-nil, All-push, All-drop, All-from_recursion, recursion_from_All}
 use Rattle.exec_graph.specs.Entity.{EntityNo}
 use Rattle.exec_graph.specs.Graph.{GraphData, Waitable, wait_set, kinds}
 use Rattle.exec_graph.specs.Plan.{PlanData}
+use Rattle.exec_msg.specs.KeepLast.{displaced}
 use Rattle.exec_msg.specs.Kind.{ready_number}
 use Rattle.exec_msg.specs.declared.kind.Kind.{Kind}
 use Rattle.exec_msg.specs.declared.kind.Kind.TheVariants as kind
 use Rattle.exec_msg.specs.Lists.{change_first}
+use Rattle.exec_world.proofs.Pairs.{all_append, all_weaker}
 use Rattle.exec_world.proofs.Running.{KeptByRounds, rounds_keep}
 use Rattle.exec_world.specs.Item.{taker_of}
 use Rattle.exec_world.specs.Ready.{queue_taken}
@@ -80,3 +83,25 @@ kinds_kept = record {
 pub queues_of_kinds : (plan : PlanData) (number : ℕ) (moments : List Moment) → All (λ queue. All (λ one. taker_of one ≡ queue.kind) queue.items) (rounds plan number moments (first_world plan.graph)).queues
 queues_of_kinds plan number moments =
     All-from_recursion IsOfItsKind _ (rounds_keep kinds_kept plan number moments (first_world plan.graph) (kinds_first plan.graph (filter (λ waitable. takes_from_queue waitable.kind) (wait_set plan.graph))))
+
+-- ---- what is displaced
+
+all_taken : {A : Type 0} (P : A → Type 0) (many : ℕ) (all : List A) → AllByRecursion P all → AllByRecursion P (take many all)
+all_taken P zero all p = tt
+all_taken P (suc many) [] p = tt
+all_taken P (suc many) (one ∷ all) p = (p.0, all_taken P many all p.1)
+
+-- what an item displaces is of its kind
+pub lost_of_kind : (entity : EntityNo) (new : Item) (queues : List Queue) → AllByRecursion IsOfItsKind queues → AllByRecursion (λ one. taker_of one ≡ taker_of new) (option_map_or (λ queue. displaced queue.depth new queue.items) (find (is_queue entity (taker_of new)) queues) [])
+lost_of_kind entity new [] p = tt
+lost_of_kind entity new (queue ∷ queues) p = by (is_queue entity (taker_of new) queue) refl (lost_of_kind entity new queues p.1)
+  where
+    by : (b : Bool) → is_queue entity (taker_of new) queue ≡ b → AllByRecursion (λ one. taker_of one ≡ taker_of new) (option_map_or (λ one. displaced one.depth new one.items) (find (is_queue entity (taker_of new)) queues) []) →
+        AllByRecursion (λ one. taker_of one ≡ taker_of new) (option_map_or (λ one. displaced one.depth new one.items) (find (is_queue entity (taker_of new)) (queue ∷ queues)) [])
+    by true e rest =
+        let same : queue.kind ≡ taker_of new = same_kind queue.kind (taker_of new) (eqb-true (ready_number queue.kind) (ready_number (taker_of new)) (and_parts (queue.handler.entity == entity) (ready_number queue.kind == ready_number (taker_of new)) e).1) in
+        rw e (all_taken (λ one. taker_of one ≡ taker_of new) _ (queue.items ++ new ∷ [])
+        (all_append (λ one. taker_of one ≡ taker_of new) queue.items (new ∷ [])
+        (all_weaker (λ one. taker_of one ≡ queue.kind) (λ one. taker_of one ≡ taker_of new) (λ one is. is ∙ same) queue.items (recursion_from_All (λ one. taker_of one ≡ queue.kind) queue.items p.0))
+        (refl, tt)))
+    by false e rest = rw e rest

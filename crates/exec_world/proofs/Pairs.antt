@@ -37,7 +37,7 @@ pairs_append R [] more p q cross = q
 pairs_append R (one ∷ some) more p q cross = (all_append (R one) some more p.0 cross.0, pairs_append R some more p.1 q cross.1)
 
 -- of lists that are joined, where it holds in each and between each two
-across : {A B : Type 0} (S : A → A → Type 0) (R : B → B → Type 0) (f : A → List B) → ((one other : A) → S one other → AllByRecursion (λ x. AllByRecursion (R x) (f other)) (f one)) → (one : A) (rest : List A) → AllByRecursion (S one) rest → AllByRecursion (λ x. AllByRecursion (R x) (flat_map f rest)) (f one)
+pub across : {A B : Type 0} (S : A → A → Type 0) (R : B → B → Type 0) (f : A → List B) → ((one other : A) → S one other → AllByRecursion (λ x. AllByRecursion (R x) (f other)) (f one)) → (one : A) (rest : List A) → AllByRecursion (S one) rest → AllByRecursion (λ x. AllByRecursion (R x) (flat_map f rest)) (f one)
 across {A} {B} S R f between one [] s = each (f one)
   where
     each : (all : List B) → AllByRecursion (λ (x : B). AllByRecursion (R x) []) all

@@ -46,7 +46,7 @@ said_of_other_server server id other goal one apart = rw apart refl
 said_of_other_goal : (server : EntityNo) (id goal : GoalId) (one : GoalStatus) → goal == id ≡ false → statuses_of server id (line.State server goal one ∷ []) ≡ []
 said_of_other_goal server id goal one apart = rw (eq-eqb server server refl, apart) refl
 
-turned : (a b : ℕ) → a == b ≡ false → b == a ≡ false
+pub turned : (a b : ℕ) → a == b ≡ false → b == a ≡ false
 turned a b apart = by (b == a) refl
   where
     by : (t : Bool) → b == a ≡ t → b == a ≡ false
@@ -171,7 +171,7 @@ kept_or_gone id test final (goal ∷ goals) p = by (test goal) (has_id id goal) 
     by false false e f (inl q) = inl (rw (e, f) q)
     by false false e f (inr q) = inr (rw e q.0, (q.1.0, (rw f q.1.1.0, q.1.1.1)))
 
-forgotten_final : (moment : Moment) (timeout : Option ℕ) (goal : GoalRecord) → not (is_expired moment timeout goal) ≡ false → is_terminal goal.state ≡ true
+pub forgotten_final : (moment : Moment) (timeout : Option ℕ) (goal : GoalRecord) → not (is_expired moment timeout goal) ≡ false → is_terminal goal.state ≡ true
 forgotten_final moment timeout goal e = by timeout (not-false (is_expired moment timeout goal) e)
   where
     by : (some : Option ℕ) → is_expired moment some goal ≡ true → is_terminal goal.state ≡ true

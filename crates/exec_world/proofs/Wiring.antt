@@ -17,7 +17,7 @@ use Rattle.exec_world.specs.World.{WorldState, TimerEntry, Queue, ServerEntry}
 
 -- ---- numbers of entities
 
-above : (test : Declared → Bool) (number : ℕ) (entities : List EntityData) → AllByRecursion (λ n. number ≤ n) (numbers_where test number entities)
+pub above : (test : Declared → Bool) (number : ℕ) (entities : List EntityData) → AllByRecursion (λ n. number ≤ n) (numbers_where test number entities)
 above test number [] = tt
 above test number (entity ∷ entities) = by (test entity.is) (all_weaker (λ n. suc number ≤ n) (λ n. number ≤ n) (λ n h. omega (arith, h)) _ (above test (suc number) entities))
   where
@@ -29,7 +29,7 @@ above test number (entity ∷ entities) = by (test entity.is) (all_weaker (λ n.
 abbrev pub NumbersApart : EntityNo → EntityNo → Type 0
 NumbersApart one other = other ≡ one → ⊥
 
-numbers_apart : (test : Declared → Bool) (number : ℕ) (entities : List EntityData) → Pairs NumbersApart (numbers_where test number entities)
+pub numbers_apart : (test : Declared → Bool) (number : ℕ) (entities : List EntityData) → Pairs NumbersApart (numbers_where test number entities)
 numbers_apart test number [] = tt
 numbers_apart test number (entity ∷ entities) = by (test entity.is) (numbers_apart test (suc number) entities)
   where
@@ -51,10 +51,10 @@ not_both : (one other : Kind) → differ one other ≡ true → other ≡ one �
 not_both one other apart e =
     true≢false (sym apart ∙ ap (λ (k : Kind). differ one k) e ∙ ap (λ (b : Bool). not b) (eq-eqb (ready_number one) (ready_number one) refl))
 
-abbrev waits_of : GraphData → Kind → List Waitable
+abbrev pub waits_of : GraphData → Kind → List Waitable
 waits_of graph of = map (λ entity. record { kind = of; entity = entity }) (entities_where (has_kind of) graph)
 
-waits_apart : (graph : GraphData) → Pairs WaitsApart (wait_set graph)
+pub waits_apart : (graph : GraphData) → Pairs WaitsApart (wait_set graph)
 waits_apart graph =
     pairs_flat (λ one other. differ one other ≡ true) WaitsApart (waits_of graph)
     (λ at. pairs_map NumbersApart WaitsApart _ (λ one other apart e f. apart f) _ (numbers_apart (has_kind at) 0 graph.entities))
@@ -85,7 +85,7 @@ same_servers number (entity ∷ entities) =
 abbrev pub is_listed : List EntityNo → EntityNo → Bool
 is_listed all one = list_any (λ other. other == one) all
 
-or_more : (a : Bool) → a || true ≡ true
+pub or_more : (a : Bool) → a || true ≡ true
 or_more true = refl
 or_more false = refl
 

@@ -1,11 +1,16 @@
 -- A world as its calls see it.
-use Rattle.std.specs.Prelude.{◌≡◌, ℕ, suc, ◌+◌, ◌-◌, ◌≤◌, List, length, Bool, true, false, ◌==◌, if◌then◌else◌, slice_index_or}
+use Rattle.std.specs.Prelude.{◌≡◌, ⊤, ℕ, suc, ◌+◌, ◌-◌, ◌≤◌, List, length, Bool, true, false, ◌&&◌, ◌==◌, if◌then◌else◌, Some, slice_index_or}
+use Rattle.std.specs.List.{AllByRecursion, IsDistinct}
+use Rattle.exec_graph.specs.Entity.{EntityNo}
 use Rattle.exec_graph.specs.Plan.{PlanData}
 use Rattle.exec_script.specs.declared.effects.Effects.{Effects}
+use Rattle.exec_world.specs.Item.{GoalId}
 use Rattle.exec_world.specs.Ready.{ready_list, take_inputs}
 use Rattle.exec_world.specs.Run.{commit}
 use Rattle.exec_world.specs.Transcript.{at_snapshot, first_world, finish, round}
-use Rattle.exec_world.specs.World.{Moment, WorldState}
+use Rattle.exec_world.specs.World.{GoalWork, Moment, WorldState, work_at}
+use Rattle.exec_world.specs.declared.ready.Cause.{Cause}
+use Rattle.exec_world.specs.declared.ready.Cause.TheVariants as cause
 use Rattle.exec_world.specs.declared.ready.Ready.{Ready}
 use Rattle.exec_world.specs.declared.world.WorldFault.{WorldFault}
 use Rattle.exec_world.specs.declared.world.WorldFault.TheVariants as fault
@@ -44,6 +49,30 @@ state_at number world = at_snapshot world.plan number (moment_of number world.pl
 -- the callbacks that are ready in a round
 abbrev pub ready_in : ℕ → WorldData → List Ready
 ready_in number world = ready_list (moment_of number world.plan) (state_at number world)
+
+-- whether what makes a callback ready is that a goal of this identifier is awake
+abbrev pub wakes : GoalId → Cause → Bool
+wakes id (cause.Woke other value canceling) = id == other
+wakes id _ = false
+
+-- whether a callback that is ready for this cause polls the goal that another one of this server polls
+abbrev pub polls_same_of : EntityNo → Cause → Ready → Bool
+polls_same_of server (cause.Woke id value canceling) other = wakes id other.cause && (server == other.entity)
+polls_same_of server _ other = false
+
+-- whether two callbacks poll one goal
+abbrev pub polls_same : Ready → Ready → Bool
+polls_same one other = polls_same_of one.entity one.cause other
+
+-- the goal that a callback of this server polls is held, and its task is at home
+abbrev pub IsHomeFor : EntityNo → Cause → WorldState → Type 0
+IsHomeFor server (cause.Woke id value canceling) world = (work : GoalWork) × (work_at server id world ≡ Some work)
+IsHomeFor server _ world = ⊤
+
+-- the task of each goal that callbacks poll is at home, and no two of them poll one goal
+pub record AreHome (list : List Ready) (world : WorldState) : Type 0 where
+  pub home : AllByRecursion (λ one. IsHomeFor one.entity one.cause world) list
+  pub apart : IsDistinct polls_same list
 
 -- a world after the snapshot of a round
 abbrev pub after_snapshot : ℕ → WorldData → WorldData

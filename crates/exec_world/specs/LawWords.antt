@@ -1,10 +1,11 @@
 -- Words for the laws of rounds.
-use Rattle.std.specs.Prelude.{◌≡◌, ◌⊎◌, Bool, ◌&&◌, ◌==◌, List, [], ◌∷◌, length, map, replicate, Option, None, Some, if◌then◌else◌, true, false}
+use Rattle.std.specs.Prelude.{◌≡◌, ◌⊎◌, ℕ, Bool, ◌&&◌, ◌==◌, List, [], ◌∷◌, ◌++◌, length, map, replicate, Option, None, Some, if◌then◌else◌, true, false}
 use Rattle.std.specs.List.{flat_map}
 use Rattle.exec_goal.specs.Cancel.{Decided}
-use Rattle.exec_goal.specs.State.{Transition, status_of}
+use Rattle.exec_goal.specs.State.{Transition, is_canceling, is_worked_on, status_of}
 use Rattle.exec_goal.specs.declared.state.State.{State}
 use Rattle.exec_graph.specs.Entity.{EntityNo}
+use Rattle.exec_graph.specs.Plan.{PlanData}
 use Rattle.exec_msg.specs.declared.kind.Kind.{Kind}
 use Rattle.exec_msg.specs.declared.kind.Kind.TheVariants as kind
 use Rattle.exec_msg.specs.declared.goal.Event.{Event}
@@ -14,9 +15,13 @@ use Rattle.exec_msg.specs.declared.line.Line.{Line}
 use Rattle.exec_msg.specs.declared.line.Line.TheVariants as line
 use Rattle.exec_msg.specs.Kind.{ready_number}
 use Rattle.exec_script.specs.Zeros.{zeros}
+use Rattle.exec_world.specs.Callback.{Outcome, callback}
+use Rattle.exec_world.specs.Give.{give}
 use Rattle.exec_world.specs.Item.{GoalId}
-use Rattle.exec_world.specs.Ready.{kind_of}
-use Rattle.exec_world.specs.World.{WorldState, TimerEntry, Queue, ServerEntry, ClientEntry, ActionClientEntry}
+use Rattle.exec_world.specs.Ready.{kind_of, ready_list, run_line, take_inputs}
+use Rattle.exec_world.specs.Run.{brought_home, variables_for, work_for}
+use Rattle.exec_world.specs.Transcript.{at_snapshot, run_all}
+use Rattle.exec_world.specs.World.{WorldState, Moment, TimerEntry, Queue, ServerEntry, ClientEntry, ActionClientEntry, add_line}
 use Rattle.exec_world.specs.declared.ready.Ready.{Ready}
 
 -- a cancel handler's decision: 1 rejects, and 2 accepts
@@ -103,3 +108,28 @@ MayCome (Some before) after = IsStep before after ⊎ (IsFinal before × (after 
 abbrev pub AreLawful : Option GoalStatus → List GoalStatus → Type 0
 AreLawful last [] = Unit {0}
 AreLawful last (after ∷ more) = MayCome last after × AreLawful (Some after) more
+
+-- ---- a callback's turn
+
+-- a ready callback's turn in the round of a number at a moment, where this is the world before that round: the callbacks
+-- before it in the ready list ran, and the world is this one then
+pub record IsTurn (plan : PlanData) (number : ℕ) (moment : Moment) (world : WorldState) (one : Ready) (here : WorldState) : Type 0 where
+  pub before : List Ready
+  pub behind : List Ready
+  pub stands : ready_list moment (at_snapshot plan number moment world) ≡ before ++ one ∷ behind
+  pub came : here ≡ run_all before (take_inputs moment (at_snapshot plan number moment world))
+
+-- what a callback does in its turn
+abbrev pub outcome_in : Ready → WorldState → Outcome WorldState
+outcome_in one world = callback (give one) one (work_for one.entity one.cause world) (variables_for one world) (add_line (run_line one) world)
+
+-- the world that what closes it finds
+abbrev pub unclosed : Ready → WorldState → WorldState
+unclosed one world = brought_home one (outcome_in one world) (outcome_in one world).given
+
+-- whether a goal of this state, if there is one, may be polled: as one that is being canceled where it is CANCELING, and
+-- else where it is EXECUTING or CANCELING
+abbrev pub may_be_polled : Bool → Option State → Bool
+may_be_polled canceling None = false
+may_be_polled true (Some at) = is_canceling at
+may_be_polled false (Some at) = is_worked_on at

@@ -2,6 +2,7 @@ pub mod Callback
 pub mod Calls
 pub mod Close
 pub mod Examples
+pub mod Exchanges
 pub mod Give
 pub mod Item
 pub mod LawWords

@@ -92,7 +92,8 @@ pub record ActionClientEntry : Type 0 where
   pub goals : ℕ
 
 -- the world: topics, timers, queues in ready order, servers, service clients and action clients, each of the others in the
--- order of declaration; the variables of each callback group (those of a reentrant group stay 0); and the lines so far
+-- order of declaration; the variables of each callback group (no callback of a reentrant group reads or writes its own); and
+-- the lines so far
 pub record WorldState : Type 0 where
   pub topics : List TopicEntry
   pub timers : List TimerEntry

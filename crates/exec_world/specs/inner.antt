@@ -10,3 +10,4 @@ pub mod Rounds
 pub mod Server
 pub mod Servers
 pub mod Snapshots
+pub mod Sound

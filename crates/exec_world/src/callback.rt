@@ -1,17 +1,89 @@
 //! What a callback does apart from the world, its effects listed.
-ghost use Rattle.std.specs.Prelude.{◌≡◌, IfOk, OnOk};
+ghost use Rattle.std.specs.Prelude.{◌≡◌, IfOk, OnErr, OnOk};
+ghost use Rattle.std.specs.Option.{option_map};
 ghost use Rattle.exec_script.specs.Script.{called, listed};
 ghost use Rattle.exec_world.specs.Callback.{call_in, candidate_input, decision_by, handle_all, instructions_of, take_item};
 ghost use Rattle.exec_world.specs.Close.{decision_in};
+ghost use Rattle.exec_world.specs.Ready.{turn_at};
+ghost use Rattle.exec_world.specs.Run.{apart_with, effects_of, work_after};
+ghost use Rattle.exec_world.specs.World.{work_of};
+ghost use Rattle.exec_world.specs.inner.Polling.{poll_listed};
 
 use crate::item::Item;
-use crate::ready::Ready;
+use crate::ready::{Cause, Ready};
+use crate::server::poll_any;
 use exec_goal::GoalInfo;
 use exec_msg::{Memory, Moment};
-use exec_script::{Bank, Close, DecisionList, EffectList, Input, Instr, Role, run_call_into};
+use exec_script::{
+    Bank, Close, DecisionList, EffectList, Effects, Input, Instr, Role, run_call_into,
+};
+use exec_task::{GoalTask, Poller, Turn};
 use std::alloc::Global;
 
+impl Ready {
+    /// Runs the callback apart from the world, with its group's variables and, where it polls a goal, that goal's task: gives
+    /// what it did, for [`World::commit`](crate::World::commit). A poll without a task does nothing, and the goal pends.
+    ///
+    /// # Errors
+    /// [`Memory`] where a growth was refused. The variables stay as they were, and so does what the task does.
+    pub fn run_apart(
+        &self,
+        alloc: Global,
+        task: &mut Option<GoalTask>,
+        bank: &mut Bank,
+        poller: &Poller,
+    ) -> Result<Effects, Memory>
+        ensures effects { IfOk result (λ did. did ≡ effects_of (apart_with self.now (option_map work_of task.old) bank.old)) }
+        ensures variables { OnOk result (bank.new ≡ (apart_with self.now (option_map work_of task.old) bank.old).variables) }
+        ensures task { OnOk result (option_map work_of task.new ≡ option_map (work_after (apart_with self.now (option_map work_of task.old) bank.old).task) (option_map work_of task.old)) }
+        ensures refused { OnErr result (bank.new ≡ bank.old) }
+        ensures refused_task { OnErr result (option_map work_of task.new ≡ option_map work_of task.old) }
+    {
+        let mut effects = EffectList::new(alloc);
+        let mut after = *bank;
+        let close = match &self.cause {
+            Cause::Due => call_in(Role::Callback, self, &mut after, &mut effects)?,
+            Cause::Took(item) => take_item(alloc, item, self, &mut after, &mut effects)?,
+            Cause::Woke { canceling, .. } => {
+                self.poll_apart(*canceling, task, &mut after, poller, &mut effects)?
+            }
+        };
+        *bank = after;
+        Ok(Effects {
+            list: effects,
+            close,
+        })
+    }
+
+    // Polls the goal's task. The list then has its effects, and these alone.
+    fn poll_apart(
+        &self,
+        canceling: bool,
+        task: &mut Option<GoalTask>,
+        bank: &mut Bank,
+        poller: &Poller,
+        effects: &mut EffectList,
+    ) -> Result<Close, Memory>
+        ensures effects { OnOk result (effects.new ≡ (poll_listed (turn_at self.now.moment canceling) (option_map work_of task.old) bank.old).given) }
+        ensures close { IfOk result (λ close. close ≡ (poll_listed (turn_at self.now.moment canceling) (option_map work_of task.old) bank.old).close) }
+        ensures variables { OnOk result (bank.new ≡ (poll_listed (turn_at self.now.moment canceling) (option_map work_of task.old) bank.old).variables) }
+        ensures task { OnOk result (option_map work_of task.new ≡ option_map (work_after (poll_listed (turn_at self.now.moment canceling) (option_map work_of task.old) bank.old).task) (option_map work_of task.old)) }
+        ensures refused { OnErr result (option_map work_of task.new ≡ option_map work_of task.old) }
+    {
+        let turn = Turn {
+            moment: self.moment,
+            canceling,
+        };
+        let mut context = poller.begin();
+        let polled = poll_any(task, &turn, bank, &mut context, effects);
+        context.cancel();
+        let close = polled?;
+        Ok(close)
+    }
+}
+
 // Runs a callback that took an item, and puts its effects behind those that are listed.
+#[inline(always)]
 pub(crate) fn take_item(
     alloc: Global,
     item: &Item,
@@ -38,6 +110,7 @@ pub(crate) fn take_item(
 }
 
 // Runs a callback's script once in a role, and puts its effects behind those that are listed.
+#[inline(always)]
 pub(crate) fn call_in(
     role: Role,
     one: &Ready,
@@ -53,6 +126,7 @@ pub(crate) fn call_in(
 }
 
 // The instructions of a callback's script; none is empty.
+#[inline(always)]
 fn instructions_of(one: &Ready) -> &[Instr]
     ensures { result.now ≡ instructions_of one.now.script }
 {

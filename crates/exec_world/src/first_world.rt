@@ -9,20 +9,17 @@ ghost use Rattle.exec_world.specs.Transcript.{first_world, new_topic, subscribes
 ghost use Rattle.exec_world.specs.inner.Parts.{action_client_for, client_for, new_queue_of, queue_for, queues_of, server_for, timer_for};
 
 use crate::action_client::{ActionClient, ActionClients};
+use crate::callback_script::{callback_script, share};
 use crate::client::{Client, Clients};
 use crate::handler::Handler;
 use crate::queue::Queues;
 use crate::server::{Server, Servers};
 use crate::timer::EntityTimer;
 use crate::topic::{Topic, Topics};
-use exec_graph::{
-    ActionClientEntity, ClientEntity, Declared, EntityOf, Graph, GraphEntity, Script, ServerEntity,
-    ServiceEntity, SubscriptionEntity, TimerEntity,
-};
+use exec_graph::{Declared, EntityOf, Graph, GraphEntity, Script};
 use exec_msg::{EntityNo, Kind, Memory};
 use exec_script::Bank;
 use std::alloc::Global;
-use std::sync::Arc;
 
 // The kinds of callbacks in ready order.
 const KINDS: [Kind; 12] = [
@@ -402,121 +399,4 @@ fn handler(graph: &Graph, entity: EntityNo, found: &GraphEntity, script: Script)
         exclusive: graph.is_exclusive(found.group),
         script,
     }
-}
-
-fn share(script: &Script) -> Result<Script, Memory>
-    ensures { IfOk result (λ shared. shared ≡ script.now) }
-{
-    let instructions = script.shared().clone()?;
-    Ok(Script::of(instructions))
-}
-
-// The script of an entity's callbacks of a kind, where it has such callbacks. That of an ask is empty, and so is that of a
-// result for which the action client has none.
-fn callback_script(
-    alloc: Global,
-    kind: Kind,
-    is: &EntityOf<EntityNo, Script>,
-) -> Result<Option<Script>, Memory>
-    ensures { IfOk result (λ script. script ≡ callback_script kind is.now) }
-{
-    match is {
-        EntityOf::Timer(entity) => timer_script(kind, entity),
-        EntityOf::Subscription(entity) => subscription_script(kind, entity),
-        EntityOf::Service(entity) => service_script(kind, entity),
-        EntityOf::Client(entity) => client_script(kind, entity),
-        EntityOf::Server(entity) => server_script(alloc, kind, entity),
-        EntityOf::ActionClient(entity) => action_client_script(alloc, kind, entity),
-    }
-}
-
-fn timer_script(kind: Kind, entity: &TimerEntity<Script>) -> Result<Option<Script>, Memory>
-    ensures { IfOk result (λ script. script ≡ callback_script kind (resolved.Timer entity.now)) }
-{
-    match kind {
-        Kind::Timer => Ok(Some(share(&entity.script)?)),
-        _ => Ok(None),
-    }
-}
-
-fn subscription_script(
-    kind: Kind,
-    entity: &SubscriptionEntity<EntityNo, Script>,
-) -> Result<Option<Script>, Memory>
-    ensures { IfOk result (λ script. script ≡ callback_script kind (resolved.Subscription entity.now)) }
-{
-    match kind {
-        Kind::Message => Ok(Some(share(&entity.script)?)),
-        _ => Ok(None),
-    }
-}
-
-fn service_script(kind: Kind, entity: &ServiceEntity<Script>) -> Result<Option<Script>, Memory>
-    ensures { IfOk result (λ script. script ≡ callback_script kind (resolved.Service entity.now)) }
-{
-    match kind {
-        Kind::Request => Ok(Some(share(&entity.script)?)),
-        _ => Ok(None),
-    }
-}
-
-fn client_script(
-    kind: Kind,
-    entity: &ClientEntity<EntityNo, Script>,
-) -> Result<Option<Script>, Memory>
-    ensures { IfOk result (λ script. script ≡ callback_script kind (resolved.Client entity.now)) }
-{
-    match kind {
-        Kind::Reply => Ok(Some(share(&entity.script)?)),
-        _ => Ok(None),
-    }
-}
-
-fn server_script(
-    alloc: Global,
-    kind: Kind,
-    entity: &ServerEntity<Script>,
-) -> Result<Option<Script>, Memory>
-    ensures { IfOk result (λ script. script ≡ callback_script kind (resolved.Server entity.now)) }
-{
-    match kind {
-        Kind::Goal => Ok(Some(share(&entity.on_goal)?)),
-        Kind::Cancel => Ok(Some(share(&entity.on_cancel)?)),
-        Kind::Ask => Ok(Some(empty(alloc)?)),
-        Kind::Poll => Ok(Some(share(&entity.script)?)),
-        _ => Ok(None),
-    }
-}
-
-fn action_client_script(
-    alloc: Global,
-    kind: Kind,
-    entity: &ActionClientEntity<EntityNo, Script>,
-) -> Result<Option<Script>, Memory>
-    ensures { IfOk result (λ script. script ≡ callback_script kind (resolved.ActionClient entity.now)) }
-{
-    match kind {
-        Kind::Response => Ok(Some(share(&entity.on_response)?)),
-        Kind::Code => Ok(Some(share(&entity.on_code)?)),
-        Kind::Feedback => Ok(Some(share(&entity.on_feedback)?)),
-        Kind::Result => Ok(Some(share_or_empty(alloc, &entity.on_result)?)),
-        _ => Ok(None),
-    }
-}
-
-fn share_or_empty(alloc: Global, script: &Option<Script>) -> Result<Script, Memory>
-    ensures { IfOk result (λ shared. shared ≡ unwrap_or script.now []) }
-{
-    match script {
-        None => empty(alloc),
-        Some(script) => share(script),
-    }
-}
-
-// A script that does nothing.
-fn empty(alloc: Global) -> Result<Script, Memory>
-    ensures { IfOk result (λ script. script ≡ []) }
-{
-    let instructions = Arc::new(alloc, Vec::new(alloc))?;
-    Ok(Script::of(instructions))
 }

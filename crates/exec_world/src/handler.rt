@@ -1,3 +1,4 @@
+use crate::callback_script::share;
 use crate::ready::{Cause, Ready};
 use exec_goal::GoalInfo;
 use exec_graph::{GroupNo, Script};
@@ -26,14 +27,15 @@ impl Handler {
     ghost use Rattle.exec_world.specs.Ready.{ready_for};
 
     // The callback's script, which is shared.
+    #[inline(always)]
     pub(crate) fn share_script(&self) -> Result<Script, Memory>
         ensures { IfOk result (λ script. script ≡ self.now.script) }
     {
-        let instructions = self.script.shared().clone()?;
-        Ok(Script::of(instructions))
+        share(&self.script)
     }
 
     // The callback where it is ready; its place in the ready list isn't known yet.
+    #[inline(always)]
     pub(crate) fn ready(
         &self,
         moment: Moment,

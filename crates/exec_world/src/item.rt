@@ -63,6 +63,7 @@ pub enum Item {
 
 impl Item {
     /// The kind of callback that takes it.
+    #[inline(always)]
     pub fn kind(&self) -> Kind
         ensures { result ≡ taker_of self.now }
     {
@@ -81,6 +82,7 @@ impl Item {
     }
 
     /// The identifier on the line of its callback.
+    #[inline(always)]
     pub fn id(&self) -> Option<GoalId>
         ensures { result ≡ id_of self.now }
     {
@@ -97,6 +99,7 @@ impl Item {
     }
 
     /// Its `in`.
+    #[inline(always)]
     pub fn first(&self) -> i64
         ensures { result ≡ first_of self.now }
     {
@@ -115,6 +118,7 @@ impl Item {
     }
 
     /// Its `aux`, where it is a cancel request with so many candidates.
+    #[inline(always)]
     pub fn aux(&self, candidates: usize) -> i64
         ensures { result ≡ aux_of self.now candidates }
     {

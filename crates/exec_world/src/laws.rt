@@ -1,30 +1,43 @@
 //! Laws of rounds on one thread: each function's contract says one, and its body is empty or calls the laws that it
 //! rests on.
-ghost use Rattle.std.specs.Prelude.{◌≡◌, ◌≢◌, ℕ, ◌+◌, ◌≤◌, List, ◌∷◌, [], ◌++◌, ◌==◌, length, map, take, drop, false, None, Some};
-ghost use Rattle.std.specs.List.{All, IsDistinct, filter, fold, list_any};
+ghost use Rattle.std.specs.Prelude.{◌≡◌, ◌≢◌, ℕ, ◌+◌, ◌≤◌, List, ◌∷◌, [], ◌++◌, ◌==◌, length, map, take, drop, false, None, Some, ℤ, Bool, true};
+ghost use Rattle.std.specs.List.{All, AllByRecursion, IsDistinct, filter, fold, list_any, Contains};
+ghost use Rattle.exec_goal.specs.Calls.{end_state, state_in};
 ghost use Rattle.exec_goal.specs.declared.info.GoalInfo.{GoalInfo};
 ghost use Rattle.exec_graph.specs.Graph.{depth_of, declared_at};
 ghost use Rattle.exec_graph.specs.Lawful.{IsLawfulPlan};
 ghost use Rattle.exec_graph.specs.Plan.{PlanData};
+ghost use Rattle.exec_msg.specs.declared.goal.Event.{Event};
 ghost use Rattle.exec_msg.specs.declared.goal.GoalStatus.{GoalStatus};
 ghost use Rattle.exec_msg.specs.declared.goal.GoalStatus.TheVariants as status;
 ghost use Rattle.exec_msg.specs.declared.kind.Kind.{Kind};
 ghost use Rattle.exec_msg.specs.declared.kind.Kind.TheVariants as kind;
 ghost use Rattle.exec_msg.specs.declared.line.Line.TheVariants as line;
+ghost use Rattle.exec_script.specs.declared.effects.Close.TheVariants as close;
 ghost use Rattle.exec_script.specs.declared.effects.Effect.{Effect};
 ghost use Rattle.exec_world.specs.Callback.{Handling, handle};
+ghost use Rattle.exec_world.specs.Calls.{IsHomeFor};
+ghost use Rattle.exec_world.specs.Exchanges.{AreAnswered, IsDelivered, is_ask_taken, is_asked, is_result_taken, is_result_told, waiting_in};
 ghost use Rattle.exec_world.specs.Item.{taker_of};
-ghost use Rattle.exec_world.specs.LawWords.{is_loss, AreLawful, IsDecision, is_callback_of, shape_of, statuses_of, IsFinal, MayCome};
+ghost use Rattle.exec_world.specs.LawWords.{is_loss, AreLawful, IsDecision, is_callback_of, shape_of, statuses_of, IsFinal, MayCome, IsTurn, may_be_polled, outcome_in, unclosed};
 ghost use Rattle.exec_world.specs.Ready.{ready_list};
-ghost use Rattle.exec_world.specs.Run.{apart, brought_home, commit, effects_of, run};
-ghost use Rattle.exec_world.specs.Transcript.{at_snapshot, first_world, lines_of, round, rounds};
-ghost use Rattle.exec_world.specs.World.{WorldState, goals_of};
+ghost use Rattle.exec_world.specs.Run.{all_apart, all_home, apart, brought_home, commit, commit_all, effects_of, run};
+ghost use Rattle.exec_world.specs.Transcript.{at_snapshot, first_world, lines_of, round, rounds, run_all, last_world};
+ghost use Rattle.exec_world.specs.World.{WorldState, goals_of, subscribers_of, ClientEntry, client_at};
+ghost use Rattle.exec_world.specs.declared.ready.Cause.TheVariants as cause;
 ghost use Rattle.exec_world.specs.declared.ready.Ready.{Ready};
 
 /// A callback may run apart from the world: where its effects are listed, its variables and its goal's task are brought home
 /// and it is committed then, the world is as if each effect had been given to it at its instruction.
 pub fn callbacks_may_run_apart()
     ensures { (one : Ready) (world : WorldState) → run one world ≡ commit one (effects_of (apart one world)) (brought_home one (apart one world) world) }
+{}
+
+/// The callbacks of a round may all run apart from the world, one after another, and be committed behind the last of them, in
+/// their order: the world is as if each had run in it, where the tasks of the goals that they poll are at home.
+pub fn callbacks_may_be_committed_behind()
+    ensures { (list : List Ready) (world : WorldState) → AllByRecursion (λ one. IsHomeFor one.entity one.cause world) list →
+        run_all list world ≡ commit_all list (all_apart list world) (all_home list world) }
 {}
 
 /// Where a cancel handler ran for candidates, the decisions are those before, followed by one for each candidate, with
@@ -77,7 +90,7 @@ pub fn identifiers_differ()
         IsDistinct (λ one other. one == other) (map (λ goal. goal.id) (goals_of server (rounds plan number moments (first_world plan.graph)))) }
 {}
 
-/// In the transcript of a lawful plan no reply, ask, response and code is displaced: at most one is under way to a queue.
+/// In the transcript of a lawful plan no reply, ask, response and code is displaced.
 pub fn answers_are_never_displaced()
     ensures { (plan : PlanData) → IsLawfulPlan plan → list_any is_loss (lines_of plan) ≡ false }
 {}
@@ -98,3 +111,57 @@ pub fn goals_end_once()
     exec_goal::laws::goals_move_by_the_table();
     exec_goal::laws::ended_goals_stay();
 }
+
+/// In the transcript of a plan, between two terminal statuses of a server's goals of one identifier the next goal is
+/// accepted: so each goal has one terminal line `state` at most.
+pub fn goals_have_one_end()
+    ensures { (plan : PlanData) (server id : ℕ) (before between behind : List GoalStatus) (first second : GoalStatus) →
+        statuses_of server id (lines_of plan) ≡ before ++ first ∷ between ++ second ∷ behind → IsFinal first → IsFinal second →
+        between ≡ status.Accepted ∷ drop 1 between }
+{
+    statuses_follow_the_transitions();
+    goals_end_once();
+}
+
+/// In any round of a plan, a goal that is polled is EXECUTING or CANCELING in its turn, and still is when its poll is
+/// closed; where it is polled as one that is being canceled, it is CANCELING.
+pub fn polled_goals_stay_at_work()
+    ensures turn { (plan : PlanData) (number : ℕ) (moments : List ℕ) (next moment : ℕ) (one : Ready) (here : WorldState) (id : ℕ) (value : ℤ) (canceling : Bool) →
+        IsTurn plan next moment (rounds plan number moments (first_world plan.graph)) one here → one.cause ≡ cause.Woke id value canceling →
+        may_be_polled canceling (state_in id (goals_of one.entity here)) ≡ true }
+    ensures closing { (plan : PlanData) (number : ℕ) (moments : List ℕ) (next moment : ℕ) (one : Ready) (here : WorldState) (id : ℕ) (value : ℤ) (canceling : Bool) →
+        IsTurn plan next moment (rounds plan number moments (first_world plan.graph)) one here → one.cause ≡ cause.Woke id value canceling →
+        may_be_polled canceling (state_in id (goals_of one.entity (unclosed one here))) ≡ true }
+{}
+
+/// So the ending that a goal's script asks for is always a transition of the goal: it never comes to nothing.
+pub fn endings_are_allowed()
+    ensures { (plan : PlanData) (number : ℕ) (moments : List ℕ) (next moment : ℕ) (one : Ready) (here : WorldState) (id : ℕ) (value : ℤ) (canceling : Bool) (by : Event) (result : ℤ) →
+        IsTurn plan next moment (rounds plan number moments (first_world plan.graph)) one here → one.cause ≡ cause.Woke id value canceling →
+        (outcome_in one here).close ≡ close.Ended by result → end_state id by (goals_of one.entity (unclosed one here)) ≢ None }
+{}
+
+/// Of the asks for a goal's result that a server takes, as many are answered with a line `result` as don't wait at the end,
+/// since the goal hasn't ended.
+pub fn asks_are_answered_once()
+    ensures { (plan : PlanData) (server id : ℕ) →
+        length (filter (is_ask_taken server id) (lines_of plan)) ≡ length (filter (is_result_told server id) (lines_of plan)) + length (waiting_in id (goals_of server (last_world plan))) }
+{}
+
+/// An action client's callback takes the result of a goal at most as often as the client asked for it.
+pub fn results_are_asked_for()
+    ensures { (plan : PlanData) (client id : ℕ) → length (filter (is_result_taken client id) (lines_of plan)) ≤ length (filter (is_asked client id) (lines_of plan)) }
+{}
+
+/// Each message that is published to a topic, or fed to it, is taken by each subscription of the topic, dropped with a line,
+/// or held in its queue at the end, in the order in which they were published.
+pub fn messages_are_delivered_in_order()
+    ensures { (plan : PlanData) (topic subscription : ℕ) → Contains (subscribers_of topic (first_world plan.graph)) subscription →
+        IsDelivered plan topic subscription (last_world plan) }
+{}
+
+/// The calls of a service client have the numbers from 1 in the order in which it made them, and of each either its callback
+/// took the reply, once, or the call is pending at the end, and not both.
+pub fn calls_are_answered_once()
+    ensures { (plan : PlanData) (number : ℕ) (client : ClientEntry) → client_at number (last_world plan) ≡ Some client → AreAnswered client (lines_of plan) }
+{}

@@ -4,6 +4,7 @@
 mod action_client;
 mod by_number;
 mod callback;
+mod callback_script;
 mod client;
 pub mod examples;
 mod first_world;

@@ -75,7 +75,9 @@ impl<L: Lines> Mail<L> {
         self.queues.take_first();
     }
 
-    // Adds a line.
+    // Adds a line. It is written where it is made: one that is handed on is copied as a whole just after it was made, for which
+    // a processor waits.
+    #[inline(always)]
     pub(crate) fn add_line(&mut self, line: Line) -> Result<(), Memory>
         ensures { OnOk result (self.new ≡ with_line line self.old) }
     {

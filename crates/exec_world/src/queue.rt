@@ -1,9 +1,10 @@
 //! The queues of a plan's entities in ready order, found by entity and kind. A snapshot walks over those that have an item,
 //! and over no other.
-ghost use Rattle.std.specs.Prelude.{◌≡◌, ◌==◌, ◌&&◌, ℕ, ◌<◌, ◌≤◌, ◌^◌, [], ◌∷◌, ◌++◌, false, None, Some, length, map, slice_get, OnOk, OnErr, IfOk, IfSome};
+ghost use Rattle.std.specs.Prelude.{◌≡◌, ◌==◌, ◌&&◌, ℕ, ◌<◌, ◌≤◌, ◌^◌, [], ◌∷◌, ◌++◌, false, true, None, Some, length, map, slice_get, OnOk, OnErr, IfOk, IfSome};
 ghost use Rattle.std.specs.List.{Contains, filter, find};
-ghost use Rattle.std.specs.List.Sorted.{IsStrictlyIncreasing};
+ghost use Rattle.std.specs.List.Sorted.{IsPermutation, IsSorted, IsStrictlyIncreasing};
 ghost use Rattle.std.specs.Option.{option_copied, option_flatten, option_map, option_map_or, option_to_list};
+ghost use Rattle.std.specs.Ordering.{nat_cmp};
 ghost use Rattle.exec_msg.specs.KeepLast.{displaced};
 ghost use Rattle.exec_msg.specs.Kind.{ready_number};
 ghost use Rattle.exec_msg.specs.Lists.{change_first};
@@ -91,18 +92,21 @@ pub(crate) struct Queues {
     places: Vec<Option<usize>>,
     // The places of the queues that have an item, and of some that had one.
     filled: Vec<usize>,
+    // Whether these are the places of the queues that have an item, in ascending order.
+    settled: bool,
 }
 
 impl Model for Queues {
-    ghost use Rattle.std.specs.Prelude.{List};
+    ghost use Rattle.std.specs.Prelude.{◌≡◌, List, true};
     ghost use Rattle.exec_world.specs.World.{Queue};
-    ghost use Rattle.exec_world.specs.inner.Queues.{FindsQueues, CoversFilled};
+    ghost use Rattle.exec_world.specs.inner.Places.{places_where};
+    ghost use Rattle.exec_world.specs.inner.Queues.{FindsQueues, CoversFilled, has_item};
 
     ghost Value = { List Queue };
 
     ghost view = { λ queues. queues.cells.items };
 
-    ghost invariant = { λ queues. FindsQueues queues.places.items queues.cells.items × CoversFilled queues.filled.items queues.cells.items };
+    ghost invariant = { λ queues. FindsQueues queues.places.items queues.cells.items × CoversFilled queues.filled.items queues.cells.items × (queues.settled ≡ true → queues.filled.items ≡ places_where has_item queues.cells.items) };
 }
 
 impl Queues {
@@ -115,6 +119,7 @@ impl Queues {
             cells: Vec::new(alloc),
             places: Vec::new(alloc),
             filled: Vec::new(alloc),
+            settled: false,
         }
     }
 
@@ -134,6 +139,7 @@ impl Queues {
         make_room(&mut self.places, slot)?;
         let place = count(&self.cells);
         let queue = LazyQueue::new(self.alloc, depth);
+        self.settled = false;
         self.cells.push(Cell {
             handler,
             kind,
@@ -153,13 +159,14 @@ impl Queues {
         let Some(place) = place_at(&self.places, slot(entity, item.kind())) else {
             return Ok(None);
         };
+        self.settled = false;
         note_filled(&mut self.filled, &self.cells, place)?;
         let lost = send_at(&mut self.cells, place, item)?;
         Ok(lost)
     }
 
     /// Sets places to those of the queues that have an item, either of the kinds before polls or of those behind them, in
-    /// ascending order. Where there is room for them it takes no memory; where memory is refused, the queues stay as they
+    /// ascending order. Where there is room for them it is never refused memory; where it is, the queues stay as they
     /// were.
     pub(crate) fn filled(
         &mut self,
@@ -169,7 +176,7 @@ impl Queues {
         ensures same { self.new ≡ self.old }
         ensures places { OnOk result (places.new.items ≡ places_where (λ queue. has_item queue && is_in_part before_polls queue) self.old) }
     {
-        settle(&mut self.filled, &self.cells);
+        settle(&mut self.settled, &mut self.filled, &self.cells);
         places.clear();
         places.extend_from_slice(&self.filled)?;
         keep_part(places, &self.cells, before_polls);
@@ -180,8 +187,11 @@ impl Queues {
     pub(crate) fn take_first(&mut self)
         ensures { self.new ≡ map queue_taken self.old }
     {
-        settle(&mut self.filled, &self.cells);
+        settle(&mut self.settled, &mut self.filled, &self.cells);
+        self.settled = false;
         take_each(&mut self.cells, &self.filled);
+        // So that no place is noted twice, and fewer are sorted in the next round.
+        keep_filled(&mut self.filled, &self.cells);
     }
 
     /// The number of queues.
@@ -294,12 +304,23 @@ fn send_at(cells: &mut Vec<Cell>, place: usize, item: Item) -> Result<Option<Ite
     }
 }
 
-// Leaves the places of the queues that have an item, in ascending order.
-fn settle(places: &mut Vec<usize>, cells: &[Cell])
+// Leaves the places of the queues that have an item, in ascending order, where they aren't settled so yet.
+fn settle(settled: &mut bool, places: &mut Vec<usize>, cells: &[Cell])
+    requires { settled.old ≡ true → places.old.items ≡ places_where has_item cells.now }
     ensures value { CoversFilled places.old.items cells.now → places.new.items ≡ places_where has_item cells.now }
     ensures covers { CoversFilled places.old.items cells.now → CoversFilled places.new.items cells.now }
 {
-    sort_places(places);
+    if !*settled {
+        sort_places(places);
+        keep_filled(places, cells);
+        *settled = true;
+    }
+}
+
+// Leaves the places of queues that have an item.
+fn keep_filled(places: &mut Vec<usize>, cells: &[Cell])
+    ensures { places.new.items ≡ filter (λ place. is_filled_at cells.now place) places.old.items }
+{
     places.retain(|place| is_filled(cells, *place));
 }
 
@@ -307,8 +328,18 @@ fn sort_places(places: &mut Vec<usize>)
     ensures rises { IsStrictlyIncreasing places.new.items }
     ensures keeps { (place : ℕ) → Contains places.old.items place → Contains places.new.items place }
 {
-    places.sort_unstable();
+    sort(places);
     places.dedup();
+}
+
+// Callbacks run in ready order, so that the places rise in a few long runs: these are merged, where there is memory for it.
+fn sort(places: &mut Vec<usize>)
+    ensures sorted { IsSorted nat_cmp places.new.items }
+    ensures permutation { IsPermutation places.old.items places.new.items }
+{
+    if places.sort().is_err() {
+        places.sort_unstable();
+    }
 }
 
 fn take_at(cells: &mut Vec<Cell>, place: usize)

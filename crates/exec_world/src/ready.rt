@@ -46,6 +46,7 @@ pub struct Ready {
 
 impl Cause {
     /// The kind of the callback.
+    #[inline(always)]
     pub fn kind(&self) -> Kind
         ensures { result ≡ kind_of self.now }
     {
@@ -57,6 +58,7 @@ impl Cause {
     }
 
     /// The identifier on the callback's line.
+    #[inline(always)]
     pub fn id(&self) -> Option<GoalId>
         ensures { result ≡ id_for self.now }
     {
@@ -77,6 +79,7 @@ impl Ready {
     }
 
     /// What the callback is handed; a cancel handler is handed something else for each candidate.
+    #[inline(always)]
     pub fn input(&self) -> Input
         ensures { result ≡ input_of self.now }
     {
@@ -91,6 +94,7 @@ impl Ready {
     }
 
     /// The line with which the callback begins.
+    #[inline(always)]
     pub fn run_line(&self) -> Line
         ensures { result ≡ run_line self.now }
     {
@@ -105,6 +109,7 @@ impl Ready {
     }
 }
 
+#[inline(always)]
 fn input_at(moment: Moment, cause: &Cause, candidates: usize) -> Input
     ensures { result ≡ input_at moment cause.now candidates }
 {

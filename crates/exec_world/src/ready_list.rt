@@ -32,6 +32,7 @@ impl ReadyList {
     }
 
     // Adds a callback at the end, and tells it its place, from 1.
+    #[inline(always)]
     pub(crate) fn push(&mut self, ready: Ready) -> Result<(), Memory>
         ensures { OnOk result (self.new ≡ listed_behind self.old (ready ∷ [])) }
     {

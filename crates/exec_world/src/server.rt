@@ -16,6 +16,7 @@ use exec_msg::{EntityNo, Event, GoalId, Items, Memory, Moment};
 use exec_task::GoalTask;
 pub(crate) use found::Servers;
 use indexmap::IndexMap;
+pub(crate) use polling::poll_any;
 use std::alloc::Global;
 use std::marker::Model;
 

@@ -18,7 +18,6 @@ use crate::topic::Topics;
 use exec_graph::{Graph, GroupNo};
 use exec_msg::{EntityNo, Line, Lines, Memory};
 use exec_script::Bank;
-use exec_task::Poller;
 use std::alloc::Global;
 use std::marker::Model;
 
@@ -27,7 +26,6 @@ use std::marker::Model;
 #[derive(Drop)]
 pub(crate) struct State<L: Lines> {
     alloc: Global,
-    poller: Poller,
     topics: Topics,
     timers: Vec<EntityTimer>,
     servers: Servers,
@@ -68,7 +66,6 @@ impl<L: Lines> State<L> {
     {
         Ok(State {
             alloc,
-            poller: Poller::new(alloc)?,
             topics: new_topics(alloc, graph)?,
             timers: new_timers(alloc, graph)?,
             servers: new_servers(alloc, graph)?,
@@ -94,6 +91,7 @@ impl<L: Lines> State<L> {
         self.mail.into_lines()
     }
 
+    #[inline(always)]
     fn add_line(&mut self, line: Line) -> Result<(), Memory>
         ensures { OnOk result (self.new ≡ add_line line self.old) }
     {

@@ -15,6 +15,7 @@ use exec_msg::{GoalId, Items, Memory, Moment};
 use std::alloc::Global;
 
 // The callback that takes an item, where its entity is this server, if it is one.
+#[inline(always)]
 pub(crate) fn ready_for_item(
     alloc: Global,
     moment: Moment,
@@ -31,6 +32,7 @@ pub(crate) fn ready_for_item(
     Ok(handler.ready(moment, Cause::Took(item), candidates, script))
 }
 
+#[inline(always)]
 fn candidates_for(
     alloc: Global,
     item: &Item,
@@ -44,6 +46,7 @@ fn candidates_for(
     }
 }
 
+#[inline(always)]
 fn script_for(
     item: &Item,
     server: Option<&Server>,

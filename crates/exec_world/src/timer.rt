@@ -43,6 +43,7 @@ impl EntityTimer {
     }
 
     // Makes the timer's call where it is due, and then lists its callback.
+    #[inline(always)]
     pub(crate) fn take_into(
         &mut self,
         alloc: Global,

@@ -8,7 +8,7 @@ use crate::state::State;
 use exec_graph::{FeedByRound, GroupNo, Plan};
 use exec_msg::{EntityNo, GoalId, Line, LineList, Lines, Memory};
 use exec_script::{Bank, EffectList, Effects};
-use exec_task::GoalTask;
+use exec_task::{GoalTask, Poller};
 use std::alloc::Global;
 use std::marker::Model;
 use std::sync::Arc;
@@ -44,6 +44,7 @@ pub struct World<L: Lines = LineList> {
     alloc: Global,
     plan: Arc<Plan>,
     feed: FeedByRound,
+    poller: Poller,
     state: State<L>,
     // The last round that began, and how many of its callbacks aren't committed yet.
     round: usize,
@@ -55,17 +56,18 @@ pub struct World<L: Lines = LineList> {
 }
 
 impl<L: Lines> Model for World<L> {
-    ghost use Rattle.std.specs.Prelude.{◌≡◌, length};
+    ghost use Rattle.std.specs.Prelude.{◌≡◌, false, length};
     ghost use Rattle.std.specs.Arc.{arc_value};
     ghost use Rattle.exec_graph.specs.Feeding.{feeds_by_round};
     ghost use Rattle.exec_world.specs.Calls.{WorldData};
     ghost use Rattle.exec_world.specs.inner.Rounds.{HasBegun, rounds_in};
+    ghost use Rattle.exec_world.specs.inner.Sound.{IsSound};
 
     ghost Value = { WorldData };
 
     ghost view = { λ world. record { plan = arc_value world.plan; state = world.state; rounds = rounds_in world.round world.left; left = world.left; failed = world.failed } };
 
-    ghost invariant = { λ world. (world.feed ≡ feeds_by_round (arc_value world.plan)) × (length world.feed ≡ length (arc_value world.plan).moments) × HasBegun world.round world.left };
+    ghost invariant = { λ world. (world.feed ≡ feeds_by_round (arc_value world.plan)) × (length world.feed ≡ length (arc_value world.plan).moments) × HasBegun world.round world.left × (world.failed ≡ false → IsSound (arc_value world.plan).graph world.state) };
 }
 
 impl World<LineList> {
@@ -93,9 +95,9 @@ impl World<LineList> {
 }
 
 impl<L: Lines> World<L> {
-    ghost use Rattle.std.specs.Prelude.{◌≡◌, ◌<◌, [], length, true, false, None, Some, IfOk, IfErr, OnOk};
+    ghost use Rattle.std.specs.Prelude.{◌≡◌, ◌↔◌, ◌<◌, [], length, true, false, None, Some, IfOk, IfErr, OnOk};
     ghost use Rattle.std.specs.Arc.{arc_value};
-    ghost use Rattle.exec_world.specs.Calls.{HasFailed, IsNext, after_commit, after_finish, after_round, after_snapshot, new_world, ready_in};
+    ghost use Rattle.exec_world.specs.Calls.{AreHome, HasFailed, IsNext, after_commit, after_finish, after_round, after_snapshot, new_world, ready_in};
     ghost use Rattle.exec_world.specs.declared.world.WorldFault.TheVariants as fault;
     ghost use Rattle.exec_world.specs.inner.Rounds.{world_after};
     ghost use Rattle.exec_world.specs.World.{GoalWork, variables_of, with_variables, with_work, work_at, work_of};
@@ -109,11 +111,13 @@ impl<L: Lines> World<L> {
         ensures { IfOk result (λ world. world ≡ new_world (arc_value plan)) }
     {
         let feed = FeedByRound::of(alloc, &plan)?;
+        let poller = Poller::new(alloc)?;
         let state = State::new(alloc, plan.graph(), lines)?;
         Ok(World {
             alloc,
             plan,
             feed,
+            poller,
             state,
             round: 0,
             left: 0,
@@ -141,6 +145,23 @@ impl<L: Lines> World<L> {
         }
     }
 
+    /// How many callbacks of the last snapshot aren't committed yet.
+    pub fn left(&self) -> usize
+        ensures { result ≡ self.now.left }
+    {
+        self.left
+    }
+
+    /// Whether this is the next round, and one of the plan, and the round before is done.
+    pub fn is_next(&self, round: usize) -> bool
+        ensures { (result ≡ true) ↔ IsNext round self.now }
+    {
+        self.left == 0
+            && self.round < round
+            && round - self.round == 1
+            && round <= self.plan.moments().len()
+    }
+
     /// Marks the world as failed.
     pub fn fail(&mut self)
         ensures { self.new ≡ record self.old { failed = true } }
@@ -158,17 +179,8 @@ impl<L: Lines> World<L> {
         Ok(())
     }
 
-    // Marks the world as failed, since it was refused memory.
-    fn refused(&mut self) -> WorldFault
-        ensures fault { result ≡ fault.Memory }
-        ensures failed { self.new ≡ record self.old { failed = true } }
-    {
-        self.fail();
-        WorldFault::Memory
-    }
-
     /// Begins a round, and takes its inputs: gives the callbacks that are ready in it, in the order in which they run. Each is to
-    /// be committed, in that order.
+    /// be committed, in that order. Each goal that they poll is held, its task at home, and no two of them poll one goal.
     ///
     /// # Errors
     /// [`WorldFault::Memory`] where a growth or a clone was refused, [`WorldFault::Failed`] where the world had failed before.
@@ -176,26 +188,20 @@ impl<L: Lines> World<L> {
         requires { self.old.failed ≡ false → IsNext round self.old }
         ensures ready { IfOk result (λ list. list.items ≡ ready_in round self.old) }
         ensures taken { OnOk result (self.new ≡ after_snapshot round self.old) }
+        ensures home { IfOk result (λ list. AreHome list.items self.new.state) }
         ensures unfailed { OnOk result (self.old.failed ≡ false) }
         ensures fault { IfErr result (λ why. HasFailed why self.old self.new) }
     {
         self.check()?;
-        match self.take_snapshot(round) {
-            Ok(list) => Ok(list),
-            Err(Memory) => Err(self.refused()),
-        }
-    }
-
-    fn take_snapshot(&mut self, round: usize) -> Result<Vec<Ready>, Memory>
-        requires { IsNext round self.old }
-        ensures ready { IfOk result (λ list. list.items ≡ ready_in round self.old) }
-        ensures taken { OnOk result (self.new ≡ after_snapshot round self.old) }
-    {
         let moment = self.plan.moments()[round - 1];
-        self.state
-            .open_round(round as u64, moment, self.feed.fed_in(round))?;
         let mut list = ReadyList::new(self.alloc);
-        self.state.snapshot(moment, &mut list)?;
+        let begun = self
+            .state
+            .begin_round(round as u64, moment, self.feed.fed_in(round), &mut list);
+        if begun.is_err() {
+            self.failed = true;
+            return Err(WorldFault::Memory);
+        }
         self.round = round;
         self.left = list.as_slice().len();
         Ok(list.into_vec())
@@ -212,16 +218,15 @@ impl<L: Lines> World<L> {
         ensures fault { IfErr result (λ why. HasFailed why self.old self.new) }
     {
         self.check()?;
-        match self
+        let given = self
             .state
-            .commit(one, effects.list.as_slice(), &effects.close)
-        {
-            Ok(()) => {
-                self.left -= 1;
-                Ok(())
-            }
-            Err(Memory) => Err(self.refused()),
+            .commit(one, effects.list.as_slice(), &effects.close);
+        if given.is_err() {
+            self.failed = true;
+            return Err(WorldFault::Memory);
         }
+        self.left -= 1;
+        Ok(())
     }
 
     /// The variables of a callback group, which [`put_bank`](World::put_bank) brings home.
@@ -274,10 +279,20 @@ impl<L: Lines> World<L> {
         ensures { OnOk result (self.new ≡ after_round round self.old) }
     {
         let moment = self.plan.moments()[round - 1];
-        self.state
-            .open_round(round as u64, moment, self.feed.fed_in(round))?;
-        self.state
-            .snapshot_and_run(moment, &mut self.list, &mut self.effects)?;
+        let mut context = self.poller.begin();
+        let ran = self.state.run_round(
+            round as u64,
+            moment,
+            self.feed.fed_in(round),
+            &mut self.list,
+            &mut self.effects,
+            &mut context,
+        );
+        context.cancel();
+        if ran.is_err() {
+            self.failed = true;
+            return Err(Memory);
+        }
         self.round = round;
         self.left = 0;
         Ok(())
@@ -307,10 +322,12 @@ impl<L: Lines> World<L> {
     {
         self.check()?;
         let rounds = self.rounds_done() as u64;
-        match self.state.finish(rounds) {
-            Ok(()) => Ok(()),
-            Err(Memory) => Err(self.refused()),
+        let closed = self.state.finish(rounds);
+        if closed.is_err() {
+            self.failed = true;
+            return Err(WorldFault::Memory);
         }
+        Ok(())
     }
 
     /// Where the lines of the transcript went.

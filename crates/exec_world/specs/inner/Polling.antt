@@ -15,11 +15,6 @@ use Rattle.exec_world.specs.Ready.{is_goal_awake, ready_for, woken}
 use Rattle.exec_world.specs.World.{GoalWork, HeldGoal, Moment, ServerEntry, Variables, is_for}
 use Rattle.exec_world.specs.declared.ready.Ready.{Ready}
 
--- a goal's work after a poll that left its task so, if it was polled
-abbrev pub work_after : Option TaskState → GoalWork → GoalWork
-work_after None work = work
-work_after (Some task) work = record work { task = task }
-
 -- what is kept of a goal, with this work, or with none where its task is out
 abbrev pub doing : Option GoalWork → HeldGoal → HeldGoal
 doing work held = record held { work = work }

@@ -1,11 +1,10 @@
 //! Servers, each found by its number. What is asked of one that isn't there changes nothing.
-use super::polling::unpolled;
 use super::{GoalRequest, Server};
 use crate::by_number::{ByNumber, Numbered};
 use crate::ready_list::ReadyList;
 use exec_goal::{Asked, CancelAnswer, CancelRequest, Goals, State};
 use exec_msg::{EntityNo, Event, GoalId, Memory, Moment};
-use exec_script::{Bank, Effects};
+use exec_script::{Bank, Close, EffectList};
 use exec_task::{GoalTask, Turn};
 use futures::task::Context;
 use std::alloc::Global;
@@ -150,29 +149,31 @@ impl ByNumber<Server> {
         entry.end(id, event, value, moment)
     }
 
-    // A server polls a goal in a turn, with the variables of its callback group, in a context that the caller has made. One that
-    // isn't held or isn't awake isn't polled, and pends. Where memory is refused, the bank stays as it was.
+    // A server polls a goal in a turn, with the variables of its callback group, in a context that the caller has made, and
+    // answers what closes the poll. The list then has its effects, and these alone. A goal that isn't held or isn't awake isn't
+    // polled, and pends. Where memory is refused, the bank stays as it was.
     pub(crate) fn poll(
         &mut self,
-        alloc: Global,
         server: EntityNo,
         id: GoalId,
         turn: &Turn,
         bank: &mut Bank,
         cx: &mut Context<'_>,
-    ) -> Result<Effects, Memory>
-        ensures effects { IfOk result (λ polling. polling.list ≡ (poll_listed turn.now (work_in server id self.old) bank.old).given) }
-        ensures close { IfOk result (λ polling. polling.close ≡ (poll_listed turn.now (work_in server id self.old) bank.old).close) }
+        effects: &mut EffectList,
+    ) -> Result<Close, Memory>
+        ensures effects { OnOk result (effects.new ≡ (poll_listed turn.now (work_in server id self.old) bank.old).given) }
+        ensures close { IfOk result (λ close. close ≡ (poll_listed turn.now (work_in server id self.old) bank.old).close) }
         ensures variables { OnOk result (bank.new ≡ (poll_listed turn.now (work_in server id self.old) bank.old).variables) }
         ensures task { OnOk result (self.new ≡ change_first (is_server_at server) (server_polled id (poll_listed turn.now (work_in server id self.old) bank.old).task) self.old) }
         ensures refused { OnErr result (bank.new ≡ bank.old) }
     {
         let place = self.place(server);
         let Some(entry) = self.entries.get_mut(place) else {
-            return Ok(unpolled(alloc));
+            effects.clear();
+            return Ok(Close::Pending);
         };
-        let polling = entry.poll(alloc, id, turn, bank, cx)?;
-        Ok(polling)
+        let close = entry.poll(id, turn, bank, cx, effects)?;
+        Ok(close)
     }
 
     // Takes the task of a server's goal out, and answers `None` where no such goal is held or its task is out.

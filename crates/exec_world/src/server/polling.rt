@@ -7,15 +7,16 @@ ghost use Rattle.exec_task.specs.Task.{is_awake};
 ghost use Rattle.exec_world.specs.Callback.{close_of_answer};
 ghost use Rattle.exec_world.specs.Ready.{turn_at};
 ghost use Rattle.exec_world.specs.World.{work_of};
-ghost use Rattle.exec_world.specs.inner.Polling.{poll_listed, work_after};
+ghost use Rattle.exec_world.specs.Run.{work_after};
+ghost use Rattle.exec_world.specs.inner.Polling.{poll_listed};
 
 use super::{Held, Server};
 use crate::ready::{Cause, Ready};
 use crate::ready_list::ReadyList;
 use exec_goal::GoalInfo;
 use exec_msg::{GoalId, Items, Memory, Moment};
-use exec_script::{Bank, Close, EffectList, Effects};
-use exec_task::{Answer, GoalTask, Turn, is_awake, poll_goal};
+use exec_script::{Bank, Close, EffectList};
+use exec_task::{Answer, GoalTask, Turn, is_awake, poll_goal_into};
 use futures::task::Context;
 use std::alloc::Global;
 use std::mem;
@@ -132,29 +133,30 @@ impl Server {
         )
     }
 
-    // Polls a goal in a turn, with the variables of its callback group, in a context that the caller has made. One that isn't
-    // held or isn't awake, or whose task is out, isn't polled, and pends. Where memory is refused, the server and the bank stay
-    // as they were.
+    // Polls a goal in a turn, with the variables of its callback group, in a context that the caller has made, and answers what
+    // closes the poll. The list then has its effects, and these alone. A goal that isn't held or isn't awake, or whose task is
+    // out, isn't polled, and pends. Where memory is refused, the server and the bank stay as they were.
     pub(crate) fn poll(
         &mut self,
-        alloc: Global,
         id: GoalId,
         turn: &Turn,
         bank: &mut Bank,
         cx: &mut Context<'_>,
-    ) -> Result<Effects, Memory>
-        ensures effects { IfOk result (λ polling. polling.list ≡ (goal_polled turn.now id self.old bank.old).given) }
-        ensures close { IfOk result (λ polling. polling.close ≡ (goal_polled turn.now id self.old bank.old).close) }
+        effects: &mut EffectList,
+    ) -> Result<Close, Memory>
+        ensures effects { OnOk result (effects.new ≡ (goal_polled turn.now id self.old bank.old).given) }
+        ensures close { IfOk result (λ close. close ≡ (goal_polled turn.now id self.old bank.old).close) }
         ensures variables { OnOk result (bank.new ≡ (goal_polled turn.now id self.old bank.old).variables) }
         ensures task { OnOk result (self.new ≡ server_polled id (goal_polled turn.now id self.old bank.old).task self.old) }
         ensures refused { OnErr result (self.new ≡ self.old) }
         ensures refused_variables { OnErr result (bank.new ≡ bank.old) }
     {
         let Some(held) = self.held.get_mut(&id) else {
-            return Ok(unpolled(alloc));
+            effects.clear();
+            return Ok(Close::Pending);
         };
-        let polling = poll_any(alloc, &mut held.task, turn, bank, cx)?;
-        Ok(polling)
+        let close = poll_any(&mut held.task, turn, bank, cx, effects)?;
+        Ok(close)
     }
 
     // Takes the task of a goal out, and answers `None` where no such goal is held or its task is out.
@@ -195,17 +197,6 @@ fn is_any_awake(task: &Option<GoalTask>, moment: Moment, canceling: bool) -> boo
     }
 }
 
-// Nothing is done, and the goal pends.
-pub(super) fn unpolled(alloc: Global) -> Effects
-    ensures effects { result.list ≡ [] }
-    ensures close { result.close ≡ close.Pending }
-{
-    Effects {
-        list: EffectList::new(alloc),
-        close: Close::Pending,
-    }
-}
-
 // What closes a poll that is answered so.
 fn close_of(answer: Answer) -> Close
     ensures { result ≡ close_of_answer (meaning_of answer) }
@@ -217,49 +208,47 @@ fn close_of(answer: Answer) -> Close
 }
 
 // Polls a task where it isn't out and is awake.
-fn poll_any(
-    alloc: Global,
+pub(crate) fn poll_any(
     task: &mut Option<GoalTask>,
     turn: &Turn,
     bank: &mut Bank,
     cx: &mut Context<'_>,
-) -> Result<Effects, Memory>
-    ensures effects { IfOk result (λ polling. polling.list ≡ (poll_listed turn.now (option_map work_of task.old) bank.old).given) }
-    ensures close { IfOk result (λ polling. polling.close ≡ (poll_listed turn.now (option_map work_of task.old) bank.old).close) }
+    effects: &mut EffectList,
+) -> Result<Close, Memory>
+    ensures effects { OnOk result (effects.new ≡ (poll_listed turn.now (option_map work_of task.old) bank.old).given) }
+    ensures close { IfOk result (λ close. close ≡ (poll_listed turn.now (option_map work_of task.old) bank.old).close) }
     ensures variables { OnOk result (bank.new ≡ (poll_listed turn.now (option_map work_of task.old) bank.old).variables) }
     ensures task { OnOk result (option_map work_of task.new ≡ option_map (work_after (poll_listed turn.now (option_map work_of task.old) bank.old).task) (option_map work_of task.old)) }
     ensures refused { OnErr result (option_map work_of task.new ≡ option_map work_of task.old) }
     ensures refused_variables { OnErr result (bank.new ≡ bank.old) }
 {
     let Some(task) = task else {
-        return Ok(unpolled(alloc));
+        effects.clear();
+        return Ok(Close::Pending);
     };
-    let polling = poll_task(alloc, task, turn, bank, cx)?;
-    Ok(polling)
+    let close = poll_task(task, turn, bank, cx, effects)?;
+    Ok(close)
 }
 
 // Polls a task where it is awake.
 fn poll_task(
-    alloc: Global,
     task: &mut GoalTask,
     turn: &Turn,
     bank: &mut Bank,
     cx: &mut Context<'_>,
-) -> Result<Effects, Memory>
-    ensures effects { IfOk result (λ polling. polling.list ≡ (poll_listed turn.now (Some (work_of task.old)) bank.old).given) }
-    ensures close { IfOk result (λ polling. polling.close ≡ (poll_listed turn.now (Some (work_of task.old)) bank.old).close) }
+    effects: &mut EffectList,
+) -> Result<Close, Memory>
+    ensures effects { OnOk result (effects.new ≡ (poll_listed turn.now (Some (work_of task.old)) bank.old).given) }
+    ensures close { IfOk result (λ close. close ≡ (poll_listed turn.now (Some (work_of task.old)) bank.old).close) }
     ensures variables { OnOk result (bank.new ≡ (poll_listed turn.now (Some (work_of task.old)) bank.old).variables) }
     ensures task { OnOk result (work_of task.new ≡ work_after (poll_listed turn.now (Some (work_of task.old)) bank.old).task (work_of task.old)) }
     ensures refused { OnErr result (work_of task.new ≡ work_of task.old) }
     ensures refused_variables { OnErr result (bank.new ≡ bank.old) }
 {
     if !is_awake(task, turn.moment, turn.canceling) {
-        return Ok(unpolled(alloc));
+        effects.clear();
+        return Ok(Close::Pending);
     }
-    let polled = poll_goal(alloc, task, bank, turn, cx)?;
-    let close = close_of(polled.answer);
-    Ok(Effects {
-        list: polled.effects,
-        close,
-    })
+    let answer = poll_goal_into(task, bank, turn, cx, effects)?;
+    Ok(close_of(answer))
 }

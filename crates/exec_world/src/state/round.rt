@@ -14,20 +14,52 @@ use exec_goal::CancelRequest;
 use exec_graph::{Fed, Feed};
 use exec_msg::{Line, Lines, Memory, Moment};
 use exec_script::EffectList;
+use futures::task::Context;
 
 impl<L: Lines> State<L> {
     ghost use Rattle.std.specs.Prelude.{◌≡◌, OnOk};
     ghost use Rattle.exec_msg.specs.declared.line.Line.TheVariants as line;
+    ghost use Rattle.exec_world.specs.Ready.{ready_list, take_inputs};
     ghost use Rattle.exec_world.specs.Transcript.{closing_lines, expire, feed, feed_one, finish, run_all, snapshot_and_run};
     ghost use Rattle.exec_world.specs.World.{add_line};
 
-    // Begins the round of a number at a moment: its line, expiry, and what is fed in it.
-    pub(crate) fn open_round(
+    // Begins the round of a number at a moment, and takes each input. The list then has the callbacks that are ready, and these
+    // alone.
+    pub(crate) fn begin_round(
         &mut self,
         number: u64,
         moment: Moment,
         fed: &[Feed],
+        list: &mut ReadyList,
     ) -> Result<(), Memory>
+        ensures list { OnOk result (list.new ≡ ready_list moment (feed fed.now (expire moment (add_line (line.Round number moment) self.old)))) }
+        ensures taken { OnOk result (self.new ≡ take_inputs moment (feed fed.now (expire moment (add_line (line.Round number moment) self.old)))) }
+    {
+        self.open_round(number, moment, fed)?;
+        self.snapshot(moment, list)?;
+        Ok(())
+    }
+
+    // Runs the whole round of a number at a moment; goals are polled in a context that the caller has made. The lists have room
+    // that is used again.
+    pub(crate) fn run_round(
+        &mut self,
+        number: u64,
+        moment: Moment,
+        fed: &[Feed],
+        list: &mut ReadyList,
+        effects: &mut EffectList,
+        cx: &mut Context<'_>,
+    ) -> Result<(), Memory>
+        ensures { OnOk result (self.new ≡ snapshot_and_run moment (feed fed.now (expire moment (add_line (line.Round number moment) self.old)))) }
+    {
+        self.begin_round(number, moment, fed, list)?;
+        self.run_all(list.as_slice(), effects, cx)?;
+        Ok(())
+    }
+
+    // Begins the round of a number at a moment: its line, expiry, and what is fed in it.
+    fn open_round(&mut self, number: u64, moment: Moment, fed: &[Feed]) -> Result<(), Memory>
         ensures { OnOk result (self.new ≡ feed fed.now (expire moment (add_line (line.Round number moment) self.old))) }
     {
         self.add_line(Line::Round { number, moment })?;
@@ -36,25 +68,16 @@ impl<L: Lines> State<L> {
         Ok(())
     }
 
-    // Runs the callbacks that are ready at a moment. The lists have room that is used again.
-    pub(crate) fn snapshot_and_run(
+    fn run_all(
         &mut self,
-        moment: Moment,
-        list: &mut ReadyList,
+        list: &[Ready],
         effects: &mut EffectList,
+        cx: &mut Context<'_>,
     ) -> Result<(), Memory>
-        ensures { OnOk result (self.new ≡ snapshot_and_run moment self.old) }
-    {
-        self.snapshot(moment, list)?;
-        self.run_all(list.as_slice(), effects)?;
-        Ok(())
-    }
-
-    fn run_all(&mut self, list: &[Ready], effects: &mut EffectList) -> Result<(), Memory>
         ensures { OnOk result (self.new ≡ run_all list.now self.old) }
     {
         for one in list {
-            self.run(one, effects)?;
+            self.run(one, effects, cx)?;
         }
         Ok(())
     }

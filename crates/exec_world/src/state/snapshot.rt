@@ -91,6 +91,7 @@ fn list_fronts(
 }
 
 // Lists the callback that takes from the queue at a place, if there is one and it has an item.
+#[inline(always)]
 fn list_front(
     alloc: Global,
     moment: Moment,
@@ -112,6 +113,7 @@ fn list_front(
 }
 
 // The callback that takes an item.
+#[inline(always)]
 fn ready_to_take(
     alloc: Global,
     moment: Moment,

@@ -5,7 +5,7 @@ use Rattle.std.proofs.lemmas.Map.Keys.{IsStrictlyIncreasing-dedup}
 use Rattle.exec_world.proofs.queue.sort_places.Goals as goal
 
 pub returns-clause-rises : goal.returns-clause-rises
-returns-clause-rises c = rw (dedup_is _ _ _ c.dedup.ensures.filtered) (IsStrictlyIncreasing-dedup _ c.sort_unstable.ensures.sorted)
+returns-clause-rises c = rw (dedup_is _ _ _ c.dedup.ensures.filtered) (IsStrictlyIncreasing-dedup _ c.sort.ensures.sorted)
 
 pub returns-clause-keeps : goal.returns-clause-keeps
-returns-clause-keeps c = λ place is. rw (dedup_is _ _ _ c.dedup.ensures.filtered) (Contains-dedup_nat _ place (Contains-permutation _ _ place c.sort_unstable.ensures.permutation is))
+returns-clause-keeps c = λ place is. rw (dedup_is _ _ _ c.dedup.ensures.filtered) (Contains-dedup_nat _ place (Contains-permutation _ _ place c.sort.ensures.permutation is))

@@ -1,4 +1,4 @@
-use Rattle.std.proofs.Common.{length, refl, ap, subst, sym, ◌∙◌}
+use Rattle.std.proofs.Common.{length, refl, ap, subst, sym, ◌∙◌, true≢false}
 use Rattle.exec_world.proofs.FoundQueues.{finds_behind, covers_behind}
 use Rattle.exec_world.specs.World.{Handler, Queue}
 use Rattle.exec_world.specs.inner.Places.{change_at, noted}
@@ -14,4 +14,5 @@ invariant_of-self-2 c =
           (c.note_place.ensures ∙ ap (λ n. change_at c.slot-slot.result (noted n) c.make_room.new.places.items) (c.count-place.ensures ∙ ap length c.deref.ensures.value))),
       subst (CoversFilled c.self.inside.filled.items) (sym c.in_ok-push.ensures.items)
           (covers_behind c.self.inside.filled.items c.self.inside.cells.items queue c.self.invariant.1 (ap (λ queue. queue.items) c.new-queue.ensures)),
+      λ settled. absurd (true≢false (sym settled)),
     )

@@ -7,12 +7,12 @@ use Rattle.exec_world.proofs.queue.Queues.filled.Goals as goal
 pub invariant_of-self : goal.invariant_of-self
 invariant_of-self c =
     let covered = subst (CoversFilled c.self.inside.filled.items) (sym c.deref.ensures.value) c.self.invariant.1 in
-    (c.self.invariant.0, subst (CoversFilled c.settle.new.places.items) c.deref.ensures.value (c.settle.ensures.covers covered))
+    (c.self.invariant.0, subst (CoversFilled c.settle.new.places.items) c.deref.ensures.value (c.settle.ensures.covers covered), λ _. c.settle.ensures.value covered ∙ ap (places_where has_item) c.deref.ensures.value)
 
 pub invariant_of-self-2 : goal.invariant_of-self-2
 invariant_of-self-2 c =
     let covered = subst (CoversFilled c.self.inside.filled.items) (sym c.deref.ensures.value) c.self.invariant.1 in
-    (c.self.invariant.0, subst (CoversFilled c.settle.new.places.items) c.deref.ensures.value (c.settle.ensures.covers covered))
+    (c.self.invariant.0, subst (CoversFilled c.settle.new.places.items) c.deref.ensures.value (c.settle.ensures.covers covered), λ _. c.settle.ensures.value covered ∙ ap (places_where has_item) c.deref.ensures.value)
 
 pub returns-clause-places : goal.returns-clause-places
 returns-clause-places c =

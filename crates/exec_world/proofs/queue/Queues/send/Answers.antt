@@ -1,4 +1,4 @@
-use Rattle.std.proofs.Common.{length, [], Some, IfSome, ◌≤◌, slice_get, ap, subst, sym, ◌∙◌}
+use Rattle.std.proofs.Common.{length, [], Some, IfSome, ◌≤◌, slice_get, ap, subst, sym, ◌∙◌, true≢false}
 use Rattle.std.specs.Option.{option_map_or}
 use Rattle.exec_msg.specs.KeepLast.{displaced}
 use Rattle.exec_world.proofs.FirstPlaces.{find-nowhere, find-first_place, change_first-nowhere, change_first-first_place}
@@ -24,6 +24,7 @@ invariant_of-self-2 c = (
   finds_after c.self.inside.places.items c.self.inside.cells.items c.send_at.new.cells.items c.in-Some.place c.args.item c.self.invariant.0 c.in_ok-lost.ensures.ok,
   covers_after c.self.inside.filled.items c.note_filled.new.filled.items c.self.inside.cells.items c.send_at.new.cells.items c.in-Some.place (queue_after c.args.item) c.self.invariant.1 c.in_ok-note_filled.ensures.keeps
       (c.in_ok-note_filled.ensures.has (subst (CoversFilled c.self.inside.filled.items) (sym c.deref-2.ensures.value) c.self.invariant.1)) c.in_ok-lost.ensures.ok,
+  λ settled. absurd (true≢false (sym settled)),
 )
 
 pub returns-clause-ok : goal.returns-clause-ok

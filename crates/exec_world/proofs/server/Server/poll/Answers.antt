@@ -20,13 +20,13 @@ pub returns-in_default-clause-effects : goal.returns-in_default-clause-effects
 returns-in_default-clause-effects c =
     let none : find (is_for c.args.id) c.args.self.now.held ≡ None = found-in _ c.args.id (key_test _ (λ a b. ids_decide a b) c.args.id) c.self.inside.held.entries c.args.self.now.held None (ap (λ (server : ServerEntry). server.held) c.self.view_is) c.in_default.ensures.value in
     let is = polled-in c.args.turn.now c.args.id c.args.self.now c.args.bank.now None none in
-    c.unpolled.ensures.effects ∙ sym (ap (λ (done : Outcome (List Effect)). done.given) is)
+    c.clear.ensures ∙ sym (ap (λ (done : Outcome (List Effect)). done.given) is)
 
 pub returns-in_default-clause-close : goal.returns-in_default-clause-close
 returns-in_default-clause-close c =
     let none : find (is_for c.args.id) c.args.self.now.held ≡ None = found-in _ c.args.id (key_test _ (λ a b. ids_decide a b) c.args.id) c.self.inside.held.entries c.args.self.now.held None (ap (λ (server : ServerEntry). server.held) c.self.view_is) c.in_default.ensures.value in
     let is = polled-in c.args.turn.now c.args.id c.args.self.now c.args.bank.now None none in
-    c.unpolled.ensures.close ∙ sym (ap (λ (done : Outcome (List Effect)). done.close) is)
+    sym (ap (λ (done : Outcome (List Effect)). done.close) is)
 
 pub returns-in_default-clause-variables : goal.returns-in_default-clause-variables
 returns-in_default-clause-variables c =
@@ -41,19 +41,19 @@ returns-in_default-clause-task c =
     let entry : ServerEntry = record { handler = c.self.inside.handler; timeout = c.self.inside.timeout; goals = c.self.inside.goals; held = held_goals_of c.self.inside.held.entries } in
     (λ i. record entry { held = held_goals_of (c.get_mut.follows.holds-at-none i).entries }) ∙ c.self.view_is ∙ sym (ap (λ (done : Outcome (List Effect)). server_polled c.args.id done.task c.args.self.now) is)
 
-pub invariant_of-self-in_err-polling : goal.invariant_of-self-in_err-polling
-invariant_of-self-in_err-polling c =
+pub invariant_of-self-in_err-close : goal.invariant_of-self-in_err-close
+invariant_of-self-in_err-close c =
     let after : Held = record { client = c.in-Some.held.now.client; task = c.poll_any.new.task } in
-    let changes : held_goal_of (c.args.id, after) ≡ held_goal_of (c.args.id, c.in-Some.held.now) = ap (λ (work : Option GoalWork). record (held_goal_of (c.args.id, c.in-Some.held.now)) { work = work }) c.in_err-polling.ensures.refused in
+    let changes : held_goal_of (c.args.id, after) ≡ held_goal_of (c.args.id, c.in-Some.held.now) = ap (λ (work : Option GoalWork). record (held_goal_of (c.args.id, c.in-Some.held.now)) { work = work }) c.in_err-close.ensures.refused in
     let stays : held_goals_of (c.get_mut.follows.lender after).entries ≡ held_goals_of c.self.inside.held.entries =
     changed-in _ c.args.id (key_test _ (λ a b. ids_decide a b) c.args.id) (λ (one : HeldGoal). one) c.in-Some.held.now after changes c.self.inside.held.entries (c.get_mut.follows.lender after).entries (held_goals_of c.self.inside.held.entries) refl c.in-Some.ensures.value (c.get_mut.follows.holds after).0
     ∙ unchanged_first (is_for c.args.id) (held_goals_of c.self.inside.held.entries) in
     subst (λ (held : List HeldGoal). AreKept c.self.inside.goals held) (sym stays) c.self.invariant
 
-pub returns-in_err-polling-clause-refused : goal.returns-in_err-polling-clause-refused
-returns-in_err-polling-clause-refused c =
+pub returns-in_err-close-clause-refused : goal.returns-in_err-close-clause-refused
+returns-in_err-close-clause-refused c =
     let after : Held = record { client = c.in-Some.held.now.client; task = c.poll_any.new.task } in
-    let changes : held_goal_of (c.args.id, after) ≡ held_goal_of (c.args.id, c.in-Some.held.now) = ap (λ (work : Option GoalWork). record (held_goal_of (c.args.id, c.in-Some.held.now)) { work = work }) c.in_err-polling.ensures.refused in
+    let changes : held_goal_of (c.args.id, after) ≡ held_goal_of (c.args.id, c.in-Some.held.now) = ap (λ (work : Option GoalWork). record (held_goal_of (c.args.id, c.in-Some.held.now)) { work = work }) c.in_err-close.ensures.refused in
     let stays : held_goals_of (c.get_mut.follows.lender after).entries ≡ held_goals_of c.self.inside.held.entries =
     changed-in _ c.args.id (key_test _ (λ a b. ids_decide a b) c.args.id) (λ (one : HeldGoal). one) c.in-Some.held.now after changes c.self.inside.held.entries (c.get_mut.follows.lender after).entries (held_goals_of c.self.inside.held.entries) refl c.in-Some.ensures.value (c.get_mut.follows.holds after).0
     ∙ unchanged_first (is_for c.args.id) (held_goals_of c.self.inside.held.entries) in
@@ -64,7 +64,7 @@ pub invariant_of-self-2 : goal.invariant_of-self-2
 invariant_of-self-2 c =
     let after : Held = record { client = c.in-Some.held.now.client; task = c.poll_any.new.task } in
     let task : Option TaskState = (poll_listed c.args.turn.now (option_map work_of c.in-Some.held.now.task) c.args.bank.now).task in
-    let changes : held_goal_of (c.args.id, after) ≡ after_poll_of task (held_goal_of (c.args.id, c.in-Some.held.now)) = ap (λ (work : Option GoalWork). record (held_goal_of (c.args.id, c.in-Some.held.now)) { work = work }) c.in_ok-polling.ensures.task in
+    let changes : held_goal_of (c.args.id, after) ≡ after_poll_of task (held_goal_of (c.args.id, c.in-Some.held.now)) = ap (λ (work : Option GoalWork). record (held_goal_of (c.args.id, c.in-Some.held.now)) { work = work }) c.in_ok-close.ensures.task in
     let moved : held_goals_of (c.get_mut.follows.lender after).entries ≡ change_first (is_for c.args.id) (after_poll_of task) (held_goals_of c.self.inside.held.entries) =
     changed-in _ c.args.id (key_test _ (λ a b. ids_decide a b) c.args.id) (after_poll_of task) c.in-Some.held.now after changes c.self.inside.held.entries (c.get_mut.follows.lender after).entries (held_goals_of c.self.inside.held.entries) refl c.in-Some.ensures.value (c.get_mut.follows.holds after).0 in
     kept-same c.self.inside.goals c.self.inside.goals (held_goals_of c.self.inside.held.entries) (held_goals_of (c.get_mut.follows.lender after).entries) refl (ap held_ids moved ∙ changed-ids (λ (one : HeldGoal). one.id) (is_for c.args.id) (after_poll_of task) (λ one. refl) (held_goals_of c.self.inside.held.entries)) c.self.invariant
@@ -73,19 +73,19 @@ pub returns-clause-effects : goal.returns-clause-effects
 returns-clause-effects c =
     let found = found-in _ c.args.id (key_test _ (λ a b. ids_decide a b) c.args.id) c.self.inside.held.entries c.args.self.now.held (Some c.in-Some.held.now) (ap (λ (server : ServerEntry). server.held) c.self.view_is) c.in-Some.ensures.value in
     let is = polled-in c.args.turn.now c.args.id c.args.self.now c.args.bank.now (Some (held_goal_of (c.args.id, c.in-Some.held.now))) found in
-    c.in_ok-polling.ensures.effects ∙ sym (ap (λ (done : Outcome (List Effect)). done.given) is)
+    c.in_ok-close.ensures.effects ∙ sym (ap (λ (done : Outcome (List Effect)). done.given) is)
 
 pub returns-clause-close : goal.returns-clause-close
 returns-clause-close c =
     let found = found-in _ c.args.id (key_test _ (λ a b. ids_decide a b) c.args.id) c.self.inside.held.entries c.args.self.now.held (Some c.in-Some.held.now) (ap (λ (server : ServerEntry). server.held) c.self.view_is) c.in-Some.ensures.value in
     let is = polled-in c.args.turn.now c.args.id c.args.self.now c.args.bank.now (Some (held_goal_of (c.args.id, c.in-Some.held.now))) found in
-    c.in_ok-polling.ensures.close ∙ sym (ap (λ (done : Outcome (List Effect)). done.close) is)
+    c.in_ok-close.ensures.close ∙ sym (ap (λ (done : Outcome (List Effect)). done.close) is)
 
 pub returns-clause-variables : goal.returns-clause-variables
 returns-clause-variables c =
     let found = found-in _ c.args.id (key_test _ (λ a b. ids_decide a b) c.args.id) c.self.inside.held.entries c.args.self.now.held (Some c.in-Some.held.now) (ap (λ (server : ServerEntry). server.held) c.self.view_is) c.in-Some.ensures.value in
     let is = polled-in c.args.turn.now c.args.id c.args.self.now c.args.bank.now (Some (held_goal_of (c.args.id, c.in-Some.held.now))) found in
-    c.in_ok-polling.ensures.variables ∙ sym (ap (λ (done : Outcome (List Effect)). done.variables) is)
+    c.in_ok-close.ensures.variables ∙ sym (ap (λ (done : Outcome (List Effect)). done.variables) is)
 
 pub returns-clause-task : goal.returns-clause-task
 returns-clause-task c =
@@ -93,7 +93,7 @@ returns-clause-task c =
     let is = polled-in c.args.turn.now c.args.id c.args.self.now c.args.bank.now (Some (held_goal_of (c.args.id, c.in-Some.held.now))) found in
     let after : Held = record { client = c.in-Some.held.now.client; task = c.poll_any.new.task } in
     let task : Option TaskState = (poll_listed c.args.turn.now (option_map work_of c.in-Some.held.now.task) c.args.bank.now).task in
-    let changes : held_goal_of (c.args.id, after) ≡ after_poll_of task (held_goal_of (c.args.id, c.in-Some.held.now)) = ap (λ (work : Option GoalWork). record (held_goal_of (c.args.id, c.in-Some.held.now)) { work = work }) c.in_ok-polling.ensures.task in
+    let changes : held_goal_of (c.args.id, after) ≡ after_poll_of task (held_goal_of (c.args.id, c.in-Some.held.now)) = ap (λ (work : Option GoalWork). record (held_goal_of (c.args.id, c.in-Some.held.now)) { work = work }) c.in_ok-close.ensures.task in
     let moved : held_goals_of (c.get_mut.follows.lender after).entries ≡ change_first (is_for c.args.id) (after_poll_of task) c.args.self.now.held =
     changed-in _ c.args.id (key_test _ (λ a b. ids_decide a b) c.args.id) (after_poll_of task) c.in-Some.held.now after changes c.self.inside.held.entries (c.get_mut.follows.lender after).entries c.args.self.now.held (ap (λ (server : ServerEntry). server.held) c.self.view_is) c.in-Some.ensures.value (c.get_mut.follows.holds after).0 in
     (λ i. record (c.self.view_is i) { held = moved i }) ∙ server-polled c.args.id task c.args.self.now ∙ sym (ap (λ (done : Outcome (List Effect)). server_polled c.args.id done.task c.args.self.now) is)

@@ -1,0 +1,297 @@
+-- What every world keeps, and what follows for the goals that callbacks poll.
+use Rattle.std.proofs.Common.{◌≡◌, ℕ, suc, Bool, true, false, ◌==◌, ◌&&◌, List, [], ◌∷◌, ◌++◌, map, Option, None, Some, refl, sym, ap, subst, ◌∙◌, true≢false}
+use Rattle.std.specs.List.{AllByRecursion, IsDistinct, filter, find, flat_map}
+use Rattle.std.specs.Option.{option_and_then, option_map_or}
+use Rattle.std.specs.Result.{OnOk, is_err}
+use Rattle.std.specs.declared.result.Result.{Result}
+use Rattle.std.specs.declared.result.Result.TheVariants.{Ok, Err}
+use Rattle.std.proofs.lemmas.Bool.{and_parts, eqb-true, eq-eqb}
+use Rattle.exec_goal.specs.State.{is_canceling, is_worked_on}
+use Rattle.exec_goal.specs.Table.{GoalRecord}
+use Rattle.exec_graph.specs.Entity.{EntityNo}
+use Rattle.exec_graph.specs.Graph.{GraphData, is_server}
+use Rattle.exec_graph.specs.declared.plan.Feed.{Feed}
+use Rattle.exec_msg.specs.Lists.{change_first}
+use Rattle.exec_msg.specs.Timer.{is_due}
+use Rattle.exec_msg.specs.declared.line.Line.TheVariants as line
+use Rattle.exec_world.proofs.Identifiers.{HasDistinct, Makes, distinct_kept, first_distinct, goals_in, ids_left}
+use Rattle.exec_world.proofs.Keeping.{Kept, feed_keeps, ids, moves_kept, publish_kept, push_kept}
+use Rattle.exec_world.proofs.Pairs.{Pairs, across, all_append, all_flat, all_mapped, all_weaker, all_filter, all_passed, pairs_append, pairs_all, pairs_filter, pairs_map, pairs_unmapped}
+use Rattle.exec_world.proofs.Running.{KeptByRounds, run_all_keeps}
+use Rattle.exec_world.proofs.Shapes.{part_changed, shape_kept}
+use Rattle.exec_world.proofs.Wiring.{NumbersApart, numbers_apart, servers_of, wired}
+use Rattle.exec_world.specs.Calls.{AreHome, IsHomeFor, polls_same, polls_same_of, wakes}
+use Rattle.exec_world.specs.Item.{GoalId}
+use Rattle.exec_world.specs.LawWords.{server_shape, shape_of}
+use Rattle.exec_world.specs.Ready.{due_ready, is_goal_awake, is_task_awake, item_ready, poll_ready, placed_from, queue_ready, queues_before_polls, queues_behind_polls, ready_for, ready_list, take_inputs, turn_at, woken}
+use Rattle.exec_world.specs.Transcript.{expire, feed, first_world, snapshot_and_run}
+use Rattle.exec_world.specs.World.{GoalWork, HeldGoal, Moment, Queue, ServerEntry, TimerEntry, WorldState, add_line, change_server, goals_of, is_for, is_server_at, with_work, work_at}
+use Rattle.exec_world.specs.declared.item.Item.{Item}
+use Rattle.exec_world.specs.declared.item.Item.TheVariants as item
+use Rattle.exec_world.specs.declared.ready.Cause.{Cause}
+use Rattle.exec_world.specs.declared.ready.Cause.TheVariants as cause
+use Rattle.exec_world.specs.declared.ready.Ready.{Ready}
+use Rattle.exec_world.specs.inner.Sound.{IsSound}
+
+-- ---- what is kept
+
+module _ (graph : GraphData) where
+  shapes : KeptByRounds (λ world. shape_of world ≡ shape_of (first_world graph))
+  shapes = shape_kept (shape_of (first_world graph))
+
+  basic_sound : Kept (IsSound graph)
+  basic_sound = record {
+    lines_kept = λ lines world p. record { shape = shapes.basic.lines_kept lines world p.shape; identifiers = distinct_kept.basic.lines_kept lines world p.identifiers };
+    queues_kept = λ entity new world p. record { shape = shapes.basic.queues_kept entity new world p.shape; identifiers = distinct_kept.basic.queues_kept entity new world p.identifiers };
+    goals_kept = λ server change world same p. record { shape = shapes.basic.goals_kept server change world same p.shape; identifiers = distinct_kept.basic.goals_kept server change world same p.identifiers };
+    tasks_kept = λ server id task world p. record { shape = shapes.basic.tasks_kept server id task world p.shape; identifiers = distinct_kept.basic.tasks_kept server id task world p.identifiers };
+    calls_kept = λ client world p. record { shape = shapes.basic.calls_kept client world p.shape; identifiers = distinct_kept.basic.calls_kept client world p.identifiers };
+    sending_kept = λ client world p. record { shape = shapes.basic.sending_kept client world p.shape; identifiers = distinct_kept.basic.sending_kept client world p.identifiers };
+    variables_kept = λ group variables world p. record { shape = shapes.basic.variables_kept group variables world p.shape; identifiers = distinct_kept.basic.variables_kept group variables world p.identifiers };
+  }
+
+  -- a round, a snapshot and what is given to the world keep it
+  pub sound : KeptByRounds (IsSound graph)
+  sound = record {
+    basic = basic_sound;
+    accepts_kept = λ server moment decision request world room p. record { shape = shapes.accepts_kept server moment decision request world room p.shape; identifiers = distinct_kept.accepts_kept server moment decision request world room p.identifiers };
+    expiry_kept = λ moment world p. record { shape = shapes.expiry_kept moment world p.shape; identifiers = distinct_kept.expiry_kept moment world p.identifiers };
+    snapshot_kept = λ moment world p. record { shape = shapes.snapshot_kept moment world p.shape; identifiers = distinct_kept.snapshot_kept moment world p.identifiers };
+  }
+
+  -- the first world is so
+  pub first_sound : IsSound graph (first_world graph)
+  first_sound = record { shape = refl; identifiers = first_distinct graph }
+
+  lending : (id : GoalId) (work : Option GoalWork) → Makes (λ entry. record entry { held = change_first (is_for id) (λ held. record held { work = work }) entry.held }) (λ goals. goals)
+  lending id work = record { stays = λ entry. refl; makes = λ entry. refl }
+
+  -- a task that goes out or comes home keeps it
+  pub lent_sound : (server : EntityNo) (id : GoalId) (work : Option GoalWork) (world : WorldState) → IsSound graph world → IsSound graph (with_work server id work world)
+  lent_sound server id work world p = record {
+    shape = ap (λ (servers : List ServerEntry). record (shape_of world) { servers = servers }) (part_changed server_shape (is_server_at server) _ (λ entry. refl) world.servers) ∙ p.shape;
+    identifiers = λ one. subst (λ (some : List GoalId). IsDistinct (λ first second. first == second) some) (sym (ids_left (lending id work) (λ goals. refl) one server world.servers)) (p.identifiers one);
+  }
+
+  -- a round that begins keeps it
+  pub fed_sound : (number : ℕ) (moment : Moment) (fed : List Feed) (world : WorldState) → IsSound graph world → IsSound graph (feed fed (expire moment (add_line (line.Round number moment) world)))
+  fed_sound number moment fed world p = feed_keeps (moves_kept sound.basic) (publish_kept {P = IsSound graph} (λ entity value before q. push_kept sound.basic entity (item.Message value) before q)) fed _ (sound.expiry_kept moment _ (sound.basic.lines_kept (line.Round number moment ∷ []) world p))
+
+  pub begun_sound : (number : ℕ) (moment : Moment) (fed : List Feed) (world : WorldState) → IsSound graph world → IsSound graph (take_inputs moment (feed fed (expire moment (add_line (line.Round number moment) world))))
+  begun_sound number moment fed world p = sound.snapshot_kept moment _ (fed_sound number moment fed world p)
+
+  pub round_sound : (number : ℕ) (moment : Moment) (fed : List Feed) (world : WorldState) → IsSound graph world → IsSound graph (snapshot_and_run moment (feed fed (expire moment (add_line (line.Round number moment) world))))
+  round_sound number moment fed world p =
+      let before : WorldState = feed fed (expire moment (add_line (line.Round number moment) world)) in
+      run_all_keeps sound (ready_list moment before) (take_inputs moment before) (begun_sound number moment fed world p)
+
+-- what is told of a call that wasn't refused
+pub not_refused : {A E : Type 0} (result : Result A E) (fact : Type 0) → is_err result ≡ false → OnOk result fact → fact
+not_refused (Ok x) fact e told = told
+not_refused (Err y) fact e told = absurd (true≢false e)
+
+-- ---- servers
+
+abbrev ServersApart : ServerEntry → ServerEntry → Type 0
+ServersApart one other = NumbersApart one.handler.entity other.handler.entity
+
+not_one : (one other : EntityNo) → NumbersApart one other → one == other ≡ false
+not_one one other apart = by (one == other) refl
+  where
+    by : (b : Bool) → one == other ≡ b → b ≡ false
+    by true e = absurd (apart (sym (eqb-true one other e)))
+    by false e = refl
+
+-- each server is found by its number
+abbrev IsFound : List ServerEntry → ServerEntry → Type 0
+IsFound servers entry = find (is_server_at entry.handler.entity) servers ≡ Some entry
+
+found_behind : (first : ServerEntry) (servers rest : List ServerEntry) → AllByRecursion (ServersApart first) rest → AllByRecursion (IsFound servers) rest → AllByRecursion (IsFound (first ∷ servers)) rest
+found_behind first servers [] apart found = tt
+found_behind first servers (entry ∷ rest) apart found =
+    (rw (not_one first.handler.entity entry.handler.entity apart.0) found.0, found_behind first servers rest apart.1 found.1)
+
+all_found : (servers : List ServerEntry) → Pairs ServersApart servers → AllByRecursion (IsFound servers) servers
+all_found [] apart = tt
+all_found (entry ∷ servers) apart =
+    (rw (eq-eqb entry.handler.entity entry.handler.entity refl) refl, found_behind entry servers servers apart.0 (all_found servers apart.1))
+
+-- ---- polls
+
+-- a callback that polls no goal
+abbrev PollsNone : Ready → Type 0
+PollsNone one = (id : GoalId) → wakes id one.cause ≡ false
+
+abbrev Apart : Ready → Ready → Type 0
+Apart one other = polls_same one other ≡ false
+
+none_with : (one other : Ready) → PollsNone one → Apart one other
+none_with one other none = by one.cause refl
+  where
+    by : (why : Cause) → one.cause ≡ why → polls_same_of one.entity why other ≡ false
+    by cause.Due e = refl
+    by (cause.Took taken) e = refl
+    by (cause.Woke id value canceling) e = absurd (true≢false (sym (eq-eqb id id refl) ∙ sym (ap (λ (c : Cause). wakes id c) e) ∙ none id))
+
+with_none : (one other : Ready) → PollsNone other → Apart one other
+with_none one other none = by one.cause
+  where
+    by : (why : Cause) → polls_same_of one.entity why other ≡ false
+    by cause.Due = refl
+    by (cause.Took taken) = refl
+    by (cause.Woke id value canceling) = rw (none id) refl
+
+-- what holds of a callback that polls none
+home_without : (world : WorldState) (one : Ready) → PollsNone one → IsHomeFor one.entity one.cause world
+home_without world one none = by one.cause refl
+  where
+    by : (why : Cause) → one.cause ≡ why → IsHomeFor one.entity why world
+    by cause.Due e = tt
+    by (cause.Took taken) e = tt
+    by (cause.Woke id value canceling) e = absurd (true≢false (sym (eq-eqb id id refl) ∙ sym (ap (λ (c : Cause). wakes id c) e) ∙ none id))
+
+due_none : (moment : Moment) (entry : TimerEntry) → AllByRecursion PollsNone (due_ready moment entry)
+due_none moment entry = by (is_due entry.timer moment) refl
+  where
+    by : (b : Bool) → is_due entry.timer moment ≡ b → AllByRecursion PollsNone (due_ready moment entry)
+    by true e = rw e ((λ id. refl), tt)
+    by false e = rw e tt
+
+taken_none : (moment : Moment) (world : WorldState) (queue : Queue) → AllByRecursion PollsNone (queue_ready moment world queue)
+taken_none moment world queue = by queue.items
+  where
+    by : (items : List Item) → AllByRecursion PollsNone (item_ready moment queue.handler (goals_of queue.handler.entity world) items)
+    by [] = tt
+    by (first ∷ items) = ((λ id. refl), tt)
+
+-- ---- the polls of a server
+
+module _ (moment : Moment) (world : WorldState) where
+  abbrev HasHome : Ready → Type 0
+  HasHome one = IsHomeFor one.entity one.cause world
+
+  task_there : (entry : ServerEntry) (goal : GoalRecord) → IsFound world.servers entry → is_goal_awake moment entry.held goal ≡ true → IsHomeFor entry.handler.entity (woken goal) world
+  task_there entry goal found awake =
+      by (find (is_for goal.id) entry.held) refl (and_parts (is_worked_on goal.state) (is_task_awake (turn_at moment (is_canceling goal.state)) (find (is_for goal.id) entry.held)) awake).1
+    where
+      by_work : (held : HeldGoal) (work : Option GoalWork) → held.work ≡ work → find (is_for goal.id) entry.held ≡ Some held → is_task_awake (turn_at moment (is_canceling goal.state)) (Some held) ≡ true → IsHomeFor entry.handler.entity (woken goal) world
+      by_work held None e is awake = absurd (true≢false (sym awake ∙ rw e refl))
+      by_work held (Some work) e is awake = (work, rw (found, is) e)
+
+      by : (held : Option HeldGoal) → find (is_for goal.id) entry.held ≡ held → is_task_awake (turn_at moment (is_canceling goal.state)) held ≡ true → IsHomeFor entry.handler.entity (woken goal) world
+      by None is awake = absurd (true≢false (sym awake))
+      by (Some held) is awake = by_work held held.work refl is awake
+
+  polls_home : (entry : ServerEntry) → IsFound world.servers entry → AllByRecursion HasHome (poll_ready moment entry)
+  polls_home entry found =
+      all_mapped (λ goal. is_goal_awake moment entry.held goal ≡ true) HasHome _ (λ goal awake. task_there entry goal found awake) (filter (is_goal_awake moment entry.held) entry.goals)
+      (all_passed (is_goal_awake moment entry.held) entry.goals)
+
+  all_home : (servers : List ServerEntry) → AllByRecursion (IsFound world.servers) servers → AllByRecursion HasHome (flat_map (poll_ready moment) servers)
+  all_home [] found = tt
+  all_home (entry ∷ servers) found = all_append HasHome (poll_ready moment entry) (flat_map (poll_ready moment) servers) (polls_home entry found.0) (all_home servers found.1)
+
+  polls_apart : (entry : ServerEntry) → Pairs (λ one other. one == other ≡ false) (ids entry.goals) → Pairs Apart (poll_ready moment entry)
+  polls_apart entry distinct =
+      pairs_map (λ one other. one.id == other.id ≡ false) Apart _ (λ one other apart. rw apart refl) _
+      (pairs_filter (λ one other. one.id == other.id ≡ false) (is_goal_awake moment entry.held) entry.goals
+      (pairs_unmapped (λ one other. one == other ≡ false) (λ goal. goal.id) entry.goals distinct))
+
+  abbrev HasOwn : ServerEntry → Type 0
+  HasOwn entry = Pairs (λ one other. one == other ≡ false) (ids entry.goals)
+
+  goals_own : (servers : List ServerEntry) → HasDistinct world → AllByRecursion (IsFound world.servers) servers → AllByRecursion HasOwn servers
+  unfolding IsDistinct
+  goals_own [] distinct found = tt
+  goals_own (entry ∷ servers) distinct found =
+      (own (ids entry.goals) (subst (λ (some : Option ServerEntry). IsDistinct (λ one other. one == other) (ids (option_map_or (λ one. one.goals) some []))) found.0 (distinct entry.handler.entity)), goals_own servers distinct found.1)
+    where
+      own : (some : List GoalId) → IsDistinct (λ one other. one == other) some → Pairs (λ one other. one == other ≡ false) some
+      own [] p = tt
+      own (one ∷ some) p = (p.0, own some p.1)
+
+  -- polls of different servers
+  between : (one other : ServerEntry) → ServersApart one other → AllByRecursion (λ x. AllByRecursion (Apart x) (poll_ready moment other)) (poll_ready moment one)
+  between one other apart =
+      all_mapped (λ goal. is_goal_awake moment one.held goal ≡ true) (λ x. AllByRecursion (Apart x) (poll_ready moment other)) _
+      (λ goal awake.
+      all_mapped (λ another. is_goal_awake moment other.held another ≡ true) (Apart (ready_for moment one.handler (woken goal) [] (Some one.handler.script))) _
+      (λ another awake_too. second_false (goal.id == another.id) (not_one one.handler.entity other.handler.entity apart)) _ (all_passed (is_goal_awake moment other.held) other.goals)) _
+      (all_passed (is_goal_awake moment one.held) one.goals)
+    where
+      second_false : (b : Bool) {c : Bool} → c ≡ false → b && c ≡ false
+      second_false true e = e
+      second_false false e = refl
+
+  all_polls_apart : (servers : List ServerEntry) → Pairs ServersApart servers → AllByRecursion HasOwn servers → Pairs Apart (flat_map (poll_ready moment) servers)
+  all_polls_apart [] apart own = tt
+  all_polls_apart (entry ∷ servers) apart own =
+      pairs_append Apart (poll_ready moment entry) (flat_map (poll_ready moment) servers) (polls_apart entry own.0) (all_polls_apart servers apart.1 own.1)
+      (across ServersApart Apart (poll_ready moment) between entry servers apart.0)
+
+-- ---- the ready list
+
+placed_home : (world : WorldState) (position : ℕ) (list : List Ready) → AllByRecursion (λ one. IsHomeFor one.entity one.cause world) list → AllByRecursion (λ one. IsHomeFor one.entity one.cause world) (placed_from position list)
+placed_home world position [] p = tt
+placed_home world position (one ∷ list) p = (p.0, placed_home world (suc position) list p.1)
+
+placed_same : (server : EntityNo) (why : Cause) (position : ℕ) (other : Ready) → polls_same_of server why (record other { position = position }) ≡ polls_same_of server why other
+placed_same server cause.Due position other = refl
+placed_same server (cause.Took taken) position other = refl
+placed_same server (cause.Woke id value canceling) position other = refl
+
+placed_with : (one : Ready) (place position : ℕ) (list : List Ready) → AllByRecursion (Apart one) list → AllByRecursion (Apart (record one { position = place })) (placed_from position list)
+placed_with one place position [] p = tt
+placed_with one place position (other ∷ list) p = (placed_same one.entity one.cause position other ∙ p.0, placed_with one place (suc position) list p.1)
+
+placed_apart : (position : ℕ) (list : List Ready) → Pairs Apart list → Pairs Apart (placed_from position list)
+placed_apart position [] p = tt
+placed_apart position (one ∷ list) p = (placed_with one position (suc position) list p.0, placed_apart (suc position) list p.1)
+
+distinct_of : (list : List Ready) → Pairs Apart list → IsDistinct polls_same list
+unfolding IsDistinct
+distinct_of [] p = tt
+distinct_of (one ∷ list) p = (p.0, distinct_of list p.1)
+
+all_against : (P : Ready → Type 0) (some more : List Ready) → ((one other : Ready) → P other → Apart one other) → AllByRecursion P more → AllByRecursion (λ one. AllByRecursion (Apart one) more) some
+all_against P [] more apart p = tt
+all_against P (one ∷ some) more apart p = (all_weaker P (Apart one) (apart one) more p, all_against P some more apart p)
+
+none_against : (some more : List Ready) → AllByRecursion PollsNone some → AllByRecursion (λ one. AllByRecursion (Apart one) more) some
+none_against [] more p = tt
+none_against (one ∷ some) more p = (each more, none_against some more p.1)
+  where
+    each : (rest : List Ready) → AllByRecursion (Apart one) rest
+    each [] = tt
+    each (other ∷ rest) = (none_with one other p.0, each rest)
+
+-- a snapshot leaves tasks where they are
+home_taken : (moment : Moment) (world : WorldState) (server : EntityNo) (why : Cause) → IsHomeFor server why world → IsHomeFor server why (take_inputs moment world)
+home_taken moment world server cause.Due home = home
+home_taken moment world server (cause.Took taken) home = home
+home_taken moment world server (cause.Woke id value canceling) home = home
+
+-- the tasks of the goals that a snapshot's callbacks poll are at home
+pub snapshot_home : (graph : GraphData) (moment : Moment) (world : WorldState) → IsSound graph world → AreHome (ready_list moment world) (take_inputs moment world)
+snapshot_home graph moment world p =
+    let apart : Pairs ServersApart world.servers =
+    pairs_unmapped NumbersApart (λ entry. entry.handler.entity) world.servers (subst (λ (numbers : List EntityNo). Pairs NumbersApart numbers) (sym (wired graph world p.shape).listed) (numbers_apart is_server 0 graph.entities)) in
+    let found : AllByRecursion (IsFound world.servers) world.servers = all_found world.servers apart in
+    let timers : List Ready = flat_map (due_ready moment) world.timers in
+    let before : List Ready = flat_map (queue_ready moment world) (queues_before_polls world) in
+    let polls : List Ready = flat_map (poll_ready moment) world.servers in
+    let behind : List Ready = flat_map (queue_ready moment world) (queues_behind_polls world) in
+    let none : AllByRecursion PollsNone (timers ++ before) =
+    all_append PollsNone timers before (all_flat PollsNone (due_ready moment) (due_none moment) world.timers) (all_flat PollsNone (queue_ready moment world) (taken_none moment world) (queues_before_polls world)) in
+    let none_behind : AllByRecursion PollsNone behind = all_flat PollsNone (queue_ready moment world) (taken_none moment world) (queues_behind_polls world) in
+    let homes : (list : List Ready) → AllByRecursion PollsNone list → AllByRecursion (HasHome moment world) list = λ list p. all_weaker PollsNone (HasHome moment world) (home_without world) list p in
+    let pairs : (list : List Ready) → AllByRecursion PollsNone list → Pairs Apart list = λ list p. pairs_all PollsNone Apart (λ one other q r. none_with one other q) list p in
+    record {
+      home = all_weaker (HasHome moment world) (HasHome moment (take_inputs moment world)) (λ one home. home_taken moment world one.entity one.cause home) (ready_list moment world)
+          (placed_home world 1 (timers ++ before ++ polls ++ behind)
+          (all_append (HasHome moment world) (timers ++ before ++ polls) behind (all_append (HasHome moment world) (timers ++ before) polls (homes (timers ++ before) none) (all_home moment world world.servers found)) (homes behind none_behind)));
+      apart = distinct_of (ready_list moment world) (placed_apart 1 (timers ++ before ++ polls ++ behind)
+          (pairs_append Apart (timers ++ before ++ polls) behind
+          (pairs_append Apart (timers ++ before) polls (pairs (timers ++ before) none) (all_polls_apart moment world world.servers apart (goals_own moment world world.servers p.identifiers found)) (none_against (timers ++ before) polls none))
+          (pairs behind none_behind) (all_against PollsNone (timers ++ before ++ polls) behind with_none none_behind)));
+    }

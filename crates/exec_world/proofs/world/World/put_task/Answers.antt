@@ -1,0 +1,15 @@
+use Rattle.std.proofs.Common.{◌≡◌, Some, subst, sym}
+use Rattle.std.specs.Arc.{arc_value}
+use Rattle.exec_world.proofs.Sound.{lent_sound}
+use Rattle.exec_world.specs.World.{WorldState, work_of}
+use Rattle.exec_world.specs.inner.Sound.{IsSound}
+use Rattle.exec_world.proofs.world.World.put_task.Goals as goal
+
+pub invariant_of-self : goal.invariant_of-self
+invariant_of-self g c =
+    let plan = arc_value c.self.inside.plan in (
+      c.self.invariant.0,
+      c.self.invariant.1,
+      c.self.invariant.2,
+      λ unfailed. subst (λ (state : WorldState). IsSound plan.graph state) (sym c.put_task.ensures) (lent_sound plan.graph c.args.server c.args.id (Some (work_of c.args.task)) c.self.inside.state (c.self.invariant.3 unfailed)),
+    )
