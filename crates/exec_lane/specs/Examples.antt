@@ -22,7 +22,7 @@ first_entries = map alone first_ready
 
 -- a callback that logs a value
 abbrev pub logs : ℤ → Done
-logs value = record { effects = record { list = effect.Log value ∷ []; close = close.Nothing }; task = None }
+logs value = record { effects = record { list = effect.Log value ∷ []; close = close.Nothing }; work = None }
 
 -- the lane after both: the first doubled the variable 0, and the second added 1 to it
 abbrev pub lane_done : LaneState

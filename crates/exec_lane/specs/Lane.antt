@@ -1,45 +1,48 @@
 -- Lanes: which of a round's ready callbacks run one after another, and what they do apart from the world.
-use Rattle.std.specs.Prelude.{ℕ, List, [], ◌∷◌, ◌++◌, take, Bool, not, ◌&&◌, ◌==◌, if◌then◌else◌, Option}
+use Rattle.std.specs.Prelude.{◌≡◌, ⊤, ℕ, List, [], ◌∷◌, ◌++◌, length, map, take, Bool, false, ◌&&◌, ◌==◌, if◌then◌else◌, Option, None, Some}
 use Rattle.std.specs.List.{filter, fold, list_any}
-use Rattle.exec_graph.specs.Graph.{GraphData, GroupNo, is_exclusive, cons_if}
-use Rattle.exec_script.specs.Script.{listed}
+use Rattle.std.specs.Option.{option_map}
+use Rattle.exec_graph.specs.Entity.{EntityNo}
+use Rattle.exec_graph.specs.Graph.{GroupNo}
+use Rattle.exec_msg.specs.Lists.{change_first}
+use Rattle.exec_script.specs.Zeros.{zeros}
 use Rattle.exec_script.specs.declared.effects.Effect.{Effect}
 use Rattle.exec_script.specs.declared.effects.Effects.{Effects}
-use Rattle.exec_task.specs.Task.{TaskState}
-use Rattle.exec_world.specs.Callback.{Outcome, callback}
-use Rattle.exec_world.specs.World.{GoalWork, Variables}
+use Rattle.exec_world.specs.Callback.{Outcome}
+use Rattle.exec_world.specs.Run.{apart_with, effects_of, variables_for, with_variables_for, work_after, work_for}
+use Rattle.exec_world.specs.World.{GoalWork, Variables, WorldState, with_work}
+use Rattle.exec_world.specs.declared.ready.Cause.{Cause}
+use Rattle.exec_world.specs.declared.ready.Cause.TheVariants as cause
 use Rattle.exec_world.specs.declared.ready.Ready.{Ready}
 
 -- ---- which callbacks are a lane
 
--- whether a ready callback is of a group
-abbrev pub is_of_group : GroupNo → Ready → Bool
-is_of_group group one = one.group == group
+-- whether two callbacks are of one mutually exclusive group
+abbrev pub is_beside : Ready → Ready → Bool
+is_beside one other = one.exclusive && other.exclusive && (one.group == other.group)
 
--- the lane that begins with a ready callback: with it come all later ones of its group where that is exclusive
-abbrev pub lane_from : GraphData → Ready → List Ready → List Ready
-lane_from graph first others = first ∷ (if is_exclusive graph first.group then filter (is_of_group first.group) others else [])
+-- whether a callback goes into a lane: into that of its group
+abbrev pub goes_into : Ready → List Ready → Bool
+goes_into one [] = false
+goes_into one (first ∷ lane) = is_beside one first
 
--- whether a group is that of a ready callback
-abbrev pub is_group_of : Ready → GroupNo → Bool
-is_group_of one group = one.group == group
+-- the lanes with one more callback: it goes into the lane of its group, and begins one where there is none
+abbrev pub with_callback : List (List Ready) → Ready → List (List Ready)
+with_callback lanes one =
+    if list_any (goes_into one) lanes then change_first (goes_into one) (λ lane. lane ++ one ∷ []) lanes else lanes ++ (one ∷ []) ∷ []
 
--- whether a ready callback begins a lane, behind callbacks of these groups
-abbrev pub begins_lane : GraphData → List GroupNo → Ready → Bool
-begins_lane graph seen one = not (is_exclusive graph one.group && list_any (is_group_of one) seen)
+-- the lanes of a ready list, in the order of their first callbacks: the callbacks of a mutually exclusive group are one lane, in
+-- ready order, and each callback of a reentrant group is one by itself
+abbrev pub lanes_of : List Ready → List (List Ready)
+lanes_of list = fold with_callback [] list
 
--- the lanes of ready callbacks that come behind callbacks of these groups
-abbrev pub lanes_behind : GraphData → List GroupNo → List Ready → List (List Ready)
-lanes_behind graph seen [] = []
-lanes_behind graph seen (one ∷ others) = cons_if (begins_lane graph seen one) (lane_from graph one others) (lanes_behind graph (one.group ∷ seen) others)
+-- whether a callback is of a mutually exclusive group
+abbrev pub is_of_exclusive : GroupNo → Ready → Bool
+is_of_exclusive group one = one.exclusive && (one.group == group)
 
--- the lanes of a ready list, in the order of their first callbacks
-abbrev pub lanes_of : GraphData → List Ready → List (List Ready)
-lanes_of graph list = lanes_behind graph [] list
-
--- whether a lane has a callback of a group
-abbrev pub has_group : GroupNo → List Ready → Bool
-has_group group lane = list_any (is_of_group group) lane
+-- whether a lane has a callback of a mutually exclusive group
+abbrev pub has_exclusive : GroupNo → List Ready → Bool
+has_exclusive group lane = list_any (is_of_exclusive group) lane
 
 -- callbacks as one lane, if there are any
 abbrev pub as_lane : List Ready → List (List Ready)
@@ -53,28 +56,105 @@ pub record Entry : Type 0 where
   pub ready : Ready
   pub work : Option GoalWork
 
--- what a callback of a lane did: its effects with what closes it, and where a polled goal's task stands after it
+-- what a callback of a lane left: what it did, and the work of the goal that it polled
 pub record Done : Type 0 where
   pub effects : Effects
-  pub task : Option TaskState
+  pub work : Option GoalWork
 
--- a lane after some of its callbacks: the variables of its group, and what each of them did
+-- a lane after some of its callbacks: the variables of its group, and what each of them left
 pub record LaneState : Type 0 where
   pub variables : Variables
   pub done : List Done
 
--- what a callback did that came out so
-abbrev pub done_by : Outcome (List Effect) → Done
-done_by outcome = record { effects = record { list = outcome.given; close = outcome.close }; task = outcome.task }
+-- what a callback left that came out so, where the goal that it polled did this work before
+abbrev pub done_by : Option GoalWork → Outcome (List Effect) → Done
+done_by work outcome = record { effects = effects_of outcome; work = option_map (work_after outcome.task) work }
 
 -- the lane after one more callback came out so
-abbrev pub after_outcome : LaneState → Outcome (List Effect) → LaneState
-after_outcome lane outcome = record { variables = outcome.variables; done = lane.done ++ done_by outcome ∷ [] }
+abbrev pub after_outcome : LaneState → Option GoalWork → Outcome (List Effect) → LaneState
+after_outcome lane work outcome = record { variables = outcome.variables; done = lane.done ++ done_by work outcome ∷ [] }
 
--- the lane after one more callback, whose effects are listed
+-- the lane after one more callback
 abbrev pub run_entry : LaneState → Entry → LaneState
-run_entry lane entry = after_outcome lane (callback listed entry.ready entry.work lane.variables [])
+run_entry lane entry = after_outcome lane entry.work (apart_with entry.ready entry.work lane.variables)
 
 -- a lane after its first callbacks, so many of them, from the variables of its group as they were at first
 abbrev pub lane_at : Variables → List Entry → ℕ → LaneState
 lane_at variables entries count = fold run_entry (record { variables = variables; done = [] }) (take count entries)
+
+-- ---- lanes of a world
+
+-- a lane as it may be moved from thread to thread: the variables and the callbacks with which it was opened, how many of these
+-- ran, and whether one of them was refused memory
+pub record Lane : Type 0 where
+  pub variables : Variables
+  pub entries : List Entry
+  pub done : ℕ
+  pub failed : Bool
+
+-- how it stands
+abbrev pub state_of : Lane → LaneState
+state_of lane = lane_at lane.variables lane.entries lane.done
+
+-- a callback with the work of the goal that it polls, as the world has it
+abbrev pub entry_in : WorldState → Ready → Entry
+entry_in world one = record { ready = one; work = work_for one.entity one.cause world }
+
+-- the variables with which a lane begins: those of its first callback's group
+abbrev pub variables_at : WorldState → List Ready → Variables
+variables_at world [] = zeros
+variables_at world (first ∷ lane) = variables_for first world
+
+-- a lane is opened, with its variables and tasks as the world has them
+abbrev pub opened : WorldState → List Ready → Lane
+opened world lane = record { variables = variables_at world lane; entries = map (entry_in world) lane; done = 0; failed = false }
+
+-- the lanes of a ready list, opened
+abbrev pub opened_lanes : List Ready → WorldState → List Lane
+opened_lanes list world = map (opened world) (lanes_of list)
+
+-- the world without the task of the goal that a callback polls, if it polls one
+abbrev pub without_task : EntityNo → Cause → WorldState → WorldState
+without_task server (cause.Woke id value canceling) world = with_work server id None world
+without_task server _ world = world
+
+-- the world from which the tasks of the goals that callbacks poll are taken
+abbrev pub tasks_out : List Ready → WorldState → WorldState
+tasks_out list world = fold (λ before one. without_task one.entity one.cause before) world list
+
+-- ---- what comes home
+
+-- the world in which the work of the goal that a callback polled is home
+abbrev pub task_home : EntityNo → Cause → Option GoalWork → WorldState → WorldState
+task_home server (cause.Woke id value canceling) (Some work) world = with_work server id (Some work) world
+task_home server _ _ world = world
+
+-- the world in which the works of a lane's goals are home, as their callbacks left them, or as they were where these didn't run
+abbrev pub tasks_home : List Entry → List Done → WorldState → WorldState
+tasks_home [] done world = world
+tasks_home (entry ∷ entries) [] world = tasks_home entries [] (task_home entry.ready.entity entry.ready.cause entry.work world)
+tasks_home (entry ∷ entries) (did ∷ done) world = tasks_home entries done (task_home entry.ready.entity entry.ready.cause did.work world)
+
+-- the world in which the variables of a lane's group are home
+abbrev pub variables_home : List Entry → Variables → WorldState → WorldState
+variables_home [] variables world = world
+variables_home (first ∷ entries) variables world = with_variables_for first.ready variables world
+
+-- the world in which all that a lane took is home, as its callbacks left it
+abbrev pub lane_home : WorldState → Lane → WorldState
+lane_home world lane = tasks_home lane.entries (state_of lane).done (variables_home lane.entries (state_of lane).variables world)
+
+abbrev pub lanes_home : List Lane → WorldState → WorldState
+lanes_home lanes world = fold lane_home world lanes
+
+-- a lane is that of an opening, and all its callbacks ran
+pub record IsFinished (opening lane : Lane) : Type 0 where
+  pub variables : lane.variables ≡ opening.variables
+  pub entries : lane.entries ≡ opening.entries
+  pub done : lane.done ≡ length opening.entries
+
+-- lanes are those that were opened, in their order, and all their callbacks ran
+abbrev pub AreFinished : List Lane → List Lane → Type 0
+AreFinished [] [] = ⊤
+AreFinished (opening ∷ others) (lane ∷ lanes) = IsFinished opening lane × AreFinished others lanes
+AreFinished _ _ = ⊥

@@ -1,2 +1,4 @@
 pub mod Examples
+pub mod Gather
 pub mod Lane
+pub mod inner

@@ -3,11 +3,10 @@ ghost use Rattle.std.specs.Prelude.{◌≡◌, [], ◌∷◌};
 ghost use Rattle.exec_lane.specs.Examples.{first_ready, first_entries, lane_done};
 ghost use Rattle.exec_lane.specs.Lane.{lanes_of, lane_at};
 ghost use Rattle.exec_script.specs.Zeros.{zeros};
-ghost use Rattle.exec_world.specs.Examples.Timers.{shared};
 
 /// Two timers of one callback group are one lane.
 pub fn one_lane_of_two()
-    ensures { lanes_of shared.graph first_ready ≡ first_ready ∷ [] }
+    ensures { lanes_of first_ready ≡ first_ready ∷ [] }
 {}
 
 /// The second callback of a lane goes on with the variables that the first one left.

@@ -1,9 +1,8 @@
 //! Laws of lanes: each function's contract says one, and its body is empty or calls the law that it rests on.
-ghost use Rattle.std.specs.Prelude.{◌≡◌, ◌≢◌, ◌≤◌, ℕ, List, [], ◌∷◌, length, map, Bool, true, false};
-ghost use Rattle.std.specs.List.{filter, flat_map};
-ghost use Rattle.exec_graph.specs.Graph.{GraphData, is_exclusive};
-ghost use Rattle.exec_lane.specs.Lane.{is_of_group, has_group, as_lane, lanes_of};
+ghost use Rattle.std.specs.Prelude.{◌≡◌, ◌≢◌, ◌≤◌, ℕ, List, [], ◌∷◌, length, map, Bool, not};
+ghost use Rattle.std.specs.List.{filter, flat_map, list_any};
 ghost use Rattle.exec_graph.specs.Plan.{PlanData};
+ghost use Rattle.exec_lane.specs.Lane.{as_lane, has_exclusive, is_of_exclusive, lanes_of};
 ghost use Rattle.exec_msg.specs.declared.kind.Kind.{Kind};
 ghost use Rattle.exec_msg.specs.declared.kind.Kind.TheVariants as kind;
 ghost use Rattle.exec_world.specs.LawWords.{is_callback_of};
@@ -14,27 +13,27 @@ ghost use Rattle.exec_world.specs.declared.ready.Ready.{Ready};
 /// Every ready callback stands in exactly one lane: whatever a test picks, all lanes together hold as many
 /// callbacks that pass it as the ready list.
 pub fn each_callback_stands_in_one_lane()
-    ensures { (graph : GraphData) (list : List Ready) (test : Ready → Bool) →
-        length (filter test (flat_map (λ lane. lane) (lanes_of graph list))) ≡ length (filter test list) }
+    ensures { (list : List Ready) (test : Ready → Bool) →
+        length (filter test (flat_map (λ lane. lane) (lanes_of list))) ≡ length (filter test list) }
 {}
 
 /// The ready callbacks of a mutually exclusive group are one lane, in ready order.
 pub fn an_exclusive_group_has_one_lane()
-    ensures { (graph : GraphData) (list : List Ready) (group : ℕ) → is_exclusive graph group ≡ true →
-        filter (has_group group) (lanes_of graph list) ≡ as_lane (filter (is_of_group group) list) }
+    ensures { (list : List Ready) (group : ℕ) →
+        filter (has_exclusive group) (lanes_of list) ≡ as_lane (filter (is_of_exclusive group) list) }
 {}
 
-/// Each ready callback of a reentrant group is a lane by itself.
+/// Each ready callback of a reentrant group is a lane by itself, in ready order.
 pub fn a_reentrant_callback_is_a_lane()
-    ensures { (graph : GraphData) (list : List Ready) (group : ℕ) → is_exclusive graph group ≡ false →
-        filter (has_group group) (lanes_of graph list) ≡ map (λ one. one ∷ []) (filter (is_of_group group) list) }
+    ensures { (list : List Ready) →
+        filter (λ lane. list_any (λ one. not one.exclusive) lane) (lanes_of list) ≡ map (λ one. one ∷ []) (filter (λ one. not one.exclusive) list) }
 {}
 
 /// In all lanes of a round together an entity has at most one callback of each kind but poll: so no two workers take
 /// from one queue.
 pub fn lanes_share_no_queue()
     ensures { (plan : PlanData) (number : ℕ) (moments : List ℕ) (next moment entity : ℕ) (of : Kind) → of ≢ kind.Poll →
-        length (filter (is_callback_of entity of) (flat_map (λ lane. lane) (lanes_of plan.graph (ready_list moment (at_snapshot plan next moment (rounds plan number moments (first_world plan.graph))))))) ≤ 1 }
+        length (filter (is_callback_of entity of) (flat_map (λ lane. lane) (lanes_of (ready_list moment (at_snapshot plan next moment (rounds plan number moments (first_world plan.graph))))))) ≤ 1 }
 {
     exec_world::laws::an_entity_has_one_callback_of_a_kind();
 }

@@ -1,5 +1,15 @@
-//! Lanes: the ready callbacks of a round, cut apart by callback groups.
+//! Lanes: the ready callbacks of a round, cut apart by callback groups, so that they may run in any threads and in any order.
 #![tactic(auto)]
 
 pub mod examples;
+mod cut;
+mod gate;
+mod gathering;
+mod lane_box;
 pub mod laws;
+mod splitting;
+
+pub use gate::{Gate, Open};
+pub use gathering::{Ran, gather};
+pub use lane_box::LaneBox;
+pub use splitting::split;

@@ -2,4 +2,4 @@ use Rattle.exec_lane.proofs.Groups.{one_lane}
 use Rattle.exec_lane.proofs.laws.an_exclusive_group_has_one_lane.Goals as goal
 
 pub returns : goal.returns
-returns c = λ graph list group exclusive. one_lane graph list group exclusive
+returns c = one_lane

@@ -1,0 +1,19 @@
+-- What lanes bring home.
+use Rattle.std.specs.Prelude.{List, [], ◌∷◌, IsPermutation, IsSortedByKey}
+use Rattle.std.specs.Ordering.{nat_cmp}
+use Rattle.exec_lane.specs.Lane.{Done, Entry, Lane, state_of}
+use Rattle.exec_lane.specs.declared.gathering.Ran.{Ran}
+
+-- the callbacks that ran, each with what it did
+abbrev pub ran_each : List Entry → List Done → List Ran
+ran_each (entry ∷ entries) (did ∷ done) = record { ready = entry.ready; effects = did.effects } ∷ ran_each entries done
+ran_each _ _ = []
+
+-- the callbacks of a lane that ran
+abbrev pub ran_in : Lane → List Ran
+ran_in lane = ran_each lane.entries (state_of lane).done
+
+-- these are the callbacks that ran, in ready order
+pub record AreGathered (ran all : List Ran) : Type 0 where
+  pub same : IsPermutation ran all
+  pub ordered : IsSortedByKey (λ one. one.ready.position) nat_cmp all

@@ -1,0 +1,132 @@
+ghost use Rattle.std.specs.Prelude.{◌≡◌, ◌<◌, ℕ, length, slice_get, OnOk};
+ghost use Rattle.std.specs.Option.{option_flatten};
+ghost use Rattle.exec_world.specs.inner.Places.{change_at, noted};
+
+use crate::lane_box::Slot;
+use exec_graph::GroupNo;
+use exec_msg::Memory;
+use std::alloc::Global;
+use std::marker::Model;
+
+// The slots of a round, cut into lanes: the lane of a mutually exclusive group is found without a walk over others.
+#[derive(Drop)]
+pub(crate) struct Cut {
+    alloc: Global,
+    lanes: Vec<Vec<Slot>>,
+    of_group: Vec<Option<usize>>,
+}
+
+impl Model for Cut {
+    ghost use Rattle.std.specs.Prelude.{List, map};
+    ghost use Rattle.exec_lane.specs.inner.Cuts.{FindsLanes};
+    ghost use Rattle.exec_lane.specs.inner.Slots.{SlotState};
+
+    ghost Value = { List (List SlotState) };
+
+    ghost view = { λ cut. map (λ lane. lane.items) cut.lanes.items };
+
+    ghost invariant = { λ cut. FindsLanes cut.of_group.items (map (λ lane. lane.items) cut.lanes.items) };
+}
+
+impl Cut {
+    ghost use Rattle.std.specs.Prelude.{◌≡◌, [], ◌∷◌, ◌++◌, map, None, Some, OnOk};
+    ghost use Rattle.exec_lane.specs.inner.Cuts.{is_lane_of, joined, place_for, with_slot};
+    ghost use Rattle.exec_world.specs.inner.Places.{change_at, first_place};
+
+    // No lanes. It takes no memory.
+    pub(crate) fn new(alloc: Global) -> Cut
+        ensures { result ≡ [] }
+    {
+        Cut {
+            alloc,
+            lanes: Vec::new(alloc),
+            of_group: Vec::new(alloc),
+        }
+    }
+
+    // Adds a slot to the lane of its group, or begins one where there is none.
+    pub(crate) fn push(&mut self, slot: Slot) -> Result<(), Memory>
+        ensures { OnOk result (self.new ≡ with_slot self.old slot) }
+    {
+        match self.place(&slot) {
+            Some(place) => self.join(place, slot),
+            None => self.begin(slot),
+        }
+    }
+
+    // The lanes of slots.
+    pub(crate) fn into_lanes(self) -> Vec<Vec<Slot>>
+        ensures { map (λ lane. lane.items) result.items ≡ self }
+    {
+        self.lanes
+    }
+
+    // The place of the lane that a slot goes into, from 0.
+    fn place(&self, slot: &Slot) -> Option<usize>
+        ensures { result ≡ place_for slot.now self.now }
+    {
+        if !slot.ready.exclusive {
+            return None;
+        }
+        match self.of_group.get(number_of(&slot.ready.group)) {
+            None => None,
+            Some(place) => *place,
+        }
+    }
+
+    // Adds a slot to the lane at this place, into which it goes.
+    fn join(&mut self, place: usize, slot: Slot) -> Result<(), Memory>
+        requires { place_for slot self.old ≡ Some place }
+        ensures { OnOk result (self.new ≡ change_at place (joined slot) self.old) }
+    {
+        self.lanes[place].push(slot)?;
+        Ok(())
+    }
+
+    // Begins a lane behind the others.
+    fn begin(&mut self, slot: Slot) -> Result<(), Memory>
+        requires { place_for slot self.old ≡ None }
+        ensures { OnOk result (self.new ≡ self.old ++ (slot ∷ []) ∷ []) }
+    {
+        let exclusive = slot.ready.exclusive;
+        let group = number_of(&slot.ready.group);
+        make_room(&mut self.of_group, group)?;
+        let place = self.lanes.as_slice().len();
+        let mut lane = Vec::new(self.alloc);
+        lane.push(slot)?;
+        self.lanes.push(lane)?;
+        if exclusive {
+            note_place(&mut self.of_group, group, place);
+        }
+        Ok(())
+    }
+}
+
+// Under which number a group's place stands.
+fn number_of(group: &GroupNo) -> usize
+    ensures value { result ≡ group.now }
+    ensures bound { result < 65536 }
+{
+    group.0 as usize
+}
+
+// Makes room for a group, which gives what it gave.
+fn make_room(places: &mut Vec<Option<usize>>, group: usize) -> Result<(), Memory>
+    requires { group < 65536 }
+    ensures room { OnOk result (group < length places.new.items) }
+    ensures same { (other : ℕ) → option_flatten (slice_get places.new.items other) ≡ option_flatten (slice_get places.old.items other) }
+{
+    if group >= places.len() {
+        places.resize(group + 1, None)?;
+    }
+    Ok(())
+}
+
+// Lets a group give a place, where it gives none.
+fn note_place(places: &mut Vec<Option<usize>>, group: usize, place: usize)
+    ensures { places.new.items ≡ change_at group (noted place) places.old.items }
+{
+    if let Some(found) = places.get_mut(group) {
+        *found = Some(found.unwrap_or(place));
+    }
+}

@@ -1,0 +1,19 @@
+/// Watches a round from outside: it is told which callback a worker comes to, and may hold it there. Both calls return, and
+/// neither may wait for ever.
+pub trait Gate: Sync {
+    /// A worker is about to run the callback at this position of the ready list, from 1.
+    fn pass(&self, position: usize);
+
+    /// What the callback at this position did has reached the collector of a streamed round.
+    fn took(&self, position: usize);
+}
+
+/// Nobody watches.
+#[derive(Clone, Copy, Debug)]
+pub struct Open;
+
+impl Gate for Open {
+    fn pass(&self, _position: usize) {}
+
+    fn took(&self, _position: usize) {}
+}
