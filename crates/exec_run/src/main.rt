@@ -5,6 +5,8 @@ mod alone;
 mod examples;
 mod fault;
 mod program;
+#[cfg(test)]
+mod tests;
 
 use program::{InputStream, OutputStream, execute, read_words};
 use std::process::ExitCode;
