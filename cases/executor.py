@@ -6,11 +6,11 @@ of a lawful document that is read already. As a program it reads a document on s
 the line of its refusal."""
 import collections
 import json
-import re
 import sys
 
 sys.dont_write_bytecode = True
 import codes
+from codes import hyphenated, identifier
 
 ACCEPTED, EXECUTING, CANCELING, SUCCEEDED, CANCELED, ABORTED = 1, 2, 3, 4, 5, 6
 REJECT, ACCEPT_AND_EXECUTE, ACCEPT_AND_DEFER = 1, 2, 3
@@ -88,15 +88,6 @@ class Call:
         if operand in self.read:
             return self.read[operand]
         return self.bank(operand)[int(operand[1])]
-
-
-def identifier(text):
-    return int(re.sub("^urn:uuid:|[{}-]", "", text, flags=re.I), 16)
-
-
-def hyphenated(name):
-    text = f"{name:032x}"
-    return f"{text[:8]}-{text[8:12]}-{text[12:16]}-{text[16:20]}-{text[20:]}"
 
 
 # ---- scripts

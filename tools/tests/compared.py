@@ -1,0 +1,217 @@
+"""What differ and holds tell, and that what flow follows is what each callback takes."""
+import io
+import json
+import random
+import sys
+import xml.etree.ElementTree as tree
+
+from virraupez import difference, flow, picture, rules, scene, transcript
+
+from . import tool
+
+sys.path.insert(0, str(tool.TOP / "cases"))
+import executor
+import generate
+
+FOLLOWED, SPOILED = 400, 600
+TEXT = """round 1 5
+run t timer 5 0
+pub x 7
+state a 00000000-0000-0000-0000-000000000001 2
+round 2 6
+drop s message 7
+run s message 7 0
+log s 7
+round 3 9
+state a 00000000-0000-0000-0000-000000000001 4
+log s -3
+pending c 2
+end 3
+"""
+# Rules with the line at which they fail in TEXT, or None where they hold.
+RULES = (
+    ("never drop s message _", 6),
+    ("never drop s request _", None),
+    ("never drop t", None),
+    ("never log s <0", 11),
+    ("never log s <=-4", None),
+    ("never log s >=7", 8),
+    ("never log s >7", None),
+    ("never log t|s 7", 8),
+    ("never log =s 7", 8),
+    ("never pub", 3),
+    ("never pub X X", None),
+    ("never round N N", None),
+    ("never log s _ before drop s", None),
+    ("never run s before drop s", None),
+    ("never run t before drop s", 2),
+    ("never log s after pending c", None),
+    ("never log s after drop s", 8),
+    ("some log s", None),
+    ("some log t", 13),
+    ("count log s is 2", None),
+    ("count log s is 3", 13),
+    ("count log s is 1", 11),
+    ("count log s at least 2", None),
+    ("count log s at most 1", 11),
+    ("every state a ID 2 then state a ID 4", None),
+    ("every state a ID 2 then state a ID 4 within 2 rounds", None),
+    ("every state a ID 2 then state a ID 4 within 1 round", 4),
+    ("every state a ID 2 then state a ID 4 within 4 ticks", None),
+    ("every state a ID 2 then state a ID 4 within 3 ticks", 4),
+    ("every state a ID 2 then state a ID 5", 4),
+    ("every pub x V then run s message V", None),
+    ("every pub x V then log s V within 0 rounds", 3),
+    ("every log s then end", None),
+    ("at end no pending", 12),
+    ("at end no pending d", None),
+)
+WRONG = (
+    ("nevr drop s", "line 1: no rule"),
+    ("never dorp s", "did you mean drop?"),
+    ("never drop s mesage", "did you mean message?"),
+    ("never", "a pattern is missing"),
+    ("never pub x 1 2", "fewer words"),
+    ("every log s then log t within x rounds", "a number of rounds or of ticks"),
+    ("count log s", "is N, at least N or at most N"),
+)
+
+
+def failure(text):
+    """The line at which a rule fails in TEXT, or what is told of a rule that is none."""
+    try:
+        check = rules.Check(rules.read(text))
+    except rules.RuleError as wrong:
+        return str(wrong)
+    for number, line in enumerate(transcript.lines(io.StringIO(TEXT)), 1):
+        check.line(line, transcript.words_of(line, number))
+    check.end()
+    return check.rules[0].failure.number if check.rules[0].failure else None
+
+
+def answers(_program):
+    for text, line in RULES:
+        yield f"the rule {text!r}", failure(text), line
+    for text, part in WRONG:
+        told = failure(text)
+        yield f"the wrong rule {text!r}: {told}", part in str(told), True
+    yield from of_examples()
+    yield from of_words()
+    yield from of_spoiled()
+    yield from followed()
+
+
+def of_examples():
+    """Each example is the same as itself, and what is told of those that differ stands beside them."""
+    for document in sorted((tool.TOP / "examples").glob("*.json")):
+        text = document.with_suffix(".txt")
+        lines = len(text.read_text().splitlines())
+        status, told = tool.run("differ", text, text, "--document", document)
+        yield f"differ {text.name} and itself", (status, told.split(",")[0]), (0, f"the same: {lines} line" + "s" * (lines > 1))
+    for told in sorted((tool.TESTS / "differing").glob("*.told")):
+        one, other = (str(path.relative_to(tool.TOP)) for path in (tool.TOP / "examples/robot.txt", told.with_suffix(".txt")))
+        yield f"differ {told.name}", tool.run("differ", one, other, "--document", "examples/robot.json"), (1, told.read_text())
+    status, told = tool.run("differ", "tools/tests/differing/cut_off.txt", "examples/robot.txt")
+    yield "differ of a transcript that ends before the other", (status, told.split("\n")[0]), (1, "line 101, in round 10 at moment 13:")
+    for text in sorted((tool.TOP / "examples").glob("*.txt")):
+        told = tool.TESTS / "held" / f"{text.stem}.told"
+        should = (1, told.read_text()) if told.exists() else (0, "10 hold, 0 fail\n")
+        yield f"holds {text.name}", tool.run("holds", "tools/tests/held/any.rules", text.relative_to(tool.TOP)), should
+    yield "holds of the robot", tool.run("holds", "examples/robot.rules", "examples/robot.txt"), (0, "7 hold, 0 fail\n")
+    should = (1, (tool.TESTS / "differing" / "cut_off.holds").read_text())
+    yield "holds of a transcript that is cut off", tool.run("holds", "examples/robot.rules", "tools/tests/differing/cut_off.txt"), should
+
+
+def of_words():
+    timer = tool.TOP / "examples/timer.txt"
+    for name in ("differ", "holds"):
+        status, text = tool.run(name, "--help")
+        yield f"{name} --help", (status, "TRANSCRIPT" in text or "A B" in text), (0, True)
+        yield f"{name} without words", tool.run(name)[0], 2
+        yield f"{name} of no file", tool.run(name, "nowhere", timer)[0], 2
+    yield "differ of what is no transcript", tool.run("differ", timer, tool.TOP / "README.md")[0], 2
+    yield "differ with a document that is refused", tool.run("differ", timer, timer, "--document", tool.TESTS / "mistakes/another_version.json")[0], 2
+    yield "holds of standard input", tool.run("holds", "examples/robot.rules", "-", given=b"end 0\n")[0], 1
+
+
+# ---- transcripts that are none
+
+SIGNS = "0123456789 abcdefghijklmnopqrstuvwxyz-_\n\x1b\xff"
+
+
+def spoiled(chance, text):
+    """A transcript that was changed in a few places."""
+    lines = text.split("\n")
+    for _ in range(chance.choice((1, 1, 2, 5))):
+        at, how = chance.randrange(len(lines)), chance.random()
+        if how < 0.3:
+            del lines[at]
+        elif how < 0.6:
+            lines.insert(at, lines[chance.randrange(len(lines))])
+        elif how < 0.8:
+            words = lines[at].split(" ")
+            words[chance.randrange(len(words))] = chance.choice(chance.choice(lines).split(" "))
+            lines[at] = " ".join(words)
+        else:
+            place = chance.randrange(len(lines[at]) + 1)
+            lines[at] = lines[at][:place] + chance.choice(SIGNS) + lines[at][place + 1 :]
+    return "\n".join(lines)
+
+
+def told_of(document, text, other):
+    """What the tools say of a transcript, in one word."""
+    try:
+        shown = scene.Scene(document, 1, 30)
+        shown.read(io.StringIO(other), "it")
+        tree.fromstring(picture.Picture(shown).svg() if shown.columns else "<svg/>")
+        found = difference.Difference(("one", "other"), [flow.Flow(document)])
+        found.read((io.StringIO(text), io.StringIO(other)))
+        return "differ" if found.differ and list(found.lines()) else "the same"
+    except transcript.TranscriptError:
+        return "no transcript"
+
+
+def of_spoiled():
+    """Transcripts that are changed by chance are drawn and compared, or told to be none, and nothing else happens."""
+    document = json.loads((tool.TOP / "examples/robot.json").read_text())
+    text = (tool.TOP / "examples/robot.txt").read_text()
+    for seed in range(SPOILED):
+        other = spoiled(random.Random(seed), text)
+        told = told_of(document, text, other)
+        yield f"what is told of the transcript {seed} of those changed by chance: {told}", told == "the same", other == text
+    yield "a transcript that is itself", told_of(document, text, text), "the same"
+
+
+# ---- what callbacks take
+
+# Where the value that a callback takes stands in the line of its origin.
+TAKEN = {"message": 2, "request": 3, "reply": 2, "goal": 3, "cancel": 3, "poll": None, "response": None, "code": 2, "feedback": 3, "result": 4}
+
+
+def is_origin(words, origin):
+    """Whether an item may be what a callback took, by what stands on both lines."""
+    if origin is None or origin.line >= int(words[-1]):
+        return False
+    kind, text = words[2], origin.text.split(" ")
+    if text[0] == "fed:":
+        return kind in ("message", "goal", "cancel", "poll") and (kind != "message" or text[2] == words[3])
+    identified = kind not in ("goal", "cancel", "ask", "poll", "response", "feedback", "result") or words[5] in text
+    place = TAKEN.get(kind)
+    return identified and (place is None or text[place] == words[3])
+
+
+def followed():
+    """Flow's origins in drawn documents, whose transcripts are those of the interpreter of the docs."""
+    names = list(generate.RULES)
+    for seed in range(FOLLOWED):
+        given = generate.drawn(seed) if seed % 2 else generate.directed(names[seed // 2 % len(names)], seed)
+        document = json.loads(given)
+        following, wrong = flow.Flow(document), []
+        for number, line in enumerate(executor.lines_of(document), 1):
+            words = line.split(" ")
+            following.take(number, words)
+            if words[0] == "run" and words[2] != "timer" and not is_origin([*words, number], following.run.cause):
+                wrong.append((line, following.run.cause))
+            if words[0] == "drop" and following.dropped() is None:
+                wrong.append((line, "nothing was displaced"))
+        yield f"what callbacks take in document {seed}", wrong[:2], []

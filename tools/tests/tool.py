@@ -1,0 +1,22 @@
+"""Runs of the tools, for the tests."""
+import pathlib
+import subprocess
+import sys
+
+TOOLS = pathlib.Path(__file__).resolve().parent.parent
+TOP = TOOLS.parent
+TESTS = TOOLS / "tests"
+SECONDS = 60
+
+
+def run(tool, *words, given=None):
+    """The status and the output of a tool, and of standard error behind it."""
+    command = [sys.executable, "-B", str(TOOLS / tool), *map(str, words)]
+    ran = subprocess.run(command, input=given, stdout=subprocess.PIPE, stderr=subprocess.PIPE, timeout=SECONDS, cwd=TOP)
+    return ran.returncode, ran.stdout.decode() + ran.stderr.decode()
+
+
+def difference(found, should):
+    """The first line that differs of two texts, where they differ."""
+    pairs = zip(found.split("\n") + [None], should.split("\n") + [None])
+    return next(((at, one, other) for at, (one, other) in enumerate(pairs, 1) if one != other), None)

@@ -1,0 +1,116 @@
+"""What write makes: the examples that stand beside their programs, scripts with labels, and what is told of wrong ones; and
+that the schemas are those of the grammar's tables."""
+import importlib.util
+import json
+
+import virraupez
+
+from . import tool
+
+# Lines of scripts, with the instructions that they are.
+SCRIPTS = (
+    ("", []),
+    ("  # nothing but a remark\n", []),
+    ("r0 = 5", [["set", "r0", "add", 5, 0]]),
+    ("g7 = -5", [["set", "g7", "add", -5, 0]]),
+    ("r0 = in", [["set", "r0", "add", "in", 0]]),
+    ("r0 = r1+1", [["set", "r0", "add", "r1", 1]]),
+    ("r0 = r1 - -1", [["set", "r0", "sub", "r1", -1]]),
+    ("r0 = -3 * aux", [["set", "r0", "mul", -3, "aux"]]),
+    ("r0 = min(r1, 4)", [["set", "r0", "min", "r1", 4]]),
+    ("r0 = r1 max now", [["set", "r0", "max", "r1", "now"]]),
+    ("r0 = r1 < 4", [["set", "r0", "lt", "r1", 4]]),
+    ("r0 = r1 > 4", [["set", "r0", "lt", 4, "r1"]]),
+    ("r0 = r1 >= 4", [["set", "r0", "lt", "r1", 4], ["set", "r0", "eq", "r0", 0]]),
+    ("r0 = r1 <= 4", [["set", "r0", "lt", 4, "r1"], ["set", "r0", "eq", "r0", 0]]),
+    ("r0 = r0 == r0", [["set", "r0", "eq", "r0", "r0"]]),
+    ("r0 = r1 != 4", [["set", "r0", "eq", "r1", 4], ["set", "r0", "eq", "r0", 0]]),
+    ("r0 = not g1", [["set", "r0", "eq", "g1", 0]]),
+    ("pub x 1\ncall c in\ngoal k -1", [["pub", "x", 1], ["call", "c", "in"], ["goal", "k", -1]]),
+    ("cancel k all\ncancel k before now", [["cancel", "k", "all"], ["cancel", "k", "before", "now"]]),
+    ("cancel k goal r1\ncancel k goal-before 1 5", [["cancel", "k", "goal", "r1"], ["cancel", "k", "goal-before", 1, 5]]),
+    ("execute a\nlog g0\nreply 1\ndecide 2", [["execute", "a"], ["log", "g0"], ["reply", 1], ["decide", 2]]),
+    ("feedback r0\nwait 5\nyield", [["feedback", "r0"], ["wait", 5], ["yield"]]),
+    ("succeed 1\nabort 2\ncanceled 3", [["succeed", 1], ["abort", 2], ["canceled", 3]]),
+    ("if aux goto stop\nlog 1\nlog 2\nstop: log 3", [["skip", "aux", 2], ["log", 1], ["log", 2], ["log", 3]]),
+    ("if not aux goto stop\nlog 1\nstop:\nlog 3", [["skip", "aux", 1], ["skip", 1, 1], ["log", 1], ["log", 3]]),
+    ("goto end\nlog 1", [["skip", 1, 1], ["log", 1]]),
+    ("if r0 goto no\nlog 1\ngoto end\nno: log 2", [["skip", "r0", 2], ["log", 1], ["skip", 1, 1], ["log", 2]]),
+    ("goto here\nhere: log 1", [["log", 1]]),
+    ("if r0 goto here\ngoto here\nhere: log 1", [["log", 1]]),
+    ("goto b\na: log 1\nb: log 2\ngoto end", [["skip", 1, 1], ["log", 1], ["log", 2]]),
+)
+# Scripts that say nothing, with a part of what is told.
+WRONG = (
+    ("top: log 1\ngoto top", "line 2 of the script: goto top goes backward"),
+    ("top: if r0 goto top", "goes backward"),
+    ("goto stopp\nstop: log 1", "did you mean stop?"),
+    ("a: log 1\na: log 2", "the label a stands twice"),
+    ("end: log 1", "the label end is the script's end already"),
+    ("publish x 1", "did you mean pub?"),
+    ("set r0 add 1 1", "write 'r0 = r0 + 1'"),
+    ("log r8", "'r8' is no operand"),
+    ("log", "log takes 1 items here and not 0"),
+    ("if r0 < 3 goto end", "a condition is one operand"),
+    ("cancel k none", "a cancel is"),
+    ("r0 = r1 / 2", "no operand"),
+    ("r0 = 1.5", "'1.5' is no operand"),
+)
+
+
+def outcome(text):
+    try:
+        return virraupez.script(text)
+    except virraupez.ScriptError as wrong:
+        return str(wrong)
+
+
+def answers(_program):
+    for program in sorted((tool.TOP / "examples").glob("*.py")):
+        should = program.with_suffix(".json").read_text()
+        yield f"write {program.name}", tool.run("write", program), (0, should)
+    for text, instructions in SCRIPTS:
+        yield f"the script {text!r}", outcome(text), instructions
+    for text, part in WRONG:
+        told = outcome(text)
+        yield f"the wrong script {text!r}: {told}", part in told, True
+    yield "write --script", tool.run("write", "--script", "-", given=b"log 1\nlog 2"), (0, '[["log",1],\n ["log",2]]\n')
+    yield "write --help", tool.run("write", "--help")[0], 0
+    yield from of_moments()
+    yield from refused()
+    for words, name in (((), "document.schema.json"), (("--strict",), "document.strict.schema.json")):
+        yield f"schema of {name}", tool.run("schema", *words), (0, (tool.TOP / "docs" / name).read_text())
+    if importlib.util.find_spec("jsonschema"):
+        told = tool.run("../docs/check_schema")
+        yield f"check_schema: {told}", (told[0], told[1].endswith(" 0 told wrongly\n")), (0, True)
+
+
+def of_moments():
+    made = virraupez.Document(topics=["x"])
+    node = made.node("n")
+    node.timer("t", period=10, script="pub x now")
+    node.timer("u", period=4)
+    node.subscription("s", topic="x", script="log in")
+    made.when_due(until=20)
+    yield "moments when due", made.value()["moments"], [4, 8, 10, 12, 16, 20]
+    made.every(5, until=15, begin=5)
+    yield "moments every 5 beside", made.value()["moments"], [4, 5, 8, 10, 12, 15, 16, 20]
+    made.moments(7, 7, 8)
+    yield "moments that are written", made.value()["moments"], [4, 5, 7, 7, 8, 10, 12, 15, 16, 20]
+    made.message("x", 1, at=6)
+    made.message("x", 2, round=1)
+    yield "what is fed", made.value()["feed"], [{"round": 1, "topic": "x", "value": 2}, {"round": 3, "topic": "x", "value": 1}]
+    yield "a document that is read back", json.loads(made.text()), made.value()
+    yield "the identifier of a client's goal", virraupez.goal_of(0, 3), "00000000-0000-0001-0000-000000000003"
+
+
+def refused():
+    """What is told of documents that the program would refuse, and of what is fed at no moment."""
+    for wrong, part in ((lambda it: it.node("n").subscription("s", topic="x"), "refused 4 (Name)"), (lambda it: it.message("x", 1, at=5), "no moment at or after 5")):
+        made = virraupez.Document()
+        wrong(made)
+        try:
+            told = made.text()
+        except virraupez.DocumentError as error:
+            told = str(error)
+        yield f"a wrong document: {told}", part in told, True

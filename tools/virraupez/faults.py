@@ -1,0 +1,329 @@
+"""The faults of a document but those of its scripts, by docs/document.md, in the order of the page's sections.
+
+They go over a value that json_text has read, and over what it declares. A part of a wrong form counts as a fault of Shape, and
+as missing for all greater codes."""
+import itertools
+
+from . import grammar as g
+
+VALUE, NAME = "value", "name"
+
+
+class Fault:
+    """A code with a path; what is wanted there in words; names of which one may be meant; and what may help, as a text or as a
+    function that gives it.
+
+    form is that of the grammar's tables that is wanted. at says whether the value at the path is wrong, or its name; a missing
+    field has the path of its object, and its name. kind is the name of a script's fault."""
+
+    def __init__(self, code, path, wanted, hint="", names=(), form=None, at=VALUE, missing=None, kind=None):
+        self.code, self.path, self.wanted, self.hint = code, path, wanted, hint
+        self.names, self.form, self.at, self.missing, self.kind = names, form, at, missing, kind
+
+
+# ---- 2: forms
+
+
+def wanted_of(form):
+    if isinstance(form, list):
+        if form == g.SCRIPT:
+            return "a script: a list of instructions"
+        return "an instruction: a list" if form == ["word"] else f"a list of {plural(form[0])}"
+    return g.SINGLE[form][1] if form in g.SINGLE else f"{article(form)}: an object"
+
+
+def article(noun):
+    return f"{'an' if noun[0] in 'aeiou' else 'a'} {noun}"
+
+
+def plural(noun):
+    return "entries" if noun == "entry" else f"{noun}s"
+
+
+def has(value, form):
+    """Whether a value is of a form, by its outermost part."""
+    if isinstance(form, list):
+        return isinstance(value, list)
+    return g.SINGLE[form][0](value) if form in g.SINGLE else isinstance(value, dict)
+
+
+def shape(value, form, path=()):
+    """Each fault of a value's form."""
+    if not has(value, form):
+        yield Fault(2, path, wanted_of(form), form=form)
+    elif isinstance(form, list):
+        yield from list_shape(value, form[0], path)
+    elif form == "entry":
+        yield from entry_shape(value, path)
+    elif form in g.OBJECTS:
+        yield from object_shape(value, form, path)
+
+
+def list_shape(items, form, path):
+    if form == ["word"]:
+        for at, item in enumerate(items):
+            if not g.is_instruction(item):
+                yield from shape(item, form, path + (at,))
+    elif isinstance(form, str) and form in g.SINGLE:
+        test, wanted = g.SINGLE[form]
+        for at, item in enumerate(items):
+            if not test(item):
+                yield Fault(2, path + (at,), wanted, form=form)
+    else:
+        for at, item in enumerate(items):
+            yield from shape(item, form, path + (at,))
+
+
+def object_shape(fields, form, path):
+    forms = g.OBJECTS[form]
+    for name in g.REQUIRED[form]:
+        if name not in fields:
+            others = [other for other in fields if other not in forms]
+            yield Fault(2, path, f"the field `{name}` of {article(form)}, {wanted_of(forms[name])}", names=others, missing=name)
+    for name, of in forms.items():
+        if name in fields:
+            yield from shape(fields[name], of, path + (name,))
+
+
+def entry_shape(fields, path):
+    stand = [name for name in g.FED if name in fields]
+    if len(stand) == 1:
+        yield from object_shape(fields, g.FED[stand[0]], path)
+        return
+    told = "there is none" if not stand else "there are " + " and ".join(f"`{name}`" for name in stand)
+    yield Fault(2, path, f"exactly one of `topic` (a message), `goal` (a goal request) and `cancel` (a cancel request); {told}")
+    if "round" not in fields:
+        yield Fault(2, path, f"the field `round` of an entry, {wanted_of('count')}", missing="round")
+    elif not g.is_count(fields["round"]):
+        yield Fault(2, path + ("round",), wanted_of("count"), form="count")
+
+
+# ---- what is declared
+
+
+def listed(fields, name, form):
+    """The items of a list that are of a form, with their places."""
+    items = fields.get(name)
+    return [(at, item) for at, item in enumerate(items) if has(item, form)] if isinstance(items, list) else []
+
+
+class Entity:
+    """An entity with its kind, the node that it is of, and its path."""
+
+    def __init__(self, kind, node, path, fields):
+        self.kind, self.node, self.path, self.fields = kind, node, path, fields
+        self.name = self.field("name", "text")
+
+    def field(self, name, form, default=None):
+        """A field where it has its form."""
+        value = self.fields.get(name)
+        return value if name in self.fields and has(value, form) else default
+
+    def refers_to(self):
+        """The name of what it refers to, where it has one."""
+        field, _ = g.REFERS.get(self.kind, (None, None))
+        return self.field(field, "text") if field else None
+
+    def scripts(self):
+        """Each script that is there, with its name and its role, its instructions that are lists of words, and its length."""
+        for name, role in g.SCRIPTS[self.kind].items():
+            script = self.field(name, ["word"])
+            if script is not None:
+                yield name, role, [(at, item) for at, item in enumerate(script) if g.is_instruction(item)], len(script)
+
+
+class Node:
+    def __init__(self, path, fields):
+        self.path, self.fields = path, fields
+        self.name = fields.get("name") if g.is_text(fields.get("name")) else None
+        self.groups = [(path + ("groups", at), group) for at, group in listed(fields, "groups", "group")]
+        self.kinds = {it["name"]: it.get("kind") for _, it in self.groups if g.is_text(it.get("name"))}
+
+
+class Declared:
+    """What a document declares, as far as it has its forms."""
+
+    def __init__(self, document):
+        document = document if isinstance(document, dict) else {}
+        self.version = document.get("version")
+        self.topics = listed(document, "topics", "text")
+        self.nodes = [Node(("nodes", at), node) for at, node in listed(document, "nodes", "node")]
+        self.entities = [
+            Entity(kind, node, node.path + (kind, at), fields)
+            for node in self.nodes
+            for kind in g.ENTITIES
+            for at, fields in listed(node.fields, kind, g.ENTITIES[kind])
+        ]
+        self.moments = listed(document, "moments", "count")
+        self.rounds = len(document["moments"]) if isinstance(document.get("moments"), list) else 0
+        self.has_moments = document.get("moments", []) != []
+        self.feed = [(("feed", at), entry) for at, entry in listed(document, "feed", "entry")]
+        self.named = {"topics": {name: None for _, name in self.topics}, **{kind: {} for kind in g.ENTITIES}}
+        for entity in self.entities:
+            if entity.name is not None:
+                self.named[entity.kind].setdefault(entity.name, entity)
+
+    def what(self, name):
+        """What a name is declared as, in words."""
+        for kind, names in self.named.items():
+            if name in names:
+                of = names[name]
+                return "a topic" if of is None else f"{article(g.ENTITIES[kind])} of the node {of.node.name}"
+        return None
+
+
+# ---- 4: names
+
+
+def names(declared):
+    yield from distinct(((node.path + ("name",), node.name) for node in declared.nodes if node.name is not None), "a name that no other node has")
+    for node in declared.nodes:
+        groups = [(path + ("name",), group["name"]) for path, group in node.groups if g.is_text(group.get("name"))]
+        yield from distinct(groups, "a name that no other group of the node has")
+    topics = ((("topics", at), name) for at, name in declared.topics)
+    entities = ((it.path + ("name",), it.name) for it in declared.entities if it.name is not None)
+    yield from distinct(itertools.chain(topics, entities), "a name that no topic and no other entity has")
+    for entity in declared.entities:
+        yield from references(declared, entity)
+    for path, entry in declared.feed:
+        field, kind = ("topic", "topics") if "topic" in entry else ("action", "actions")
+        if g.is_text(entry.get(field)) and entry[field] not in declared.named[kind]:
+            yield unknown(declared, 4, path + (field,), entry[field], kind)
+
+
+def distinct(named, wanted):
+    """Faults of names that are none, or that stood before."""
+    first = {}
+    for path, name in named:
+        if not g.NAME.fullmatch(name):
+            yield Fault(4, path, "a name: 1 to 64 characters of A-Z a-z 0-9 _ /", hint=lambda name=name: name_hint(name))
+        elif name in first:
+            yield Fault(4, path, wanted, hint=lambda name=name: f"{name} stands at {path_text(first[name])} already")
+        else:
+            first[name] = path
+
+
+def name_hint(name):
+    if len(name) > 64:
+        return f"it has {len(name)} characters"
+    other = next((sign for sign in name if not g.NAME.fullmatch(sign)), None)
+    if other is None:
+        return "it is empty"
+    return f"{other!r} isn't of these; `_` could stand for it"
+
+
+def references(declared, entity):
+    if "group" in entity.fields and g.is_text(entity.fields["group"]) and entity.fields["group"] not in entity.node.kinds:
+        hint = "" if entity.node.kinds else f"the node {entity.node.name} has no `groups`; leave `group` out for its default group"
+        yield Fault(4, entity.path + ("group",), f"a named group of the node {entity.node.name}", hint, entity.node.kinds)
+    field, kind = g.REFERS.get(entity.kind, (None, None))
+    if entity.refers_to() is not None and entity.refers_to() not in declared.named[kind]:
+        yield unknown(declared, 4, entity.path + (field,), entity.refers_to(), kind)
+
+
+def unknown(declared, code, path, name, kind, among=None, owner=""):
+    """The fault of a name that nothing of a kind has."""
+    among = declared.named[kind] if among is None else among
+    what = declared.what(name)
+    noun = "topic" if kind == "topics" else g.ENTITIES[kind]
+    hint = f"{name} is {what}" if what else "" if among else f"there is no {noun}{owner}"
+    return Fault(code, path, f"the name of {article(noun)}{owner or ' of the document'}", hint, among, kind="UnknownName" if code == 6 else None)
+
+
+# ---- 5: limits
+
+
+def limits(declared):
+    counts = (
+        (declared.nodes, lambda it: it.path, g.NODES, "nodes"),
+        (declared.topics, lambda it: ("topics", it[0]), g.TOPICS, "topics"),
+        (declared.entities, lambda it: it.path, g.ENTITIES_AT_MOST, "entities in the document"),
+        ([path for node in declared.nodes for path, _ in node.groups], lambda it: it, g.GROUPS, "groups in the document"),
+        (declared.moments, lambda it: ("moments", it[0]), g.MOMENTS, "moments"),
+        (declared.feed, lambda it: it[0], g.ENTRIES, "entries"),
+    )
+    for items, path, most, noun in counts:
+        if len(items) > most:
+            yield Fault(5, path(items[most]), f"at most {most} {noun}", f"there are {len(items)}")
+    for at, moment in declared.moments:
+        if moment > g.LATEST:
+            yield beyond(("moments", at), f"a moment of at most {g.LATEST}")
+    for path, entry in declared.feed:
+        if g.is_count(entry.get("stamp")) and entry["stamp"] > g.LATEST and "cancel" in entry:
+            yield beyond(path + ("stamp",), f"a stamp of at most {g.LATEST}")
+    for entity in declared.entities:
+        yield from entity_limits(entity)
+
+
+def beyond(path, wanted, hint="2^62 ticks are the most"):
+    return Fault(5, path, wanted, hint)
+
+
+def entity_limits(entity):
+    if entity.kind == "timers" and not 1 <= entity.field("period", "count", 1) <= g.LATEST:
+        yield beyond(entity.path + ("period",), f"a period of 1 to {g.LATEST} ticks", "")
+    if entity.kind != "timers" and not 1 <= entity.field("depth", "count", 1) <= g.DEPTH:
+        yield beyond(entity.path + ("depth",), f"a depth of 1 to {g.DEPTH}", "")
+    if entity.kind == "actions" and entity.field("result_timeout", "count", 0) > g.LATEST:
+        yield beyond(entity.path + ("result_timeout",), f"at most {g.LATEST} ticks", "without the field results are kept without end")
+    for name, _, _, length in entity.scripts():
+        if length > g.INSTRUCTIONS:
+            path = entity.path + (name, g.INSTRUCTIONS)
+            yield beyond(path, f"at most {g.INSTRUCTIONS} instructions", f"the script has {length}; send what is left through a topic")
+
+
+# ---- 3, 8 and 9: the version, the clock, identifiers
+
+
+def version(declared):
+    if g.is_count(declared.version) and declared.version != 1:
+        yield Fault(3, ("version",), "1, the only version")
+
+
+
+def clock(declared):
+    before = 0
+    for at, moment in declared.moments:
+        if moment < before:
+            yield Fault(8, ("moments", at), f"a moment at or after the one before it, {before}", "moments never go back")
+        before = moment
+    wanted = f"a round from 1 to {declared.rounds}, the number of moments" if declared.rounds else "no entry: there are no moments, and so no rounds"
+    for path, entry in declared.feed:
+        if g.is_count(entry.get("round")) and not 1 <= entry["round"] <= declared.rounds:
+            yield Fault(8, path + ("round",), wanted, "rounds are counted from 1" if entry["round"] == 0 else "")
+
+
+def identifiers(declared):
+    for path, entry in declared.feed:
+        field = "goal" if "goal" in entry else "cancel"
+        if "topic" in entry or not g.is_text(entry.get(field)):
+            continue
+        text = entry[field]
+        if not g.IDENTIFIER.fullmatch(text):
+            yield Fault(9, path + (field,), "an identifier: 32 hexadecimal digits, or 8-4-4-4-12 of them with hyphens", identifier_hint(text))
+        elif field == "goal" and g.identifier(text) == 0:
+            yield Fault(9, path + (field,), "an identifier that isn't zeros alone", "zeros alone name no goal")
+
+
+def identifier_hint(text):
+    bare = text.strip("{}").replace("-", "")
+    other = next((sign for sign in bare if sign not in "0123456789abcdefABCDEF"), None)
+    if other is not None and not text.lower().startswith("urn:uuid:"):
+        return f"{other!r} is no hexadecimal digit"
+    if len(bare) != 32 and other is None:
+        return f"it has {len(bare)} digits"
+    return "the hyphens or braces stand elsewhere than an identifier has them"
+
+
+# ---- paths
+
+
+def path_text(path):
+    """A path as a person reads it."""
+    text = ""
+    for key in path:
+        if isinstance(key, int):
+            text += f"[{key}]"
+        else:
+            text += ("." if text else "") + key if key.isidentifier() else f"[{key!r}]"
+    return text or "document"

@@ -1,0 +1,158 @@
+"""Who sent what each callback takes. The document says where items are pushed, and the transcript what was pushed and taken:
+so each queue is followed by the rules of docs/rules.md ("Queues", "A round"), without running a script.
+
+A transcript that another executor wrote may not fit; what is taken then has no known origin, and nothing else happens."""
+import collections
+import json
+
+from . import report
+
+Origin = collections.namedtuple("Origin", "line round text sender client")
+Run = collections.namedtuple("Run", "line round entity kind words cause")
+
+
+class WrongDocument(ValueError):
+    """A document that can't go with a transcript."""
+
+
+def read_document(name):
+    """A lawful document."""
+    with open(name, "rb") as given:
+        text = given.read()
+    told = report.Report(text, 1)
+    if told.code:
+        raise WrongDocument(f"{name} is refused with {report.named(told.code)}: tools/explain tells where")
+    return json.loads(text)
+
+
+class Wiring:
+    """Where a document's items go."""
+
+    def __init__(self, document):
+        self.listeners = {topic: [] for topic in document.get("topics", [])}
+        self.server_of, self.depths, self.fed = {}, {}, collections.defaultdict(list)
+        for node in document.get("nodes", []):
+            for it in node.get("subscriptions", []):
+                self.listeners[it["topic"]].append(it["name"])
+            self.server_of.update({it["name"]: it["service"] for it in node.get("clients", [])})
+            self.server_of.update({it["name"]: it["action"] for it in node.get("action_clients", [])})
+            for kind in ("subscriptions", "services", "clients", "actions", "action_clients"):
+                self.depths.update({it["name"]: it.get("depth", 10) for it in node.get(kind, [])})
+        for entry in document.get("feed", []):
+            self.fed[entry["round"]].append(entry)
+
+
+class Flow:
+    """The queues of a run, from line to line."""
+
+    def __init__(self, document):
+        self.wiring = Wiring(document)
+        self.queues, self.filled = {}, set()
+        self.taken, self.displaced = {}, collections.deque()
+        self.goals, self.noted = {}, collections.defaultdict(collections.deque)
+        self.round, self.moment, self.run = 0, 0, None
+
+    def take(self, number, words):
+        """Follows a line. What it is about is then told by `run`, the callback that runs, and its `cause`."""
+        follow = getattr(self, f"on_{words[0]}", None)
+        if follow:
+            follow(number, words)
+
+    def origin(self, number, words, client=None):
+        return Origin(number, self.round, " ".join(words), self.run, client)
+
+    def push(self, entity, kind, item):
+        """Pushes an item to a queue, which may displace its oldest."""
+        if entity is None:
+            return
+        queue = self.queues.setdefault((entity, kind), collections.deque())
+        queue.append(item)
+        self.filled.add((entity, kind))
+        if len(queue) > self.wiring.depths.get(entity, 10):
+            self.displaced.append(queue.popleft())
+
+    # ---- lines
+
+    def on_round(self, number, words):
+        self.round, self.moment, self.run = int(words[1]), int(words[2]), None
+        self.displaced.clear()
+        for entry in self.wiring.fed.get(self.round, ()):
+            self.feed(number, entry)
+        self.taken = {key: self.queues[key].popleft() for key in self.filled}
+        self.filled = {key for key in self.filled if self.queues[key]}
+
+    def feed(self, number, entry):
+        if "topic" in entry:
+            item = Origin(number, self.round, f"fed: {entry['topic']} {entry['value']}", None, None)
+            for subscription in self.wiring.listeners[entry["topic"]]:
+                self.push(subscription, "message", item)
+            return
+        kind = "goal" if "goal" in entry else "cancel"
+        self.push(entry["action"], kind, Origin(number, self.round, f"fed: {kind} {entry['action']} {entry[kind]}", None, None))
+
+    def on_run(self, number, words):
+        entity, kind = words[1], words[2]
+        cause = self.goals.get((entity, words[5])) if kind == "poll" and len(words) == 6 else self.taken.pop((entity, kind), None)
+        self.run = Run(number, self.round, entity, kind, words, cause._replace(sender=sender_of(cause)) if cause else None)
+        self.displaced.clear()
+        if kind == "ask" and cause:
+            self.noted[entity, words[5]].append(cause.client)
+
+    def on_pub(self, number, words):
+        item = self.origin(number, words)
+        for subscription in self.wiring.listeners.get(words[1], ()):
+            self.push(subscription, "message", item)
+
+    def send(self, number, words, kind):
+        """A client's item to its server."""
+        self.push(self.wiring.server_of.get(words[1]), kind, self.origin(number, words, words[1]))
+
+    def on_call(self, number, words):
+        self.send(number, words, "request")
+
+    def on_goal(self, number, words):
+        self.send(number, words, "goal")
+
+    def on_cancel(self, number, words):
+        self.send(number, words, "cancel")
+
+    def on_ask(self, number, words):
+        self.send(number, words, "ask")
+
+    def client(self):
+        """The client of the request that the callback took."""
+        return self.run.cause.client if self.run and self.run.cause else None
+
+    def on_reply(self, number, words):
+        self.push(self.client(), "reply", self.origin(number, words))
+
+    def on_decide(self, number, words):
+        if words[3] != "1":
+            self.goals[words[1], words[2]] = self.origin(number, words, self.client())
+        self.push(self.client(), "response", self.origin(number, words))
+
+    def on_code(self, number, words):
+        self.push(self.client(), "code", self.origin(number, words))
+
+    def on_feedback(self, number, words):
+        goal = self.goals.get((words[1], words[2]))
+        self.push(goal.client if goal else None, "feedback", self.origin(number, words))
+
+    def on_result(self, number, words):
+        noted = self.noted.get((words[1], words[2]))
+        if noted:
+            self.push(noted.popleft(), "result", self.origin(number, words))
+        if not noted:
+            self.noted.pop((words[1], words[2]), None)
+
+    def on_expire(self, _number, words):
+        self.goals.pop((words[1], words[2]), None)
+
+    def dropped(self):
+        """The item of the line `drop` that was followed last."""
+        return self.displaced.popleft() if self.displaced else None
+
+
+def sender_of(origin):
+    """The callback that sent an item, without what it took itself: what is kept is bounded so."""
+    return origin.sender._replace(cause=None) if origin.sender else None

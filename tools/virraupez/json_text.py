@@ -1,0 +1,315 @@
+"""JSON as the program's reader takes it (docs/document.md), with the place of what it can't take.
+
+read(text) gives the value of a text. Objects are dicts, and a Doubled one where a name stands twice in it; a number that is
+no integer of 64 bits is FRACTION, since nobody asks which. places(text, paths) tells where values of a text stand that was
+read. Offsets count characters. Reading takes time in proportion to the text, and nesting is bounded before it is followed."""
+import re
+
+LEVELS = 127
+WHITE = re.compile(r"[ \t\n\r]*").match
+PLAIN = re.compile(r'"([^"\\\x00-\x1f]*)"').match
+CHUNK = re.compile(r'[^"\\\x00-\x1f]*').match
+INTEGER = re.compile(r"(-?(?:0|[1-9][0-9]*))(?![0-9.eE])").match
+DECIMAL = re.compile(r"-?(?:0|[1-9][0-9]*)(?:\.[0-9]+)?(?:[eE][+-]?[0-9]+)?(?![0-9.eE])").match
+HEXADECIMAL = re.compile(r"[0-9A-Fa-f]{4}").match
+WORDS = {"t": ("true", True), "f": ("false", False), "n": ("null", None)}
+ESCAPES = {'"': '"', "\\": "\\", "/": "/", "b": "\b", "f": "\f", "n": "\n", "r": "\r", "t": "\t"}
+# What stands behind a text that ends, so that there is a character to look at.
+END = "\0"
+
+
+class NotJson(Exception):
+    """The place at which a text is no JSON, the path of the value that was read there, and what is wanted."""
+
+    def __init__(self, at, wanted, hint=""):
+        super().__init__(wanted)
+        self.at, self.wanted, self.hint, self.path = at, wanted, hint, []
+
+
+class Fraction:
+    """A number that is neither a count nor a value."""
+
+
+class Doubled(dict):
+    """An object in which names stand twice or more, of each of which the last counts."""
+
+    def __init__(self, fields):
+        super().__init__(fields)
+        self.twice = set()
+
+
+FRACTION = Fraction()
+
+
+# ---- reading
+
+
+class Reader:
+    def __init__(self, text):
+        self.text, self.length = text + END, len(text)
+
+    def document(self):
+        value, at = self.value(WHITE(self.text).end(), 0)
+        at = WHITE(self.text, at).end()
+        if at != self.length:
+            raise NotJson(at, "nothing behind the document", "a document is one JSON value")
+        return value
+
+    def value(self, at, depth):
+        """The value that begins at a place, and where it ends."""
+        sign = self.text[at]
+        if sign == '"':
+            plain = PLAIN(self.text, at)
+            return (plain.group(1), plain.end()) if plain else self.string(at + 1)
+        if sign == "[" or sign == "{":
+            if depth == LEVELS:
+                raise NotJson(at, f"at most {LEVELS} levels of lists and objects")
+            return self.list(at + 1, depth + 1) if sign == "[" else self.object(at + 1, depth + 1)
+        whole = INTEGER(self.text, at)
+        if whole:
+            return integer(whole, at), whole.end()
+        if sign in WORDS and self.text.startswith(WORDS[sign][0], at):
+            word, value = WORDS[sign]
+            return value, at + len(word)
+        return FRACTION, self.decimal(at)
+
+    def list(self, at, depth):
+        text, items, begin = self.text, [], at - 1
+        at = WHITE(text, at).end()
+        if text[at] == "]":
+            return items, at + 1
+        while True:
+            try:
+                item, at = self.value(at, depth)
+            except NotJson as fault:
+                fault.path.insert(0, len(items))
+                raise
+            items.append(item)
+            if text[at] not in ",]":
+                at = WHITE(text, at).end()
+            if text[at] == "]":
+                return items, at + 1
+            at = self.behind_comma(at, "]", "item", begin)
+
+    def object(self, at, depth):
+        text, fields, begin = self.text, {}, at - 1
+        at = WHITE(text, at).end()
+        if text[at] == "}":
+            return fields, at + 1
+        while True:
+            name, at = self.name(at)
+            try:
+                value, at = self.value(at, depth)
+            except NotJson as fault:
+                fault.path.insert(0, name)
+                raise
+            if name in fields:
+                fields = fields if type(fields) is Doubled else Doubled(fields)
+                fields.twice.add(name)
+            fields[name] = value
+            if text[at] not in ",}":
+                at = WHITE(text, at).end()
+            if text[at] == "}":
+                return fields, at + 1
+            at = self.behind_comma(at, "}", "field", begin)
+
+    def behind_comma(self, at, close, part, begin):
+        """Where the next part of a list or an object begins, whose comma is wanted at a place."""
+        if self.text[at] != ",":
+            raise self.unended(at, close, begin)
+        at = WHITE(self.text, at + 1).end()
+        if self.text[at] == close:
+            raise NotJson(at, f"another {part} behind the comma", f"leave out the comma before {close}")
+        return at
+
+    def name(self, at):
+        """The name of a field, and where its value begins."""
+        text = self.text
+        if text[at] != '"':
+            hint = "JSON has no comments" if text[at] in "/#" else "texts stand in double quotes" if re.match(r"['\w]", text[at]) else ""
+            raise NotJson(at, "the name of a field, in double quotes", hint)
+        plain = PLAIN(text, at)
+        name, at = (plain.group(1), plain.end()) if plain else self.string(at + 1)
+        at = WHITE(text, at).end()
+        if text[at] != ":":
+            raise NotJson(at, f"a colon behind the name {name!r}")
+        return name, WHITE(text, at + 1).end()
+
+    def string(self, at):
+        """The text behind a quote, and where it ends."""
+        text, parts, begin = self.text, [], at
+        while True:
+            chunk = CHUNK(text, at)
+            parts.append(chunk.group())
+            at = chunk.end()
+            if text[at] == '"':
+                return "".join(parts), at + 1
+            if text[at] == "\\":
+                part, at = self.escape(at)
+                parts.append(part)
+            elif at == self.length:
+                raise NotJson(begin - 1, 'a text that ends with "', "a quote is missing")
+            else:
+                raise NotJson(at, "a text on one line, without control characters", r"write \n for a line feed, \t for a tab")
+
+    def escape(self, at):
+        """What a backslash says, and where that ends."""
+        sign = self.text[at + 1]
+        if sign in ESCAPES:
+            return ESCAPES[sign], at + 2
+        if sign != "u":
+            raise NotJson(at, r'one of \" \\ \/ \b \f \n \r \t \u0000', r"a backslash itself is \\")
+        number = self.unit(at)
+        if not 0xD800 <= number < 0xE000:
+            return chr(number), at + 6
+        if number < 0xDC00 and self.text.startswith("\\u", at + 6):
+            low = self.unit(at + 6)
+            if 0xDC00 <= low < 0xE000:
+                return chr(0x10000 + ((number - 0xD800) << 10) + (low - 0xDC00)), at + 12
+        raise NotJson(at, "both halves of a surrogate pair", "write the character itself")
+
+    def unit(self, at):
+        digits = HEXADECIMAL(self.text, at + 2)
+        if not digits:
+            raise NotJson(at, r"four hexadecimal digits behind \u")
+        return int(digits.group(), 16)
+
+    def decimal(self, at):
+        """Where a number ends that is no integer."""
+        number = DECIMAL(self.text, at)
+        if not number:
+            raise self.no_value(at)
+        if abs(float(number.group())) == float("inf"):
+            raise NotJson(at, "a number in the range of a 64-bit float")
+        return number.end()
+
+    # ---- what is wrong
+
+    def no_value(self, at):
+        """The fault of a place where a value is wanted and none stands."""
+        if at == self.length:
+            return NotJson(at, "a value" if self.length else "a document", "the text ends too early")
+        rest = self.text[at : at + 12]
+        for begin, hint in HINTS:
+            if re.match(begin, rest):
+                return NotJson(at, "a value", hint)
+        return NotJson(at, "a value: an object, a list, a text in double quotes, a number, true, false or null")
+
+    def unended(self, at, close, begin):
+        """The fault of a list or an object that neither goes on nor ends."""
+        if at == self.length:
+            line, column = line_column(self.text, begin)
+            return NotJson(at, f"a comma or {close}", f"the {self.text[begin]} at {line}:{column} isn't closed")
+        hint = "a comma is missing" if re.match(r'["\w\[{-]', self.text[at]) else ""
+        return NotJson(at, f"a comma or {close}", "JSON has no comments" if self.text[at] in "/#" else hint)
+
+
+HINTS = (
+    ("'", "texts stand in double quotes"),
+    ("[/#]", "JSON has no comments"),
+    ("True|False|None", "write true, false, or leave the field out"),
+    ("[-+]?(NaN|Infinity|inf|nan)", "JSON has no such number"),
+    (r"\+", "write the number without its sign"),
+    (r"-?0[0-9]", "a number has no zeros before it"),
+    (r"-?0[xX]", "write the number with decimal digits"),
+    (r"-?\.[0-9]", "a fraction has a digit before its point"),
+    (r"-?[0-9]+\.", "a fraction has digits behind its point"),
+    ("[,]", "a value is missing before the comma"),
+    (r"[\]}:]", "a value is missing"),
+    (r"\w", "a text stands in double quotes"),
+)
+
+
+def integer(whole, at):
+    """An integer of 64 bits, or a number that is in the range of a float."""
+    digits = whole.group(1)
+    if len(digits) < 19:
+        return int(digits) if digits != "-0" else FRACTION
+    if len(digits) < 22 and -(2**63) <= int(digits) < 2**64:
+        return int(digits)
+    if float(digits) in (float("inf"), float("-inf")):
+        raise NotJson(at, "a number in the range of a 64-bit float")
+    return FRACTION
+
+
+def read(text):
+    return Reader(text).document()
+
+
+def line_column(text, at):
+    """The line and the column of an offset, both from 1."""
+    return text.count("\n", 0, at) + 1, at - text.rfind("\n", 0, at)
+
+
+# ---- places
+
+QUOTE = re.compile(r'[^"\\]*["\\]').match
+MARK = re.compile(r'"(?:[^"\\]*")?|[\[\]{}]').search
+SCALAR = re.compile(r"[^,\]} \t\n\r]*").match
+
+
+def string_end(text, at):
+    """Where a text ends whose first quote stands at a place."""
+    while True:
+        at = QUOTE(text, at + 1).end()
+        if text[at - 1] == '"':
+            return at
+
+
+def skip(text, at):
+    """Where a value ends that begins at a place."""
+    if text[at] == '"':
+        return string_end(text, at)
+    if text[at] not in "[{":
+        return SCALAR(text, at).end()
+    depth = 0
+    while True:
+        mark = MARK(text, at)
+        at, sign = mark.end(), mark.group()
+        if sign == '"':
+            at = string_end(text, at - 1)
+        elif len(sign) == 1:
+            depth += 1 if sign in "[{" else -1
+            if depth == 0:
+                return at
+
+
+class Place:
+    """Where a value stands: the offset of its name in an object, or its own in a list, and those of its begin and its end."""
+
+    def __init__(self, name, begin, end):
+        self.name, self.begin, self.end = name, begin, end
+
+
+def places(text, paths):
+    """The place of each of some paths of a text that was read."""
+    tree = {}
+    for path in paths:
+        branch = tree
+        for key in path:
+            branch = branch.setdefault(key, {})
+    found, begin = {}, WHITE(text).end()
+    found[()] = Place(begin, begin, follow(text, begin, tree, (), found))
+    return found
+
+
+def follow(text, at, tree, path, found):
+    """Where a value ends; the places of the paths in it, which a tree holds, are noted."""
+    if not tree or text[at] not in "[{":
+        return skip(text, at)
+    in_list, index, at = text[at] == "[", 0, WHITE(text, at + 1).end()
+    while text[at] not in "]}":
+        name, key = at, index
+        if not in_list:
+            end = string_end(text, at)
+            key = Reader(text[at:end]).string(1)[0]
+            at = WHITE(text, WHITE(text, end).end() + 1).end()
+        if key in tree:
+            end = follow(text, at, tree[key], path + (key,), found)
+            found[path + (key,)] = Place(name, at, end)
+        else:
+            end = skip(text, at)
+        at, index = WHITE(text, end).end(), index + 1
+        if text[at] == ",":
+            at = WHITE(text, at + 1).end()
+    return at + 1

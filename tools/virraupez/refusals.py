@@ -1,0 +1,20 @@
+"""All faults of a document, and the code that the program refuses it with: the least."""
+from . import faults, json_text, scripts
+
+PARTS = (faults.version, faults.names, faults.limits, scripts.faults, faults.clock, faults.identifiers)
+
+
+def of(document, declared):
+    """The faults of the codes 2 to 9 of a value that JSON's reader gave, and of what it declares."""
+    yield from faults.shape(document, "document")
+    for part in PARTS:
+        yield from part(declared)
+
+
+def code(given):
+    """The code of a document's bytes, or 0 where they say a plan."""
+    try:
+        document = json_text.read(given.decode())
+    except (UnicodeDecodeError, json_text.NotJson):
+        return 1
+    return min((fault.code for fault in of(document, faults.Declared(document))), default=0)

@@ -1,0 +1,168 @@
+"""What is told of a document: its code, the places of its faults and of its warnings, as texts and as JSON."""
+import json
+
+from . import advice, faults, grammar, hints, json_text, refusals
+
+# How many places of a code are told, unless all are asked for.
+TOLD = 20
+CLIPPED = 60
+
+
+class Entry:
+    """A fault or a warning with its place in the text."""
+
+    def __init__(self, fault, line, column, length, stands):
+        self.code, self.path, self.kind, self.wanted = fault.code, fault.path, fault.kind, fault.wanted
+        self.line, self.column, self.length, self.stands = line, column, length, stands
+        self.hint = hints.hint(fault, stands)
+        if fault.missing:
+            self.path = (*fault.path, fault.missing)
+
+
+class Report:
+    """A document's code, 0 where it isn't refused, with entries, and how many more places of each code there are."""
+
+    def __init__(self, given, most=TOLD):
+        self.most, self.entries, self.counts, self.rounds = most, [], {}, 0
+        try:
+            text = given.decode()
+            document = json_text.read(text)
+        except UnicodeDecodeError as wrong:
+            self.add_bytes(given, wrong)
+        except json_text.NotJson as wrong:
+            self.add_json(text, wrong)
+        else:
+            self.add_all(text, document)
+        self.code = min((code for code in self.counts if code), default=0)
+
+    def add_bytes(self, given, wrong):
+        begin, hint = given[: wrong.start].decode(), "save the document as UTF-8"
+        if given[:2] in (b"\xff\xfe", b"\xfe\xff"):
+            hint = "this is UTF-16: save the document as UTF-8"
+        stands = f"the byte 0x{given[wrong.start]:02x}"
+        self.note(faults.Fault(1, (), "text in UTF-8", hint), *json_text.line_column(begin, len(begin)), 1, stands)
+
+    def add_json(self, text, wrong):
+        at, hint = wrong.at, wrong.hint
+        stands = clip(text[at : at + CLIPPED].split("\n")[0]) if at < len(text) else "the end of the document"
+        if text[at : at + 1] == "\ufeff":
+            stands, hint = "a byte order mark", "save the document as UTF-8 without it"
+        self.note(faults.Fault(1, tuple(wrong.path), wrong.wanted, hint), *json_text.line_column(text, at), 1, stands or "the end of the line")
+
+    def note(self, fault, *place):
+        self.counts[fault.code] = self.counts.get(fault.code, 0) + 1
+        self.entries.append(Entry(fault, *place))
+
+    def add_all(self, text, document):
+        kept = []
+        for fault in every(document):
+            count = self.counts[fault.code] = self.counts.get(fault.code, 0) + 1
+            if count <= self.most:
+                kept.append(fault)
+        places = json_text.places(text, [fault.path for fault in kept])
+        begins = [begin_of(fault, places[fault.path]) for fault in kept]
+        line, start, before = 1, 0, 0
+        for at, fault in sorted(zip(begins, kept), key=lambda it: it[0]):
+            line += text.count("\n", before, at)
+            start, before = text.rfind("\n", 0, at) + 1, at
+            end = name_end(text, at) if fault.at == faults.NAME else places[fault.path].end
+            stands = "nothing" if fault.missing else clip(text[at : min(end, at + 4 * CLIPPED)])
+            self.entries.append(Entry(fault, line, at - start + 1, 1 if fault.missing else end - at, stands))
+        self.entries.sort(key=lambda it: it.code or 11)
+        if isinstance(document, dict) and isinstance(document.get("moments"), list):
+            self.rounds = len(document["moments"])
+
+    def more(self, code):
+        """How many places of a code aren't among the entries."""
+        return self.counts.get(code, 0) - sum(it.code == code for it in self.entries)
+
+
+def every(document):
+    """All faults and warnings of a document."""
+    declared = faults.Declared(document)
+    yield from refusals.of(document, declared)
+    if isinstance(document, dict):
+        yield from advice.warnings(document, declared)
+
+
+def begin_of(fault, place):
+    return place.name if fault.at == faults.NAME else place.begin
+
+
+def name_end(text, at):
+    return json_text.string_end(text, at) if text[at] == '"' else at + 1
+
+
+def clip(text):
+    text = " ".join(text.split())
+    return text if len(text) <= CLIPPED else text[: CLIPPED - 1] + "…"
+
+
+def shown(text):
+    """A text as a terminal may have it: names of a document may hold any character."""
+    return "".join(sign if sign.isprintable() else f"\\u{ord(sign):04x}" for sign in text)
+
+
+# ---- as texts
+
+
+def named(code):
+    return f"{code} ({grammar.CODES[code]})"
+
+
+def lines(report):
+    """The lines that tell a report."""
+    if not report.code:
+        yield f"not refused: {report.rounds} {'round' if report.rounds == 1 else 'rounds'}, {warned(report)}"
+    last = None
+    for entry in [*report.entries, None]:
+        code = entry.code if entry else None
+        if last is not None and code != last and report.more(last):
+            yield f"and {report.more(last)} more {'places of ' + named(last) if last else 'warnings'}"
+        last = code
+        if entry:
+            yield from map(shown, entry_lines(entry, report.code))
+
+
+def warned(report):
+    count = report.counts.get(0, 0)
+    return "no warning" if not count else "1 warning" if count == 1 else f"{count} warnings"
+
+
+def entry_lines(entry, code):
+    """The lines that tell a fault or a warning of a document with a code."""
+    head = "warning" if not entry.code else f"refused {named(entry.code)}" if entry.code == code else f"behind it {named(entry.code)}"
+    yield f"{entry.line}:{entry.column}: {head}: {faults.path_text(entry.path)}"
+    if entry.code:
+        yield f"  stands: {entry.stands}"
+        yield f"  wanted: {entry.wanted}" + (f" ({entry.kind})" if entry.kind else "")
+    else:
+        yield f"  {entry.wanted}"
+    if entry.hint:
+        yield f"  hint: {entry.hint}"
+
+
+# ---- as JSON
+
+
+def as_json(report):
+    """A report as JSON, for editors: lines and columns are counted from 1, columns and lengths in characters."""
+    entries = [
+        {
+            "code": it.code,
+            "name": grammar.CODES.get(it.code, "Warning"),
+            "fault": it.kind,
+            "line": it.line,
+            "column": it.column,
+            "length": it.length,
+            "path": list(it.path),
+            "stands": it.stands,
+            "wanted" if it.code else "says": it.wanted,
+            "hint": it.hint,
+        }
+        for it in report.entries
+    ]
+    told = {"code": report.code, "name": grammar.CODES.get(report.code), "places": [it for it in entries if it["code"]]}
+    told["warnings"] = [it for it in entries if not it["code"]]
+    told["more"] = {str(code): report.more(code) for code in sorted(report.counts) if report.more(code)}
+    return json.dumps(told, indent=1)
