@@ -1,4 +1,5 @@
 pub mod Fields
+pub mod FirstPlaces
 pub mod Lengths
 pub mod Places
 pub mod Queues

@@ -15,6 +15,7 @@ mod memory;
 mod names;
 mod numbers;
 mod place;
+mod place_table;
 #[cfg(test)]
 mod tests;
 mod text;
@@ -32,6 +33,7 @@ pub use lines::{LineList, Lines};
 pub use memory::Memory;
 pub use names::Names;
 pub use numbers::{EntityNo, GoalId, Moment};
+pub use place_table::PlaceTable;
 pub use text::write_line;
 pub use timer::Timer;
 pub use transcript::{Named, Text};

@@ -1,10 +1,10 @@
 -- Rounds one after another.
-use Rattle.std.proofs.Common.{◌≡◌, ℕ, zero, suc, false, ◌+◌, ◌-◌, ◌<◌, List, [], ◌∷◌, length, take, slice_index_or, refl, sym, ap, add-one, ◌∙◌, arith}
+use Rattle.std.proofs.Common.{◌≡◌, ℕ, zero, suc, false, ◌+◌, ◌-◌, ◌<◌, List, [], ◌∷◌, length, take, slice_index_or, sym, ap, add-one, ◌∙◌, arith}
+use Rattle.std.proofs.lemmas.List.{take_all}
 use Rattle.exec_graph.specs.Plan.{PlanData}
-use Rattle.exec_world.specs.Calls.{WorldData, after_round}
-use Rattle.exec_world.specs.Transcript.{first_world, round, rounds}
+use Rattle.exec_world.specs.Calls.{after_finish, after_round, world_after}
+use Rattle.exec_world.specs.Transcript.{finish, first_world, lines_of, round, rounds}
 use Rattle.exec_world.specs.World.{Moment, WorldState}
-use Rattle.exec_world.specs.inner.Rounds.{world_after}
 
 one_more : (plan : PlanData) (number : ℕ) (moments : List Moment) (count : ℕ) (world : WorldState) → count < length moments →
     rounds plan number (take (suc count) moments) world ≡ round plan (number + count) (slice_index_or moments count 0) (rounds plan number (take count moments) world)
@@ -27,3 +27,7 @@ next_round plan count within =
     ∙ sym (one_more plan 1 plan.moments count first within)
     ∙ ap (λ (n : ℕ). rounds plan 1 (take n plan.moments) first) (sym here) in
     (λ i. record { plan = plan; state = state i; rounds = sym here i; left = 0; failed = false })
+
+-- after all rounds its lines, closed, are the plan's
+pub closed_lines : (plan : PlanData) → (after_finish (world_after (length plan.moments) plan)).state.lines ≡ lines_of plan
+closed_lines plan = ap (λ (moments : List Moment). (finish (length plan.moments) (rounds plan 1 moments (first_world plan.graph))).lines) (take_all (length plan.moments) plan.moments (omega arith))

@@ -23,7 +23,7 @@ use Rattle.exec_world.specs.Item.{GoalId}
 use Rattle.exec_world.specs.World.{WorldState, Moment, ServerEntry, ActionClientEntry, is_server_at, add_line, add_lines, push, push_any, goals_of, action_client_at}
 use Rattle.exec_world.specs.declared.item.Item.TheVariants as item
 use Rattle.exec_world.specs.inner.Numbered.{FindsByNumber}
-use Rattle.exec_world.specs.inner.Places.{first_place}
+use Rattle.exec_msg.specs.Places.{first_place}
 use Rattle.exec_world.specs.inner.Servers.{goals_in, with_goals}
 
 -- ---- lists

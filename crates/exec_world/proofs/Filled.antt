@@ -8,7 +8,8 @@ use Rattle.std.proofs.lemmas.Bool.{cases_lt, eqb-true}
 use Rattle.exec_world.specs.Ready.{queue_taken}
 use Rattle.exec_world.specs.World.{Queue, is_queue}
 use Rattle.exec_world.specs.declared.item.Item.{Item}
-use Rattle.exec_world.specs.inner.Places.{first_place, places_from, places_where, change_at, change_each}
+use Rattle.exec_msg.specs.Places.{first_place, change_at}
+use Rattle.exec_world.specs.inner.Places.{places_from, places_where, change_each}
 use Rattle.exec_world.specs.inner.Queues.{has_item, is_filled_at, is_in_part, is_in_part_at, FindsQueues, CoversFilled}
 
 -- places that rise from one on

@@ -1,13 +1,14 @@
 -- Entries are found by their numbers.
 use Rattle.std.proofs.Common.{◌≡◌, ℕ, ◌<◌, ◌≤◌, ◌==◌, Bool, true, false, length, List, [], ◌∷◌, ◌++◌, Option, Some, None, find, slice_get, slice_set, get_or, nat_lt, refl, sym, ap, ◌∙◌, arith}
 use Rattle.std.specs.Borrow.{Bor}
-use Rattle.std.specs.Option.{is_some, option_copied, option_flatten, unwrap_or, IfSome}
+use Rattle.std.specs.Option.{is_some, option_copied, unwrap_or, IfSome}
 use Rattle.std.proofs.lemmas.Bool.{eqb-true, eq-eqb, both_ways, ltb-true, ltb-false}
 use Rattle.std.proofs.lemmas.Option.{slice_get_past}
 use Rattle.exec_msg.specs.Lists.{change_first}
-use Rattle.exec_world.proofs.FirstPlaces.{find-nowhere, find-first_place, change_first-nowhere, change_first-first_place, first_place-behind, first_place-set, first_place-within, place_or, none_beyond, noted_at, read_at, written}
+use Rattle.exec_msg.proofs.FirstPlaces.{find-nowhere, find-first_place, change_first-nowhere, change_first-first_place, first_place-behind, first_place-set, first_place-within, place_or, none_beyond, noted_at, read_at, written}
 use Rattle.exec_world.specs.inner.Numbered.{FindsByNumber}
-use Rattle.exec_world.specs.inner.Places.{first_place, place_in, change_at, noted}
+use Rattle.exec_msg.specs.Places.{first_place, place_under, change_at, noted}
+use Rattle.exec_world.specs.inner.Places.{place_in}
 
 -- ---- what stands at a place that is looked up
 
@@ -82,10 +83,10 @@ module _ {E : Type 0} (number_of : E → ℕ) where
 
   -- each look-up finds as before, or the entry that is declared
   pub finds_behind : (old made new : List (Option ℕ)) (entries : List E) (entry : E) (number : ℕ) → FindsByNumber number_of old entries
-      → ((other : ℕ) → option_flatten (slice_get made other) ≡ option_flatten (slice_get old other)) → number < length made
+      → ((other : ℕ) → place_under other made ≡ place_under other old) → number < length made
       → number ≡ number_of entry → new ≡ change_at number (noted (length entries)) made → FindsByNumber number_of new (entries ++ entry ∷ [])
   finds_behind old made new entries entry number finds same within is_number is = λ other.
-      ap (λ places. option_flatten (slice_get places other)) is
+      ap (λ places. place_under other places) is
       ∙ noted_at (number_of entry == other) (length entries) number other made within
       (λ yes. is_number ∙ eqb-true (number_of entry) other yes)
       (λ no here. both_ways (number_of entry == other) no (same_number (number_of entry) other (sym is_number ∙ here)))

@@ -1,5 +1,5 @@
 -- What is found by a number has it.
-use Rattle.std.proofs.Common.{◌≡◌, ℕ, ◌==◌, Bool, true, false, cond, List, [], ◌∷◌, Option, Some, None, find, refl, subst}
+use Rattle.std.proofs.Common.{◌≡◌, ℕ, ◌==◌, Bool, true, false, cond, List, [], ◌∷◌, Some, find, refl, subst}
 use Rattle.std.proofs.lemmas.Bool.{eqb-true}
 
 pub found_number : {E : Type 0} (number_of : E → ℕ) (number : ℕ) (entries : List E) (entry : E) → find (λ one. number_of one == number) entries ≡ Some entry → number_of entry ≡ number

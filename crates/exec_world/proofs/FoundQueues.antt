@@ -1,27 +1,27 @@
 -- A look-up by entity and kind gives the place of the first such queue, and places with items are covered.
 use Rattle.std.proofs.Common.{◌≡◌, ℕ, zero, suc, ◌+◌, ◌*◌, ◌-◌, ◌<◌, ◌≤◌, ◌&&◌, ◌==◌, ⊎_elim, Bool, true, false, not, length, List, [], ◌∷◌, ◌++◌, Option, Some, None, IfSome, slice_get, take, refl, sym, ap, subst, ◌∙◌, arith}
 use Rattle.std.specs.List.{Contains}
-use Rattle.std.specs.Option.{option_map_or, option_flatten, option_to_list}
+use Rattle.std.specs.Option.{option_map_or, option_to_list}
 use Rattle.std.proofs.lemmas.Bool.{eqb-true, eq-eqb, both_ways}
 use Rattle.std.proofs.lemmas.List.{length_push}
 use Rattle.exec_msg.specs.KeepLast.{displaced}
 use Rattle.exec_msg.specs.Kind.{ready_number}
 use Rattle.exec_msg.specs.declared.kind.Kind.{Kind}
 use Rattle.exec_msg.specs.declared.kind.Kind.TheVariants as kind
-use Rattle.exec_world.proofs.FirstPlaces.{first_place-changed, first_place-behind, noted_at, place_or, there_or_same}
+use Rattle.exec_msg.proofs.FirstPlaces.{first_place-changed, first_place-behind, noted_at, place_or, there_or_same}
 use Rattle.exec_world.specs.World.{Queue, is_queue, queue_after}
 use Rattle.exec_world.specs.declared.item.Item.{Item}
-use Rattle.exec_world.specs.inner.Places.{first_place, change_at, noted}
+use Rattle.exec_msg.specs.Places.{first_place, place_under, change_at, noted}
 use Rattle.exec_world.specs.inner.Queues.{slot_of, has_item, is_filled_at, FindsQueues, CoversFilled}
 
 -- what a look-up gives is the first place
 pub looked_up : (places : List (Option ℕ)) (queues held : List Queue) → FindsQueues places queues → queues ≡ held
-    → (entity : ℕ) (given of : Kind) → given ≡ of → (asked : List (Option ℕ)) (slot : ℕ) → asked ≡ places → slot ≡ slot_of entity given
-    → (found : Option ℕ) → found ≡ option_flatten (slice_get asked slot) → first_place (is_queue entity of) held ≡ found
-looked_up places queues held finds views entity given of named asked slot same counted found is =
+    → (entity : ℕ) (given of : Kind) → given ≡ of → (slot : ℕ) → slot ≡ slot_of entity given
+    → (found : Option ℕ) → found ≡ place_under slot places → first_place (is_queue entity of) held ≡ found
+looked_up places queues held finds views entity given of named slot counted found is =
     ap (first_place (is_queue entity of)) (sym views)
     ∙ sym (finds entity of)
-    ∙ (λ i. option_flatten (slice_get (sym same i) ((ap (slot_of entity) (sym named) ∙ sym counted) i)))
+    ∙ ap (λ (n : ℕ). place_under n places) (ap (slot_of entity) (sym named) ∙ sym counted)
     ∙ sym is
 
 -- a queue that an item is sent to is found as before
@@ -80,11 +80,11 @@ other_slot a b m n low high is same =
 
 -- each look-up finds as before, or the queue that is declared
 pub finds_behind : (old made new : List (Option ℕ)) (queues : List Queue) (queue : Queue) (entity slot : ℕ) (of : Kind) → FindsQueues old queues
-    → ((other : ℕ) → option_flatten (slice_get made other) ≡ option_flatten (slice_get old other)) → slot < length made
+    → ((other : ℕ) → place_under other made ≡ place_under other old) → slot < length made
     → slot ≡ slot_of entity of → queue.handler.entity ≡ entity → queue.kind ≡ of → new ≡ change_at slot (noted (length queues)) made
     → FindsQueues new (queues ++ queue ∷ [])
 finds_behind old made new queues queue entity slot of finds same within counted is_entity is_kind is = λ other kind.
-    ap (λ places. option_flatten (slice_get places (slot_of other kind))) is
+    ap (λ places. place_under (slot_of other kind) places) is
     ∙ noted_at (is_queue other kind queue) (length queues) slot (slot_of other kind) made within
     (λ yes. at ∙ same_slot queue.handler.entity other (ready_number queue.kind) (ready_number kind) yes)
     (λ no here. other_slot queue.handler.entity other (ready_number queue.kind) (ready_number kind) (number_bound queue.kind) (number_bound kind) no (sym at ∙ here))

@@ -7,7 +7,7 @@ use Rattle.exec_goal.specs.declared.state.State.{State}
 use Rattle.exec_msg.specs.Lists.{change_first}
 use Rattle.exec_msg.specs.declared.goal.Event.TheVariants as event
 use Rattle.exec_task.specs.Task.{TaskState}
-use Rattle.exec_world.proofs.FirstPlaces.{set_same}
+use Rattle.exec_msg.proofs.FirstPlaces.{set_same}
 use Rattle.exec_world.proofs.FoundByNumber.{unfound, found_at, changed_at}
 use Rattle.exec_world.specs.Item.{GoalId}
 use Rattle.exec_world.specs.World.{GoalWork, HeldGoal, ServerEntry, is_for, is_server_at}

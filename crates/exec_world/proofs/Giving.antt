@@ -7,7 +7,6 @@ use Rattle.exec_goal.specs.Table.{GoalRecord, after_event}
 use Rattle.exec_goal.specs.declared.state.State.{State}
 use Rattle.exec_goal.specs.declared.state.State.TheVariants as state
 use Rattle.exec_msg.specs.declared.goal.Event.TheVariants as event
-use Rattle.exec_msg.specs.declared.goal.GoalStatus.{GoalStatus}
 use Rattle.exec_msg.specs.declared.goal.GoalStatus.TheVariants as status
 use Rattle.exec_msg.specs.declared.line.Line.TheVariants as line
 use Rattle.exec_world.proofs.FoundEntries.{found_number}
@@ -16,7 +15,7 @@ use Rattle.exec_world.specs.Item.{goal_id}
 use Rattle.exec_world.specs.World.{ActionClientEntry, ClientEntry, TopicEntry, WorldState, action_client_at, add_line, client_at, push, with_call, with_goal_sent}
 use Rattle.exec_world.specs.declared.item.Item.{Item}
 use Rattle.exec_world.specs.declared.item.Item.TheVariants as item
-use Rattle.exec_world.specs.inner.Mail.{MailState, mail_of, sent_to, sent_to_each, with_mail}
+use Rattle.exec_world.specs.inner.Mail.{mail_of, sent_to_each, with_mail}
 use Rattle.exec_world.specs.inner.Servers.{executed_in}
 
 -- ---- topics

@@ -1,6 +1,7 @@
 pub mod Addresses
 pub mod AllRounds
 pub mod Apart
+pub mod Aside
 pub mod Asked
 pub mod AtWork
 pub mod Awake
@@ -18,13 +19,13 @@ pub mod Ended
 pub mod Endings
 pub mod Expiring
 pub mod Filled
-pub mod FirstPlaces
 pub mod Flying
 pub mod FoundByNumber
 pub mod FoundEntries
 pub mod FoundQueues
 pub mod FoundServers
 pub mod Giving
+pub mod Grouped
 pub mod Growing
 pub mod Handed
 pub mod Handling

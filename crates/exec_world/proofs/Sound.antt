@@ -1,7 +1,7 @@
 -- What every world keeps, and what follows for the goals that callbacks poll.
-use Rattle.std.proofs.Common.{◌≡◌, ℕ, suc, Bool, true, false, ◌==◌, ◌&&◌, List, [], ◌∷◌, ◌++◌, map, Option, None, Some, refl, sym, ap, subst, ◌∙◌, true≢false}
+use Rattle.std.proofs.Common.{◌≡◌, ℕ, suc, Bool, true, false, ◌==◌, ◌&&◌, List, [], ◌∷◌, ◌++◌, Option, None, Some, refl, sym, ap, subst, ◌∙◌, true≢false}
 use Rattle.std.specs.List.{AllByRecursion, IsDistinct, filter, find, flat_map}
-use Rattle.std.specs.Option.{option_and_then, option_map_or}
+use Rattle.std.specs.Option.{option_map_or}
 use Rattle.std.specs.Result.{OnOk, is_err}
 use Rattle.std.specs.declared.result.Result.{Result}
 use Rattle.std.specs.declared.result.Result.TheVariants.{Ok, Err}
@@ -14,18 +14,18 @@ use Rattle.exec_graph.specs.declared.plan.Feed.{Feed}
 use Rattle.exec_msg.specs.Lists.{change_first}
 use Rattle.exec_msg.specs.Timer.{is_due}
 use Rattle.exec_msg.specs.declared.line.Line.TheVariants as line
-use Rattle.exec_world.proofs.Identifiers.{HasDistinct, Makes, distinct_kept, first_distinct, goals_in, ids_left}
+use Rattle.exec_world.proofs.Identifiers.{HasDistinct, Makes, distinct_kept, first_distinct, ids_left}
 use Rattle.exec_world.proofs.Keeping.{Kept, feed_keeps, ids, moves_kept, publish_kept, push_kept}
-use Rattle.exec_world.proofs.Pairs.{Pairs, across, all_append, all_flat, all_mapped, all_weaker, all_filter, all_passed, pairs_append, pairs_all, pairs_filter, pairs_map, pairs_unmapped}
+use Rattle.exec_world.proofs.Pairs.{Pairs, across, all_append, all_flat, all_mapped, all_weaker, all_passed, pairs_append, pairs_all, pairs_filter, pairs_map, pairs_unmapped}
 use Rattle.exec_world.proofs.Running.{KeptByRounds, run_all_keeps}
 use Rattle.exec_world.proofs.Shapes.{part_changed, shape_kept}
-use Rattle.exec_world.proofs.Wiring.{NumbersApart, numbers_apart, servers_of, wired}
+use Rattle.exec_world.proofs.Wiring.{NumbersApart, numbers_apart, wired}
 use Rattle.exec_world.specs.Calls.{AreHome, IsHomeFor, polls_same, polls_same_of, wakes}
 use Rattle.exec_world.specs.Item.{GoalId}
 use Rattle.exec_world.specs.LawWords.{server_shape, shape_of}
 use Rattle.exec_world.specs.Ready.{due_ready, is_goal_awake, is_task_awake, item_ready, poll_ready, placed_from, queue_ready, queues_before_polls, queues_behind_polls, ready_for, ready_list, take_inputs, turn_at, woken}
 use Rattle.exec_world.specs.Transcript.{expire, feed, first_world, snapshot_and_run}
-use Rattle.exec_world.specs.World.{GoalWork, HeldGoal, Moment, Queue, ServerEntry, TimerEntry, WorldState, add_line, change_server, goals_of, is_for, is_server_at, with_work, work_at}
+use Rattle.exec_world.specs.World.{GoalWork, HeldGoal, Moment, Queue, ServerEntry, TimerEntry, WorldState, add_line, goals_of, is_for, is_server_at, with_work}
 use Rattle.exec_world.specs.declared.item.Item.{Item}
 use Rattle.exec_world.specs.declared.item.Item.TheVariants as item
 use Rattle.exec_world.specs.declared.ready.Cause.{Cause}

@@ -1,5 +1,5 @@
 -- A world as its calls see it.
-use Rattle.std.specs.Prelude.{◌≡◌, ⊤, ℕ, suc, ◌+◌, ◌-◌, ◌≤◌, List, length, Bool, true, false, ◌&&◌, ◌==◌, if◌then◌else◌, Some, slice_index_or}
+use Rattle.std.specs.Prelude.{◌≡◌, ⊤, ℕ, suc, ◌+◌, ◌-◌, ◌<◌, ◌≤◌, List, length, Bool, true, false, ◌&&◌, ◌==◌, if◌then◌else◌, Some, slice_index_or, take}
 use Rattle.std.specs.List.{AllByRecursion, IsDistinct}
 use Rattle.exec_graph.specs.Entity.{EntityNo}
 use Rattle.exec_graph.specs.Plan.{PlanData}
@@ -7,7 +7,7 @@ use Rattle.exec_script.specs.declared.effects.Effects.{Effects}
 use Rattle.exec_world.specs.Item.{GoalId}
 use Rattle.exec_world.specs.Ready.{ready_list, take_inputs}
 use Rattle.exec_world.specs.Run.{commit}
-use Rattle.exec_world.specs.Transcript.{at_snapshot, first_world, finish, round}
+use Rattle.exec_world.specs.Transcript.{at_snapshot, first_world, finish, round, rounds}
 use Rattle.exec_world.specs.World.{GoalWork, Moment, WorldState, work_at}
 use Rattle.exec_world.specs.declared.ready.Cause.{Cause}
 use Rattle.exec_world.specs.declared.ready.Cause.TheVariants as cause
@@ -27,6 +27,16 @@ pub record WorldData : Type 0 where
 -- the world of a plan before its first round
 abbrev pub new_world : PlanData → WorldData
 new_world plan = record { plan = plan; state = first_world plan.graph; rounds = 0; left = 0; failed = false }
+
+-- the world of a plan after its first rounds, so many of them
+abbrev pub world_after : ℕ → PlanData → WorldData
+world_after count plan = record {
+  plan = plan;
+  state = rounds plan 1 (take count plan.moments) (first_world plan.graph);
+  rounds = count;
+  left = 0;
+  failed = false;
+}
 
 -- a round is the next one of a world, and one of its plan, and the round before is done
 pub record IsNext (number : ℕ) (world : WorldData) : Type 0 where
@@ -73,6 +83,10 @@ IsHomeFor server _ world = ⊤
 pub record AreHome (list : List Ready) (world : WorldState) : Type 0 where
   pub home : AllByRecursion (λ one. IsHomeFor one.entity one.cause world) list
   pub apart : IsDistinct polls_same list
+
+-- the variables of each callback's group, where that is mutually exclusive, are among the world's
+abbrev pub HaveVariables : List Ready → WorldState → Type 0
+HaveVariables list world = AllByRecursion (λ one. one.exclusive ≡ true → one.group < length world.variables) list
 
 -- a world after the snapshot of a round
 abbrev pub after_snapshot : ℕ → WorldData → WorldData

@@ -1,7 +1,6 @@
 ghost use Rattle.std.specs.Prelude.{◌≡◌, ℕ};
 
-use crate::places::{make_room, note_place, place_at};
-use exec_msg::{EntityNo, Memory};
+use exec_msg::{EntityNo, Memory, PlaceTable};
 use std::alloc::Global;
 use std::marker::Model;
 
@@ -18,7 +17,7 @@ pub(crate) trait Numbered: Drop {
 #[derive(Drop)]
 pub(crate) struct ByNumber<E: Numbered> {
     pub(crate) entries: Vec<E>,
-    places: Vec<Option<usize>>,
+    places: PlaceTable,
 }
 
 impl<E: Numbered> Model for ByNumber<E> {
@@ -29,7 +28,7 @@ impl<E: Numbered> Model for ByNumber<E> {
 
     ghost view = { λ entries. entries.entries.items };
 
-    ghost invariant = { λ entries. FindsByNumber E.number_of entries.places.items entries.entries.items };
+    ghost invariant = { λ entries. FindsByNumber E.number_of entries.places entries.entries.items };
 }
 
 impl<E: Numbered> ByNumber<E> {
@@ -43,7 +42,7 @@ impl<E: Numbered> ByNumber<E> {
     {
         ByNumber {
             entries: Vec::new(alloc),
-            places: Vec::new(alloc),
+            places: PlaceTable::new(alloc),
         }
     }
 
@@ -52,10 +51,10 @@ impl<E: Numbered> ByNumber<E> {
         ensures { OnOk result (self.new ≡ self.old ++ entry ∷ []) }
     {
         let number = entry.number().0 as usize;
-        make_room(&mut self.places, number)?;
+        self.places.reserve(number)?;
         let place = self.entries.as_slice().len();
         self.entries.push(entry)?;
-        note_place(&mut self.places, number, place);
+        self.places.note(number, place);
         Ok(())
     }
 
@@ -63,7 +62,9 @@ impl<E: Numbered> ByNumber<E> {
     pub(crate) fn place(&self, entity: EntityNo) -> usize
         ensures { result ≡ place_in (λ entry. E.number_of entry == entity) self.now }
     {
-        place_at(&self.places, entity.0 as usize).unwrap_or(self.entries.len())
+        self.places
+            .get(entity.0 as usize)
+            .unwrap_or(self.entries.len())
     }
 
     // The first entry of an entity.

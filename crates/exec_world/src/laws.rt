@@ -1,6 +1,6 @@
 //! Laws of rounds on one thread: each function's contract says one, and its body is empty or calls the laws that it
 //! rests on.
-ghost use Rattle.std.specs.Prelude.{◌≡◌, ◌≢◌, ℕ, ◌+◌, ◌≤◌, List, ◌∷◌, [], ◌++◌, ◌==◌, length, map, take, drop, false, None, Some, ℤ, Bool, true};
+ghost use Rattle.std.specs.Prelude.{◌≡◌, ◌≢◌, ℕ, ◌+◌, ◌<◌, ◌≤◌, List, ◌∷◌, [], ◌++◌, ◌==◌, length, map, take, drop, false, None, Some, ℤ, Bool, true};
 ghost use Rattle.std.specs.List.{All, AllByRecursion, IsDistinct, filter, fold, list_any, Contains};
 ghost use Rattle.exec_goal.specs.Calls.{end_state, state_in};
 ghost use Rattle.exec_goal.specs.declared.info.GoalInfo.{GoalInfo};
@@ -16,7 +16,7 @@ ghost use Rattle.exec_msg.specs.declared.line.Line.TheVariants as line;
 ghost use Rattle.exec_script.specs.declared.effects.Close.TheVariants as close;
 ghost use Rattle.exec_script.specs.declared.effects.Effect.{Effect};
 ghost use Rattle.exec_world.specs.Callback.{Handling, handle};
-ghost use Rattle.exec_world.specs.Calls.{IsHomeFor};
+ghost use Rattle.exec_world.specs.Calls.{IsHomeFor, after_finish, after_round, world_after};
 ghost use Rattle.exec_world.specs.Exchanges.{AreAnswered, IsDelivered, is_ask_taken, is_asked, is_result_taken, is_result_told, waiting_in};
 ghost use Rattle.exec_world.specs.Item.{taker_of};
 ghost use Rattle.exec_world.specs.LawWords.{is_loss, AreLawful, IsDecision, is_callback_of, shape_of, statuses_of, IsFinal, MayCome, IsTurn, may_be_polled, outcome_in, unclosed};
@@ -57,6 +57,13 @@ pub fn lines_only_grow()
         take (length world.lines + 1) (round plan number moment world).lines ≡ world.lines ++ line.Round number moment ∷ [] }
     ensures rounds { (plan : PlanData) (number : ℕ) (moments : List ℕ) (world : WorldState) →
         take (length world.lines) (rounds plan number moments world).lines ≡ world.lines }
+{}
+
+/// The rounds of a plan follow one another: a round behind the first ones leaves the world that is after one more, and the
+/// world after all of them, closed, has the plan's lines.
+pub fn rounds_follow_one_another()
+    ensures next { (plan : PlanData) (count : ℕ) → count < length plan.moments → after_round (count + 1) (world_after count plan) ≡ world_after (count + 1) plan }
+    ensures closed { (plan : PlanData) → (after_finish (world_after (length plan.moments) plan)).state.lines ≡ lines_of plan }
 {}
 
 /// Each queue holds at most its entity's depth, after any rounds of a plan.

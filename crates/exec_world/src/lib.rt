@@ -12,7 +12,6 @@ mod handler;
 mod item;
 pub mod laws;
 mod mail;
-mod places;
 mod queue;
 mod ready;
 mod ready_list;

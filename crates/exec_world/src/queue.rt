@@ -3,7 +3,7 @@
 ghost use Rattle.std.specs.Prelude.{◌≡◌, ◌==◌, ◌&&◌, ℕ, ◌<◌, ◌≤◌, ◌^◌, [], ◌∷◌, ◌++◌, false, true, None, Some, length, map, slice_get, OnOk, OnErr, IfOk, IfSome};
 ghost use Rattle.std.specs.List.{Contains, filter, find};
 ghost use Rattle.std.specs.List.Sorted.{IsPermutation, IsSorted, IsStrictlyIncreasing};
-ghost use Rattle.std.specs.Option.{option_copied, option_flatten, option_map, option_map_or, option_to_list};
+ghost use Rattle.std.specs.Option.{option_copied, option_map, option_map_or, option_to_list};
 ghost use Rattle.std.specs.Ordering.{nat_cmp};
 ghost use Rattle.exec_msg.specs.KeepLast.{displaced};
 ghost use Rattle.exec_msg.specs.Kind.{ready_number};
@@ -12,13 +12,13 @@ ghost use Rattle.exec_msg.specs.declared.limits.TheConstants.{DEPTH};
 ghost use Rattle.exec_world.specs.Item.{taker_of};
 ghost use Rattle.exec_world.specs.Ready.{is_before_polls, queue_taken};
 ghost use Rattle.exec_world.specs.World.{Queue, is_queue, queue_after};
-ghost use Rattle.exec_world.specs.inner.Places.{change_at, change_each, noted, places_where};
+ghost use Rattle.exec_msg.specs.Places.{change_at};
+ghost use Rattle.exec_world.specs.inner.Places.{change_each, places_where};
 ghost use Rattle.exec_world.specs.inner.Queues.{slot_of, CoversFilled, has_item, is_filled_at, is_in_part, is_in_part_at, lost_from};
 
 use crate::handler::Handler;
 use crate::item::Item;
-use crate::places::{make_room, note_place, place_at};
-use exec_msg::{EntityNo, Kind, LazyQueue, Memory};
+use exec_msg::{EntityNo, Kind, LazyQueue, Memory, PlaceTable};
 use std::alloc::Global;
 use std::marker::Model;
 
@@ -89,7 +89,7 @@ pub(crate) struct Queues {
     alloc: Global,
     cells: Vec<Cell>,
     // By entity and kind. A round finds a queue by it, and walks over none.
-    places: Vec<Option<usize>>,
+    places: PlaceTable,
     // The places of the queues that have an item, and of some that had one.
     filled: Vec<usize>,
     // Whether these are the places of the queues that have an item, in ascending order.
@@ -106,7 +106,7 @@ impl Model for Queues {
 
     ghost view = { λ queues. queues.cells.items };
 
-    ghost invariant = { λ queues. FindsQueues queues.places.items queues.cells.items × CoversFilled queues.filled.items queues.cells.items × (queues.settled ≡ true → queues.filled.items ≡ places_where has_item queues.cells.items) };
+    ghost invariant = { λ queues. FindsQueues queues.places queues.cells.items × CoversFilled queues.filled.items queues.cells.items × (queues.settled ≡ true → queues.filled.items ≡ places_where has_item queues.cells.items) };
 }
 
 impl Queues {
@@ -117,7 +117,7 @@ impl Queues {
         Queues {
             alloc,
             cells: Vec::new(alloc),
-            places: Vec::new(alloc),
+            places: PlaceTable::new(alloc),
             filled: Vec::new(alloc),
             settled: false,
         }
@@ -136,7 +136,7 @@ impl Queues {
         ensures err { OnErr result (self.new ≡ self.old) }
     {
         let slot = slot(handler.entity, kind);
-        make_room(&mut self.places, slot)?;
+        self.places.reserve(slot)?;
         let place = count(&self.cells);
         let queue = LazyQueue::new(self.alloc, depth);
         self.settled = false;
@@ -145,7 +145,7 @@ impl Queues {
             kind,
             queue,
         })?;
-        note_place(&mut self.places, slot, place);
+        self.places.note(slot, place);
         Ok(())
     }
 
@@ -156,7 +156,7 @@ impl Queues {
         ensures lost { IfOk result (λ lost. option_to_list lost ≡ lost_from entity item self.old) }
         ensures err { OnErr result (self.new ≡ self.old) }
     {
-        let Some(place) = place_at(&self.places, slot(entity, item.kind())) else {
+        let Some(place) = self.places.get(slot(entity, item.kind())) else {
             return Ok(None);
         };
         self.settled = false;

@@ -97,9 +97,8 @@ impl World<LineList> {
 impl<L: Lines> World<L> {
     ghost use Rattle.std.specs.Prelude.{◌≡◌, ◌↔◌, ◌<◌, [], length, true, false, None, Some, IfOk, IfErr, OnOk};
     ghost use Rattle.std.specs.Arc.{arc_value};
-    ghost use Rattle.exec_world.specs.Calls.{AreHome, HasFailed, IsNext, after_commit, after_finish, after_round, after_snapshot, new_world, ready_in};
+    ghost use Rattle.exec_world.specs.Calls.{AreHome, HasFailed, HaveVariables, IsNext, after_commit, after_finish, after_round, after_snapshot, new_world, ready_in, world_after};
     ghost use Rattle.exec_world.specs.declared.world.WorldFault.TheVariants as fault;
-    ghost use Rattle.exec_world.specs.inner.Rounds.{world_after};
     ghost use Rattle.exec_world.specs.World.{GoalWork, variables_of, with_variables, with_work, work_at, work_of};
 
     /// The world of a plan before its first round, whose lines go where there are none yet.
@@ -180,7 +179,8 @@ impl<L: Lines> World<L> {
     }
 
     /// Begins a round, and takes its inputs: gives the callbacks that are ready in it, in the order in which they run. Each is to
-    /// be committed, in that order. Each goal that they poll is held, its task at home, and no two of them poll one goal.
+    /// be committed, in that order. Each goal that they poll is held, its task at home, and no two of them poll one goal. The
+    /// variables of each mutually exclusive group are there.
     ///
     /// # Errors
     /// [`WorldFault::Memory`] where a growth or a clone was refused, [`WorldFault::Failed`] where the world had failed before.
@@ -189,6 +189,7 @@ impl<L: Lines> World<L> {
         ensures ready { IfOk result (λ list. list.items ≡ ready_in round self.old) }
         ensures taken { OnOk result (self.new ≡ after_snapshot round self.old) }
         ensures home { IfOk result (λ list. AreHome list.items self.new.state) }
+        ensures variables { IfOk result (λ list. HaveVariables list.items self.new.state) }
         ensures unfailed { OnOk result (self.old.failed ≡ false) }
         ensures fault { IfErr result (λ why. HasFailed why self.old self.new) }
     {

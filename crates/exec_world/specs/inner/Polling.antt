@@ -6,7 +6,6 @@ use Rattle.exec_goal.specs.Table.{GoalRecord}
 use Rattle.exec_msg.specs.Lists.{change_first}
 use Rattle.exec_script.specs.Script.{listed}
 use Rattle.exec_script.specs.declared.effects.Effect.{Effect}
-use Rattle.exec_task.specs.Goal.{GoalTaskState}
 use Rattle.exec_task.specs.Task.{TaskState}
 use Rattle.exec_task.specs.declared.wait.Turn.{Turn}
 use Rattle.exec_world.specs.Callback.{Outcome, poll}

@@ -1,7 +1,7 @@
 -- Queues in ready order, found by entity and kind.
 use Rattle.std.specs.Prelude.{◌≡◌, ℕ, ◌+◌, ◌*◌, List, [], length, Bool, true, false, not, ◌==◌, if◌then◌else◌, Option, slice_get}
 use Rattle.std.specs.List.{Contains, find}
-use Rattle.std.specs.Option.{option_flatten, option_map_or}
+use Rattle.std.specs.Option.{option_map_or}
 use Rattle.exec_graph.specs.Entity.{EntityNo}
 use Rattle.exec_msg.specs.KeepLast.{displaced}
 use Rattle.exec_msg.specs.Kind.{ready_number}
@@ -10,7 +10,7 @@ use Rattle.exec_world.specs.Item.{taker_of}
 use Rattle.exec_world.specs.Ready.{is_before_polls}
 use Rattle.exec_world.specs.World.{Queue, is_queue}
 use Rattle.exec_world.specs.declared.item.Item.{Item}
-use Rattle.exec_world.specs.inner.Places.{first_place}
+use Rattle.exec_msg.specs.Places.{first_place, place_under}
 
 -- the number of a kind's queue of an entity
 abbrev pub slot_of : EntityNo → Kind → ℕ
@@ -38,7 +38,7 @@ is_in_part_at before queues place = option_map_or (is_in_part before) (slice_get
 
 -- a look-up by the number gives the place of the first queue of that entity and kind
 abbrev pub FindsQueues : List (Option ℕ) → List Queue → Type 0
-FindsQueues places queues = (entity : EntityNo) (kind : Kind) → option_flatten (slice_get places (slot_of entity kind)) ≡ first_place (is_queue entity kind) queues
+FindsQueues places queues = (entity : EntityNo) (kind : Kind) → place_under (slot_of entity kind) places ≡ first_place (is_queue entity kind) queues
 
 -- each queue with an item stands among these places
 abbrev pub CoversFilled : List ℕ → List Queue → Type 0

@@ -1,7 +1,7 @@
 use Rattle.std.proofs.Common.{None, slice_get, ap, sym, ◌∙◌}
 use Rattle.std.specs.Option.{option_map_or}
 use Rattle.exec_msg.specs.KeepLast.{displaced}
-use Rattle.exec_world.proofs.FirstPlaces.{written, change_at-beyond, read_at, none_beyond}
+use Rattle.exec_msg.proofs.FirstPlaces.{written, change_at-beyond, read_at, none_beyond}
 use Rattle.exec_world.specs.World.{queue_after}
 use Rattle.exec_world.proofs.queue.send_at.Goals as goal
 

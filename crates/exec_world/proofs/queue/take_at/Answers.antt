@@ -1,4 +1,4 @@
-use Rattle.exec_world.proofs.FirstPlaces.{written, change_at-beyond}
+use Rattle.exec_msg.proofs.FirstPlaces.{written, change_at-beyond}
 use Rattle.exec_world.specs.Ready.{queue_taken}
 use Rattle.exec_world.proofs.queue.take_at.Goals as goal
 

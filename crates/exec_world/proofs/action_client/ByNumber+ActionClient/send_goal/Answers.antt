@@ -17,7 +17,7 @@ returns-in_default-clause-sent c =
 
 pub invariant_of-self-2 : goal.invariant_of-self-2
 invariant_of-self-2 c =
-    finds_set (λ (entry : ActionClientEntry). entry.entity) c.self.inside.places.items c.self.inside.entries.items c.place-place.result c.in-Some.entry.now c.send_goal.new.self c.self.invariant c.in-Some.ensures.value
+    finds_set (λ (entry : ActionClientEntry). entry.entity) c.self.inside.places c.self.inside.entries.items c.place-place.result c.in-Some.entry.now c.send_goal.new.self c.self.invariant c.in-Some.ensures.value
     (ap (λ (entry : ActionClientEntry). entry.entity) c.in_ok-number.ensures.sent)
 
 pub returns-clause-made : goal.returns-clause-made

@@ -15,7 +15,7 @@ returns-in_default-clause-called c =
 
 pub invariant_of-self-2 : goal.invariant_of-self-2
 invariant_of-self-2 c =
-    finds_set (λ (entry : ClientEntry). entry.entity) c.self.inside.places.items c.self.inside.entries.items c.place-place.result c.in-Some.entry.now c.call.new.self c.self.invariant c.in-Some.ensures.value
+    finds_set (λ (entry : ClientEntry). entry.entity) c.self.inside.places c.self.inside.entries.items c.place-place.result c.in-Some.entry.now c.call.new.self c.self.invariant c.in-Some.ensures.value
     (ap (λ (entry : ClientEntry). entry.entity) c.in_ok-number.ensures.called)
 
 pub returns-clause-made : goal.returns-clause-made

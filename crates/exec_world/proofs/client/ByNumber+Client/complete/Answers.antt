@@ -10,7 +10,7 @@ returns-in_default c =
 
 pub invariant_of-self-2 : goal.invariant_of-self-2
 invariant_of-self-2 c =
-    finds_set (λ (entry : ClientEntry). entry.entity) c.self.inside.places.items c.self.inside.entries.items c.place-place.result c.in-Some.entry.now c.complete.new.self c.self.invariant c.in-Some.ensures.value
+    finds_set (λ (entry : ClientEntry). entry.entity) c.self.inside.places c.self.inside.entries.items c.place-place.result c.in-Some.entry.now c.complete.new.self c.self.invariant c.in-Some.ensures.value
     (ap (λ (entry : ClientEntry). entry.entity) c.complete.ensures)
 
 pub returns : goal.returns

@@ -11,7 +11,7 @@ invariant_of-self c =
     let taken : c.take_each.new.cells.items ≡ map queue_taken c.self.inside.cells.items =
     c.take_each.ensures ∙ ap (λ places. change_each places queue_taken c.self.inside.cells.items) (c.deref-2.ensures.value ∙ c.settle.ensures.value covered ∙ ap (places_where has_item) c.deref.ensures.value) ∙ all_taken c.self.inside.cells.items in
     let kept = c.keep_filled.ensures ∙ (λ i. filter (λ place. is_filled_at (c.deref-3.ensures.value i) place) c.settle.new.places.items) in (
-      finds_taken c.self.inside.places.items c.self.inside.cells.items c.take_each.new.cells.items c.self.invariant.0 taken,
+      finds_taken c.self.inside.places c.self.inside.cells.items c.take_each.new.cells.items c.self.invariant.0 taken,
       filled_covers c.take_each.new.cells.items c.settle.new.places.items c.keep_filled.new.places.items kept
           (covers_taken c.settle.new.places.items c.self.inside.cells.items c.take_each.new.cells.items (subst (CoversFilled c.settle.new.places.items) c.deref.ensures.value (c.settle.ensures.covers covered)) taken),
       λ settled. absurd (true≢false (sym settled)),

@@ -1,4 +1,4 @@
-use Rattle.std.proofs.Common.{◌≡◌, ◌≤◌, true, false, rules, subst, sym, ◌∙◌, true≢false}
+use Rattle.std.proofs.Common.{subst, sym, ◌∙◌, true≢false}
 use Rattle.std.specs.Arc.{arc_value}
 use Rattle.exec_world.proofs.Sound.{not_refused, round_sound}
 use Rattle.exec_world.specs.World.{WorldState}

@@ -1,7 +1,8 @@
 use Rattle.std.proofs.Common.{◌≡◌, ◌==◌, ◌≤◌, List, false, length, rules, ap, subst, sym, ◌∙◌}
 use Rattle.std.specs.Arc.{arc_value}
 use Rattle.exec_world.proofs.Sound.{begun_sound, fed_sound, not_refused, snapshot_home}
-use Rattle.exec_world.specs.Calls.{AreHome, WorldData}
+use Rattle.exec_world.proofs.Grouped.{snapshot_variables}
+use Rattle.exec_world.specs.Calls.{AreHome, HaveVariables, WorldData}
 use Rattle.exec_msg.specs.declared.line.Line.TheVariants as line
 use Rattle.exec_world.specs.Ready.{ready_list}
 use Rattle.exec_world.specs.Transcript.{expire, feed}
@@ -31,3 +32,14 @@ returns-clause-home g c =
     let before : WorldState = feed c.fed_in.result.now (expire c.index-moments-round.result (add_line (line.Round c.args.round c.index-moments-round.result) c.self.inside.state)) in
     subst (λ (list : List Ready). AreHome list c.begin_round-begun.new.self) (sym (c.into_vec.ensures ∙ listed))
     (subst (λ (state : WorldState). AreHome (ready_list c.index-moments-round.result before) state) (sym taken) (snapshot_home plan.graph c.index-moments-round.result before (fed_sound plan.graph c.args.round c.index-moments-round.result c.fed_in.result.now c.self.inside.state (c.self.invariant.3 unfailed))))
+
+pub returns-clause-variables : goal.returns-clause-variables
+returns-clause-variables g c =
+    let plan = arc_value c.self.inside.plan in
+    let told = sym c.is_err.ensures.value ∙ c.if-is_err.false in
+    let listed = not_refused _ _ told c.begin_round-begun.ensures.list in
+    let taken = not_refused _ _ told c.begin_round-begun.ensures.taken in
+    let unfailed : c.self.inside.failed ≡ false = ap (λ (world : WorldData). world.failed) c.self.view_is ∙ c.in_ok-check.ensures.ok in
+    let before : WorldState = feed c.fed_in.result.now (expire c.index-moments-round.result (add_line (line.Round c.args.round c.index-moments-round.result) c.self.inside.state)) in
+    subst (λ (list : List Ready). HaveVariables list c.begin_round-begun.new.self) (sym (c.into_vec.ensures ∙ listed))
+    (subst (λ (state : WorldState). HaveVariables (ready_list c.index-moments-round.result before) state) (sym taken) (snapshot_variables plan.graph c.index-moments-round.result before (fed_sound plan.graph c.args.round c.index-moments-round.result c.fed_in.result.now c.self.inside.state (c.self.invariant.3 unfailed)).shape))

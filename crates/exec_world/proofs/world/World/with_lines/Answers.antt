@@ -1,4 +1,4 @@
-use Rattle.std.proofs.Common.{◌≡◌, ◌≤◌, length, true, false, rules, ap, subst, sym, ◌∙◌, true≢false}
+use Rattle.std.proofs.Common.{◌≡◌, length, rules, ap, subst, sym, ◌∙◌, true≢false}
 use Rattle.std.specs.Arc.{arc_value}
 use Rattle.exec_graph.specs.Feeding.{feeds_by_round}
 use Rattle.exec_graph.specs.Graph.{GraphData}

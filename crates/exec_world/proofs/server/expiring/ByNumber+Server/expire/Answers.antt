@@ -4,6 +4,6 @@ use Rattle.exec_world.proofs.server.expiring.ByNumber+Server.expire.Goals as goa
 
 pub invariant_of-self : goal.invariant_of-self
 invariant_of-self g c =
-    finds_alike c.self.inside.places.items c.self.inside.entries.items _
+    finds_alike c.self.inside.places c.self.inside.entries.items _
     (mapped_back (λ (server : ServerEntry). server.handler.entity) c.self.inside.entries.items c.deref_mut.result.now c.expire_each.new.servers c.self.inside.entries.len c.expire_each.ensures.numbers c.deref_mut.ensures.value c.deref_mut.ensures.len)
     c.self.invariant

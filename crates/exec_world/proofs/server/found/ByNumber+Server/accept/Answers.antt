@@ -14,7 +14,7 @@ accept-requires-clause-room c =
 
 pub invariant_of-self-2 : goal.invariant_of-self-2
 invariant_of-self-2 c =
-    finds_set number_of c.self.inside.places.items c.self.inside.entries.items c.place-place.result c.in-Some.entry.now c.accept.new.self c.self.invariant c.in-Some.ensures.value
+    finds_set number_of c.self.inside.places c.self.inside.entries.items c.place-place.result c.in-Some.entry.now c.accept.new.self c.self.invariant c.in-Some.ensures.value
     (ap number_of c.in_ok-accept.ensures.accepted)
 
 pub returns : goal.returns

@@ -16,7 +16,7 @@ returns-in_default-clause-noted c =
 
 pub invariant_of-self-2 : goal.invariant_of-self-2
 invariant_of-self-2 c =
-    finds_set number_of c.self.inside.places.items c.self.inside.entries.items c.place-place.result c.in-Some.entry.now c.ask.new.self c.self.invariant c.in-Some.ensures.value
+    finds_set number_of c.self.inside.places c.self.inside.entries.items c.place-place.result c.in-Some.entry.now c.ask.new.self c.self.invariant c.in-Some.ensures.value
     (ap number_of c.in_ok-told.ensures.noted)
 
 pub returns-clause-told : goal.returns-clause-told

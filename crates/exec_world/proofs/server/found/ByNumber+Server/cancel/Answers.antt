@@ -22,7 +22,7 @@ returns-in_default-clause-table c = unchanged (is_server_at c.args.server) c.sel
 
 pub invariant_of-self-2 : goal.invariant_of-self-2
 invariant_of-self-2 c =
-    finds_set number_of c.self.inside.places.items c.self.inside.entries.items c.place-place.result c.in-Some.entry.now c.cancel.new.self c.self.invariant c.in-Some.ensures.value
+    finds_set number_of c.self.inside.places c.self.inside.entries.items c.place-place.result c.in-Some.entry.now c.cancel.new.self c.self.invariant c.in-Some.ensures.value
     (ap number_of c.in_ok-answer-2.ensures.table)
 
 pub returns-clause-code : goal.returns-clause-code

@@ -16,7 +16,7 @@ pub invariant_of-self-2 : goal.invariant_of-self-2
 invariant_of-self-2 c =
     let ended : IfSome c.end.result (λ _. c.end.new.self ≡ with_goals (change_first (has_id c.args.id) (after_end c.args.event c.args.value c.args.moment)) c.in_ok-entry.entry.now) =
     subst (λ (value : ℤ). IfSome c.end.result (λ _. c.end.new.self ≡ with_goals (change_first (has_id c.args.id) (after_end c.args.event value c.args.moment)) c.in_ok-entry.entry.now)) (to_z-of_z c.ranges.value) c.end.ensures.ended in
-    finds_set number_of c.self.inside.places.items c.self.inside.entries.items c.place-place.result c.in_ok-entry.entry.now c.end.new.self c.self.invariant c.in_ok-entry.ensures.value
+    finds_set number_of c.self.inside.places c.self.inside.entries.items c.place-place.result c.in_ok-entry.entry.now c.end.new.self c.self.invariant c.in_ok-entry.ensures.value
     (number_ended c.end.result (change_first (has_id c.args.id) (after_end c.args.event c.args.value c.args.moment)) c.in_ok-entry.entry.now c.end.new.self ended c.end.ensures.refused)
 
 pub returns-clause-reached : goal.returns-clause-reached

@@ -19,7 +19,7 @@ returns-in_err-entry-clause-executed c =
 
 pub invariant_of-self-2 : goal.invariant_of-self-2
 invariant_of-self-2 c =
-    finds_set number_of c.self.inside.places.items c.self.inside.entries.items c.place-place.result c.in_ok-entry.entry.now c.execute_oldest.new.self c.self.invariant c.in_ok-entry.ensures.value
+    finds_set number_of c.self.inside.places c.self.inside.entries.items c.place-place.result c.in_ok-entry.entry.now c.execute_oldest.new.self c.self.invariant c.in_ok-entry.ensures.value
     (ap number_of c.execute_oldest.ensures.executed)
 
 pub returns-clause-found : goal.returns-clause-found

@@ -26,7 +26,7 @@ returns-in_default-clause-task c =
 
 pub invariant_of-self-2 : goal.invariant_of-self-2
 invariant_of-self-2 c =
-    finds_set number_of c.self.inside.places.items c.self.inside.entries.items c.place-place.result c.in-Some.entry.now c.poll.new.self c.self.invariant c.in-Some.ensures.value
+    finds_set number_of c.self.inside.places c.self.inside.entries.items c.place-place.result c.in-Some.entry.now c.poll.new.self c.self.invariant c.in-Some.ensures.value
     (ap number_of c.in_ok-close.ensures.task ∙ number_polled c.args.id (goal_polled c.args.turn.now c.args.id c.in-Some.entry.now c.args.bank.now).task c.in-Some.entry.now)
 
 pub returns-clause-effects : goal.returns-clause-effects

@@ -10,7 +10,7 @@ returns-in_default c = unchanged (is_server_at c.args.server) c.self.inside.entr
 
 pub invariant_of-self-2 : goal.invariant_of-self-2
 invariant_of-self-2 c =
-    finds_set number_of c.self.inside.places.items c.self.inside.entries.items c.place-place.result c.in-Some.entry.now c.put_task.new.self c.self.invariant c.in-Some.ensures.value
+    finds_set number_of c.self.inside.places c.self.inside.entries.items c.place-place.result c.in-Some.entry.now c.put_task.new.self c.self.invariant c.in-Some.ensures.value
     (ap number_of c.put_task.ensures)
 
 pub returns : goal.returns

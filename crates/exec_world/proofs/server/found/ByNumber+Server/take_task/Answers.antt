@@ -15,7 +15,7 @@ returns-in_err-entry-clause-out c = unchanged (is_server_at c.args.server) c.sel
 
 pub invariant_of-self-2 : goal.invariant_of-self-2
 invariant_of-self-2 c =
-    finds_set number_of c.self.inside.places.items c.self.inside.entries.items c.place-place.result c.in_ok-entry.entry.now c.take_task.new.self c.self.invariant c.in_ok-entry.ensures.value
+    finds_set number_of c.self.inside.places c.self.inside.entries.items c.place-place.result c.in_ok-entry.entry.now c.take_task.new.self c.self.invariant c.in_ok-entry.ensures.value
     (ap number_of c.take_task.ensures.out)
 
 pub returns-clause-taken : goal.returns-clause-taken

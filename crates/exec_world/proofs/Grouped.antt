@@ -1,0 +1,118 @@
+-- The callbacks of a snapshot have the variables of their groups.
+use Rattle.std.proofs.Common.{◌≡◌, ℕ, suc, ◌<◌, Bool, true, false, List, [], ◌∷◌, ◌++◌, length, slice_get, Option, None, Some, refl, sym, ap, subst, ◌∙◌, true≢false}
+use Rattle.std.specs.List.{AllByRecursion, filter, flat_map}
+use Rattle.std.specs.Option.{option_map_or}
+use Rattle.std.proofs.lemmas.List.{length-replicate}
+use Rattle.std.proofs.lemmas.Option.{slice_get_within}
+use Rattle.exec_graph.specs.Graph.{GraphData, GroupNo, group_of, declared_at, is_exclusive, is_server, is_timer, entities_where, wait_set}
+use Rattle.exec_graph.specs.Entity.{EntityNo}
+use Rattle.exec_graph.specs.declared.entity.CallbackGroup.{CallbackGroup}
+use Rattle.exec_msg.specs.Timer.{is_due}
+use Rattle.exec_msg.specs.declared.kind.Kind.{Kind}
+use Rattle.exec_msg.specs.declared.kind.Kind.TheVariants as kind
+use Rattle.exec_script.specs.Zeros.{zeros}
+use Rattle.exec_world.proofs.Pairs.{all_append, all_filter, all_flat_where, all_map, all_mapped, all_unmapped}
+use Rattle.exec_world.specs.Calls.{HaveVariables}
+use Rattle.exec_world.specs.LawWords.{queue_shape, server_shape, shape_of, timer_shape}
+use Rattle.exec_world.specs.Ready.{due_ready, is_goal_awake, item_ready, poll_ready, placed_from, queue_ready, queues_before_polls, queues_behind_polls, ready_list, take_inputs}
+use Rattle.exec_world.specs.Transcript.{first_world, handler_of, new_queue, new_server, new_timer, takes_from_queue}
+use Rattle.exec_world.specs.World.{Handler, Moment, Queue, ServerEntry, TimerEntry, WorldState, goals_of}
+use Rattle.exec_world.specs.declared.item.Item.{Item}
+use Rattle.exec_world.specs.declared.ready.Ready.{Ready}
+
+-- ---- the groups of a graph
+
+-- a mutually exclusive group is one of the graph's
+group_within : (graph : GraphData) (group : GroupNo) → is_exclusive graph group ≡ true → group < length graph.groups
+group_within graph group exclusive = by (slice_get graph.groups group) refl exclusive
+  where
+    by : (found : Option CallbackGroup) → slice_get graph.groups group ≡ found → option_map_or (λ (one : CallbackGroup). one.exclusive) found false ≡ true → group < length graph.groups
+    by None e is = absurd (true≢false (sym is))
+    by (Some one) e is = slice_get_within graph.groups group one e
+
+-- the group of a callback, where it is mutually exclusive, is below this number
+abbrev IsBelow : ℕ → Handler → Type 0
+IsBelow groups handler = handler.exclusive ≡ true → handler.group < groups
+
+handler_within : (graph : GraphData) (of : Kind) (number : EntityNo) → IsBelow (length graph.groups) (handler_of graph of number)
+handler_within graph of number exclusive = group_within graph (group_of (declared_at graph number)) exclusive
+
+-- ---- the callbacks of a world
+
+record AreBelow (groups : ℕ) (world : WorldState) : Type 0 where
+  timers : AllByRecursion (λ entry. IsBelow groups entry.handler) world.timers
+  queues : AllByRecursion (λ queue. IsBelow groups queue.handler) world.queues
+  servers : AllByRecursion (λ entry. IsBelow groups entry.handler) world.servers
+
+-- those of a world of this shape
+all_below : (graph : GraphData) (world : WorldState) → shape_of world ≡ shape_of (first_world graph) → AreBelow (length graph.groups) world
+all_below graph world same =
+    let groups : ℕ = length graph.groups in
+    record {
+      timers = all_unmapped (λ entry. IsBelow groups entry.handler) timer_shape world.timers
+          (subst (λ (timers : List TimerEntry). AllByRecursion (λ entry. IsBelow groups entry.handler) timers) (sym (ap (λ (shape : WorldState). shape.timers) same))
+          (all_mapped (λ entry. IsBelow groups entry.handler) (λ entry. IsBelow groups entry.handler) timer_shape (λ entry below. below) _ (all_map (λ entry. IsBelow groups entry.handler) (new_timer graph) (λ number. handler_within graph kind.Timer number) (entities_where is_timer graph))));
+      queues = all_unmapped (λ queue. IsBelow groups queue.handler) queue_shape world.queues
+          (subst (λ (queues : List Queue). AllByRecursion (λ queue. IsBelow groups queue.handler) queues) (sym (ap (λ (shape : WorldState). shape.queues) same))
+          (all_mapped (λ queue. IsBelow groups queue.handler) (λ queue. IsBelow groups queue.handler) queue_shape (λ queue below. below) _ (all_map (λ queue. IsBelow groups queue.handler) (new_queue graph) (λ waitable. handler_within graph waitable.kind waitable.entity) (filter (λ waitable. takes_from_queue waitable.kind) (wait_set graph)))));
+      servers = all_unmapped (λ entry. IsBelow groups entry.handler) server_shape world.servers
+          (subst (λ (servers : List ServerEntry). AllByRecursion (λ entry. IsBelow groups entry.handler) servers) (sym (ap (λ (shape : WorldState). shape.servers) same))
+          (all_mapped (λ entry. IsBelow groups entry.handler) (λ entry. IsBelow groups entry.handler) server_shape (λ entry below. below) _ (all_map (λ entry. IsBelow groups entry.handler) (new_server graph) (λ number. handler_within graph kind.Poll number) (entities_where is_server graph))));
+    }
+
+-- it has variables for each group
+groups_kept : (graph : GraphData) (world : WorldState) → shape_of world ≡ shape_of (first_world graph) → length graph.groups ≡ length world.variables
+groups_kept graph world same =
+    sym (length-replicate (length graph.groups) zeros)
+    ∙ sym (length-replicate (length (first_world graph).variables) zeros)
+    ∙ sym (ap (λ (shape : WorldState). length shape.variables) same)
+    ∙ length-replicate (length world.variables) zeros
+
+-- ---- the ready list
+
+-- the same of a ready callback
+abbrev IsReadyBelow : ℕ → Ready → Type 0
+IsReadyBelow groups one = one.exclusive ≡ true → one.group < groups
+
+due_below : (groups : ℕ) (moment : Moment) (entry : TimerEntry) → IsBelow groups entry.handler → AllByRecursion (IsReadyBelow groups) (due_ready moment entry)
+due_below groups moment entry below = by (is_due entry.timer moment) refl
+  where
+    by : (b : Bool) → is_due entry.timer moment ≡ b → AllByRecursion (IsReadyBelow groups) (due_ready moment entry)
+    by true e = rw e (below, tt)
+    by false e = rw e tt
+
+taken_below : (groups : ℕ) (moment : Moment) (world : WorldState) (queue : Queue) → IsBelow groups queue.handler → AllByRecursion (IsReadyBelow groups) (queue_ready moment world queue)
+taken_below groups moment world queue below = by queue.items
+  where
+    by : (items : List Item) → AllByRecursion (IsReadyBelow groups) (item_ready moment queue.handler (goals_of queue.handler.entity world) items)
+    by [] = tt
+    by (first ∷ items) = (below, tt)
+
+polls_below : (groups : ℕ) (moment : Moment) (entry : ServerEntry) → IsBelow groups entry.handler → AllByRecursion (IsReadyBelow groups) (poll_ready moment entry)
+polls_below groups moment entry below = all_map (IsReadyBelow groups) _ (λ goal. below) (filter (is_goal_awake moment entry.held) entry.goals)
+
+placed_below : (groups position : ℕ) (list : List Ready) → AllByRecursion (IsReadyBelow groups) list → AllByRecursion (IsReadyBelow groups) (placed_from position list)
+placed_below groups position [] p = tt
+placed_below groups position (one ∷ list) p = (p.0, placed_below groups (suc position) list p.1)
+
+listed_below : (groups : ℕ) (moment : Moment) (world : WorldState) → AreBelow groups world → AllByRecursion (IsReadyBelow groups) (ready_list moment world)
+listed_below groups moment world below =
+    let taken : (test : Queue → Bool) → AllByRecursion (IsReadyBelow groups) (flat_map (queue_ready moment world) (filter test world.queues)) =
+    λ test. all_flat_where (λ queue. IsBelow groups queue.handler) (IsReadyBelow groups) (queue_ready moment world) (taken_below groups moment world) (filter test world.queues) (all_filter (λ queue. IsBelow groups queue.handler) test world.queues below.queues) in
+    let timers : List Ready = flat_map (due_ready moment) world.timers in
+    let before : List Ready = flat_map (queue_ready moment world) (queues_before_polls world) in
+    let polls : List Ready = flat_map (poll_ready moment) world.servers in
+    let behind : List Ready = flat_map (queue_ready moment world) (queues_behind_polls world) in
+    placed_below groups 1 (timers ++ before ++ polls ++ behind)
+    (all_append (IsReadyBelow groups) (timers ++ before ++ polls) behind
+    (all_append (IsReadyBelow groups) (timers ++ before) polls
+    (all_append (IsReadyBelow groups) timers before
+    (all_flat_where (λ entry. IsBelow groups entry.handler) (IsReadyBelow groups) (due_ready moment) (due_below groups moment) world.timers below.timers) (taken _))
+    (all_flat_where (λ entry. IsBelow groups entry.handler) (IsReadyBelow groups) (poll_ready moment) (polls_below groups moment) world.servers below.servers))
+    (taken _))
+
+-- the callbacks of a snapshot have the variables of their groups
+pub snapshot_variables : (graph : GraphData) (moment : Moment) (world : WorldState) → shape_of world ≡ shape_of (first_world graph) → HaveVariables (ready_list moment world) (take_inputs moment world)
+snapshot_variables graph moment world same =
+    subst (λ (groups : ℕ). AllByRecursion (IsReadyBelow groups) (ready_list moment world)) (groups_kept graph world same)
+    (listed_below (length graph.groups) moment world (all_below graph world same))
