@@ -1,8 +1,7 @@
 -- Which lanes a callback group has.
-use Rattle.std.proofs.Common.{◌≡◌, ℕ, Bool, true, false, not, cond, if◌then◌else◌, ◌&&◌, ◌||◌, ◌==◌, List, [], ◌∷◌, ◌++◌, map, refl, sym, ap, ◌∙◌, true≢false}
+use Rattle.std.proofs.Common.{◌≡◌, ℕ, Bool, true, false, not, cond, ◌&&◌, ◌||◌, ◌==◌, List, [], ◌∷◌, ◌++◌, map, refl, sym, ap, ◌∙◌, true≢false}
 use Rattle.std.specs.List.{AllByRecursion, filter, fold, list_any}
 use Rattle.std.proofs.lemmas.Bool.{and_parts, eqb-true, eq-eqb}
-use Rattle.std.proofs.lemmas.List.Elements.{filter-append}
 use Rattle.exec_graph.specs.Graph.{GroupNo}
 use Rattle.exec_lane.specs.Lane.{as_lane, goes_into, has_exclusive, is_beside, is_of_exclusive, lanes_of, with_callback}
 use Rattle.exec_msg.specs.Lists.{change_first}

@@ -1,14 +1,14 @@
 -- A slot goes into the lane that its group's look-up gives.
-use Rattle.std.proofs.Common.{◌≡◌, ℕ, zero, suc, ◌<◌, ◌&&◌, ◌||◌, ◌==◌, Bool, true, false, if◌then◌else◌, length, List, [], ◌∷◌, ◌++◌, Option, None, Some, map, slice_get, slice_set, get_or, refl, sym, ap, ◌∙◌, true≢false}
+use Rattle.std.proofs.Common.{◌≡◌, ℕ, zero, suc, ◌<◌, ◌&&◌, ◌||◌, ◌==◌, Bool, true, false, if◌then◌else◌, length, List, [], ◌∷◌, ◌++◌, Option, None, Some, map, slice_set, get_or, refl, sym, ap, ◌∙◌, true≢false}
 use Rattle.std.specs.List.{list_any}
-use Rattle.std.specs.Option.{option_flatten, option_map}
+use Rattle.std.specs.Option.{option_map}
 use Rattle.std.proofs.lemmas.Bool.{and_parts, eqb-true, eq-eqb, both_ways}
 use Rattle.exec_graph.specs.Graph.{GroupNo}
 use Rattle.exec_lane.specs.inner.Cuts.{FindsLanes, is_lane_of, joined, place_for, takes, with_slot}
 use Rattle.exec_lane.specs.inner.Slots.{SlotState}
 use Rattle.exec_msg.specs.Lists.{change_first}
-use Rattle.exec_world.proofs.FirstPlaces.{change_first-first_place, first_place-behind, first_place-within, noted_at, place_or}
-use Rattle.exec_world.specs.inner.Places.{change_at, first_place, noted}
+use Rattle.exec_msg.proofs.FirstPlaces.{change_first-first_place, first_place-behind, first_place-within, noted_at, place_or}
+use Rattle.exec_msg.specs.Places.{change_at, first_place, noted, place_under}
 
 -- ---- what a look-up gives is what the definition asks
 
@@ -96,11 +96,11 @@ finds_joined places slot lanes after place finds at is = λ other.
 
 -- a lane that begins is found where no other is
 pub finds_begun : (old made new : List (Option ℕ)) (lanes : List (List SlotState)) (slot : SlotState) (group : ℕ) → FindsLanes old lanes
-    → ((other : ℕ) → option_flatten (slice_get made other) ≡ option_flatten (slice_get old other)) → group < length made
+    → ((other : ℕ) → place_under other made ≡ place_under other old) → group < length made
     → group ≡ slot.ready.group → slot.ready.exclusive ≡ true → new ≡ change_at group (noted (length lanes)) made
     → FindsLanes new (lanes ++ (slot ∷ []) ∷ [])
 finds_begun old made new lanes slot group finds same within is_group exclusive is = λ other.
-    ap (λ places. option_flatten (slice_get places other)) is
+    ap (λ places. place_under other places) is
     ∙ noted_at (is_lane_of other (slot ∷ [])) (length lanes) group other made within
     (λ yes. is_group ∙ sym (eqb-true other slot.ready.group (and_parts slot.ready.exclusive (other == slot.ready.group) yes).1))
     (λ no here. both_ways (other == slot.ready.group) (sym (ap (λ (b : Bool). b && (other == slot.ready.group)) exclusive) ∙ no) (eq-eqb other slot.ready.group (sym here ∙ is_group)))
@@ -113,7 +113,7 @@ kept_alone (Some place) n = refl
 
 -- and one of a reentrant group by no group
 pub finds_alone : (old made : List (Option ℕ)) (lanes : List (List SlotState)) (slot : SlotState) → FindsLanes old lanes
-    → ((other : ℕ) → option_flatten (slice_get made other) ≡ option_flatten (slice_get old other)) → slot.ready.exclusive ≡ false
+    → ((other : ℕ) → place_under other made ≡ place_under other old) → slot.ready.exclusive ≡ false
     → FindsLanes made (lanes ++ (slot ∷ []) ∷ [])
 finds_alone old made lanes slot finds same alone = λ other.
     same other ∙ finds other
@@ -122,16 +122,6 @@ finds_alone old made lanes slot finds same alone = λ other.
     ∙ sym (first_place-behind (is_lane_of other) lanes (slot ∷ []))
 
 -- ---- as the code has them
-
--- what a look-up answers
-pub placed : (slot : SlotState) (places : List (Option ℕ)) (lanes held : List (List SlotState)) → FindsLanes places lanes → lanes ≡ held → slot.ready.exclusive ≡ true
-    → (asked : List (Option ℕ)) → asked ≡ places → (group : ℕ) → group ≡ slot.ready.group → (found : Option ℕ) → found ≡ option_flatten (slice_get asked group) → found ≡ place_for slot held
-placed slot places lanes held finds views exclusive asked same group is_group found is =
-    is
-    ∙ (λ i. option_flatten (slice_get (same i) (is_group i)))
-    ∙ finds slot.ready.group
-    ∙ ap (first_place (is_lane_of slot.ready.group)) views
-    ∙ sym (ap (λ (b : Bool). if b then first_place (is_lane_of slot.ready.group) held else None) exclusive)
 
 module _ {A : Type 0} (f : A → List SlotState) where
   -- a lane with a slot more is written to its place

@@ -1,6 +1,10 @@
+pub mod AllHome
 pub mod BringingHome
+pub mod ComingHome
+pub mod Crossing
 pub mod Cutting
 pub mod Groups
 pub mod Joining
+pub mod Putting
 pub mod Stepping
 pub mod Taken

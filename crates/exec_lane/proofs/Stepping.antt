@@ -1,5 +1,5 @@
 -- One more callback of a lane.
-use Rattle.std.proofs.Common.{◌≡◌, ℕ, zero, suc, ◌+◌, ◌<◌, ◌≤◌, List, [], ◌∷◌, ◌++◌, length, map, take, slice_index_or, slice_set, Option, Some, refl, sym, ap, subst, ◌∙◌, false, true≢false, arith}
+use Rattle.std.proofs.Common.{◌≡◌, ℕ, zero, suc, ◌+◌, ◌<◌, ◌≤◌, List, [], ◌∷◌, ◌++◌, length, take, slice_index_or, slice_set, Some, refl, sym, ap, ◌∙◌, false, true≢false, arith}
 use Rattle.std.specs.List.{fold}
 use Rattle.std.specs.Result.{OnOk, is_err}
 use Rattle.std.specs.declared.result.Result.{Result}

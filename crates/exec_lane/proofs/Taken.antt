@@ -1,10 +1,9 @@
 -- Callbacks are cut into lanes while the tasks of their goals leave the world.
-use Rattle.std.proofs.Common.{◌≡◌, ℕ, ◌&&◌, ◌||◌, ◌==◌, Bool, true, false, if◌then◌else◌, List, [], ◌∷◌, ◌++◌, Option, None, Some, map, find, slice_index_or, reverse, refl, sym, ap, subst, ◌∙◌, true≢false}
+use Rattle.std.proofs.Common.{◌≡◌, ℕ, ◌&&◌, ◌||◌, ◌==◌, Bool, true, false, if◌then◌else◌, List, [], ◌∷◌, ◌++◌, Option, None, map, slice_index_or, reverse, refl, sym, ap, subst, ◌∙◌, true≢false}
 use Rattle.std.specs.List.{AllByRecursion, IsDistinct, fold, list_any}
-use Rattle.std.specs.Option.{option_and_then, option_map_or}
-use Rattle.std.proofs.lemmas.Bool.{eqb-true, eq-eqb, both_ways}
 use Rattle.std.proofs.lemmas.List.{append_assoc, reverse-append, reverse-reverse}
 use Rattle.exec_graph.specs.Entity.{EntityNo}
+use Rattle.exec_lane.proofs.Putting.{apart_work, left_by_put, out_is}
 use Rattle.exec_lane.specs.Lane.{Lane, entry_in, goes_into, lanes_of, opened, opened_lanes, tasks_out, variables_at, with_callback, without_task}
 use Rattle.exec_lane.specs.inner.Cuts.{callbacks_of, cut_from, joined, opened_slots, slot_in, takes, with_slot}
 use Rattle.exec_lane.specs.inner.Slots.{SlotState, entries_of}
@@ -13,71 +12,16 @@ use Rattle.exec_script.specs.Zeros.{zeros}
 use Rattle.exec_world.specs.Calls.{WorldData, AreHome, IsHomeFor, polls_same, polls_same_of, wakes}
 use Rattle.exec_world.specs.Item.{GoalId}
 use Rattle.exec_world.specs.Run.{work_for}
-use Rattle.exec_world.specs.World.{GoalWork, HeldGoal, ServerEntry, Variables, WorldState, is_for, is_server_at, with_work, work_at}
+use Rattle.exec_world.specs.World.{Variables, WorldState, with_work}
 use Rattle.exec_world.specs.declared.ready.Cause.{Cause}
 use Rattle.exec_world.specs.declared.ready.Cause.TheVariants as cause
 use Rattle.exec_world.specs.declared.ready.Ready.{Ready}
 
 -- ---- a task that leaves the world leaves the others there
 
--- what is found where something else is changed
-found_apart : {A B : Type 0} (test other : A → Bool) (change : A → A) (read : Option A → B) → ((x : A) → test (change x) ≡ test x) → ((x : A) → other x ≡ true → test x ≡ true → read (Some (change x)) ≡ read (Some x)) →
-    (xs : List A) → read (find test (change_first other change xs)) ≡ read (find test xs)
-found_apart test other change read keeps same [] = refl
-found_apart test other change read keeps same (x ∷ xs) = by (other x) refl (test x) refl (found_apart test other change read keeps same xs)
-  where
-    by : (b : Bool) → other x ≡ b → (d : Bool) → test x ≡ d → read (find test (change_first other change xs)) ≡ read (find test xs) → read (find test (change_first other change (x ∷ xs))) ≡ read (find test (x ∷ xs))
-    by true e true f rest = rw (e, keeps x, f) (same x e f)
-    by true e false f rest = rw (e, keeps x, f) refl
-    by false e true f rest = rw (e, f) refl
-    by false e false f rest = rw (e, f) rest
-
-abbrev emptied : HeldGoal → HeldGoal
-emptied held = record held { work = None }
-
-abbrev entry_emptied : GoalId → ServerEntry → ServerEntry
-entry_emptied id entry = record entry { held = change_first (is_for id) emptied entry.held }
-
-abbrev work_in : GoalId → Option ServerEntry → Option GoalWork
-work_in id found = option_and_then (λ held. held.work) (find (is_for id) (option_map_or (λ entry. entry.held) found []))
-
-abbrev work_held : Option HeldGoal → Option GoalWork
-work_held found = option_and_then (λ held. held.work) found
-
--- whether two goals are one
-abbrev is_same : EntityNo → GoalId → EntityNo → GoalId → Bool
-is_same server id other_server other = (id == other) && (server == other_server)
-
-apart_held : (id other : GoalId) → (id == other) ≡ false → (xs : List HeldGoal) → work_held (find (is_for other) (change_first (is_for id) emptied xs)) ≡ work_held (find (is_for other) xs)
-apart_held id other apart xs =
-    found_apart (is_for other) (is_for id) emptied work_held (λ x. refl)
-    (λ x one two. absurd (both_ways (id == other) apart (eq-eqb id other (sym (eqb-true x.id id one) ∙ eqb-true x.id other two)))) xs
-
--- the work of another goal stays
-apart_work : (server : EntityNo) (id : GoalId) (other_server : EntityNo) (other : GoalId) (world : WorldState) → is_same server id other_server other ≡ false →
-    work_at other_server other (with_work server id None world) ≡ work_at other_server other world
-apart_work server id other_server other world apart =
-    found_apart (is_server_at other_server) (is_server_at server) (entry_emptied id) (work_in other) (λ x. refl)
-    (λ x one two. by (eqb-true x.handler.entity server one) (eqb-true x.handler.entity other_server two) x) world.servers
-  where
-    by : {here : ℕ} → here ≡ server → here ≡ other_server → (x : ServerEntry) → work_in other (Some (entry_emptied id x)) ≡ work_in other (Some x)
-    by first second x = apart_held id other (again (id == other) refl) x.held
-      where
-        again : (b : Bool) → (id == other) ≡ b → (id == other) ≡ false
-        again false e = e
-        again true e = absurd (true≢false (sym (λ i. e i && eq-eqb server other_server (sym first ∙ second) i) ∙ apart))
-
-stays_by : (server : EntityNo) (id : GoalId) (entity : EntityNo) (of : Cause) (world : WorldState) → (wakes id of && (server == entity)) ≡ false →
-    work_for entity of (with_work server id None world) ≡ work_for entity of world
-stays_by server id entity cause.Due world apart = refl
-stays_by server id entity (cause.Took item) world apart = refl
-stays_by server id entity (cause.Woke other value canceling) world apart = apart_work server id entity other world apart
-
 work_stays : (server : EntityNo) (of : Cause) (other : Ready) (world : WorldState) → polls_same_of server of other ≡ false →
     work_for other.entity other.cause (without_task server of world) ≡ work_for other.entity other.cause world
-work_stays server cause.Due other world apart = refl
-work_stays server (cause.Took item) other world apart = refl
-work_stays server (cause.Woke id value canceling) other world apart = stays_by server id other.entity other.cause world apart
+work_stays server of other world apart = ap (work_for other.entity other.cause) (out_is server of world) ∙ left_by_put server of None other world apart
 
 slots_stay : (one : Ready) (list : List Ready) (world : WorldState) → AllByRecursion (λ other. polls_same one other ≡ false) list →
     map (slot_in (without_task one.entity one.cause world)) list ≡ map (slot_in world) list
@@ -182,7 +126,7 @@ opened_are list world home =
 home_by : (server : EntityNo) (id : GoalId) (entity : EntityNo) (of : Cause) (world : WorldState) → (wakes id of && (server == entity)) ≡ false → IsHomeFor entity of world → IsHomeFor entity of (with_work server id None world)
 home_by server id entity cause.Due world apart home = tt
 home_by server id entity (cause.Took item) world apart home = tt
-home_by server id entity (cause.Woke other value canceling) world apart home = (home.0, apart_work server id entity other world apart ∙ home.1)
+home_by server id entity (cause.Woke other value canceling) world apart home = (home.0, apart_work server id None entity other world apart ∙ home.1)
 
 home_stays : (server : EntityNo) (of : Cause) (other : Ready) (world : WorldState) → polls_same_of server of other ≡ false → IsHomeFor other.entity other.cause world → IsHomeFor other.entity other.cause (without_task server of world)
 home_stays server cause.Due other world apart home = home

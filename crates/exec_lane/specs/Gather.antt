@@ -3,6 +3,8 @@ use Rattle.std.specs.Prelude.{List, [], ◌∷◌, IsPermutation, IsSortedByKey}
 use Rattle.std.specs.Ordering.{nat_cmp}
 use Rattle.exec_lane.specs.Lane.{Done, Entry, Lane, state_of}
 use Rattle.exec_lane.specs.declared.gathering.Ran.{Ran}
+use Rattle.exec_script.specs.declared.effects.Effects.{Effects}
+use Rattle.exec_world.specs.declared.ready.Ready.{Ready}
 
 -- the callbacks that ran, each with what it did
 abbrev pub ran_each : List Entry → List Done → List Ran
@@ -12,6 +14,11 @@ ran_each _ _ = []
 -- the callbacks of a lane that ran
 abbrev pub ran_in : Lane → List Ran
 ran_in lane = ran_each lane.entries (state_of lane).done
+
+-- callbacks each of which did this
+abbrev pub all_ran : List Ready → List Effects → List Ran
+all_ran (one ∷ list) (effects ∷ others) = record { ready = one; effects = effects } ∷ all_ran list others
+all_ran _ _ = []
 
 -- these are the callbacks that ran, in ready order
 pub record AreGathered (ran all : List Ran) : Type 0 where

@@ -1,10 +1,8 @@
-ghost use Rattle.std.specs.Prelude.{◌≡◌, ◌<◌, ℕ, length, slice_get, OnOk};
-ghost use Rattle.std.specs.Option.{option_flatten};
-ghost use Rattle.exec_world.specs.inner.Places.{change_at, noted};
+ghost use Rattle.std.specs.Prelude.{◌≡◌, ◌<◌};
 
 use crate::lane_box::Slot;
 use exec_graph::GroupNo;
-use exec_msg::Memory;
+use exec_msg::{Memory, PlaceTable};
 use std::alloc::Global;
 use std::marker::Model;
 
@@ -13,7 +11,7 @@ use std::marker::Model;
 pub(crate) struct Cut {
     alloc: Global,
     lanes: Vec<Vec<Slot>>,
-    of_group: Vec<Option<usize>>,
+    of_group: PlaceTable,
 }
 
 impl Model for Cut {
@@ -25,13 +23,13 @@ impl Model for Cut {
 
     ghost view = { λ cut. map (λ lane. lane.items) cut.lanes.items };
 
-    ghost invariant = { λ cut. FindsLanes cut.of_group.items (map (λ lane. lane.items) cut.lanes.items) };
+    ghost invariant = { λ cut. FindsLanes cut.of_group (map (λ lane. lane.items) cut.lanes.items) };
 }
 
 impl Cut {
     ghost use Rattle.std.specs.Prelude.{◌≡◌, [], ◌∷◌, ◌++◌, map, None, Some, OnOk};
     ghost use Rattle.exec_lane.specs.inner.Cuts.{is_lane_of, joined, place_for, with_slot};
-    ghost use Rattle.exec_world.specs.inner.Places.{change_at, first_place};
+    ghost use Rattle.exec_msg.specs.Places.{change_at};
 
     // No lanes. It takes no memory.
     pub(crate) fn new(alloc: Global) -> Cut
@@ -40,7 +38,7 @@ impl Cut {
         Cut {
             alloc,
             lanes: Vec::new(alloc),
-            of_group: Vec::new(alloc),
+            of_group: PlaceTable::new(alloc),
         }
     }
 
@@ -68,10 +66,7 @@ impl Cut {
         if !slot.ready.exclusive {
             return None;
         }
-        match self.of_group.get(number_of(&slot.ready.group)) {
-            None => None,
-            Some(place) => *place,
-        }
+        self.of_group.get(number_of(&slot.ready.group))
     }
 
     // Adds a slot to the lane at this place, into which it goes.
@@ -90,13 +85,13 @@ impl Cut {
     {
         let exclusive = slot.ready.exclusive;
         let group = number_of(&slot.ready.group);
-        make_room(&mut self.of_group, group)?;
+        self.of_group.reserve(group)?;
         let place = self.lanes.as_slice().len();
         let mut lane = Vec::new(self.alloc);
         lane.push(slot)?;
         self.lanes.push(lane)?;
         if exclusive {
-            note_place(&mut self.of_group, group, place);
+            self.of_group.note(group, place);
         }
         Ok(())
     }
@@ -108,25 +103,4 @@ fn number_of(group: &GroupNo) -> usize
     ensures bound { result < 65536 }
 {
     group.0 as usize
-}
-
-// Makes room for a group, which gives what it gave.
-fn make_room(places: &mut Vec<Option<usize>>, group: usize) -> Result<(), Memory>
-    requires { group < 65536 }
-    ensures room { OnOk result (group < length places.new.items) }
-    ensures same { (other : ℕ) → option_flatten (slice_get places.new.items other) ≡ option_flatten (slice_get places.old.items other) }
-{
-    if group >= places.len() {
-        places.resize(group + 1, None)?;
-    }
-    Ok(())
-}
-
-// Lets a group give a place, where it gives none.
-fn note_place(places: &mut Vec<Option<usize>>, group: usize, place: usize)
-    ensures { places.new.items ≡ change_at group (noted place) places.old.items }
-{
-    if let Some(found) = places.get_mut(group) {
-        *found = Some(found.unwrap_or(place));
-    }
 }

@@ -6,6 +6,11 @@ pub trait Gate: Sync {
 
     /// What the callback at this position did has reached the collector of a streamed round.
     fn took(&self, position: usize);
+
+    /// Whether nobody watches, so that a worker alone may run a round in any way that gives its transcript.
+    fn is_open(&self) -> bool {
+        false
+    }
 }
 
 /// Nobody watches.
@@ -16,4 +21,8 @@ impl Gate for Open {
     fn pass(&self, _position: usize) {}
 
     fn took(&self, _position: usize) {}
+
+    fn is_open(&self) -> bool {
+        true
+    }
 }

@@ -1,13 +1,17 @@
 //! Laws of lanes: each function's contract says one, and its body is empty or calls the law that it rests on.
-ghost use Rattle.std.specs.Prelude.{◌≡◌, ◌≢◌, ◌≤◌, ℕ, List, [], ◌∷◌, length, map, Bool, not};
+ghost use Rattle.std.specs.Prelude.{◌≡◌, ◌≢◌, ◌≤◌, ℕ, List, [], ◌∷◌, length, map, Bool, not, IsPermutation};
 ghost use Rattle.std.specs.List.{filter, flat_map, list_any};
 ghost use Rattle.exec_graph.specs.Plan.{PlanData};
-ghost use Rattle.exec_lane.specs.Lane.{as_lane, has_exclusive, is_of_exclusive, lanes_of};
+ghost use Rattle.exec_lane.specs.Gather.{all_ran, ran_in};
+ghost use Rattle.exec_lane.specs.Lane.{AreFinished, Lane, as_lane, has_exclusive, is_of_exclusive, lanes_home, lanes_of, opened_lanes, tasks_out};
 ghost use Rattle.exec_msg.specs.declared.kind.Kind.{Kind};
 ghost use Rattle.exec_msg.specs.declared.kind.Kind.TheVariants as kind;
+ghost use Rattle.exec_world.specs.Calls.{AreHome, HaveVariables};
 ghost use Rattle.exec_world.specs.LawWords.{is_callback_of};
 ghost use Rattle.exec_world.specs.Ready.{ready_list};
+ghost use Rattle.exec_world.specs.Run.{all_apart, all_home};
 ghost use Rattle.exec_world.specs.Transcript.{at_snapshot, first_world, rounds};
+ghost use Rattle.exec_world.specs.World.{WorldState};
 ghost use Rattle.exec_world.specs.declared.ready.Ready.{Ready};
 
 /// Every ready callback stands in exactly one lane: whatever a test picks, all lanes together hold as many
@@ -37,3 +41,12 @@ pub fn lanes_share_no_queue()
 {
     exec_world::laws::an_entity_has_one_callback_of_a_kind();
 }
+
+/// Lanes that ran, in whatever threads and in whatever order, come home as their callbacks do that run one after another, and
+/// these did the same.
+pub fn lanes_come_home_as_one_thread_leaves_them()
+    ensures home { (list : List Ready) (world : WorldState) (lanes : List Lane) → AreHome list world → HaveVariables list world → AreFinished (opened_lanes list world) lanes →
+        lanes_home lanes (tasks_out list world) ≡ all_home list world }
+    ensures ran { (list : List Ready) (world : WorldState) (lanes : List Lane) → AreHome list world → HaveVariables list world → AreFinished (opened_lanes list world) lanes →
+        IsPermutation (flat_map ran_in lanes) (all_ran list (all_apart list world)) }
+{}

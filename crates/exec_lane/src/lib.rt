@@ -1,8 +1,8 @@
 //! Lanes: the ready callbacks of a round, cut apart by callback groups, so that they may run in any threads and in any order.
 #![tactic(auto)]
 
-pub mod examples;
 mod cut;
+pub mod examples;
 mod gate;
 mod gathering;
 mod lane_box;

@@ -1,7 +1,6 @@
 -- Slots of a round, cut into lanes.
-use Rattle.std.specs.Prelude.{◌≡◌, ℕ, List, [], ◌∷◌, ◌++◌, map, Bool, false, ◌&&◌, ◌==◌, if◌then◌else◌, Option, None, slice_get}
+use Rattle.std.specs.Prelude.{◌≡◌, ℕ, List, [], ◌∷◌, ◌++◌, map, Bool, false, ◌&&◌, ◌==◌, if◌then◌else◌, Option, None}
 use Rattle.std.specs.List.{list_any}
-use Rattle.std.specs.Option.{option_flatten}
 use Rattle.exec_graph.specs.Graph.{GroupNo}
 use Rattle.exec_lane.specs.Lane.{Lane, goes_into, variables_at, without_task}
 use Rattle.exec_lane.specs.inner.Slots.{SlotState, entries_of}
@@ -9,7 +8,7 @@ use Rattle.exec_msg.specs.Lists.{change_first}
 use Rattle.exec_world.specs.Run.{work_for}
 use Rattle.exec_world.specs.World.{WorldState}
 use Rattle.exec_world.specs.declared.ready.Ready.{Ready}
-use Rattle.exec_world.specs.inner.Places.{first_place}
+use Rattle.exec_msg.specs.Places.{first_place, place_under}
 
 -- the callbacks of slots
 abbrev pub callbacks_of : List SlotState → List Ready
@@ -34,7 +33,7 @@ is_lane_of group (first ∷ lane) = first.ready.exclusive && (group == first.rea
 
 -- a look-up by a mutually exclusive group gives the place of its first lane
 abbrev pub FindsLanes : List (Option ℕ) → List (List SlotState) → Type 0
-FindsLanes places lanes = (group : GroupNo) → option_flatten (slice_get places group) ≡ first_place (is_lane_of group) lanes
+FindsLanes places lanes = (group : GroupNo) → place_under group places ≡ first_place (is_lane_of group) lanes
 
 -- the place of the lane that a slot goes into
 abbrev pub place_for : SlotState → List (List SlotState) → Option ℕ

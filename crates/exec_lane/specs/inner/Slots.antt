@@ -1,5 +1,5 @@
 -- What a lane that is moved from thread to thread holds of each callback.
-use Rattle.std.specs.Prelude.{List, [], ◌∷◌, map, Option, Some}
+use Rattle.std.specs.Prelude.{List, ◌∷◌, map, Option, Some}
 use Rattle.std.specs.Option.{option_map}
 use Rattle.exec_lane.specs.Lane.{Done, Entry}
 use Rattle.exec_script.specs.declared.effects.Effect.{Effect}

@@ -2,7 +2,7 @@ use Rattle.std.proofs.Common.{◌≡◌, List, length, map, vec_len, ap, sym, su
 use Rattle.exec_lane.proofs.Joining.{as_long, finds_joined, joined_in, kept_in, place_within}
 use Rattle.exec_lane.specs.inner.Cuts.{FindsLanes, joined, place_for}
 use Rattle.exec_lane.specs.inner.Slots.{SlotState}
-use Rattle.exec_world.specs.inner.Places.{change_at}
+use Rattle.exec_msg.specs.Places.{change_at}
 use Rattle.exec_lane.proofs.cut.Cut.join.Goals as goal
 
 pub index_mut-requires : goal.index_mut-requires
@@ -15,11 +15,11 @@ index_mut-requires c =
 
 pub invariant_of-self : goal.invariant_of-self
 invariant_of-self c =
-    subst (FindsLanes c.self.inside.of_group.items) (sym (kept_in (λ lane. lane.items) c.self.inside.lanes.items c.args.place c.index_mut.result.now c.push.new.self c.index_mut.ensures.value c.in_err-push.ensures.items)) c.self.invariant
+    subst (FindsLanes c.self.inside.of_group) (sym (kept_in (λ lane. lane.items) c.self.inside.lanes.items c.args.place c.index_mut.result.now c.push.new.self c.index_mut.ensures.value c.in_err-push.ensures.items)) c.self.invariant
 
 pub invariant_of-self-2 : goal.invariant_of-self-2
 invariant_of-self-2 c =
-    finds_joined c.self.inside.of_group.items c.args.slot (map (λ lane. lane.items) c.self.inside.lanes.items) _ c.args.place c.self.invariant (ap (place_for c.args.slot) c.self.view_is ∙ c.requires)
+    finds_joined c.self.inside.of_group c.args.slot (map (λ lane. lane.items) c.self.inside.lanes.items) _ c.args.place c.self.invariant (ap (place_for c.args.slot) c.self.view_is ∙ c.requires)
     (joined_in (λ lane. lane.items) c.self.inside.lanes.items c.args.place c.index_mut.result.now c.push.new.self c.args.slot c.index_mut.ensures.value c.in_ok-push.ensures.items)
 
 pub returns : goal.returns

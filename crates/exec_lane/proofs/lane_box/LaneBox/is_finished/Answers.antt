@@ -1,4 +1,4 @@
-use Rattle.std.proofs.Common.{◌≡◌, ℕ, ◌==◌, List, length, ap, sym, ◌∙◌}
+use Rattle.std.proofs.Common.{ℕ, ◌==◌, List, length, ap, sym, ◌∙◌}
 use Rattle.exec_lane.proofs.Stepping.{as_many, still_as_many}
 use Rattle.exec_lane.specs.Lane.{Lane}
 use Rattle.exec_lane.specs.inner.Slots.{SlotState}

@@ -1,7 +1,7 @@
-use Rattle.std.proofs.Common.{◌≡◌, ◌<◌, ◌+◌, ◌≤◌, List, length, slice_index_or, slice_set, vec_len, rules, ap, sym, subst, ◌∙◌, arith}
+use Rattle.std.proofs.Common.{◌≡◌, ◌<◌, List, length, slice_index_or, slice_set, vec_len, rules, ap, sym, subst, ◌∙◌, arith}
 use Rattle.exec_lane.proofs.Stepping.{as_many, not_refused, still_as_many, stepped}
-use Rattle.exec_lane.specs.Lane.{Lane, lane_at}
-use Rattle.exec_lane.specs.inner.Slots.{SlotState, entries_of, slots_at}
+use Rattle.exec_lane.specs.Lane.{Lane}
+use Rattle.exec_lane.specs.inner.Slots.{SlotState, entries_of}
 use Rattle.exec_lane.proofs.lane_box.LaneBox.run_next.Goals as goal
 
 pub index_mut-slot-requires : goal.index_mut-slot-requires
