@@ -1,4 +1,3 @@
-pub mod Alone
 pub mod Examples
 pub mod Program
 pub mod Words

@@ -10,7 +10,7 @@ use Rattle.exec_doc.specs.declared.refused.Refused.{Refused}
 use Rattle.exec_doc.specs.declared.refused.Refused.TheVariants as refused
 use Rattle.exec_graph.specs.Plan.{PlanData}
 use Rattle.exec_msg.specs.declared.limits.TheConstants.{DOCUMENT}
-use Rattle.exec_run.specs.Alone.{IsRefusalOf}
+use Rattle.exec_round.specs.Run.{IsRefusalOf}
 use Rattle.exec_run.specs.Words.{AreSettings}
 use Rattle.exec_run.specs.declared.program.Failure.{Failure}
 use Rattle.exec_run.specs.declared.program.Failure.TheVariants as failure

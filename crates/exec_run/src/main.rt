@@ -1,7 +1,6 @@
 //! `exec_run <workers> <quantum>`: reads a document on standard input and writes its transcript.
 #![tactic(auto)]
 
-mod alone;
 mod examples;
 mod fault;
 mod program;
@@ -14,6 +13,7 @@ use std::process::ExitCode;
 fn main(rt: HostRuntime) -> ExitCode {
     let words = read_words(&rt);
     let status = execute(
+        &rt,
         rt.alloc(),
         words,
         &mut InputStream::new(rt.stdin()),

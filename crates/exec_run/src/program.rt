@@ -8,11 +8,13 @@ ghost use Rattle.exec_run.specs.Program.{HasRun, IsTold, failure_line, failure_s
 ghost use Rattle.exec_run.specs.declared.program.Failure.{Failure};
 ghost use Rattle.exec_run.specs.declared.program.Failure.TheVariants.{Refused, WriteFailed};
 
-use crate::alone::run_alone;
 use crate::fault::code_line;
 use exec_doc::Refused;
+use exec_lane::Open;
+use exec_round::run;
 use std::alloc::Global;
 use std::io::{Read, Write};
+use std::thread::Threads;
 pub use streams::{InputStream, OutputStream, ReadFault, WriteFault, read_document, write_text};
 pub use words::{Settings, WordsFault, read_words};
 
@@ -119,7 +121,8 @@ impl From<WriteFault> for Failure {
 
 /// The whole program: looks at the words, and only then reads the document, runs it and writes its
 /// transcript. A failure puts its line on `errors`; that this line may fail changes nothing.
-pub fn execute<R: Read, O: Write, E: Write>(
+pub fn execute<H: Threads + Sync, R: Read, O: Write, E: Write>(
+    rt: &H,
     alloc: Global,
     words: Result<Vec<String>, WordsFault>,
     input: &mut InputStream<R>,
@@ -136,7 +139,7 @@ pub fn execute<R: Read, O: Write, E: Write>(
         (record { before = E.contents errors.old.writer; after = E.contents errors.new.writer; failed = errors.new.failed })
         errors.new.flushed }
 {
-    match transcribe(alloc, words, input, output) {
+    match transcribe(rt, alloc, words, input, output) {
         Ok(()) => Status::Written,
         Err(failure) => {
             let _ = write_text(errors, failure.line().as_bytes());
@@ -145,7 +148,8 @@ pub fn execute<R: Read, O: Write, E: Write>(
     }
 }
 
-fn transcribe<R: Read, O: Write>(
+fn transcribe<H: Threads + Sync, R: Read, O: Write>(
+    rt: &H,
     alloc: Global,
     words: Result<Vec<String>, WordsFault>,
     input: &mut InputStream<R>,
@@ -157,9 +161,16 @@ fn transcribe<R: Read, O: Write>(
         output.new.flushed result }
 {
     let words = words?;
-    let _settings = Settings::from_words(&words).ok_or(Failure::Usage)?;
+    let settings = Settings::from_words(&words).ok_or(Failure::Usage)?;
     let document = read_document(alloc, input)?;
-    let text = run_alone(alloc, &document)?;
+    let text = run(
+        rt,
+        alloc,
+        &document,
+        settings.workers as usize,
+        settings.quantum as usize,
+        &Open,
+    )?;
     write_text(output, &text)?;
     Ok(())
 }

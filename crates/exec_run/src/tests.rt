@@ -85,7 +85,11 @@ fn a_failed_world_answers_that_it_failed(rt: HostRuntime) -> Result<(), Fail> {
     let list = world.snapshot(2)?;
     world.fail();
     assert!(rt; world.is_failed());
-    assert!(rt; world.snapshot(7).is_err_and(|why| why == WorldFault::Failed));
+    assert!(rt;
+        world
+            .snapshot(7)
+            .is_err_and(|why| why == WorldFault::Failed)
+    );
     for one in list.as_slice() {
         assert!(rt; run_one(alloc, &mut world, one) == Err(WorldFault::Failed));
     }

@@ -5,6 +5,7 @@ use fakes::{Arguments, End, Sink, Source, Spaces};
 use std::alloc::{AllocError, Global};
 use std::io::Read;
 use std::test::Fail;
+use std::thread::Threads;
 
 const EVERY_CALL: usize = usize::MAX;
 
@@ -40,11 +41,16 @@ fn words(alloc: Global, texts: &[&str]) -> Result<Vec<String>, AllocError> {
     Ok(words)
 }
 
-fn run<R: Read>(alloc: Global, words: Result<Vec<String>, WordsFault>, input: &mut R) -> Outcome {
+fn run<H: Threads + Sync, R: Read>(
+    rt: &H,
+    alloc: Global,
+    words: Result<Vec<String>, WordsFault>,
+    input: &mut R,
+) -> Outcome {
     let mut input = InputStream::new(input);
     let mut output = OutputStream::new(Vec::new(alloc));
     let mut errors = OutputStream::new(Vec::new(alloc));
-    let status = execute(alloc, words, &mut input, &mut output, &mut errors);
+    let status = execute(rt, alloc, words, &mut input, &mut output, &mut errors);
     Outcome {
         status,
         output: output.writer,
@@ -53,9 +59,9 @@ fn run<R: Read>(alloc: Global, words: Result<Vec<String>, WordsFault>, input: &m
 }
 
 // The program's own name is the first argument, and a space its document.
-fn run_started_with(alloc: Global, arguments: &[&[u8]]) -> Outcome {
+fn run_started_with<H: Threads + Sync>(rt: &H, alloc: Global, arguments: &[&[u8]]) -> Outcome {
     let words = read_words(&(Arguments(arguments), alloc));
-    run(alloc, words, &mut Spaces(1))
+    run(rt, alloc, words, &mut Spaces(1))
 }
 
 #[test]
@@ -67,7 +73,12 @@ fn writes_the_transcript(rt: HostRuntime) -> Result<(), Fail> {
             step: 1,
             calls: EVERY_CALL,
         };
-        let run = run(alloc, Ok(words(alloc, &[workers, quantum])?), &mut input);
+        let run = run(
+            &rt,
+            alloc,
+            Ok(words(alloc, &[workers, quantum])?),
+            &mut input,
+        );
         assert!(rt;
             run.is(Status::Written, TRANSCRIPT.as_bytes(), ""),
             "{run:?}"
@@ -89,7 +100,7 @@ fn tells_a_refused_growth(rt: HostRuntime) {
     };
     let mut input = InputStream::new(TIMER.as_bytes());
     let (mut output, mut errors) = (OutputStream::new(output), OutputStream::new(errors));
-    let status = execute(alloc, Ok(words), &mut input, &mut output, &mut errors);
+    let status = execute(&rt, alloc, Ok(words), &mut input, &mut output, &mut errors);
     let run = Outcome {
         status,
         output: output.writer,
@@ -121,7 +132,7 @@ fn refuses_wrong_words_before_it_reads(rt: HostRuntime) -> Result<(), Fail> {
     ];
     for texts in tables {
         let mut input = TIMER.as_bytes();
-        let run = run(alloc, Ok(words(alloc, texts)?), &mut input);
+        let run = run(&rt, alloc, Ok(words(alloc, texts)?), &mut input);
         assert!(rt; run.is(Status::Usage, b"", USAGE), "{run:?} at {texts:?}");
         assert_eq!(rt; input.len(), TIMER.len());
     }
@@ -139,10 +150,10 @@ fn reads_the_words_as_text(rt: HostRuntime) {
         (&[], Status::Usage, USAGE),
     ];
     for (arguments, status, line) in tables {
-        let run = run_started_with(alloc, arguments);
+        let run = run_started_with(&rt, alloc, arguments);
         assert!(rt; run.is(status, b"", line), "{run:?} at {arguments:?}");
     }
-    let run = run(alloc, Err(WordsFault::Memory), &mut Spaces(1));
+    let run = run(&rt, alloc, Err(WordsFault::Memory), &mut Spaces(1));
     assert!(rt; run.is(Status::Refused, b"", "refused 10\n"), "{run:?}");
 }
 
@@ -150,6 +161,7 @@ fn reads_the_words_as_text(rt: HostRuntime) {
 fn reads_up_to_the_limit(rt: HostRuntime) -> Result<(), Fail> {
     let alloc = rt.alloc();
     let run_at_limit = run(
+        &rt,
         alloc,
         Ok(words(alloc, &["1", "1"])?),
         &mut Spaces(16_777_216),
@@ -159,7 +171,7 @@ fn reads_up_to_the_limit(rt: HostRuntime) -> Result<(), Fail> {
         "{run_at_limit:?}"
     );
     let mut input = Spaces(16_777_300);
-    let run_beyond = run(alloc, Ok(words(alloc, &["1", "1"])?), &mut input);
+    let run_beyond = run(&rt, alloc, Ok(words(alloc, &["1", "1"])?), &mut input);
     assert!(rt;
         run_beyond.is(Status::ReadFailed, b"", "read failed\n"),
         "{run_beyond:?}"
@@ -180,7 +192,7 @@ fn fails_where_its_reader_fails(rt: HostRuntime) -> Result<(), Fail> {
             step: 7,
             calls,
         };
-        let run = run(alloc, Ok(words(alloc, &["1", "1"])?), &mut input);
+        let run = run(&rt, alloc, Ok(words(alloc, &["1", "1"])?), &mut input);
         let is_failed = run.is(Status::ReadFailed, b"", "read failed\n");
         assert!(rt; is_failed, "{run:?} after {calls} calls");
     }
@@ -203,7 +215,7 @@ fn fails_where_its_writer_fails(rt: HostRuntime) -> Result<(), Fail> {
                 let mut errors = OutputStream::new(Vec::new(alloc));
                 let words = words(alloc, &["1", "1"])?;
                 let mut input = InputStream::new(TIMER.as_bytes());
-                let status = execute(alloc, Ok(words), &mut input, &mut output, &mut errors);
+                let status = execute(&rt, alloc, Ok(words), &mut input, &mut output, &mut errors);
                 let taken = text.len().min(calls * step);
                 assert_eq!(rt; status, Status::WriteFailed);
                 assert_eq!(rt; output.writer.taken.as_slice(), &text[..taken]);
@@ -227,7 +239,7 @@ fn keeps_its_status_where_the_errors_fail(rt: HostRuntime) -> Result<(), Fail> {
         let mut input = InputStream::new(Spaces(3));
         let mut output = OutputStream::new(Vec::new(alloc));
         let words = words(alloc, &["1", "1"])?;
-        let status = execute(alloc, Ok(words), &mut input, &mut output, &mut errors);
+        let status = execute(&rt, alloc, Ok(words), &mut input, &mut output, &mut errors);
         assert_eq!(rt; status, Status::Refused);
         assert_eq!(rt;
             errors.writer.taken.as_slice(),

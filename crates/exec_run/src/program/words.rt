@@ -1,4 +1,4 @@
-ghost use Rattle.std.specs.Prelude.{◌≡◌, ◌≢◌, ◌↔◌, IsSome, IfSome, map, string_bytes, slice_index_or, drop, []};
+ghost use Rattle.std.specs.Prelude.{◌≡◌, ◌≢◌, ◌<◌, ◌≤◌, ◌↔◌, IsSome, IfSome, map, string_bytes, slice_index_or, drop, []};
 ghost use Rattle.std.specs.Str.Parse.{digits_value};
 ghost use Rattle.std.specs.IoError.{error_kind};
 ghost use Rattle.exec_run.specs.Words.{IsNumber, AreSettings};
@@ -40,6 +40,7 @@ impl Settings {
             ≡ digits_value 10 (slice_index_or (map string_bytes words.now) 0 [])) }
         ensures quantum { IfSome result (λ settings. settings.quantum
             ≡ digits_value 10 (slice_index_or (map string_bytes words.now) 1 [])) }
+        ensures in_range { IfSome result (λ settings. (0 < settings.workers) × (settings.workers ≤ 64) × (0 < settings.quantum) × (settings.quantum ≤ 1024)) }
     {
         let [workers, quantum] = words else {
             return None;
@@ -55,6 +56,7 @@ impl Settings {
 fn number_to(most: u16, word: &str) -> Option<u16>
     ensures lawful { IsSome result ↔ IsNumber most word.now }
     ensures value { IfSome result (λ number. number ≡ digits_value 10 word.now) }
+    ensures in_range { IfSome result (λ number. (0 < number) × (number ≤ most)) }
 {
     if word.len() > 4 || word.as_bytes().first() == Some(&b'+') {
         return None;

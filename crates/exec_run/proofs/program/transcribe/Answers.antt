@@ -5,7 +5,7 @@ use Rattle.std.specs.Io.KnownBytes.{Appends}
 use Rattle.exec_graph.specs.Plan.{PlanData}
 use Rattle.exec_doc.specs.Document.{document_of}
 use Rattle.exec_doc.specs.declared.refused.Refused.{Refused}
-use Rattle.exec_run.specs.Alone.{IsRefusalOf}
+use Rattle.exec_round.specs.Run.{IsRefusalOf}
 use Rattle.exec_world.specs.Transcript.{text_of}
 use Rattle.exec_run.proofs.program.transcribe.Goals as goal
 
@@ -45,7 +45,7 @@ returns-in_err-text g c =
           let kept = p.2 in
           let here : c.in_err-text.field-0.0 ≡ told = cc in
           let is = rw c.deref-2.ensures.value at c.in_err-text.ensures.refused in
-          let lawful = rw c.deref.ensures.value at (c.from_words.ensures.lawful.0 (rw c.in_ok-_settings.ensures.ok_part refl)) in (
+          let lawful = rw c.deref.ensures.value at (c.from_words.ensures.lawful.0 (rw c.in_ok-settings.ensures.ok_part refl)) in (
             rw c.in_ok-words.was lawful,
             known_refusal (g.R.Read.remaining c.args.input.now.reader) c.in_ok-document.document.items told c.in_ok-document.ensures.whole (subst (IsRefusalOf c.in_ok-document.document.items) here is),
           );

@@ -1,0 +1,4 @@
+pub mod Dealing
+pub mod InOrder
+pub mod Openings
+pub mod Rounding

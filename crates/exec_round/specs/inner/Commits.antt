@@ -1,0 +1,15 @@
+-- What is committed one after another.
+use Rattle.std.specs.Prelude.{List}
+use Rattle.std.specs.List.{fold}
+use Rattle.exec_lane.specs.declared.gathering.Ran.{Ran}
+use Rattle.exec_world.specs.Calls.{WorldData, after_commit}
+use Rattle.exec_world.specs.Run.{commit}
+use Rattle.exec_world.specs.World.{WorldState}
+
+-- a world after callbacks that ran are committed
+abbrev pub after_commits : List Ran → WorldData → WorldData
+after_commits all world = fold (λ before one. after_commit one.ready one.effects before) world all
+
+-- and its state
+abbrev pub committed : List Ran → WorldState → WorldState
+committed all state = fold (λ before one. commit one.ready one.effects before) state all
