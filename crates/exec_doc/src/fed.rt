@@ -58,7 +58,7 @@ pub fn feed_of(alloc: Global, graph: &Graph, entries: &[EntryDraft]) -> Result<V
     ensures feed { IfOk result (λ feed. each (entry_by graph.now) entries.now ≡ Some feed.items) }
     ensures refused { IfErr result (λ code. (code ≡ Refused.Memory) ⊎ ((code ≡ Refused.Name) × (each (entry_by graph.now) entries.now ≡ None))) }
 {
-    let mut feed = Vec::new(alloc);
+    let mut feed = Vec::with_capacity(alloc, entries.len())?;
     for entry in entries {
         let fed = fed_by(graph, &entry.fed).ok_or(Refused::Name)?;
         feed.push(Feed {

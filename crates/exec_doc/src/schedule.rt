@@ -44,7 +44,7 @@ pub fn moments_of(alloc: Global, ticks: &[u64]) -> Result<Option<Vec<Moment>>, R
         ≡ only_if (list_all (λ moment. nat_le moment TICKS) ticks.now) ticks.now) }
     ensures memory { OnErr result (result ≡ Err Refused.Memory) }
 {
-    let mut moments = Vec::new(alloc);
+    let mut moments = Vec::with_capacity(alloc, ticks.len())?;
     for moment in ticks {
         let Some(moment) = Moment::new(*moment) else {
             return Ok(None);

@@ -49,6 +49,7 @@ pub fn place_line(line: &Line, names: &Names, bytes: &mut [u8], at: usize) -> us
     end + 1
 }
 
+// The match goes where a line is made, and is decided there: for that it has to be small, and has but calls.
 #[inline(always)]
 fn place_fields(line: &Line, names: &Names, bytes: &mut [u8], at: usize) -> usize
     requires { at + greatest_length names.now + 127 ≤ length bytes.old }
@@ -76,22 +77,15 @@ fn place_fields(line: &Line, names: &Names, bytes: &mut [u8], at: usize) -> usiz
             kind,
             input,
         } => place_drop(bytes, at, names.bounded_name(entity), kind, input),
-        Line::Pub { topic, value } => place_named_value(
-            bytes,
-            at,
-            "pub",
-            names.bounded_name(topic),
-            value,
-        ),
+        Line::Pub { topic, value } => place_pub(bytes, at, names.bounded_name(topic), value),
         Line::Call {
             client,
             number,
             value,
         } => place_call(bytes, at, names.bounded_name(client), number, value),
-        Line::Reply { service, value } => place_named_value(
+        Line::Reply { service, value } => place_reply(
             bytes,
             at,
-            "reply",
             names.bounded_name(service),
             value,
         ),
@@ -111,13 +105,7 @@ fn place_fields(line: &Line, names: &Names, bytes: &mut [u8], at: usize) -> usiz
             id,
             stamp,
         ),
-        Line::Log { entity, value } => place_named_value(
-            bytes,
-            at,
-            "log",
-            names.bounded_name(entity),
-            value,
-        ),
+        Line::Log { entity, value } => place_log(bytes, at, names.bounded_name(entity), value),
         Line::Feedback { server, id, value } => place_goal_value(
             bytes,
             at,
@@ -169,6 +157,7 @@ fn place_fields(line: &Line, names: &Names, bytes: &mut [u8], at: usize) -> usiz
     }
 }
 
+#[inline(never)]
 fn place_round(bytes: &mut [u8], at: usize, number: u64, ticks: u64) -> usize
     requires { at + 47 ≤ length bytes.old }
     ensures text { take result bytes.new ≡ take at bytes.old ++ joined (codes "round" ∷ decimal number ∷ decimal ticks ∷ []) }
@@ -179,6 +168,7 @@ fn place_round(bytes: &mut [u8], at: usize, number: u64, ticks: u64) -> usize
     place_count(bytes, end, ticks)
 }
 
+#[inline(never)]
 fn place_end(bytes: &mut [u8], at: usize, rounds: u64) -> usize
     requires { at + 24 ≤ length bytes.old }
     ensures text { take result bytes.new ≡ take at bytes.old ++ joined (codes "end" ∷ decimal rounds ∷ []) }
@@ -188,7 +178,7 @@ fn place_end(bytes: &mut [u8], at: usize, rounds: u64) -> usize
     place_count(bytes, end, rounds)
 }
 
-#[inline(always)]
+#[inline(never)]
 fn place_run(
     bytes: &mut [u8],
     at: usize,
@@ -208,6 +198,7 @@ fn place_run(
     place_any_id(bytes, end, id)
 }
 
+#[inline(never)]
 fn place_drop(bytes: &mut [u8], at: usize, name: &str, kind: Kind, input: i64) -> usize
     requires { at + length name.now + 36 ≤ length bytes.old }
     ensures text { take result bytes.new ≡ take at bytes.old ++ joined (codes "drop" ∷ name.now ∷ word_of kind ∷ signed_decimal input ∷ []) }
@@ -217,6 +208,34 @@ fn place_drop(bytes: &mut [u8], at: usize, name: &str, kind: Kind, input: i64) -
     place_value(bytes, end, input)
 }
 
+#[inline(never)]
+fn place_pub(bytes: &mut [u8], at: usize, name: &str, value: i64) -> usize
+    requires { at + length name.now + 26 ≤ length bytes.old }
+    ensures text { take result bytes.new ≡ take at bytes.old ++ joined (codes "pub" ∷ name.now ∷ signed_decimal value ∷ []) }
+    ensures within { result ≤ at + length name.now + 26 }
+{
+    place_named_value(bytes, at, "pub", name, value)
+}
+
+#[inline(never)]
+fn place_reply(bytes: &mut [u8], at: usize, name: &str, value: i64) -> usize
+    requires { at + length name.now + 28 ≤ length bytes.old }
+    ensures text { take result bytes.new ≡ take at bytes.old ++ joined (codes "reply" ∷ name.now ∷ signed_decimal value ∷ []) }
+    ensures within { result ≤ at + length name.now + 28 }
+{
+    place_named_value(bytes, at, "reply", name, value)
+}
+
+#[inline(never)]
+fn place_log(bytes: &mut [u8], at: usize, name: &str, value: i64) -> usize
+    requires { at + length name.now + 26 ≤ length bytes.old }
+    ensures text { take result bytes.new ≡ take at bytes.old ++ joined (codes "log" ∷ name.now ∷ signed_decimal value ∷ []) }
+    ensures within { result ≤ at + length name.now + 26 }
+{
+    place_named_value(bytes, at, "log", name, value)
+}
+
+#[inline(never)]
 fn place_call(bytes: &mut [u8], at: usize, name: &str, number: u64, value: i64) -> usize
     requires { at + length name.now + 48 ≤ length bytes.old }
     ensures text { take result bytes.new ≡ take at bytes.old ++ joined (codes "call" ∷ name.now ∷ decimal number ∷ signed_decimal value ∷ []) }
@@ -226,6 +245,7 @@ fn place_call(bytes: &mut [u8], at: usize, name: &str, number: u64, value: i64) 
     place_value(bytes, end, value)
 }
 
+#[inline(never)]
 fn place_code(bytes: &mut [u8], at: usize, name: &str, code: ReturnCode, moved: u64) -> usize
     requires { at + length name.now + 48 ≤ length bytes.old }
     ensures text { take result bytes.new ≡ take at bytes.old ++ joined (codes "code" ∷ name.now ∷ decimal (code_number code) ∷ decimal moved ∷ []) }
@@ -235,6 +255,7 @@ fn place_code(bytes: &mut [u8], at: usize, name: &str, code: ReturnCode, moved: 
     place_count(bytes, end, moved)
 }
 
+#[inline(never)]
 fn place_result(
     bytes: &mut [u8],
     at: usize,
@@ -263,6 +284,7 @@ fn place_named_value(bytes: &mut [u8], at: usize, word: &str, name: &str, value:
 }
 
 // A line's word, the name of what it speaks of, and a count.
+#[inline(never)]
 fn place_named_count(bytes: &mut [u8], at: usize, word: &str, name: &str, count: u64) -> usize
     requires { at + length word.now + length name.now + 22 ≤ length bytes.old }
     ensures text { take result bytes.new ≡ take at bytes.old ++ joined (word.now ∷ name.now ∷ decimal count ∷ []) }
@@ -273,6 +295,7 @@ fn place_named_count(bytes: &mut [u8], at: usize, word: &str, name: &str, count:
 }
 
 // A line's word, the goal that it speaks of, and a value.
+#[inline(never)]
 fn place_goal_value(
     bytes: &mut [u8],
     at: usize,
@@ -290,6 +313,7 @@ fn place_goal_value(
 }
 
 // A line's word, the goal that it speaks of, and a count.
+#[inline(never)]
 fn place_goal_count(
     bytes: &mut [u8],
     at: usize,

@@ -74,6 +74,14 @@ impl Cells {
     {
         self.values[slot.index()] = value;
     }
+
+    #[inline(always)]
+    fn copy_from(&mut self, values: &[i64])
+        requires { length values.now ≡ 8 }
+        ensures { self.new ≡ values.now }
+    {
+        self.values.copy_from_slice(values);
+    }
 }
 
 /// The registers `r0` to `r7`, all 0 at first.
@@ -91,7 +99,7 @@ impl Model for Regs {
 }
 
 impl Regs {
-    ghost use Rattle.std.specs.Prelude.{◌≡◌, pos, slice_index_or, slice_set};
+    ghost use Rattle.std.specs.Prelude.{◌≡◌, pos, length, slice_index_or, slice_set};
     ghost use Rattle.exec_script.specs.Zeros.{zeros};
 
     /// Eight zeros.
@@ -101,18 +109,20 @@ impl Regs {
         Regs(Cells::new())
     }
 
-    // The registers of an array.
-    pub(crate) fn of(values: [i64; 8]) -> Regs
-        ensures { result ≡ values }
-    {
-        Regs(Cells { values })
-    }
-
     // The array of the registers.
     pub(crate) fn as_array(&self) -> &[i64; 8]
         ensures { result.now ≡ self.now }
     {
         &self.0.values
+    }
+
+    // Becomes these eight integers.
+    #[inline(always)]
+    pub(crate) fn copy_from(&mut self, values: &[i64])
+        requires { length values.now ≡ 8 }
+        ensures { self.new ≡ values.now }
+    {
+        self.0.copy_from(values);
     }
 
     /// The integer at a slot.
@@ -145,7 +155,7 @@ impl Model for Bank {
 }
 
 impl Bank {
-    ghost use Rattle.std.specs.Prelude.{◌≡◌, pos, slice_index_or, slice_set};
+    ghost use Rattle.std.specs.Prelude.{◌≡◌, pos, length, slice_index_or, slice_set};
     ghost use Rattle.exec_script.specs.Zeros.{zeros};
 
     /// Eight zeros.
@@ -155,18 +165,20 @@ impl Bank {
         Bank(Cells::new())
     }
 
-    // The variables of an array.
-    pub(crate) fn of(values: [i64; 8]) -> Bank
-        ensures { result ≡ values }
-    {
-        Bank(Cells { values })
-    }
-
     // The array of the variables.
     pub(crate) fn as_array(&self) -> &[i64; 8]
         ensures { result.now ≡ self.now }
     {
         &self.0.values
+    }
+
+    // Becomes these eight integers.
+    #[inline(always)]
+    pub(crate) fn copy_from(&mut self, values: &[i64])
+        requires { length values.now ≡ 8 }
+        ensures { self.new ≡ values.now }
+    {
+        self.0.copy_from(values);
     }
 
     /// The integer at a slot.

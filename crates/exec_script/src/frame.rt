@@ -141,6 +141,7 @@ impl Model for Frame {
 impl Frame {
     ghost use Rattle.std.specs.Prelude.{◌≡◌};
     ghost use Rattle.exec_script.specs.Script.{value_of, registers_after, variables_after};
+    ghost use Rattle.exec_script.specs.Zeros.{zeros};
     ghost use Rattle.exec_script.specs.inner.Cells.{operand_at, constant_of};
 
     // All are 0. A frame is filled where it stands: one that is handed on is copied as a whole just after it was filled, for
@@ -150,7 +151,19 @@ impl Frame {
         Frame { values: [0; 20] }
     }
 
-    // Fills it with what a run begins with.
+    // Fills it with what a script's run from its top begins with.
+    #[inline(always)]
+    pub fn begin(&mut self, bank: &Bank, input: &Input)
+        ensures { self.new ≡ record { registers = zeros; variables = bank.now; input = input.now } }
+    {
+        self.values = [0; 20];
+        self.values[8..16].copy_from_slice(bank.as_array());
+        self.values[16] = input.first;
+        self.values[17] = input.aux;
+        self.values[18] = input.moment.ticks() as i64;
+    }
+
+    // Fills it with what a run goes on with.
     #[inline(always)]
     pub fn fill(&mut self, regs: &Regs, bank: &Bank, input: &Input)
         ensures { self.new ≡ record { registers = regs.now; variables = bank.now; input = input.now } }
@@ -163,24 +176,20 @@ impl Frame {
         self.values[18] = input.moment.ticks() as i64;
     }
 
-    // The registers, at the end of a run.
+    // Hands out the registers, at the end of a run.
     #[inline(always)]
-    pub fn regs(&self) -> Regs
-        ensures { result ≡ self.now.registers }
+    pub fn put_regs(&self, regs: &mut Regs)
+        ensures { regs.new ≡ self.now.registers }
     {
-        let mut values = [0; 8];
-        values.copy_from_slice(&self.values[..8]);
-        Regs::of(values)
+        regs.copy_from(&self.values[..8]);
     }
 
-    // The variables, at the end of a run.
+    // Hands out the variables, at the end of a run.
     #[inline(always)]
-    pub fn bank(&self) -> Bank
-        ensures { result ≡ self.now.variables }
+    pub fn put_bank(&self, bank: &mut Bank)
+        ensures { bank.new ≡ self.now.variables }
     {
-        let mut values = [0; 8];
-        values.copy_from_slice(&self.values[8..16]);
-        Bank::of(values)
+        bank.copy_from(&self.values[8..16]);
     }
 
     // The value of the operand that a source and a constant are.

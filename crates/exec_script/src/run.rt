@@ -75,10 +75,10 @@ pub fn run_call_into(
     }
     effects.items.reserve(script.len())?;
     let mut frame = Frame::new();
-    frame.fill(&Regs::new(), bank, input);
+    frame.begin(bank, input);
     let mut answer = None;
     follow(script, 0, &mut frame, &mut answer, &mut effects.items);
-    *bank = frame.bank();
+    frame.put_bank(bank);
     Ok(close_of(role, answer))
 }
 
@@ -107,8 +107,8 @@ pub fn run_from(
     frame.fill(regs, bank, input);
     let mut answer = None;
     let stop = follow(script, place, &mut frame, &mut answer, &mut effects.items);
-    *regs = frame.regs();
-    *bank = frame.bank();
+    frame.put_regs(regs);
+    frame.put_bank(bank);
     Ok(stop)
 }
 

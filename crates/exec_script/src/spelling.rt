@@ -21,7 +21,9 @@ pub fn decode<S: Scope>(
     ensures fault { IfErr result (λ fault. (fault ≡ ScriptFault.Memory)
         ⊎ (script_of (S.names scope.now) (map (λ words. words.items) spelled.now) ≡ Err fault)) }
 {
-    let mut script = Vec::new(alloc);
+    let Ok(mut script) = Vec::with_capacity(alloc, spelled.len()) else {
+        return Err(ScriptFault::Memory);
+    };
     for words in spelled {
         let instr = instruction(words.as_slice(), scope)?;
         script.push(instr)?;

@@ -97,9 +97,14 @@ impl Progress {
             aux: turn.canceling as i64,
             moment: turn.moment,
         };
-        let mut registers = self.registers;
-        let stop = run_from(script, self.place, &mut registers, bank, &input, effects)?;
-        self.registers = registers;
+        let stop = run_from(
+            script,
+            self.place,
+            &mut self.registers,
+            bank,
+            &input,
+            effects,
+        )?;
         self.told = self.told || turn.canceling;
         self.stop(turn, stop);
         Ok(())

@@ -87,7 +87,7 @@ pub fn list_of<T: Form>(alloc: Global, value: &Value) -> Result<Vec<T>, Refused>
 fn each<T: Form>(alloc: Global, values: &[Value]) -> Result<Vec<T>, Refused>
     ensures { Gives (λ found. found.items) result (each T.form (map view values.now)) }
 {
-    let mut found = Vec::new(alloc);
+    let mut found = Vec::with_capacity(alloc, values.len())?;
     for value in values {
         found.push(T::read(alloc, value)?)?;
     }

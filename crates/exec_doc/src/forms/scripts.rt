@@ -36,7 +36,7 @@ impl Form for Spelled {
 fn instructions(alloc: Global, values: &[Value]) -> Result<Vec<Vec<Word>>, Refused>
     ensures { Gives (λ found. map (λ words. words.items) found.items) result (each (list_of word) (map view values.now)) }
 {
-    let mut instructions = Vec::new(alloc);
+    let mut instructions = Vec::with_capacity(alloc, values.len())?;
     for value in values {
         instructions.push(fields::list_of(alloc, value)?)?;
     }
