@@ -1,5 +1,5 @@
 -- Which goals of a server are awake, and what a poll of one is.
-use Rattle.std.proofs.Common.{◌≡◌, ℕ, zero, suc, List, [], ◌∷◌, map, length, Bool, true, false, cond, if◌then◌else◌, Option, None, Some, slice_get, slice_index_or, refl, ap, ◌∙◌}
+use Rattle.std.proofs.Common.{◌≡◌, ℕ, zero, suc, List, [], ◌∷◌, map, length, Bool, true, false, cond, if◌then◌else◌, Option, None, Some, slice_get, slice_index_or, refl, ap, sym, ◌∙◌}
 use Rattle.std.specs.List.{find, filter}
 use Rattle.std.specs.Option.{option_and_then, option_map}
 use Rattle.exec_goal.specs.Info.{info_of}
@@ -12,6 +12,9 @@ use Rattle.exec_task.specs.declared.wait.Turn.{Turn}
 use Rattle.exec_world.specs.Ready.{is_goal_awake}
 use Rattle.exec_world.specs.World.{GoalWork, HeldGoal, ServerEntry, Variables, is_for}
 use Rattle.exec_world.specs.Run.{work_after}
+use Rattle.exec_world.proofs.Serving.{goal_ids, held_ids}
+use Rattle.exec_world.specs.declared.server.Held.{Held}
+use Rattle.exec_world.specs.inner.Server.{held_goals_of}
 use Rattle.exec_world.specs.inner.Polling.{goal_polled, poll_listed, server_polled}
 
 -- what is told of the goal at a place
@@ -19,6 +22,18 @@ pub info-at : (goals : List GoalRecord) (i : ℕ) (info : GoalInfo) (d : GoalRec
 info-at [] i info d at = absurd cc
 info-at (goal ∷ goals) zero info d at = cc
 info-at (goal ∷ goals) (suc i) info d at = info-at goals i info d at
+
+-- what is kept at a goal's place is kept for it
+pub named-at : (goals : List GoalRecord) (entries : List (ℕ × Held)) (i : ℕ) (info : GoalInfo) (entry : ℕ × Held) → goal_ids goals ≡ held_ids (held_goals_of entries) →
+    slice_get (map info_of goals) i ≡ Some info → Some entry ≡ slice_get entries i → entry.0 ≡ info.id
+named-at [] entries i info entry same at is = absurd cc
+named-at (goal ∷ goals) [] i info entry same at is = absurd cc
+named-at (goal ∷ goals) (one ∷ entries) zero info entry same at is =
+    let first : entry ≡ one = cc in
+    let told : info_of goal ≡ info = cc in
+    let named : goal.id ≡ one.0 = cc in
+    ap (λ (it : ℕ × Held). it.0) first ∙ sym named ∙ ap (λ (it : GoalInfo). it.id) told
+named-at (goal ∷ goals) (one ∷ entries) (suc i) info entry same at is = named-at goals entries i info entry (cc) at is
 
 -- where a server works on no goal none is awake
 pub none-awake : (moment : ℕ) (held : List HeldGoal) (goals : List GoalRecord) → working goals ≡ 0 → filter (is_goal_awake moment held) goals ≡ []

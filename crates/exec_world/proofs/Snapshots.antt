@@ -1,5 +1,5 @@
 -- What a snapshot makes of the queues that have an item is what it makes of all.
-use Rattle.std.proofs.Common.{◌≡◌, ℕ, suc, ◌+◌, ◌&&◌, ◌==◌, Bool, true, false, not, cond, if◌then◌else◌, length, filter, List, [], ◌∷◌, ◌++◌, slice_get, refl, sym, ap, ◌∙◌, arith}
+use Rattle.std.proofs.Common.{◌≡◌, ℕ, suc, ◌+◌, ◌&&◌, ◌==◌, Bool, true, false, not, cond, if◌then◌else◌, length, filter, List, [], ◌∷◌, ◌++◌, slice_get, Option, None, Some, refl, sym, ap, ◌∙◌, arith}
 use Rattle.std.specs.List.{flat_map, fold}
 use Rattle.std.specs.Option.{option_map_or}
 use Rattle.std.proofs.lemmas.Bool.{eqb-true}
@@ -10,6 +10,7 @@ use Rattle.exec_world.proofs.Listing.{listed_more}
 use Rattle.exec_world.specs.Ready.{answered_by_first, due_ready, item_ready, placed_from, poll_ready, queue_ready, queues_before_polls, queues_behind_polls, ready_list, reply_taken}
 use Rattle.exec_world.specs.World.{ClientEntry, Handler, Moment, Queue, ServerEntry, TimerEntry, WorldState}
 use Rattle.exec_world.specs.declared.item.Item.{Item}
+use Rattle.exec_world.specs.declared.item.Item.TheVariants as item
 use Rattle.exec_world.specs.declared.ready.Ready.{Ready}
 use Rattle.exec_world.specs.inner.Listing.{listed_behind}
 use Rattle.exec_world.specs.inner.Mail.{MailState, mail_of}
@@ -64,6 +65,37 @@ pub answered_before : (world : WorldState) → replies_at world.queues world.cli
 answered_before world =
     stepped_from (is_in_part true) reply_taken (reply_at world.queues) (λ clients queue is. none_answered queue.handler.entity queue.items clients is) 0 world.queues
     (λ k clients. let e : 0 + k ≡ k = omega arith in ap (reply_at world.queues clients) e) world.clients
+
+-- where there is no client, none is answered
+no_client : (entity : EntityNo) (items : List Item) → answered_by_first entity items [] ≡ []
+no_client entity [] = refl
+no_client entity (item.Message value ∷ items) = refl
+no_client entity (item.Request client number value ∷ items) = refl
+no_client entity (item.Reply number value ∷ items) = refl
+no_client entity (item.Goal id client value ∷ items) = refl
+no_client entity (item.Cancel request client ∷ items) = refl
+no_client entity (item.Ask id client ∷ items) = refl
+no_client entity (item.Response id accepted ∷ items) = refl
+no_client entity (item.Code code moved ∷ items) = refl
+no_client entity (item.Feedback id value ∷ items) = refl
+no_client entity (item.Result id status value ∷ items) = refl
+
+no_client_of : (found : Option Queue) → option_map_or (reply_taken []) found [] ≡ []
+no_client_of None = refl
+no_client_of (Some queue) = no_client queue.handler.entity queue.items
+
+none_of : (clients : List ClientEntry) → length clients ≡ 0 → clients ≡ []
+none_of [] none = refl
+none_of (client ∷ clients) none = absurd (omega (arith, none))
+
+pub none_to_answer : (queues : List Queue) (clients list : List ClientEntry) (places : List ℕ) → list ≡ clients → length list ≡ 0 → clients ≡ replies_at queues clients places
+none_to_answer queues clients list places is none =
+    let empty = sym is ∙ none_of list none in
+    empty ∙ sym (by places) ∙ ap (λ (clients : List ClientEntry). replies_at queues clients places) (sym empty)
+  where
+    by : (places : List ℕ) → replies_at queues [] places ≡ []
+    by [] = refl
+    by (place ∷ places) = ap (λ (clients : List ClientEntry). replies_at queues clients places) (no_client_of (slice_get queues place)) ∙ by places
 
 -- ---- what a world's snapshot makes of them
 

@@ -7,7 +7,7 @@ use Rattle.exec_script.specs.declared.effects.Effects.{Effects}
 use Rattle.exec_world.specs.Item.{GoalId}
 use Rattle.exec_world.specs.Ready.{ready_list, take_inputs}
 use Rattle.exec_world.specs.Run.{commit}
-use Rattle.exec_world.specs.Transcript.{at_snapshot, first_world, finish, round, rounds}
+use Rattle.exec_world.specs.Transcript.{at_snapshot, first_world, finish, round, rounds, run_all}
 use Rattle.exec_world.specs.World.{GoalWork, Moment, WorldState, work_at}
 use Rattle.exec_world.specs.declared.ready.Cause.{Cause}
 use Rattle.exec_world.specs.declared.ready.Cause.TheVariants as cause
@@ -96,6 +96,10 @@ after_snapshot number world =
 -- a world after one of the callbacks of the last snapshot is committed
 abbrev pub after_commit : Ready → Effects → WorldData → WorldData
 after_commit one effects world = with_left (world.left - 1) (record world { state = commit one effects world.state })
+
+-- a world after the callbacks of the last snapshot, these, ran one after another where they stand
+abbrev pub after_all : List Ready → WorldData → WorldData
+after_all list world = with_left 0 (record world { state = run_all list world.state })
 
 -- a world after a whole round
 abbrev pub after_round : ℕ → WorldData → WorldData

@@ -56,6 +56,7 @@ impl<L: Lines> Model for State<L> {
 
 impl<L: Lines> State<L> {
     ghost use Rattle.std.specs.Prelude.{◌≡◌, [], IfOk, OnOk};
+    ghost use Rattle.exec_script.specs.Zeros.{zeros};
     ghost use Rattle.exec_world.specs.Transcript.{first_world};
     ghost use Rattle.exec_world.specs.World.{add_line, variables_of, with_variables};
 
@@ -108,11 +109,23 @@ impl<L: Lines> State<L> {
         }
     }
 
-    pub(crate) fn set_bank(&mut self, group: GroupNo, bank: Bank)
-        ensures { self.new ≡ with_variables group bank self.old }
+    // Fills a new bank with the variables of a group.
+    #[inline(always)]
+    fn fill_bank(&self, group: GroupNo, bank: &mut Bank)
+        requires { bank.old ≡ zeros }
+        ensures { bank.new ≡ variables_of group self.now }
+    {
+        if let Some(found) = self.banks.get(group.0 as usize) {
+            *bank = *found;
+        }
+    }
+
+    #[inline(always)]
+    pub(crate) fn set_bank(&mut self, group: GroupNo, bank: &Bank)
+        ensures { self.new ≡ with_variables group bank.now self.old }
     {
         if let Some(place) = self.banks.get_mut(group.0 as usize) {
-            *place = bank;
+            *place = *bank;
         }
     }
 }

@@ -97,7 +97,7 @@ impl World<LineList> {
 impl<L: Lines> World<L> {
     ghost use Rattle.std.specs.Prelude.{◌≡◌, ◌↔◌, ◌<◌, [], length, true, false, None, Some, IfOk, IfErr, OnOk};
     ghost use Rattle.std.specs.Arc.{arc_value};
-    ghost use Rattle.exec_world.specs.Calls.{AreHome, HasFailed, HaveVariables, IsNext, after_commit, after_finish, after_round, after_snapshot, new_world, ready_in, world_after};
+    ghost use Rattle.exec_world.specs.Calls.{AreHome, HasFailed, HaveVariables, IsNext, after_all, after_commit, after_finish, after_round, after_snapshot, new_world, ready_in, world_after};
     ghost use Rattle.exec_world.specs.declared.world.WorldFault.TheVariants as fault;
     ghost use Rattle.exec_world.specs.World.{GoalWork, variables_of, with_variables, with_work, work_at, work_of};
 
@@ -230,6 +230,29 @@ impl<L: Lines> World<L> {
         Ok(())
     }
 
+    /// Runs the callbacks of the last snapshot where they stand, one after another in the calling thread, which commits each
+    /// before the next one runs.
+    ///
+    /// # Errors
+    /// [`WorldFault::Memory`] where a growth or a clone was refused, [`WorldFault::Failed`] where the world had failed before.
+    pub fn run_ready(&mut self, list: &[Ready]) -> Result<(), WorldFault>
+        requires { self.old.failed ≡ false → (length list.now ≡ self.old.left) × (0 < self.old.left) }
+        ensures ran { OnOk result (self.new ≡ after_all list.now self.old) }
+        ensures unfailed { OnOk result (self.old.failed ≡ false) }
+        ensures fault { IfErr result (λ why. HasFailed why self.old self.new) }
+    {
+        self.check()?;
+        let mut context = self.poller.begin();
+        let ran = self.state.run_all(list, &mut self.effects, &mut context);
+        context.cancel();
+        if ran.is_err() {
+            self.failed = true;
+            return Err(WorldFault::Memory);
+        }
+        self.left = 0;
+        Ok(())
+    }
+
     /// The variables of a callback group, which [`put_bank`](World::put_bank) brings home.
     pub fn take_bank(&mut self, group: GroupNo) -> Bank
         ensures bank { result ≡ variables_of group self.old.state }
@@ -242,7 +265,7 @@ impl<L: Lines> World<L> {
     pub fn put_bank(&mut self, group: GroupNo, bank: Bank)
         ensures { self.new ≡ record self.old { state = with_variables group bank self.old.state } }
     {
-        self.state.set_bank(group, bank);
+        self.state.set_bank(group, &bank);
     }
 
     /// Takes the task of a goal that a server holds, and whose task isn't out: [`put_task`](World::put_task) brings it home.

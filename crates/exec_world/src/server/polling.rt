@@ -22,7 +22,7 @@ use std::alloc::Global;
 use std::mem;
 
 impl Server {
-    ghost use Rattle.std.specs.Prelude.{ℕ, ◌<◌, None, length, filter, find, slice_index_or};
+    ghost use Rattle.std.specs.Prelude.{ℕ, ◌<◌, None, length, map, filter, find, slice_get, slice_index_or};
     ghost use Rattle.std.specs.Option.{option_and_then};
     ghost use Rattle.exec_goal.specs.Info.{info_of};
     ghost use Rattle.exec_goal.specs.State.{is_canceling};
@@ -46,22 +46,24 @@ impl Server {
         ensures { (d : GoalRecord) → result ≡ is_goal_awake moment self.now.held (slice_index_or self.now.goals index d) }
     {
         let goal = self.goal_at(index);
-        self.is_goal_awake(&goal, moment)
+        self.is_goal_awake(index, &goal, moment)
     }
 
-    fn is_goal_awake(&self, info: &GoalInfo, moment: Moment) -> bool
+    // Whether the goal at this place, of which this is told, is awake at a moment.
+    fn is_goal_awake(&self, index: usize, info: &GoalInfo, moment: Moment) -> bool
+        requires { slice_get (map info_of self.now.goals) index ≡ Some info.now }
         ensures { (goal : GoalRecord) → info.now ≡ info_of goal → result ≡ is_goal_awake moment self.now.held goal }
     {
-        info.state.is_worked_on() && self.is_task_awake(info, moment)
+        info.state.is_worked_on() && self.is_task_awake(index, info, moment)
     }
 
-    fn is_task_awake(&self, goal: &GoalInfo, moment: Moment) -> bool
+    // Work is kept in the order of the goals, so that it is found by its place.
+    fn is_task_awake(&self, index: usize, goal: &GoalInfo, moment: Moment) -> bool
+        requires { slice_get (map info_of self.now.goals) index ≡ Some goal.now }
         ensures { result ≡ is_task_awake (turn_at moment (is_canceling goal.now.state)) (find (is_for goal.now.id) self.now.held) }
     {
-        match self.held.get(&goal.id) {
-            None => false,
-            Some(held) => is_any_awake(&held.task, moment, goal.state.is_canceling()),
-        }
+        let entry = self.held.get_index(index).unwrap();
+        is_any_awake(&entry.1.task, moment, goal.state.is_canceling())
     }
 
     // Lists a poll for each goal that is awake at a moment, in the order of acceptance.
@@ -100,19 +102,21 @@ impl Server {
         ensures { OnOk result ((d : GoalRecord) → list.new ≡ listed_behind list.old (goal_ready moment self.now (slice_index_or self.now.goals index d))) }
     {
         let goal = self.goal_at(index);
-        self.list_goal(alloc, moment, &goal, list)
+        self.list_goal(alloc, moment, index, &goal, list)
     }
 
     fn list_goal(
         &self,
         alloc: Global,
         moment: Moment,
+        index: usize,
         info: &GoalInfo,
         list: &mut ReadyList,
     ) -> Result<(), Memory>
+        requires { slice_get (map info_of self.now.goals) index ≡ Some info.now }
         ensures { OnOk result ((goal : GoalRecord) → info.now ≡ info_of goal → list.new ≡ listed_behind list.old (goal_ready moment self.now goal)) }
     {
-        if self.is_goal_awake(info, moment) {
+        if self.is_goal_awake(index, info, moment) {
             list.push(self.poll_of(alloc, moment, info)?)?;
         }
         Ok(())

@@ -10,6 +10,7 @@ use futures::task::Context;
 impl<L: Lines> State<L> {
     ghost use Rattle.std.specs.Prelude.{◌≡◌, [], IfOk, OnOk};
     ghost use Rattle.exec_script.specs.Script.{listed};
+    ghost use Rattle.exec_script.specs.Zeros.{zeros};
     ghost use Rattle.exec_world.specs.Callback.{callback};
     ghost use Rattle.exec_world.specs.Run.{apart, brought_home, commit, run, variables_for, with_polled, with_variables_for, work_for};
     ghost use Rattle.exec_world.specs.World.{change_server};
@@ -59,27 +60,30 @@ impl<L: Lines> State<L> {
         ensures close { IfOk result (λ close. close ≡ (apart one.now self.old).close) }
         ensures home { OnOk result (self.new ≡ brought_home one.now (apart one.now self.old) self.old) }
     {
-        let mut bank = self.bank_for(one);
+        let mut bank = Bank::new();
+        self.fill_bank_for(one, &mut bank);
         effects.clear();
         let close = self.act(one, &mut bank, effects, cx)?;
-        self.set_bank_for(one, bank);
+        self.set_bank_for(one, &bank);
         Ok(close)
     }
 
-    // The variables with which a callback begins.
-    fn bank_for(&self, one: &Ready) -> Bank
-        ensures { result ≡ variables_for one.now self.now }
+    // Fills a new bank with the variables with which a callback begins. It is filled where it stands: one that is handed on is
+    // copied as a whole just after it was filled, for which a processor waits.
+    #[inline(always)]
+    fn fill_bank_for(&self, one: &Ready, bank: &mut Bank)
+        requires { bank.old ≡ zeros }
+        ensures { bank.new ≡ variables_for one.now self.now }
     {
         if one.exclusive {
-            self.bank(one.group)
-        } else {
-            Bank::new()
+            self.fill_bank(one.group, bank);
         }
     }
 
     // Brings home the variables that a callback left.
-    fn set_bank_for(&mut self, one: &Ready, bank: Bank)
-        ensures { self.new ≡ with_variables_for one.now bank self.old }
+    #[inline(always)]
+    fn set_bank_for(&mut self, one: &Ready, bank: &Bank)
+        ensures { self.new ≡ with_variables_for one.now bank.now self.old }
     {
         if one.exclusive {
             self.set_bank(one.group, bank);

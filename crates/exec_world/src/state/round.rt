@@ -68,7 +68,8 @@ impl<L: Lines> State<L> {
         Ok(())
     }
 
-    fn run_all(
+    // Runs callbacks one after another, each where the one before it left the world.
+    pub(crate) fn run_all(
         &mut self,
         list: &[Ready],
         effects: &mut EffectList,
