@@ -7,7 +7,7 @@ pub trait Gate: Sync {
     /// What the callback at this position did has reached the collector of a streamed round.
     fn took(&self, position: usize);
 
-    /// Whether nobody watches, so that a worker alone may run a round in any way that gives its transcript.
+    /// Whether nobody watches, so that a round may run in any way that gives its transcript.
     fn is_open(&self) -> bool {
         false
     }

@@ -1,0 +1,13 @@
+pub mod Begins
+pub mod Claims
+pub mod Closes
+pub mod Crossing
+pub mod Handing
+pub mod Holding
+pub mod Moved
+pub mod Orders
+pub mod Releases
+pub mod Seating
+pub mod Shares
+pub mod Sweeping
+pub mod Tallies

@@ -1,0 +1,73 @@
+-- What the calls of a board promise.
+use Rattle.std.specs.Prelude.{◌≡◌, ℕ, ◌<◌, ◌≤◌, List, length, map, Option, None, slice_index}
+use Rattle.atomic_table.specs.Seated.{TableId}
+use Rattle.exec_lane.specs.Lane.{Lane}
+use Rattle.exec_lane.specs.Opening.{IsLaneOf, opened_lane}
+use Rattle.exec_board.specs.Plays.{IsBoxOf}
+use Rattle.exec_board.specs.Rule.{covered, is_within}
+use Rattle.exec_board.specs.Seats.{Hold, Holds, SeatView}
+use Rattle.exec_board.specs.declared.claim.Busy.{Busy}
+use Rattle.exec_board.specs.declared.claim.Busy.TheVariants as busy
+
+-- a pass: its board, and what its caller knows
+pub record PassView : Type 0 where
+  pub board : TableId
+  pub view : SeatView
+
+-- a claim: its board, its lane, the count at which the lane was claimed, and the lane as it stands
+pub record ClaimView : Type 0 where
+  pub board : TableId
+  pub lane : ℕ
+  pub start : ℕ
+  pub work : Lane
+
+-- the slot of a lane that a pass holds; while the claim stands, its box lies in the claim
+abbrev pub slot_of : Hold → ℕ × Option Lane
+slot_of hold = (hold.lane, None)
+
+abbrev pub slots_of : List Hold → List (ℕ × Option Lane)
+slots_of holds = map slot_of holds
+
+-- a seat is that of a pass with this share: it has the slots of the lanes that it holds, and its share isn't empty
+pub record IsSeated (board : TableId) (view : SeatView) (slots : List (ℕ × Option Lane)) (start stop : ℕ) : Type 0 where
+  pub start_is : start ≡ view.start
+  pub stop_is : stop ≡ view.stop
+  pub some_share : view.start < view.stop
+  pub slots_are : slots ≡ slots_of view.holds
+  pub as_many : length view.opening ≡ board.words
+  pub sized : length view.seen ≡ board.words
+
+-- a pass has seen a count for each lane of its board
+pub record IsSized (board : TableId) (view : SeatView) : Type 0 where
+  pub opening : length view.opening ≡ board.words
+  pub seen : length view.seen ≡ board.words
+
+-- the word for a refusal
+abbrev pub word_of : Busy → ℕ
+word_of busy.Held = 1
+word_of busy.Finished = 2
+
+-- a claim was won: it is of the lane, with its box
+pub record IsClaimOf (view : SeatView) (number : ℕ) (claim : ClaimView) : Type 0 where
+  pub lane : claim.lane ≡ number
+  pub start : claim.start ≡ claim.work.done
+  pub work : IsBoxOf view number claim.work
+
+-- a claim may be released by a pass: the pass made it, and the box in it is still the lane's and has lost no callback
+pub record MayRelease (view : SeatView) (claim : ClaimView) : Type 0 where
+  pub held : Holds view claim.lane claim.start
+  pub work : IsLaneOf (opened_lane view.opening claim.lane) claim.work
+  pub count : claim.start ≤ claim.work.done
+
+-- a box is a lane's at the end: at least as many callbacks ran as the pass has seen; each that ran since the board was opened is
+-- of exactly one of the pass's segments, and no other callback of the lane is of any
+pub record IsClosedLane (view : SeatView) (number : ℕ) (lane : Lane) : Type 0 where
+  pub same : IsLaneOf (opened_lane view.opening number) lane
+  pub within : lane.done ≤ length lane.entries
+  pub seen : slice_index view.seen number ≤ lane.done
+  pub whole : (callback : ℕ) → covered number callback view ≡ is_within (opened_lane view.opening number).done lane.done callback
+
+-- boxes are those of all lanes, in their order
+pub record AreClosed (view : SeatView) (lanes : List Lane) : Type 0 where
+  pub as_many : length lanes ≡ length view.opening
+  pub each : (number : ℕ) → number < length lanes → IsClosedLane view number (opened_lane lanes number)

@@ -1,0 +1,3 @@
+pub mod Homes
+pub mod Order
+pub mod Visits

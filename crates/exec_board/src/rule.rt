@@ -1,0 +1,78 @@
+//! The rule of a board's table, and its steps.
+use atomic_table::{Join, Play, Seat, Split, TableRule};
+use exec_lane::LaneBox;
+use std::marker::Model;
+use std::snapshot::Snapshot;
+
+/// What the caller with a pass knows. No value of it is made.
+pub struct View;
+
+impl Model for View {
+    ghost use Rattle.exec_board.specs.Seats.{SeatView, nobody};
+
+    ghost Value = { SeatView };
+
+    ghost view = { λ _. nobody };
+}
+
+/// With what a board is opened.
+#[derive(Drop)]
+pub struct Opening {
+    pub boxes: Snapshot<Vec<LaneBox>>,
+    pub passes: usize,
+}
+
+/// The rule: a lane's word is 0 where it is open, 1 where it is held and 2 where it is finished, and its box lies in its slot
+/// unless it is held.
+pub struct Claims;
+
+impl TableRule<Option<LaneBox>, View, Opening> for Claims {
+    ghost use Rattle.exec_board.specs.Rule.{Kept};
+    ghost use Rattle.exec_board.specs.Seats.{opener};
+
+    ghost holds = { λ _. Kept };
+
+    ghost first = { λ key. opener key.boxes.value.items key.passes };
+}
+
+/// A claim.
+pub struct Try;
+
+impl Play<Option<LaneBox>, View> for Try {
+    ghost use Rattle.exec_board.specs.Plays.{claimed};
+
+    ghost then = { claimed };
+}
+
+/// A release.
+pub struct GoHome;
+
+impl Play<Option<LaneBox>, View> for GoHome {
+    ghost use Rattle.exec_board.specs.Plays.{released};
+
+    ghost then = { released };
+}
+
+/// A pass is split.
+pub struct Halves;
+
+impl Split<View> for Halves {
+    ghost use Rattle.exec_board.specs.Seats.{back_half, front_half};
+
+    ghost left = { front_half };
+
+    ghost right = { back_half };
+}
+
+/// Two passes are joined.
+pub struct Together;
+
+impl Join<View> for Together {
+    ghost use Rattle.exec_board.specs.Seats.{nobody, together};
+
+    ghost both = { together };
+
+    ghost spent = { nobody };
+}
+
+pub type LaneSeat = Seat<Option<LaneBox>, View>;
