@@ -1,4 +1,5 @@
 pub mod Dealing
+pub mod HeldLanes
 pub mod InOrder
 pub mod Openings
 pub mod Rounding

@@ -81,6 +81,14 @@ gathered_is number world list state ran all is gathered did =
     gathered.ordered
     (IsPermutation-trans all ran (all_ran list (all_apart list state)) (IsPermutation-sym ran all gathered.same) did)
 
+-- the world of a snapshot in which something is ready
+snapshot_is : (number : ℕ) (world taken : WorldData) (list : List Ready) → list ≡ ready_in number world → 0 < length list → taken ≡ after_snapshot number world →
+    taken ≡ record world { state = take_inputs (moment_of number world.plan) (state_at number world); left = length list }
+snapshot_is number world taken [] is some begun = absurd (omega (arith, some))
+snapshot_is number world taken (one ∷ list) is some begun =
+    let begun_world : WorldData = record world { state = take_inputs (moment_of number world.plan) (state_at number world) } in
+    begun ∙ ap (λ (ready : List Ready). with_left (length ready) begun_world) (sym is) ∙ some_left (length list) begun_world
+
 -- a round whose callbacks are committed behind the last of them, at home
 round_ends : (number : ℕ) (world taken home : WorldData) (list : List Ready) → list ≡ ready_in number world → 0 < length list → taken ≡ after_snapshot number world →
     home ≡ record taken { state = all_home list taken.state } →
@@ -90,8 +98,7 @@ round_ends number world taken home [] is some begun at_home law = absurd (omega 
 round_ends number world taken home (one ∷ list) is some begun at_home law =
     let taken_state : WorldState = take_inputs (moment_of number world.plan) (state_at number world) in
     let begun_world : WorldData = record world { state = taken_state } in
-    let here : taken ≡ record begun_world { left = suc (length list) } =
-    (begun ∙ ap (λ (ready : List Ready). with_left (length ready) begun_world) (sym is) ∙ some_left (length list) begun_world) in
+    let here : taken ≡ record begun_world { left = suc (length list) } = snapshot_is number world taken (one ∷ list) is some begun in
     let all : List Ran = all_ran (one ∷ list) (all_apart (one ∷ list) taken.state) in
     let first : Ran = record { ready = one; effects = effects_of (apart one taken.state) } in
     let others : List Ran = all_ran list (all_apart list (brought_home one (apart one taken.state) taken.state)) in
@@ -102,15 +109,6 @@ round_ends number world taken home (one ∷ list) is some begun at_home law =
     ∙ ap (λ (s : WorldState). record taken { state = s; rounds = suc taken.rounds; left = 0 }) (given_all (one ∷ list) taken.state (all_home (one ∷ list) taken.state) ∙ sym law)
     ∙ ap (λ (w : WorldData). record w { state = run_all (one ∷ list) w.state; rounds = suc w.rounds; left = 0 }) here
     ∙ ap (λ (ready : List Ready). record begun_world { state = run_all ready taken_state; rounds = suc world.rounds; left = 0 }) is
-
--- a round in which nothing is ready is its snapshot
-pub nothing_ready : (number : ℕ) (world taken : WorldData) (list : List Ready) → list ≡ ready_in number world → list ≡ [] → taken ≡ after_snapshot number world → taken ≡ after_round number world
-nothing_ready number world taken list is none begun =
-    let begun_world : WorldData = record world { state = take_inputs (moment_of number world.plan) (state_at number world) } in
-    let ready : ready_in number world ≡ [] = sym is ∙ none in
-    begun
-    ∙ ap (λ (some : List Ready). with_left (length some) begun_world) ready
-    ∙ ap (λ (some : List Ready). record begun_world { state = run_all some begun_world.state; rounds = suc world.rounds; left = 0 }) (sym ready)
 
 -- lanes that ran, gathered and committed, are the round
 pub round_is : (number : ℕ) (world taken out home after : WorldData) (list : List Ready) (lanes : List Lane) (all : List Ran) → list ≡ ready_in number world → 0 < length list →

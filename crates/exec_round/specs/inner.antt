@@ -1,3 +1,4 @@
 pub mod Commits
 pub mod Running
 pub mod Shares
+pub mod Sharing

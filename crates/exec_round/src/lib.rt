@@ -1,11 +1,13 @@
 //! Rounds by workers: lanes run in threads, and the transcript is that of one thread.
 #![tactic(auto)]
 
-mod forked;
+mod claiming;
+mod rounds;
 mod running;
 #[cfg(test)]
 mod tests;
+mod weighing;
 mod workers;
 
-pub use forked::round_forked;
+pub use rounds::{round_claimed, round_forked};
 pub use running::run;

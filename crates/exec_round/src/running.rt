@@ -6,7 +6,7 @@ ghost use Rattle.exec_graph.specs.Plan.{PlanData};
 ghost use Rattle.exec_round.specs.Run.{IsRefusalOf};
 ghost use Rattle.exec_world.specs.Transcript.{lines_of, text_of};
 
-use crate::forked::round_forked;
+use crate::rounds::round_claimed;
 use exec_doc::{Refused, read_document};
 use exec_graph::Plan;
 use exec_lane::Gate;
@@ -27,16 +27,16 @@ pub fn run<R: Threads + Sync, G: Gate>(
     alloc: Global,
     document: &[u8],
     workers: usize,
-    _quantum: usize,
+    quantum: usize,
     gate: &G,
 ) -> Result<Vec<u8>, Refused>
     requires workers { (0 < workers) × (workers ≤ 64) }
-    requires quantum { (0 < _quantum) × (_quantum ≤ 1024) }
+    requires quantum { (0 < quantum) × (quantum ≤ 1024) }
     ensures text { IfOk result (λ text. (plan : PlanData) × (document_of document.now ≡ Some plan) × (text.items ≡ text_of plan)) }
     ensures refused { IfErr result (λ code. IsRefusalOf document.now code) }
 {
     let plan = Arc::new(alloc, read_document(alloc, document)?)?;
-    Ok(text_by::<Brand, R, G>(rt, alloc, &plan, workers, gate)?)
+    Ok(text_by::<Brand, R, G>(rt, alloc, &plan, workers, quantum, gate)?)
 }
 
 // The text of a plan's transcript; `K` has the names of its graph.
@@ -45,14 +45,16 @@ fn text_by<K: Named, R: Threads + Sync, G: Gate>(
     alloc: Global,
     plan: &Arc<Plan>,
     workers: usize,
+    quantum: usize,
     gate: &G,
 ) -> Result<Vec<u8>, Memory>
     requires names { names_of (arc_value plan.now).graph ≡ K.names }
     requires workers { 0 < workers }
+    requires quantum { 0 < quantum }
     ensures { IfOk result (λ text. text.items ≡ text_of (arc_value plan.now)) }
 {
     let lines = Text::<K>::new(alloc, plan.graph().names());
-    let lines = run_by(rt, alloc, plan.clone()?, lines, workers, gate)?;
+    let lines = run_by(rt, alloc, plan.clone()?, lines, workers, quantum, gate)?;
     Ok(lines.into_bytes())
 }
 
@@ -63,36 +65,40 @@ fn run_by<L: Lines, R: Threads + Sync, G: Gate>(
     plan: Arc<Plan>,
     lines: L,
     workers: usize,
+    quantum: usize,
     gate: &G,
 ) -> Result<L, Memory>
     requires lines { L.lines lines ≡ [] }
     requires workers { 0 < workers }
+    requires quantum { 0 < quantum }
     ensures { IfOk result (λ lines. L.lines lines ≡ lines_of (arc_value plan)) }
 {
     if workers == 1 && gate.is_open() {
         return run_plan(alloc, plan, lines);
     }
-    run_rounds(rt, alloc, plan, lines, workers, gate)
+    run_rounds(rt, alloc, plan, lines, workers, quantum, gate)
 }
 
-// Runs the rounds of a plan one after another, each forked to workers.
+// Runs the rounds of a plan one after another, each claimed by workers.
 fn run_rounds<L: Lines, R: Threads + Sync, G: Gate>(
     rt: &R,
     alloc: Global,
     plan: Arc<Plan>,
     lines: L,
     workers: usize,
+    quantum: usize,
     gate: &G,
 ) -> Result<L, Memory>
     requires lines { L.lines lines ≡ [] }
     requires workers { 0 < workers }
+    requires quantum { 0 < quantum }
     ensures { IfOk result (λ lines. L.lines lines ≡ lines_of (arc_value plan)) }
 {
     exec_world::laws::rounds_follow_one_another();
     let rounds = plan.moments().len();
     let mut world = World::with_lines(alloc, plan, lines)?;
     for done in 0..rounds {
-        world = round_forked(rt, alloc, world, done + 1, workers, gate)?;
+        world = round_claimed(rt, alloc, world, done + 1, workers, quantum, gate)?;
     }
     match world.finish() {
         Ok(()) => Ok(world.into_lines()),

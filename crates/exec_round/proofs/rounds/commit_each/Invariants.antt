@@ -1,6 +1,6 @@
 use Rattle.std.proofs.Common.{◌≡◌, ◌≤◌, reverse, vec_len}
 use Rattle.exec_round.specs.inner.Commits.{after_commits}
-use Rattle.exec_round.proofs.forked.commit_each.Given as goal
+use Rattle.exec_round.proofs.rounds.commit_each.Given as goal
 
 -- what is left to commit, from here, is all, from the start
 abbrev pub invariant-loop-one : goal.invariant-loop-one

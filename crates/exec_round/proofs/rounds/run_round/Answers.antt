@@ -1,7 +1,7 @@
 use Rattle.std.proofs.Common.{◌==◌, List, length, vec_len, ap, subst, ◌∙◌}
 use Rattle.exec_lane.specs.Lane.{AreFinished, Lane}
 use Rattle.exec_round.proofs.Rounding.{all_left, round_is, some_ready}
-use Rattle.exec_round.proofs.forked.run_round.Goals as goal
+use Rattle.exec_round.proofs.rounds.run_round.Goals as goal
 
 pub commit_each-requires : goal.commit_each-requires
 commit_each-requires g c =

@@ -1,0 +1,172 @@
+//! Rounds by workers.
+ghost use Rattle.std.specs.Prelude.{◌≡◌, ◌<◌, ◌≤◌, false, length, vec_len, IfOk, OnOk};
+ghost use Rattle.exec_lane.specs.Lane.{AreFinished};
+ghost use Rattle.exec_round.specs.inner.Commits.{after_commits};
+ghost use Rattle.exec_round.specs.inner.Sharing.{TakesSome};
+ghost use Rattle.exec_world.specs.Calls.{IsNext, after_all, after_commit, after_round};
+
+use crate::claiming::claim_lanes;
+use crate::weighing::workers_for;
+use crate::workers::run_lanes;
+use exec_lane::{Gate, LaneBox, Ran, gather, laws, split};
+use exec_msg::{Lines, Memory};
+use exec_world::{Ready, World};
+use std::alloc::Global;
+use std::thread::Threads;
+
+// How the lanes of a round are shared among workers.
+#[derive(Clone, Copy)]
+pub(crate) enum Sharing {
+    // Before any runs.
+    Dealt,
+    // By claims, of so many callbacks at most.
+    Claimed(usize),
+}
+
+/// Runs a whole round by so many workers at most. Its callbacks are cut into lanes: lane i, from 0, goes to worker i modulo the
+/// number of workers, and each worker runs its lanes one after another, in a thread of its own where one can be made. What the
+/// callbacks did is committed when the last of them has run. One worker alone, and a round whose callbacks take less time than
+/// workers to start, if nobody watches, take no thread. Where memory is refused, the world is given up.
+///
+/// # Errors
+/// [`Memory`] where a growth or a clone was refused. All threads have ended then.
+pub fn round_forked<L: Lines, R: Threads + Sync, G: Gate>(
+    rt: &R,
+    alloc: Global,
+    world: World<L>,
+    round: usize,
+    workers: usize,
+    gate: &G,
+) -> Result<World<L>, Memory>
+    requires unfailed { world.failed ≡ false }
+    requires next { IsNext round world }
+    requires workers { 0 < workers }
+    ensures { IfOk result (λ after. after ≡ after_round round world) }
+{
+    let mut world = world;
+    run_round(rt, alloc, &mut world, round, workers, Sharing::Dealt, gate)?;
+    Ok(world)
+}
+
+/// Runs a whole round by so many workers at most. Its callbacks are cut into lanes on a board, and each worker, in a thread of its
+/// own where one can be made, claims a lane that is open, runs at most `quantum` callbacks of it and releases it, until it came
+/// round without a claim. What the callbacks did is committed when the last of them has run. One worker alone, and a round whose
+/// callbacks take less time than workers to start, if nobody watches, take no thread. Where memory is refused, the world is given
+/// up.
+///
+/// # Errors
+/// [`Memory`] where a growth or a clone was refused. All threads have ended then.
+pub fn round_claimed<L: Lines, R: Threads + Sync, G: Gate>(
+    rt: &R,
+    alloc: Global,
+    world: World<L>,
+    round: usize,
+    workers: usize,
+    quantum: usize,
+    gate: &G,
+) -> Result<World<L>, Memory>
+    requires unfailed { world.failed ≡ false }
+    requires next { IsNext round world }
+    requires workers { 0 < workers }
+    requires quantum { 0 < quantum }
+    ensures { IfOk result (λ after. after ≡ after_round round world) }
+{
+    let mut world = world;
+    run_round(
+        rt,
+        alloc,
+        &mut world,
+        round,
+        workers,
+        Sharing::Claimed(quantum),
+        gate,
+    )?;
+    Ok(world)
+}
+
+// Runs a round. Where nobody watches, callbacks that take less time than workers to start run where they stand.
+fn run_round<L: Lines, R: Threads + Sync, G: Gate>(
+    rt: &R,
+    alloc: Global,
+    world: &mut World<L>,
+    round: usize,
+    workers: usize,
+    sharing: Sharing,
+    gate: &G,
+) -> Result<(), Memory>
+    requires next { IsNext round world.old }
+    requires workers { 0 < workers }
+    requires quantum { TakesSome sharing }
+    ensures { OnOk result (world.new ≡ after_round round world.old) }
+{
+    laws::lanes_come_home_as_one_thread_leaves_them();
+    exec_world::laws::callbacks_may_be_committed_behind();
+    let Ok(list) = world.snapshot(round) else {
+        return Err(Memory);
+    };
+    if list.as_slice().is_empty() {
+        return Ok(());
+    }
+    let Some(count) = workers_for(rt, list.as_slice(), workers, gate) else {
+        return run_ready(list.as_slice(), world);
+    };
+    let lanes = split(alloc, list, world)?;
+    let ran = run_shared(rt, alloc, lanes, count, sharing, gate)?;
+    let all = gather(alloc, ran, world)?;
+    commit_each(all, world)?;
+    Ok(())
+}
+
+// Runs all callbacks of lanes.
+fn run_shared<R: Threads + Sync, G: Gate>(
+    rt: &R,
+    alloc: Global,
+    lanes: Vec<LaneBox>,
+    workers: usize,
+    sharing: Sharing,
+    gate: &G,
+) -> Result<Vec<LaneBox>, Memory>
+    requires workers { 0 < workers }
+    requires quantum { TakesSome sharing }
+    ensures { IfOk result (λ ran. AreFinished lanes.items ran.items) }
+{
+    match sharing {
+        Sharing::Dealt => run_lanes(rt, alloc, lanes, workers, gate),
+        Sharing::Claimed(quantum) => claim_lanes(rt, alloc, lanes, workers, quantum, gate),
+    }
+}
+
+// Runs the callbacks of a snapshot where they stand.
+fn run_ready<L: Lines>(list: &[Ready], world: &mut World<L>) -> Result<(), Memory>
+    requires { (length list.now ≡ world.old.left) × (0 < world.old.left) }
+    ensures { OnOk result (world.new ≡ after_all list.now world.old) }
+{
+    if world.run_ready(list).is_err() {
+        return Err(Memory);
+    }
+    Ok(())
+}
+
+// Commits callbacks that ran, one after another.
+fn commit_each<L: Lines>(all: Vec<Ran>, world: &mut World<L>) -> Result<(), Memory>
+    requires { vec_len all ≤ world.old.left }
+    ensures { OnOk result (world.new ≡ after_commits all.items world.old) }
+{
+    let mut left = all;
+    left.reverse();
+    while let Some(one) = left.pop() {
+        commit(one, world)?;
+    }
+    Ok(())
+}
+
+fn commit<L: Lines>(one: Ran, world: &mut World<L>) -> Result<(), Memory>
+    requires { 0 < world.old.left }
+    ensures { OnOk result (world.new ≡ after_commit one.ready one.effects world.old) }
+{
+    let Ran { ready, effects } = one;
+    if world.commit(&ready, effects).is_err() {
+        return Err(Memory);
+    }
+    Ok(())
+}

@@ -1,0 +1,180 @@
+// Calls of a board, by one pass and by two.
+ghost use Rattle.std.specs.Prelude.{◌≡◌, ◌+◌, ◌<◌, ◌≤◌, []};
+ghost use Rattle.exec_board.specs.Seats.{IsLast};
+ghost use Rattle.exec_round.specs.inner.Sharing.{IsSweptPass};
+
+use super::TURNS;
+use super::fixture::{open, run_some, visit};
+use exec_board::{Board, Busy, Pass};
+use exec_lane::Open;
+use exec_msg::Memory;
+use std::alloc::Global;
+use std::sync::atomic::AtomicU64;
+use std::sync::atomic::Ordering::SeqCst;
+use std::test::Fail;
+use std::thread::{Threads, join};
+
+// Whether a board is closed with one box, of whose callbacks so many ran.
+fn closes_at(alloc: Global, board: Board, pass: Pass, done: usize) -> Result<bool, Memory>
+    requires board { pass.board ≡ board }
+    requires last { IsLast pass.view }
+    requires holds_none { pass.view.holds ≡ [] }
+{
+    let boxes = board.close(alloc, pass)?;
+    Ok(boxes.len() == 1 && boxes.iter().all(|lane| lane.done() == done))
+}
+
+#[test]
+fn a_lane_is_claimed_until_it_is_finished(rt: HostRuntime) -> Result<(), Fail> {
+    let alloc = rt.alloc();
+    let (board, mut pass) = open(alloc, &[5], 1)?;
+    assert!(rt; board.lanes() == 1);
+    let Ok(mut claim) = board.claim(&mut pass, 0) else {
+        panic!(rt; "the lane is open")
+    };
+    assert!(rt; claim.work().done() == 0 && claim.work().len() == 5);
+    run_some(claim.work(), 3);
+    assert!(rt; visit(&board, &mut pass, 0, 1) == Err(Busy::Held));
+    board.release(&mut pass, claim);
+    assert!(rt; visit(&board, &mut pass, 0, 2) == Ok((3, 5)));
+    assert!(rt; visit(&board, &mut pass, 0, 1) == Err(Busy::Finished));
+    assert!(rt; closes_at(alloc, board, pass, 5)?);
+    Ok(())
+}
+
+#[test]
+fn two_passes_share_a_lane(rt: HostRuntime) -> Result<(), Fail> {
+    let alloc = rt.alloc();
+    let (board, pass) = open(alloc, &[5], 2)?;
+    let (mut front, mut back) = board.split(pass);
+    let Ok(mut claim) = board.claim(&mut front, 0) else {
+        panic!(rt; "the lane is open")
+    };
+    assert!(rt; visit(&board, &mut back, 0, 1) == Err(Busy::Held));
+    run_some(claim.work(), 3);
+    board.release(&mut front, claim);
+    assert!(rt; visit(&board, &mut back, 0, 2) == Ok((3, 5)));
+    assert!(rt; visit(&board, &mut front, 0, 1) == Err(Busy::Finished));
+    let pass = board.join(front, back);
+    assert!(rt; closes_at(alloc, board, pass, 5)?);
+    Ok(())
+}
+
+// Counts the steps that two threads have taken. A thread waits for one of the other's for at most so many turns.
+#[derive(Drop)]
+struct Steps {
+    taken: AtomicU64,
+}
+
+impl Steps {
+    fn take(&self) {
+        self.taken.fetch_add(1, SeqCst);
+    }
+
+    // Whether so many were taken.
+    fn wait_for(&self, steps: u64) -> bool {
+        for _ in 0..TURNS {
+            if self.taken.load(SeqCst) >= steps {
+                return true;
+            }
+        }
+        false
+    }
+}
+
+// Claims the lane, runs three callbacks of it once the other thread was refused it, and is refused it once the other ran the rest.
+fn lead(board: &Board, mut pass: Pass, steps: &Steps) -> (Pass, bool)
+    requires board { pass.board ≡ board.now }
+    requires lane { 0 < board.now.words }
+    requires holds_none { pass.view.holds ≡ [] }
+    ensures board { result.0.board ≡ board.now }
+    ensures kept { IsSweptPass pass.view result.0.view }
+{
+    let Ok(mut claim) = board.claim(&mut pass, 0) else {
+        return (pass, false);
+    };
+    steps.take();
+    let refused = steps.wait_for(2);
+    run_some(claim.work(), 3);
+    board.release(&mut pass, claim);
+    steps.take();
+    let finished = steps.wait_for(4) && visit(board, &mut pass, 0, 1) == Err(Busy::Finished);
+    (pass, refused && finished)
+}
+
+// Is refused the lane while the other thread holds it, and runs two callbacks of it once that has released it.
+fn follow(board: &Board, mut pass: Pass, steps: &Steps) -> (Pass, bool)
+    requires board { pass.board ≡ board.now }
+    requires lane { 0 < board.now.words }
+    requires holds_none { pass.view.holds ≡ [] }
+    ensures board { result.0.board ≡ board.now }
+    ensures kept { IsSweptPass pass.view result.0.view }
+{
+    let held = steps.wait_for(1) && visit(board, &mut pass, 0, 1) == Err(Busy::Held);
+    steps.take();
+    let ran = steps.wait_for(3) && visit(board, &mut pass, 0, 2) == Ok((3, 5));
+    steps.take();
+    (pass, held && ran)
+}
+
+// Both, each with a half of a pass and in a thread of its own.
+fn lead_and_follow<R: Threads>(rt: &R, board: &Board, pass: Pass, steps: &Steps) -> (Pass, bool)
+    requires board { pass.board ≡ board.now }
+    requires lane { 0 < board.now.words }
+    requires two { pass.view.start + 2 ≤ pass.view.stop }
+    requires holds_none { pass.view.holds ≡ [] }
+    ensures board { result.0.board ≡ board.now }
+    ensures kept { IsSweptPass pass.view result.0.view }
+{
+    let (front, back) = board.split(pass);
+    let (led, followed) = join(
+        rt,
+        move || -> (Pass, bool)
+            requires { (front.board ≡ board.now) × (0 < board.now.words) × (front.view.holds ≡ []) }
+            ensures { (result.0.board ≡ board.entry.now) × IsSweptPass front.view result.0.view }
+        { lead(board, front, steps) },
+        move || -> (Pass, bool)
+            requires { (back.board ≡ board.now) × (0 < board.now.words) × (back.view.holds ≡ []) }
+            ensures { (result.0.board ≡ board.entry.now) × IsSweptPass back.view result.0.view }
+        { follow(board, back, steps) },
+    );
+    let (front, leads) = led;
+    let (back, follows) = followed;
+    (board.join(front, back), leads && follows)
+}
+
+#[test]
+fn two_threads_share_a_lane(rt: HostRuntime) -> Result<(), Fail> {
+    let alloc = rt.alloc();
+    let (board, pass) = open(alloc, &[5], 2)?;
+    let steps = Steps {
+        taken: AtomicU64::new(0),
+    };
+    let (pass, shared) = lead_and_follow(&rt, &board, pass, &steps);
+    assert!(rt; shared);
+    assert!(rt; closes_at(alloc, board, pass, 5)?);
+    Ok(())
+}
+
+#[test]
+fn a_sweep_finishes_the_lanes(rt: HostRuntime) -> Result<(), Fail> {
+    let alloc = rt.alloc();
+    let (board, mut pass) = open(alloc, &[5], 1)?;
+    board.sweep(&mut pass, 2, &Open)?;
+    assert!(rt; visit(&board, &mut pass, 0, 1) == Err(Busy::Finished));
+    assert!(rt; closes_at(alloc, board, pass, 5)?);
+    Ok(())
+}
+
+#[test]
+fn shares_are_halved_and_joined(rt: HostRuntime) -> Result<(), Fail> {
+    let (board, pass) = open(rt.alloc(), &[1], 5)?;
+    assert!(rt; pass.share() == (0, 5));
+    let (front, back) = board.split(pass);
+    assert!(rt; front.share() == (0, 2) && back.share() == (2, 3));
+    let (middle, last) = board.split(back);
+    assert!(rt; middle.share() == (2, 1) && last.share() == (3, 2));
+    let pass = board.join(front, board.join(middle, last));
+    assert!(rt; pass.share() == (0, 5));
+    Ok(())
+}
