@@ -10,7 +10,12 @@ import time
 TOP = os.path.dirname(os.path.dirname(os.path.abspath(__file__)))
 PROGRAM = os.path.join(TOP, "crates", "exec_run", "out", "exec_run")
 # What ./exec_run sets for the program.
-TUNABLES = "glibc.malloc.hugetlb=1:glibc.malloc.mmap_threshold=4294967296:glibc.malloc.top_pad=67108864"
+TUNABLES = (
+    "glibc.malloc.hugetlb=1:glibc.malloc.mmap_threshold=4294967296:glibc.malloc.top_pad=67108864"
+    ":glibc.malloc.tcache_count=65535:glibc.malloc.mxfast=0"
+)
+# The words for one worker.
+ALONE = "1", "1"
 
 
 def program():
@@ -30,14 +35,14 @@ def document(timers, script, rounds):
     return json.dumps(whole, separators=(",", ":")).encode()
 
 
-def measure(path, text):
+def measure(path, text, words=ALONE):
     """The seconds, the bytes of the transcript and the greatest resident memory in bytes."""
     with tempfile.TemporaryFile() as source:
         source.write(text)
-        return measure_file(path, source)
+        return measure_file(path, source, words=words)
 
 
-def measure_file(path, source, status=0, line=b""):
+def measure_file(path, source, status=0, line=b"", words=ALONE):
     """The same for the document in an open file, where the run is to end with a status and a line on standard error.
 
     The system counts the memory of this process as the run's too, so no less than that is seen.
@@ -46,7 +51,7 @@ def measure_file(path, source, status=0, line=b""):
     environment = {"GLIBC_TUNABLES": TUNABLES, **os.environ}
     with tempfile.TemporaryFile() as sink, tempfile.TemporaryFile() as errors:
         start = time.perf_counter()
-        child = subprocess.Popen([path, "1", "1"], stdin=source, stdout=sink, stderr=errors, env=environment)
+        child = subprocess.Popen([path, *words], stdin=source, stdout=sink, stderr=errors, env=environment)
         _, ended, usage = os.wait4(child.pid, 0)
         seconds = time.perf_counter() - start
         child.returncode = os.waitstatus_to_exitcode(ended)

@@ -413,6 +413,22 @@ def variables_of_groups(chance):
     return plan([of("n"), {**of("m"), "actions": servers}], moments(chance, 6), feed, ["x"])
 
 
+def crowds_that_are_canceled(chance):
+    """Servers of several groups, each with 64 goals that are canceled in one round by long handlers: work that is worth threads."""
+    groups = [{"name": "e", "kind": "exclusive"}, {"name": "f", "kind": "exclusive"}, {"name": "w", "kind": "reentrant"}]
+    step = lambda to: ["set", to, chance.choice(("add", "sub", "mul", "min", "max")), chance.choice(("r0", "r1", "in", "aux", "now")), chance.choice(("r1", "r2", 3, -7))]
+    servers, feed = [], []
+    for at in range(chance.choice((12, 16))):
+        group = chance.choice("efwwww")
+        counted = [] if group == "w" else [["set", "g0", "add", "g0", "r0"], ["log", "g0"]]
+        handler = [*(step(chance.choice(("r0", "r1", "r2"))) for _ in range(58)), *counted, ["log", "r2"], ["set", "r3", "lt", "r0", 0], ["decide", chance.choice((1, 2, 2, "r3"))]]
+        servers.append({"name": f"a{at}", "group": group, "on_goal": [["decide", 2]], "on_cancel": handler, "script": [["skip", "aux", 1], ["wait", 100], ["canceled", at]]})
+        feed += [{"round": goal, "action": f"a{at}", "goal": f"{64 * at + goal:032x}", "value": goal} for goal in range(1, 65)]
+        feed.append({"round": 66, "action": f"a{at}", "cancel": f"{0:032x}", "stamp": chance.choice((0, 0, 40))})
+    feed.sort(key=lambda entry: entry["round"])
+    return plan([{"name": "n", "groups": groups, "actions": servers}], list(range(1, 68)), feed)
+
+
 RULES = {
     rule.__name__: rule
     for rule in (
@@ -435,6 +451,7 @@ RULES = {
         timers_and_late_moments,
         skips,
         variables_of_groups,
+        crowds_that_are_canceled,
     )
 }
 
