@@ -11,7 +11,7 @@ use Rattle.atomic_table.proofs.Lists.{exchanged, set_else, set_here}
 use Rattle.exec_lane.specs.Lane.{Lane}
 use Rattle.exec_lane.specs.Opening.{IsLaneOf, opened_lane}
 use Rattle.exec_board.specs.Plays.{IsBoxOf, claimed}
-use Rattle.exec_board.specs.Rule.{IsHome, Kept, LaneOk, LiveOk, ViewOk, apart, covered, has_number, held, is_same, is_within, tally}
+use Rattle.exec_board.specs.Rule.{IsHome, Kept, LaneOk, LiveOk, ViewOk, gap, covered, has_number, held, is_same, in_range, tally}
 use Rattle.exec_board.specs.Seats.{IsLast, SeatView, holding, nobody, refused, seen_at}
 use Rattle.exec_board.proofs.Moved.{changed-same, held_on, index-set, index-set-else, lane_same, moved}
 use Rattle.exec_board.proofs.Tallies.{tally-alone, tally-part, tally-same, tally-set, tally-two}
@@ -23,10 +23,10 @@ spent u lanes most count ok empty = dite (dec_le u.stop u.start) (λ within. ok.
 
 pub alone : (s : State (Option Lane) SeatView) (k : Kept s) (seat : ℕ) (v : SeatView) → get_elem? s.views seat ≡ some v → v.passes ≡ k.most → IsLast v
     → (other : ℕ) (u : SeatView) → other ≢ seat → get_elem? s.views other ≡ some u → u ≡ nobody
-alone s k seat v at most last other u apart there = spent u k.opening k.most k.count (k.views_ok other u there)
+alone s k seat v at most last other u gap there = spent u k.opening k.most k.count (k.views_ok other u there)
     (λ some_share.
     let within = ((k.views_ok other u there).live some_share).within in
-    let two = tally-two (has_number u.start) s.views other seat u v apart there at in
+    let two = tally-two (has_number u.start) s.views other seat u v gap there at in
     let one = k.disjoint u.start in
     let theirs : has_number u.start u ≡ 1 = omega (arith, some_share) in
     let starts = last.0 in
@@ -37,7 +37,7 @@ alone s k seat v at most last other u apart there = spent u k.opening k.most k.c
 -- a count of the last pass alone is that of all passes
 pub counts_alone : (s : State (Option Lane) SeatView) (k : Kept s) (seat : ℕ) (v : SeatView) (f : SeatView → ℕ) → get_elem? s.views seat ≡ some v → v.passes ≡ k.most → IsLast v
     → f nobody ≡ 0 → tally f s.views ≡ f v
-counts_alone s k seat v f at most last empty = tally-alone f s.views seat v at (λ other u apart there. ap f (alone s k seat v at most last other u apart there) ∙ empty)
+counts_alone s k seat v f at most last empty = tally-alone f s.views seat v at (λ other u gap there. ap f (alone s k seat v at most last other u gap there) ∙ empty)
 
 -- ---- a claim
 
@@ -65,13 +65,13 @@ module _ (s : State (Option Lane) SeatView) (k : Kept s) (slots seat : ℕ) (me 
 
   -- a pass holds no lane that none holds
   not_held : n ≢ 1 → held lane v ≡ 0
-  not_held apart = let none_does = ok.no_holder apart in let mine = tally-part (held lane) s.views seat v at in omega (arith, none_does, mine)
+  not_held gap = let none_does = ok.no_holder gap in let mine = tally-part (held lane) s.views seat v at in omega (arith, none_does, mine)
 
   no_other : (other : ℕ) → other ≢ lane → is_same lane other ≡ 0
-  no_other other apart = dite (dec_le lane other) (λ le. omega (arith, le, strict le)) (λ more. omega (arith, more))
+  no_other other gap = dite (dec_le lane other) (λ le. omega (arith, le, strict le)) (λ more. omega (arith, more))
     where
       strict : lane ≤ other → lane < other
-      strict le = dite (dec_le other lane) (λ ge. absurd (apart (omega (arith, le, ge)))) (λ more. omega (arith, more))
+      strict le = dite (dec_le other lane) (λ ge. absurd (gap (omega (arith, le, ge)))) (λ more. omega (arith, more))
 
   box_of : (home : IsHome (opened_lane k.opening lane) (k.count lane) (get_elem? s.homes lane)) → n ≡ 0 → IsBoxOf v lane home.0
   box_of home open_ =
@@ -79,8 +79,8 @@ module _ (s : State (Option Lane) SeatView) (k : Kept s) (slots seat : ℕ) (me 
       let count : box.done ≡ k.count lane = home.3 in
       let few = ok.unfinished open_ in
       let entries : length box.entries ≡ length (opened_lane k.opening lane).entries = ap length home.2.entries in
-      let whole : (callback : ℕ) → tally (covered lane callback) s.views ≡ is_within (opened_lane k.opening lane).done box.done callback =
-      λ callback. ok.whole callback ∙ ap (λ (m : ℕ). is_within (opened_lane k.opening lane).done m callback) (sym count) in
+      let whole : (callback : ℕ) → tally (covered lane callback) s.views ≡ in_range (opened_lane k.opening lane).done box.done callback =
+      λ callback. ok.whole callback ∙ ap (λ (m : ℕ). in_range (opened_lane k.opening lane).done m callback) (sym count) in
       let first : opened_lane v.opening lane ≡ opened_lane k.opening lane = ap (λ (lanes : List Lane). opened_lane lanes lane) live.same_opening in
       let since = ok.since in
       let ran = live.ran lane within in record {
@@ -88,8 +88,8 @@ module _ (s : State (Option Lane) SeatView) (k : Kept s) (slots seat : ℕ) (me 
         unfinished = omega (arith, count, few, entries);
         since = subst (λ (l : Lane). l.done ≤ box.done) (sym first) (omega (arith, count, since));
         seen = omega (arith, count, ran);
-        whole = (s.views, seat, at, λ callback. whole callback ∙ ap (λ (l : Lane). is_within l.done box.done callback) (sym first));
-        alone = λ last callback. sym (counts_alone s k seat v (covered lane callback) at live.same_passes last refl) ∙ whole callback ∙ ap (λ (l : Lane). is_within l.done box.done callback) (sym first);
+        whole = (s.views, seat, at, λ callback. whole callback ∙ ap (λ (l : Lane). in_range l.done box.done callback) (sym first));
+        alone = λ last callback. sym (counts_alone s k seat v (covered lane callback) at live.same_passes last refl) ∙ whole callback ∙ ap (λ (l : Lane). in_range l.done box.done callback) (sym first);
       }
 
   won : n ≡ 0 → Goes 1
@@ -105,8 +105,8 @@ module _ (s : State (Option Lane) SeatView) (k : Kept s) (slots seat : ℕ) (me 
         w,
         takes lane (Some box),
         home.1,
-        moved s k seat v w lane 1 (k.count lane) (set s.homes lane none) at within (omega arith) (length-set s.homes lane none) (λ other apart. set_else s.homes lane other none apart)
-            (λ other apart. let zero_ = no_other other apart in omega (arith, zero_)) (λ other callback apart. refl) refl refl (λ other u apart there. inl refl)
+        moved s k seat v w lane 1 (k.count lane) (set s.homes lane none) at within (omega arith) (length-set s.homes lane none) (λ other gap. set_else s.homes lane other none gap)
+            (λ other gap. let zero_ = no_other other gap in omega (arith, zero_)) (λ other callback gap. refl) refl refl (λ other u gap there. inl refl)
             (record {
               spent = λ empty. absurd (omega (arith, empty, some_share));
               live = λ _. record {
@@ -122,12 +122,12 @@ module _ (s : State (Option Lane) SeatView) (k : Kept s) (slots seat : ℕ) (me 
               known = omega arith;
               since = ok.since;
               within = ok.within;
-              at_home = λ apart. absurd (apart refl);
+              at_home = λ gap. absurd (gap refl);
               out = λ _. set_here s.homes lane none homes_within;
               unfinished = λ e. absurd (omega (arith, e));
               finished = λ e. absurd (omega (arith, e));
               one_holder = λ _. holders;
-              no_holder = λ apart. absurd (apart refl);
+              no_holder = λ gap. absurd (gap refl);
               whole = λ callback. tally-same (covered lane callback) s.views seat v w at refl ∙ ok.whole callback;
             }),
         ((λ _. (box, refl, box_of home open_, not_held (λ one. omega (arith, one, open_)))), (λ closed. absurd (closed open_))),
@@ -145,19 +145,19 @@ module _ (s : State (Option Lane) SeatView) (k : Kept s) (slots seat : ℕ) (me 
       let all = ok.finished two in
       let from : k.count other ≡ k.count lane = ap k.count same in
       omega (arith, now, entries, all, from))
-      (λ apart.
-      let now : slice_index (seen_at lane n v) other ≡ slice_index v.seen other = ap (λ (xs : List ℕ). slice_index xs other) is ∙ index-set-else v.seen lane other (length (opened_lane v.opening lane).entries) apart in
+      (λ gap.
+      let now : slice_index (seen_at lane n v) other ≡ slice_index v.seen other = ap (λ (xs : List ℕ). slice_index xs other) is ∙ index-set-else v.seen lane other (length (opened_lane v.opening lane).entries) gap in
       let was = live.ran other inside in
       omega (arith, now, was)))
-      (λ apart.
-      let now : slice_index (seen_at lane n v) other ≡ slice_index v.seen other = ap (λ (b : Bool). slice_index (cond b (slice_set v.seen lane (length (opened_lane v.opening lane).entries)) v.seen) other) (ne_eqb n 2 apart) in
+      (λ gap.
+      let now : slice_index (seen_at lane n v) other ≡ slice_index v.seen other = ap (λ (b : Bool). slice_index (cond b (slice_set v.seen lane (length (opened_lane v.opening lane).entries)) v.seen) other) (ne_eqb n 2 gap) in
       let was = live.ran other inside in
       omega (arith, now, was))
 
   seen_sized : length (seen_at lane n v) ≡ length k.opening
   seen_sized = dite (ℕ_discrete n 2)
       (λ two. ap (λ (b : Bool). length (cond b (slice_set v.seen lane (length (opened_lane v.opening lane).entries)) v.seen)) (eq-eqb n 2 two) ∙ length-set v.seen lane (length (opened_lane v.opening lane).entries) ∙ live.sized)
-      (λ apart. ap (λ (b : Bool). length (cond b (slice_set v.seen lane (length (opened_lane v.opening lane).entries)) v.seen)) (ne_eqb n 2 apart) ∙ live.sized)
+      (λ gap. ap (λ (b : Bool). length (cond b (slice_set v.seen lane (length (opened_lane v.opening lane).entries)) v.seen)) (ne_eqb n 2 gap) ∙ live.sized)
 
   lost : n ≢ 0 → Goes n
   lost closed =
@@ -165,7 +165,7 @@ module _ (s : State (Option Lane) SeatView) (k : Kept s) (slots seat : ℕ) (me 
         w,
         keeps,
         tt,
-        moved s k seat v w lane n (k.count lane) s.homes at within (omega arith) refl (λ other apart. refl) (λ other apart. refl) (λ other callback apart. refl) refl refl (λ other u apart there. inl refl)
+        moved s k seat v w lane n (k.count lane) s.homes at within (omega arith) refl (λ other gap. refl) (λ other gap. refl) (λ other callback gap. refl) refl refl (λ other u gap there. inl refl)
             (record {
               spent = λ empty. absurd (omega (arith, empty, some_share));
               live = λ _. record {

@@ -9,7 +9,7 @@ use Rattle.atomic_table.specs.Table.{Final, Seen, State}
 use Rattle.exec_lane.specs.Lane.{AreFinished, IsFinished, Lane}
 use Rattle.exec_lane.specs.Opening.{IsLaneOf, no_lane, opened_lane}
 use Rattle.exec_board.specs.Board.{AreClosed, IsClosedLane}
-use Rattle.exec_board.specs.Rule.{Kept, LaneOk, LiveOk, covered, held, is_within, tally}
+use Rattle.exec_board.specs.Rule.{Kept, LaneOk, LiveOk, covered, held, in_range, tally}
 use Rattle.exec_board.specs.Seats.{Hold, IsLast, SeatView}
 use Rattle.exec_board.specs.Sweeps.{AllSeen}
 use Rattle.exec_board.specs.inner.Homes.{AreBoxes}
@@ -63,8 +63,8 @@ module _ (words : List ℕ) (slots : List (Option Lane)) (seat : ℕ) (view : Se
           whole = λ callback.
               sym (counts_alone s k seat view (covered number callback) final.1.1 live.same_passes last refl)
               ∙ lane.whole callback
-              ∙ ap (λ (m : ℕ). is_within (opened_lane k.opening number).done m callback) (sym count)
-              ∙ ap (λ (l : Lane). is_within l.done box.done callback) (sym first);
+              ∙ ap (λ (m : ℕ). in_range (opened_lane k.opening number).done m callback) (sym count)
+              ∙ ap (λ (l : Lane). in_range l.done box.done callback) (sym first);
         },
       )
 

@@ -6,7 +6,7 @@ use native.Mathlib.Decide.{dec_le, ℕ_discrete}
 use Rattle.atomic_table.specs.Seated.{TableId}
 use Rattle.atomic_table.specs.Table.{Me, rest}
 use Rattle.exec_lane.specs.Lane.{Lane}
-use Rattle.exec_board.specs.Board.{IsSeated, slot_of, slots_of}
+use Rattle.exec_board.specs.Board.{IsSeated, held_slot, held_slots}
 use Rattle.exec_board.specs.Plays.{done_in}
 use Rattle.exec_board.specs.Rule.{AreHeld, is_same, tally}
 use Rattle.exec_board.specs.Seats.{Hold, Holds, SeatView, let_go, start_of, without}
@@ -71,22 +71,22 @@ as_many_else (hold ∷ holds) lane other apart = dite (ℕ_discrete hold.lane la
 -- ---- the slots of a seat
 
 -- the slot of a held lane, brought to the front
-pub brought_slot : (holds : List Hold) (lane start : ℕ) → start_of lane holds ≡ Some start → brought (place_of lane (slots_of holds)) (slots_of holds) ≡ (lane, None) ∷ slots_of (without lane holds)
+pub brought_slot : (holds : List Hold) (lane start : ℕ) → start_of lane holds ≡ Some start → brought (place_of lane (held_slots holds)) (held_slots holds) ≡ (lane, None) ∷ held_slots (without lane holds)
 brought_slot [] lane start is = absurd (cc)
 brought_slot (hold ∷ holds) lane start is = dite (ℕ_discrete hold.lane lane)
     (λ same.
-    ap (λ (b : Bool). brought (cond b 0 (suc (place_of lane (slots_of holds)))) (slots_of (hold ∷ holds))) (eq-eqb hold.lane lane same)
-    ∙ (λ i. (same i, None) ∷ slots_of (sym (without_here hold holds lane same) i)))
+    ap (λ (b : Bool). brought (cond b 0 (suc (place_of lane (held_slots holds)))) (held_slots (hold ∷ holds))) (eq-eqb hold.lane lane same)
+    ∙ (λ i. (same i, None) ∷ held_slots (sym (without_here hold holds lane same) i)))
     (λ apart.
-    ap (λ (b : Bool). brought (cond b 0 (suc (place_of lane (slots_of holds)))) (slots_of (hold ∷ holds))) (ne_eqb hold.lane lane apart)
-    ∙ ap (λ (xs : List (ℕ × Option Lane)). in_front (slot_of hold) xs) (brought_slot holds lane start (sym (start_else hold holds lane apart) ∙ is))
-    ∙ (λ i. (lane, None) ∷ slots_of (sym (without_else hold holds lane apart) i)))
+    ap (λ (b : Bool). brought (cond b 0 (suc (place_of lane (held_slots holds)))) (held_slots (hold ∷ holds))) (ne_eqb hold.lane lane apart)
+    ∙ ap (λ (xs : List (ℕ × Option Lane)). in_front (held_slot hold) xs) (brought_slot holds lane start (sym (start_else hold holds lane apart) ∙ is))
+    ∙ (λ i. (lane, None) ∷ held_slots (sym (without_else hold holds lane apart) i)))
 
 -- ---- a release, move by move
 
-module _ (lane start : ℕ) (before brought_ : Me (Option Lane) SeatView) (holds : Holds before.0 lane start) (slots : before.1 ≡ slots_of before.0.holds)
+module _ (lane start : ℕ) (before brought_ : Me (Option Lane) SeatView) (holds : Holds before.0 lane start) (slots : before.1 ≡ held_slots before.0.holds)
     (brings : brought_ ≡ (before.0, brought (place_of lane before.1) before.1)) where
-  front : brought_.1 ≡ (lane, None) ∷ slots_of (without lane before.0.holds)
+  front : brought_.1 ≡ (lane, None) ∷ held_slots (without lane before.0.holds)
   front = ap (λ (me : Me (Option Lane) SeatView). me.1) brings ∙ ap (λ (xs : List (ℕ × Option Lane)). brought (place_of lane xs) xs) slots ∙ brought_slot before.0.holds lane start holds
 
   -- the slot is there to be filled
@@ -95,16 +95,16 @@ module _ (lane start : ℕ) (before brought_ : Me (Option Lane) SeatView) (holds
 
   module _ (work : Lane) (filled : Me (Option Lane) SeatView) (fills : filled ≡ (brought_.0, (lane, Some work) ∷ rest brought_.1)) where
     -- it was filled
-    pub filled_is : filled ≡ (before.0, (lane, Some work) ∷ slots_of (without lane before.0.holds))
+    pub filled_is : filled ≡ (before.0, (lane, Some work) ∷ held_slots (without lane before.0.holds))
     filled_is = fills ∙ (λ i. ((brings i).0, (lane, Some work) ∷ rest (front i)))
 
     -- and went home
-    pub home_is : (after : Me (Option Lane) SeatView) → after ≡ (let_go lane (done_in filled.1) filled.0, rest filled.1) → after ≡ (let_go lane work.done before.0, slots_of (without lane before.0.holds))
+    pub home_is : (after : Me (Option Lane) SeatView) → after ≡ (let_go lane (done_in filled.1) filled.0, rest filled.1) → after ≡ (let_go lane work.done before.0, held_slots (without lane before.0.holds))
     home_is after releases = releases ∙ ap (λ (me : Me (Option Lane) SeatView). (let_go lane (done_in me.1) me.0, rest me.1)) filled_is
 
 -- a seat after a release
 pub seated_on : (board : TableId) (before after : Me (Option Lane) SeatView) (lane n start stop : ℕ) → IsSeated board before.0 before.1 start stop
-    → after ≡ (let_go lane n before.0, slots_of (without lane before.0.holds)) → IsSeated board after.0 after.1 start stop
+    → after ≡ (let_go lane n before.0, held_slots (without lane before.0.holds)) → IsSeated board after.0 after.1 start stop
 seated_on board before after lane n start stop seated is = subst (λ (me : Me (Option Lane) SeatView). IsSeated board me.0 me.1 start stop) (sym is) (record {
   start_is = seated.start_is;
   stop_is = seated.stop_is;

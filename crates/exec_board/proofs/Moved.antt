@@ -9,7 +9,7 @@ use Rattle.atomic_table.specs.Table.{State}
 use Rattle.atomic_table.proofs.Lists.{at_set}
 use Rattle.exec_lane.specs.Lane.{Lane}
 use Rattle.exec_lane.specs.Opening.{opened_lane}
-use Rattle.exec_board.specs.Rule.{AreHeld, Home, Kept, LaneOk, ViewOk, covered, has_number, held, is_same, is_within, tally}
+use Rattle.exec_board.specs.Rule.{AreHeld, Home, Kept, LaneOk, ViewOk, covered, has_number, held, is_same, in_range, tally}
 use Rattle.exec_board.specs.Seats.{Hold, SeatView}
 use Rattle.exec_board.proofs.Tallies.{tally-same}
 
@@ -115,5 +115,5 @@ moved s k seat v w lane word n homes at within more as_many homes_on held_on_ co
       (λ (is : (other ≡ seat) × (w ≡ u)). subst (ViewOk k.opening k.most (changed k.count lane n)) is.1 view_ok)
       (λ (is : (other ≢ seat) × (get_elem? s.views other ≡ some u)). view_on k.opening k.most k.count lane n u more (quiet other u is.0 is.1) (k.views_ok other u is.1))
       (at_set s.views seat other w u there);
-  disjoint = λ number. subst (λ (x : ℕ). x ≤ 1) (sym (tally-same (has_number number) s.views seat v w at (λ i. is_within (starts i) (stops i) number))) (k.disjoint number);
+  disjoint = λ number. subst (λ (x : ℕ). x ≤ 1) (sym (tally-same (has_number number) s.views seat v w at (λ i. in_range (starts i) (stops i) number))) (k.disjoint number);
 }

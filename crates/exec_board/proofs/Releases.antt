@@ -10,7 +10,7 @@ use Rattle.atomic_table.proofs.Lists.{set_else, set_here}
 use Rattle.exec_lane.specs.Lane.{Lane}
 use Rattle.exec_lane.specs.Opening.{IsLaneOf, opened_lane}
 use Rattle.exec_board.specs.Plays.{released}
-use Rattle.exec_board.specs.Rule.{Kept, LaneOk, LiveOk, apart, covered, held, is_of, is_within, tally}
+use Rattle.exec_board.specs.Rule.{Kept, LaneOk, LiveOk, gap, covered, held, in_segment, in_range, tally}
 use Rattle.exec_board.specs.Seats.{Holds, SeatView, let_go, segment_of, without}
 use Rattle.exec_board.specs.inner.Homes.{word_at}
 use Rattle.exec_board.proofs.Holding.{as_many_else, differ, held_without, hold_is, one_less}
@@ -81,22 +81,22 @@ module _ (s : State (Option Lane) SeatView) (k : Kept s) (seat : ℕ) (v : SeatV
   first_is : (segment_of lane box.done v).first ≡ k.count lane
   first_is = ap (λ (found : Option ℕ). unwrap_or found 0) holds ∙ here.1
 
-  covers : (other callback : ℕ) → covered other callback w ≡ covered other callback v + is_of other callback (segment_of lane box.done v)
-  covers other callback = tally-push (is_of other callback) v.segments (segment_of lane box.done v)
+  covers : (other callback : ℕ) → covered other callback w ≡ covered other callback v + in_segment other callback (segment_of lane box.done v)
+  covers other callback = tally-push (in_segment other callback) v.segments (segment_of lane box.done v)
 
   cover_else : (other callback : ℕ) → other ≢ lane → covered other callback w ≡ covered other callback v
   cover_else other callback away =
       let all = covers other callback in let far = differ lane other (λ is. away (sym is)) in omega (arith, all, far)
 
-  segment_is : (callback : ℕ) → is_of lane callback (segment_of lane box.done v) ≡ is_within (k.count lane) box.done callback
+  segment_is : (callback : ℕ) → in_segment lane callback (segment_of lane box.done v) ≡ in_range (k.count lane) box.done callback
   segment_is callback =
-      let a : ℕ = is_within (k.count lane) box.done callback in
-      ap (λ (first : ℕ). is_within first box.done callback - apart lane lane) first_is ∙ nothing_off a
+      let a : ℕ = in_range (k.count lane) box.done callback in
+      ap (λ (first : ℕ). in_range first box.done callback - gap lane lane) first_is ∙ nothing_off a
     where
-      nothing_off : (a : ℕ) → a - apart lane lane ≡ a
+      nothing_off : (a : ℕ) → a - gap lane lane ≡ a
       nothing_off a = omega arith
 
-  whole : (callback : ℕ) → tally (covered lane callback) (set s.views seat w) ≡ is_within (opened_lane k.opening lane).done box.done callback
+  whole : (callback : ℕ) → tally (covered lane callback) (set s.views seat w) ≡ in_range (opened_lane k.opening lane).done box.done callback
   whole callback =
       let changes = tally-set (covered lane callback) s.views seat v w at in
       let all = covers lane callback in
@@ -104,9 +104,9 @@ module _ (s : State (Option Lane) SeatView) (k : Kept s) (seat : ℕ) (v : SeatV
       let was = ok.whole callback in
       let from = ok.since in
       let on = more in
-      joins_on (opened_lane k.opening lane).done (k.count lane) box.done callback (tally (covered lane callback) (set s.views seat w)) (tally (covered lane callback) s.views) (covered lane callback v) (covered lane callback w) (is_of lane callback (segment_of lane box.done v)) changes all segment was from on
+      joins_on (opened_lane k.opening lane).done (k.count lane) box.done callback (tally (covered lane callback) (set s.views seat w)) (tally (covered lane callback) s.views) (covered lane callback v) (covered lane callback w) (in_segment lane callback (segment_of lane box.done v)) changes all segment was from on
     where
-      joins_on : (a b c x after before mine_ mine_after part : ℕ) → after + mine_ ≡ before + mine_after → mine_after ≡ mine_ + part → part ≡ is_within b c x → before ≡ is_within a b x → a ≤ b → b ≤ c → after ≡ is_within a c x
+      joins_on : (a b c x after before mine_ mine_after part : ℕ) → after + mine_ ≡ before + mine_after → mine_after ≡ mine_ + part → part ≡ in_range b c x → before ≡ in_range a b x → a ≤ b → b ≤ c → after ≡ in_range a c x
       joins_on a b c x after before mine_ mine_after part changes all segment was from on = omega (arith, changes, all, segment, was, from, on)
 
   lane_ok : LaneOk (opened_lane k.opening lane) box.done (word_at box) (get_elem? (set s.homes lane (some (Some box))) lane) (tally (held lane) (set s.views seat w)) (λ callback. tally (covered lane callback) (set s.views seat w))

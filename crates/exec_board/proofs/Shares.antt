@@ -7,7 +7,7 @@ use Rattle.atomic_table.specs.Table.{Joins, Splits, State}
 use Rattle.atomic_table.proofs.Lists.{at_set, at_snoc}
 use Rattle.exec_lane.specs.Lane.{Lane}
 use Rattle.exec_lane.specs.Opening.{opened_lane}
-use Rattle.exec_board.specs.Rule.{Kept, LiveOk, ViewOk, covered, has_number, held, is_of, is_same, is_within, tally}
+use Rattle.exec_board.specs.Rule.{Kept, LiveOk, ViewOk, covered, has_number, held, in_segment, is_same, in_range, tally}
 use Rattle.exec_board.specs.Seats.{Hold, SeatView, back_half, front_half, greater, middle, nobody, together}
 use Rattle.exec_board.proofs.Moved.{lane_same}
 use Rattle.exec_board.proofs.Tallies.{tally-append, tally-push, tally-set}
@@ -32,10 +32,10 @@ regrouped s k views holders covers numbers each = record {
 }
 
 -- two neighbouring ranges are one
-pub cut : (a b c x : ℕ) → a ≤ b → b ≤ c → is_within a b x + is_within b c x ≡ is_within a c x
+pub cut : (a b c x : ℕ) → a ≤ b → b ≤ c → in_range a b x + in_range b c x ≡ in_range a c x
 cut a b c x low high = omega (arith, low, high)
 
-pub paste : (a b c d x : ℕ) → a < b → c < d → c ≡ b → is_within a d x + is_within 0 0 x ≡ is_within a b x + is_within c d x
+pub paste : (a b c d x : ℕ) → a < b → c < d → c ≡ b → in_range a d x + in_range 0 0 x ≡ in_range a b x + in_range c d x
 paste a b c d x low high same = omega (arith, low, high, same)
 
 -- ---- split
@@ -124,7 +124,7 @@ joins seat v other w some_share some_other neighbours free s k at apart there =
     let none : held lane w ≡ 0 = ap (λ (holds : List Hold). tally (λ (hold : Hold). is_same hold.lane lane) holds) free in
     put_together (held lane) s.views seat other v w (together v w) nobody at there (omega (arith, none)))
     (λ lane callback.
-    let all = tally-append (is_of lane callback) v.segments w.segments in
+    let all = tally-append (in_segment lane callback) v.segments w.segments in
     put_together (covered lane callback) s.views seat other v w (together v w) nobody at there (omega (arith, all)))
     (λ number. put_together (has_number number) s.views seat other v w (together v w) nobody at there (paste v.start v.stop w.start w.stop number some_share some_other neighbours))
     (λ place u found. ⊎_elim

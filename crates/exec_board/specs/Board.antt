@@ -4,7 +4,7 @@ use Rattle.atomic_table.specs.Seated.{TableId}
 use Rattle.exec_lane.specs.Lane.{Lane}
 use Rattle.exec_lane.specs.Opening.{IsLaneOf, opened_lane}
 use Rattle.exec_board.specs.Plays.{IsBoxOf}
-use Rattle.exec_board.specs.Rule.{covered, is_within}
+use Rattle.exec_board.specs.Rule.{covered, in_range}
 use Rattle.exec_board.specs.Seats.{Hold, Holds, SeatView}
 use Rattle.exec_board.specs.declared.claim.Busy.{Busy}
 use Rattle.exec_board.specs.declared.claim.Busy.TheVariants as busy
@@ -22,18 +22,18 @@ pub record ClaimView : Type 0 where
   pub work : Lane
 
 -- the slot of a lane that a pass holds; while the claim stands, its box lies in the claim
-abbrev pub slot_of : Hold → ℕ × Option Lane
-slot_of hold = (hold.lane, None)
+abbrev pub held_slot : Hold → ℕ × Option Lane
+held_slot hold = (hold.lane, None)
 
-abbrev pub slots_of : List Hold → List (ℕ × Option Lane)
-slots_of holds = map slot_of holds
+abbrev pub held_slots : List Hold → List (ℕ × Option Lane)
+held_slots holds = map held_slot holds
 
 -- a seat is that of a pass with this share: it has the slots of the lanes that it holds, and its share isn't empty
 pub record IsSeated (board : TableId) (view : SeatView) (slots : List (ℕ × Option Lane)) (start stop : ℕ) : Type 0 where
   pub start_is : start ≡ view.start
   pub stop_is : stop ≡ view.stop
   pub some_share : view.start < view.stop
-  pub slots_are : slots ≡ slots_of view.holds
+  pub slots_are : slots ≡ held_slots view.holds
   pub as_many : length view.opening ≡ board.words
   pub sized : length view.seen ≡ board.words
 
@@ -43,9 +43,9 @@ pub record IsSized (board : TableId) (view : SeatView) : Type 0 where
   pub seen : length view.seen ≡ board.words
 
 -- the word for a refusal
-abbrev pub word_of : Busy → ℕ
-word_of busy.Held = 1
-word_of busy.Finished = 2
+abbrev pub busy_word : Busy → ℕ
+busy_word busy.Held = 1
+busy_word busy.Finished = 2
 
 -- a claim was won: it is of the lane, with its box
 pub record IsClaimOf (view : SeatView) (number : ℕ) (claim : ClaimView) : Type 0 where
@@ -65,7 +65,7 @@ pub record IsClosedLane (view : SeatView) (number : ℕ) (lane : Lane) : Type 0 
   pub same : IsLaneOf (opened_lane view.opening number) lane
   pub within : lane.done ≤ length lane.entries
   pub seen : slice_index view.seen number ≤ lane.done
-  pub whole : (callback : ℕ) → covered number callback view ≡ is_within (opened_lane view.opening number).done lane.done callback
+  pub whole : (callback : ℕ) → covered number callback view ≡ in_range (opened_lane view.opening number).done lane.done callback
 
 -- boxes are those of all lanes, in their order
 pub record AreClosed (view : SeatView) (lanes : List Lane) : Type 0 where

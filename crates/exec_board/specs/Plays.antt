@@ -5,7 +5,7 @@ use lib.ListN.{get_elem?}
 use Rattle.atomic_table.specs.Table.{Me, Step, rest}
 use Rattle.exec_lane.specs.Lane.{Lane}
 use Rattle.exec_lane.specs.Opening.{IsLaneOf, opened_lane}
-use Rattle.exec_board.specs.Rule.{covered, held, is_within, tally}
+use Rattle.exec_board.specs.Rule.{covered, held, in_range, tally}
 use Rattle.exec_board.specs.Seats.{IsLast, SeatView, holding, let_go, refused}
 
 -- a lane was whole up to a count: over all passes that there were, this one among them, each callback from the opening's count
@@ -13,7 +13,7 @@ use Rattle.exec_board.specs.Seats.{IsLast, SeatView, holding, let_go, refused}
 abbrev pub WasWhole : SeatView → ℕ → ℕ → Type 0
 WasWhole view lane count =
     (views : List SeatView) × (seat : ℕ) × (get_elem? views seat ≡ some view)
-    × ((callback : ℕ) → tally (covered lane callback) views ≡ is_within (opened_lane view.opening lane).done count callback)
+    × ((callback : ℕ) → tally (covered lane callback) views ≡ in_range (opened_lane view.opening lane).done count callback)
 
 -- a box is that of a lane as it was last released, or as it was opened
 pub record IsBoxOf (view : SeatView) (lane : ℕ) (box : Lane) : Type 0 where
@@ -22,7 +22,7 @@ pub record IsBoxOf (view : SeatView) (lane : ℕ) (box : Lane) : Type 0 where
   pub since : (opened_lane view.opening lane).done ≤ box.done
   pub seen : slice_index view.seen lane ≤ box.done
   pub whole : WasWhole view lane box.done
-  pub alone : IsLast view → (callback : ℕ) → covered lane callback view ≡ is_within (opened_lane view.opening lane).done box.done callback
+  pub alone : IsLast view → (callback : ℕ) → covered lane callback view ≡ in_range (opened_lane view.opening lane).done box.done callback
 
 -- the seat, which didn't hold the lane, has taken its slot, in which its box lies, and holds it from the box's count
 abbrev pub Won : ℕ → Me (Option Lane) SeatView → Me (Option Lane) SeatView → Type 0

@@ -16,20 +16,20 @@ tally number [] = 0
 tally number (x ∷ xs) = number x + tally number xs
 
 -- how far two numbers are from one another
-abbrev pub apart : ℕ → ℕ → ℕ
-apart a b = (a - b) + (b - a)
+abbrev pub gap : ℕ → ℕ → ℕ
+gap a b = (a - b) + (b - a)
 
 -- 1 where two numbers are equal, else 0
 abbrev pub is_same : ℕ → ℕ → ℕ
-is_same a b = 1 - apart a b
+is_same a b = 1 - gap a b
 
 -- 1 where first ≤ x and x < end, else 0
-abbrev pub is_within : ℕ → ℕ → ℕ → ℕ
-is_within first end x = (1 - (first - x)) - (suc x - end)
+abbrev pub in_range : ℕ → ℕ → ℕ → ℕ
+in_range first end x = (1 - (first - x)) - (suc x - end)
 
 -- 1 where a callback, by its place from 0, of a lane is of a segment, else 0
-abbrev pub is_of : ℕ → ℕ → Segment → ℕ
-is_of lane place segment = is_within segment.first segment.end place - apart segment.lane lane
+abbrev pub in_segment : ℕ → ℕ → Segment → ℕ
+in_segment lane place segment = in_range segment.first segment.end place - gap segment.lane lane
 
 -- how often a pass holds a lane
 abbrev pub held : ℕ → SeatView → ℕ
@@ -37,11 +37,11 @@ held lane view = tally (λ (hold : Hold). is_same hold.lane lane) view.holds
 
 -- how many segments of a pass have a callback
 abbrev pub covered : ℕ → ℕ → SeatView → ℕ
-covered lane place view = tally (is_of lane place) view.segments
+covered lane place view = tally (in_segment lane place) view.segments
 
 -- 1 where a number is of the share of a pass, else 0
 abbrev pub has_number : ℕ → SeatView → ℕ
-has_number number view = is_within view.start view.stop number
+has_number number view = in_range view.start view.stop number
 
 -- ---- lanes
 
@@ -68,7 +68,7 @@ pub record LaneOk (first : Lane) (count word : ℕ) (home : Home) (holders : ℕ
   pub finished : word ≡ 2 → count ≡ length first.entries
   pub one_holder : word ≡ 1 → holders ≡ 1
   pub no_holder : word ≢ 1 → holders ≡ 0
-  pub whole : (callback : ℕ) → cover callback ≡ is_within first.done count callback
+  pub whole : (callback : ℕ) → cover callback ≡ in_range first.done count callback
 
 -- ---- passes
 

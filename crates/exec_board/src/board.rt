@@ -2,7 +2,7 @@
 ghost use Rattle.std.specs.Prelude.{◌≡◌, ◌+◌, ◌<◌, ◌≤◌, [], length, map, Some, IfErr, IfOk, IsOk, vec_capacity};
 ghost use Rattle.std.specs.Slots.{IsFull, slots_items, slots_len};
 ghost use Rattle.exec_lane.specs.Lane.{AreFinished};
-ghost use Rattle.exec_board.specs.Board.{AreClosed, IsClaimOf, IsSized, MayRelease, word_of};
+ghost use Rattle.exec_board.specs.Board.{AreClosed, IsClaimOf, IsSized, MayRelease, busy_word};
 ghost use Rattle.exec_board.specs.inner.Homes.{AreBoxes, AreWithin, word_at};
 ghost use Rattle.exec_board.specs.Rule.{held};
 ghost use Rattle.exec_board.specs.Seats.{IsLast, back_half, front_half, holding, let_go, opener, refused, together};
@@ -86,10 +86,10 @@ impl Board {
         ensures board { pass.new.board ≡ pass.old.board }
         ensures claim { IfOk result (λ claim. (claim.board ≡ self.now) × IsClaimOf pass.old.view lane claim) }
         ensures held { IfOk result (λ claim. pass.new.view ≡ holding lane claim.start pass.old.view) }
-        ensures refused { IfErr result (λ busy. pass.new.view ≡ refused lane (word_of busy) pass.old.view) }
+        ensures refused { IfErr result (λ busy. pass.new.view ≡ refused lane (busy_word busy) pass.old.view) }
         ensures free { IfOk result (λ _. held lane pass.old.view ≡ 0) }
-        ensures last { IfErr result (λ busy. word_of busy ≡ 1 → IsLast pass.old.view → held lane pass.old.view ≡ 1) }
-        ensures finished { IfErr result (λ busy. word_of busy ≡ 2 → held lane pass.old.view ≡ 0) }
+        ensures last { IfErr result (λ busy. busy_word busy ≡ 1 → IsLast pass.old.view → held lane pass.old.view ≡ 1) }
+        ensures finished { IfErr result (λ busy. busy_word busy ≡ 2 → held lane pass.old.view ≡ 0) }
         ensures sized { IsSized self.now pass.old.view }
     {
         let word = self

@@ -1,13 +1,13 @@
 //! What the numbers mean by which the rule of a board counts. Each law is a function that does nothing.
 ghost use Rattle.std.specs.Prelude.{◌≡◌, ◌≢◌, ℕ, ◌+◌, ◌<◌, ◌≤◌};
-ghost use Rattle.exec_board.specs.Rule.{covered, has_number, is_of, is_same, is_within};
+ghost use Rattle.exec_board.specs.Rule.{covered, has_number, in_segment, is_same, in_range};
 ghost use Rattle.exec_board.specs.Seats.{SeatView, Segment, back_half, front_half, together};
 
 /// A number is counted once where it is at least the first and less than the end, and not at all elsewhere.
 pub fn a_number_is_within_from_the_first_to_the_end()
-    ensures inside { (first end x : ℕ) → first ≤ x → x < end → is_within first end x ≡ 1 }
-    ensures below { (first end x : ℕ) → x < first → is_within first end x ≡ 0 }
-    ensures beyond { (first end x : ℕ) → end ≤ x → is_within first end x ≡ 0 }
+    ensures inside { (first end x : ℕ) → first ≤ x → x < end → in_range first end x ≡ 1 }
+    ensures below { (first end x : ℕ) → x < first → in_range first end x ≡ 0 }
+    ensures beyond { (first end x : ℕ) → end ≤ x → in_range first end x ≡ 0 }
 {}
 
 /// Two numbers count as the same where they are equal.
@@ -18,8 +18,8 @@ pub fn numbers_are_the_same_where_they_are_equal()
 
 /// A callback of a lane is of a segment of that lane where its place is within, and of no segment of another lane.
 pub fn a_callback_is_of_segments_of_its_lane()
-    ensures same { (lane place : ℕ) (segment : Segment) → segment.lane ≡ lane → is_of lane place segment ≡ is_within segment.first segment.end place }
-    ensures other { (lane place : ℕ) (segment : Segment) → segment.lane ≢ lane → is_of lane place segment ≡ 0 }
+    ensures same { (lane place : ℕ) (segment : Segment) → segment.lane ≡ lane → in_segment lane place segment ≡ in_range segment.first segment.end place }
+    ensures other { (lane place : ℕ) (segment : Segment) → segment.lane ≢ lane → in_segment lane place segment ≡ 0 }
 {}
 
 /// A split neither loses nor doubles a callback that ran or a number of the share.

@@ -5,9 +5,9 @@ use Rattle.std.specs.Option.{unwrap_or}
 use Rattle.std.proofs.lemmas.Bool.{le-leb}
 use Rattle.serde_json.specs.Data.{Data}
 use Rattle.serde_json.specs.Find.{as_array, get}
-use Rattle.exec_doc.specs.Document.{resolved_fed, entry_in}
+use Rattle.exec_doc.specs.Document.{resolved_fed, resolved_entry}
 use Rattle.exec_doc.specs.Draft.{DocumentDraft}
-use Rattle.exec_doc.specs.Forms.{id_of, text, count, integer, identifier, values_of, list_of, list, required, defaulted, message_form, goal_form, cancel_form, form_by, fed, entry, node, declared, draft_of}
+use Rattle.exec_doc.specs.Forms.{id_in_text, text, count, integer, identifier, values_of, list_of, list, required, defaulted, message_form, goal_form, cancel_form, form_by, fed, entry, node, declared, draft_of}
 use Rattle.exec_graph.specs.Entity.{if_there}
 use Rattle.exec_doc.specs.declared.draft.EntryDraft.{EntryDraft}
 use Rattle.exec_doc.specs.declared.draft.FedDraft.{FedDraft}
@@ -36,13 +36,13 @@ has_bits (draft.Cancel name id stamp) = small_id id
 
 -- ---- what a document says
 
-small_of : (said : List ℕ) (id : Option ℕ) → id_of said ≡ id → small_id id ≡ true
+small_of : (said : List ℕ) (id : Option ℕ) → id_in_text said ≡ id → small_id id ≡ true
 small_of said None is = refl
 small_of said (Some id) is = le-leb id (2 ^ 128 - 1) (id_below said id is)
 
-small_said : (said : Option (List ℕ)) (id : Option ℕ) → option_map id_of said ≡ Some id → small_id id ≡ true
+small_said : (said : Option (List ℕ)) (id : Option ℕ) → option_map id_in_text said ≡ Some id → small_id id ≡ true
 small_said None id e = absurd cc
-small_said (Some said) id e = subst (λ (id : Option ℕ). small_id id ≡ true) (some_is (id_of said) id e) (small_of said (id_of said) refl)
+small_said (Some said) id e = subst (λ (id : Option ℕ). small_id id ≡ true) (some_is (id_in_text said) id e) (small_of said (id_in_text said) refl)
 
 small_field : (name : List ℕ) (value : Data) (id : Option ℕ) → required identifier name value ≡ Some id → small_id id ≡ true
 small_field name value id e = then_read _ (get name value) _ id e (λ field there said. small_said (text field) id said)
@@ -125,7 +125,7 @@ fed_small source (draft.Cancel name said stamp) given small e =
     subst (λ (fed : Fed). has_128_bits fed ≡ true) (some_is (Cancel server id stamp) given e2) (ap small_id (sym is) ∙ small)))
 
 -- what is read of such a feed has identifiers of 128 bits
-pub feed_small : (source : GraphDraft) (drafted : List EntryDraft) (feed : List Feed) → list_all (λ entry. has_bits entry.fed) drafted ≡ true → AreRead (entry_in source) drafted feed → list_all (λ entry. has_128_bits entry.fed) feed ≡ true
+pub feed_small : (source : GraphDraft) (drafted : List EntryDraft) (feed : List Feed) → list_all (λ entry. has_bits entry.fed) drafted ≡ true → AreRead (resolved_entry source) drafted feed → list_all (λ entry. has_128_bits entry.fed) feed ≡ true
 feed_small source [] [] small reads = refl
 feed_small source [] (entry ∷ feed) small reads = absurd reads
 feed_small source (d ∷ drafted) [] small reads = absurd reads

@@ -2,7 +2,7 @@
 use Rattle.std.proofs.Common.{◌≡◌, ℕ, Bool, true, false, ◌&&◌, nat_le, length, map, List, [], ◌∷◌, Option, None, Some, is_some, refl, ap, ap₂, sym, ◌∙◌, subst}
 use Rattle.std.specs.List.{list_all}
 use Rattle.std.specs.Option.{option_map_or}
-use Rattle.exec_doc.specs.Document.{resolved_fed, entry_in}
+use Rattle.exec_doc.specs.Document.{resolved_fed, resolved_entry}
 use Rattle.exec_doc.specs.declared.draft.FedDraft.{FedDraft}
 use Rattle.exec_doc.specs.declared.draft.EntryDraft.{EntryDraft}
 use Rattle.exec_doc.specs.Draft.{DocumentDraft}
@@ -78,19 +78,19 @@ module _ (source : GraphDraft) (made : GraphData)
       subst (IsFed made (draft.Cancel name said stamp)) (some_is (Cancel server id stamp) fed e2)
       (record { stamp = refl; identified = sym (ap is_some read); goes = server_there name server found })))
 
-  entry_of : (drafted : EntryDraft) (entry : Feed) → entry_in source drafted ≡ Some entry → IsEntry made drafted entry
+  entry_of : (drafted : EntryDraft) (entry : Feed) → resolved_entry source drafted ≡ Some entry → IsEntry made drafted entry
   entry_of drafted entry e =
       then_read _ (resolved_fed source drafted.fed) _ entry e (λ fed read e1.
       subst (IsEntry made drafted) (some_is (record { round = drafted.round; fed = fed }) entry e1) (record { round = refl; fed = fed_of drafted.fed fed read }))
 
   -- what is read of a feed has the schedule of its draft, and goes to what is there
-  pub feed_of : (drafted : List EntryDraft) (feed : List Feed) → AreRead (entry_in source) drafted feed → IsFeed made drafted feed
+  pub feed_of : (drafted : List EntryDraft) (feed : List Feed) → AreRead (resolved_entry source) drafted feed → IsFeed made drafted feed
   feed_of drafted feed reads = record {
-    many = as_many (entry_in source) drafted feed reads;
-    rounds = seen_alike (entry_in source) (λ entry. entry.round) (λ entry. entry.round) drafted feed (λ d entry e. (entry_of d entry e).round) reads;
-    stamps = seen_alike (entry_in source) (λ entry. refusals.stamp_of entry.fed) (λ entry. stamp_of entry.fed) drafted feed (λ d entry e. (entry_of d entry e).fed.stamp) reads;
-    identified = all_alike (entry_in source) (λ entry. refusals.is_identified entry.fed) (λ entry. is_identified entry.fed) drafted feed (λ d entry e. (entry_of d entry e).fed.identified) reads;
-    goes = all_read (entry_in source) (λ entry. goes_somewhere made entry.fed) drafted feed (λ d entry e. (entry_of d entry e).fed.goes) reads;
+    many = as_many (resolved_entry source) drafted feed reads;
+    rounds = seen_alike (resolved_entry source) (λ entry. entry.round) (λ entry. entry.round) drafted feed (λ d entry e. (entry_of d entry e).round) reads;
+    stamps = seen_alike (resolved_entry source) (λ entry. refusals.stamp_of entry.fed) (λ entry. stamp_of entry.fed) drafted feed (λ d entry e. (entry_of d entry e).fed.stamp) reads;
+    identified = all_alike (resolved_entry source) (λ entry. refusals.is_identified entry.fed) (λ entry. is_identified entry.fed) drafted feed (λ d entry e. (entry_of d entry e).fed.identified) reads;
+    goes = all_read (resolved_entry source) (λ entry. goes_somewhere made entry.fed) drafted feed (λ d entry e. (entry_of d entry e).fed.goes) reads;
   }
 
 -- moments and a feed that keep what each of their faults asks have none

@@ -4,7 +4,7 @@ use Rattle.std.specs.Int.{from_be_bytes, w128}
 use Rattle.std.specs.List.{list_all}
 use Rattle.std.proofs.lemmas.Bool.{leb-true, or_cases}
 use Rattle.uuid.specs.Text.{by_index, is_hex_digit, value_of, byte_of_digits, parsed_simple, parsed_hyphenated, parsed_braced, parsed_urn, parsed, digits_of}
-use Rattle.exec_doc.specs.Forms.{id_of}
+use Rattle.exec_doc.specs.Forms.{id_in_text}
 use Rattle.exec_graph.proofs.Bools.{and_left, and_right}
 use Rattle.exec_graph.proofs.Reading.{some_is}
 
@@ -87,5 +87,5 @@ mapped_below None id below e = absurd cc
 mapped_below (Some bytes) id below e = subst (λ n. n ≤ 2 ^ 128 - 1) (some_is (from_be_bytes w128 bytes) id e) (below bytes refl)
 
 -- an identifier has 128 bits
-pub id_below : (text : List ℕ) (id : ℕ) → id_of text ≡ Some id → id ≤ 2 ^ 128 - 1
+pub id_below : (text : List ℕ) (id : ℕ) → id_in_text text ≡ Some id → id ≤ 2 ^ 128 - 1
 id_below text id e = mapped_below (parsed text) id (parsed_below text) e

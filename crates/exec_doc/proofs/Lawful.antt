@@ -2,7 +2,7 @@
 use Rattle.std.proofs.Common.{◌≡◌, ℕ, true, find, List, Option, None, Some, refl, subst}
 use Rattle.std.specs.List.{list_all}
 use Rattle.serde_json.specs.Data.{Data}
-use Rattle.exec_doc.specs.Document.{entry_in, plan_of, unless_refused, plan_in}
+use Rattle.exec_doc.specs.Document.{resolved_entry, plan_of, unless_refused, plan_in}
 use Rattle.exec_doc.specs.Draft.{DocumentDraft}
 use Rattle.exec_doc.specs.Forms.{draft_of}
 use Rattle.exec_doc.specs.Refusals.{codes_in_order, refusal_in}
@@ -34,10 +34,10 @@ module _ (laws : Laws) where
   plan_lawful : (document : DocumentDraft) (plan : PlanData) → IsKept document → list_all (λ entry. has_bits entry.fed) document.feed ≡ true → plan_of document ≡ Some plan → IsLawfulPlan plan
   plan_lawful document plan keeps small e =
       then_read _ (graph_in document.graph) _ plan e (λ made is e1.
-      then_read _ (each (entry_in document.graph) document.feed) _ plan e1 (λ feed fed e2.
+      then_read _ (each (resolved_entry document.graph) document.feed) _ plan e1 (λ feed fed e2.
       let read = feed_of document.graph made (λ name number found. laws.topic document.graph made name number is found) (λ name number found. laws.server document.graph made name number is found)
-      document.feed feed (are_read (entry_in document.graph) document.feed feed fed) in
-      let bits = feed_small document.graph document.feed feed small (are_read (entry_in document.graph) document.feed feed fed) in
+      document.feed feed (are_read (resolved_entry document.graph) document.feed feed fed) in
+      let bits = feed_small document.graph document.feed feed small (are_read (resolved_entry document.graph) document.feed feed fed) in
       subst IsLawfulPlan (some_is (record { graph = made; moments = document.moments; feed = feed }) plan e2)
       (laws.plan made document.moments feed (laws.graph document.graph made keeps.graph is) read.goes bits (feed_without_fault made document feed read keeps))))
 

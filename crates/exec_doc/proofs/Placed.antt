@@ -3,7 +3,7 @@ use Rattle.std.proofs.Common.{◌≡◌, ℕ, true, false, length, map, IsTrue, 
 use Rattle.std.specs.List.{list_all}
 use Rattle.std.specs.Option.{option_map_or}
 use Rattle.std.proofs.lemmas.List.Elements.{All-nil, All-cons}
-use Rattle.exec_doc.specs.Document.{resolved_fed, entry_in}
+use Rattle.exec_doc.specs.Document.{resolved_fed, resolved_entry}
 use Rattle.exec_doc.specs.declared.draft.FedDraft.{FedDraft}
 use Rattle.exec_doc.specs.declared.draft.FedDraft.TheVariants as draft
 use Rattle.exec_doc.specs.declared.draft.EntryDraft.{EntryDraft}
@@ -177,10 +177,10 @@ fed_said source made find (draft.Cancel name said stamp) fed e identified =
 
 -- so is the feed
 pub record AreSaid (source : GraphDraft) (drafted : List EntryDraft) (feed : List Feed) : Type 0 where
-  pub said : each (entry_in source) drafted ≡ Some feed
+  pub said : each (resolved_entry source) drafted ≡ Some feed
   pub identified : list_all (λ entry. is_identified entry.fed) feed ≡ true
 
-entry_said : (source : GraphDraft) (d : EntryDraft) (entry : Feed) → entry.round ≡ d.round → resolved_fed source d.fed ≡ Some entry.fed → entry_in source d ≡ Some entry
+entry_said : (source : GraphDraft) (d : EntryDraft) (entry : Feed) → entry.round ≡ d.round → resolved_fed source d.fed ≡ Some entry.fed → resolved_entry source d ≡ Some entry
 entry_said source d entry round said = rw said (rw (← round) refl)
 
 each_said : (source : GraphDraft) (made : GraphData) → Finds source made → (drafted : List EntryDraft) (feed : List Feed) → AreRead (entry_by made) drafted feed → list_all (λ entry. refusals.is_identified entry.fed) drafted ≡ true → AreSaid source drafted feed

@@ -3,7 +3,7 @@ use Rattle.std.proofs.Common.{◌≡◌, ℕ, Bool, true, false, is_some, List, 
 use Rattle.std.specs.List.{list_all}
 use Rattle.std.specs.Option.{option_map_or}
 use Rattle.serde_json.specs.Data.{Data}
-use Rattle.exec_doc.specs.Document.{resolved_fed, entry_in, plan_of, unless_refused, plan_in}
+use Rattle.exec_doc.specs.Document.{resolved_fed, resolved_entry, plan_of, unless_refused, plan_in}
 use Rattle.exec_doc.specs.declared.draft.FedDraft.{FedDraft}
 use Rattle.exec_doc.specs.declared.draft.FedDraft.TheVariants.{Message, Goal, Cancel}
 use Rattle.exec_doc.specs.declared.draft.EntryDraft.{EntryDraft}
@@ -33,10 +33,10 @@ is_fed source (Goal name id value) feeding has_id =
 is_fed source (Cancel name id stamp) feeding has_id =
     then_some (server_named source name) _ feeding (λ server. then_some id _ has_id (λ id. refl))
 
-are_fed : (source : GraphDraft) (feed : List EntryDraft) → list_all (λ entry. feeds source entry.fed) feed ≡ true → list_all (λ entry. is_identified entry.fed) feed ≡ true → list_all (λ entry. is_some (entry_in source entry)) feed ≡ true
+are_fed : (source : GraphDraft) (feed : List EntryDraft) → list_all (λ entry. feeds source entry.fed) feed ≡ true → list_all (λ entry. is_identified entry.fed) feed ≡ true → list_all (λ entry. is_some (resolved_entry source entry)) feed ≡ true
 are_fed source [] feeding has_ids = refl
 are_fed source (entry ∷ others) feeding has_ids =
-    both_true (is_some (entry_in source entry)) (list_all (λ entry. is_some (entry_in source entry)) others)
+    both_true (is_some (resolved_entry source entry)) (list_all (λ entry. is_some (resolved_entry source entry)) others)
     (then_some (resolved_fed source entry.fed) _
     (is_fed source entry.fed (and_left (feeds source entry.fed) (list_all (λ entry. feeds source entry.fed) others) feeding) (and_left (is_identified entry.fed) (list_all (λ entry. is_identified entry.fed) others) has_ids))
     (λ fed. refl))
@@ -53,8 +53,8 @@ module _ (has_graph : (source : GraphDraft) → fault_in source ≡ None → is_
   has_plan : (document : DocumentDraft) → IsKept document → is_some (plan_of document) ≡ true
   has_plan document kept =
       then_some (graph_in document.graph) _ (has_graph document.graph kept.graph)
-      (λ made. then_some (each (entry_in document.graph) document.feed) _
-      (each_some (entry_in document.graph) document.feed (are_fed document.graph document.feed kept.feeding kept.identified))
+      (λ made. then_some (each (resolved_entry document.graph) document.feed) _
+      (each_some (resolved_entry document.graph) document.feed (are_fed document.graph document.feed kept.feeding kept.identified))
       (λ feed. refl))
 
   planned_by : (draft : Option DocumentDraft) → find (holds_of draft) codes_in_order ≡ None → is_some (draft >>= plan_of) ≡ true

@@ -1,8 +1,8 @@
 -- What is answered of a document whose graph has no fault.
 use Rattle.std.proofs.Common.{◌≡◌, ℕ, ◌⊎◌, inl, inr, Bool, true, false, ◌&&◌, nat_le, length, map, List, Option, None, Some, Err, refl, ap, ap₂, sym, ◌∙◌, subst}
 use Rattle.std.specs.List.{list_all}
-use Rattle.exec_doc.specs.inner.Answering.{Answers, IsReady, draft_refusal, graph_refusal, code_of}
-use Rattle.exec_doc.specs.Document.{entry_in, plan_of}
+use Rattle.exec_doc.specs.inner.Answering.{Answers, IsReady, draft_refusal, graph_refusal, plan_refusal}
+use Rattle.exec_doc.specs.Document.{resolved_entry, plan_of}
 use Rattle.exec_doc.specs.Draft.{DocumentDraft}
 use Rattle.exec_doc.specs.declared.draft.EntryDraft.{EntryDraft}
 use Rattle.exec_doc.specs.inner.Placing.{entry_by}
@@ -40,7 +40,7 @@ ready_there document graph moments entries ready none = by (list_all (λ entry. 
 record IsFed (document : DocumentDraft) (moments : List ℕ) (feed : List Feed) : Type 0 where
   pub within : schedule_fits moments (length feed) (greatest (map (λ entry. stamp_of entry.fed) feed)) ≡ has_small_schedule document
   pub clocked : is_in_order moments (map (λ entry. entry.round) feed) ≡ is_clocked document
-  pub said : list_all (λ entry. refusals.is_identified entry.fed) document.feed ≡ true → each (entry_in document.graph) document.feed ≡ Some feed
+  pub said : list_all (λ entry. refusals.is_identified entry.fed) document.feed ≡ true → each (resolved_entry document.graph) document.feed ≡ Some feed
   pub identified : list_all (λ entry. refusals.is_identified entry.fed) document.feed ≡ true → list_all (λ entry. is_identified entry.fed) feed ≡ true
 
 fed_ready : (document : DocumentDraft) (graph : GraphData) (moments : List ℕ) (entries : List EntryDraft) (feed : List Feed) → IsReady document graph moments entries → each (entry_by graph) entries ≡ Some feed → IsFed document moments feed
@@ -84,7 +84,7 @@ ready_limit document graph moments entries feed ready read late_moment =
 
 -- a fault of its plan is its refusal
 pub ready_fault : (document : DocumentDraft) (graph : GraphData) (moments : List ℕ) (entries : List EntryDraft) (feed : List Feed) (fault : PlanFault) → IsReady document graph moments entries → each (entry_by graph) entries ≡ Some feed
-    → plan_fault_in moments feed ≡ Some fault → draft_refusal document ≡ Some (code_of fault)
+    → plan_fault_in moments feed ≡ Some fault → draft_refusal document ≡ Some (plan_refusal fault)
 ready_fault document graph moments entries feed fault ready read found =
     let fed = fed_ready document graph moments entries feed ready read in
     let these = list_all (λ entry. is_identified entry.fed) feed in
@@ -102,7 +102,7 @@ ready_scheduled document graph moments entries feed ready read none =
     let scheduled = is_scheduled (schedule_fits moments (length feed) (greatest (map (λ entry. stamp_of entry.fed) feed))) (is_in_order moments (map (λ entry. entry.round) feed)) (list_all (λ entry. is_identified entry.fed) feed) none in
     record { fits = sym fed.within ∙ scheduled.fits; ordered = sym fed.clocked ∙ scheduled.ordered }
 
-plan_is : (document : DocumentDraft) (graph : GraphData) (moments : List ℕ) (feed : List Feed) → graph_in document.graph ≡ Some graph → each (entry_in document.graph) document.feed ≡ Some feed → document.moments ≡ moments
+plan_is : (document : DocumentDraft) (graph : GraphData) (moments : List ℕ) (feed : List Feed) → graph_in document.graph ≡ Some graph → each (resolved_entry document.graph) document.feed ≡ Some feed → document.moments ≡ moments
     → plan_of document ≡ Some (record { graph = graph; moments = moments; feed = feed })
 plan_is document graph moments feed made said ticks = rw (made, said) (ap (λ (ms : List ℕ). Some (record { graph = graph; moments = ms; feed = feed })) ticks)
 

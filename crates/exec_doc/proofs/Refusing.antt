@@ -1,7 +1,7 @@
 -- The refusal of a document by what was found of it so far.
 use Rattle.std.proofs.Common.{◌≡◌, Bool, true, false, cond, not, ◌&&◌, ◌==◌, Option, None, Some, is_some, option_map, refl, ap, subst}
 use Rattle.std.specs.List.{list_all}
-use Rattle.exec_doc.specs.inner.Answering.{draft_refusal, graph_refusal, only_if, code_of}
+use Rattle.exec_doc.specs.inner.Answering.{draft_refusal, graph_refusal, only_if, plan_refusal}
 use Rattle.exec_doc.specs.Draft.{DocumentDraft}
 use Rattle.exec_doc.specs.Refusals.{feeds, is_identified, has_small_schedule, is_clocked}
 use Rattle.exec_doc.specs.declared.refused.Refused.{Refused}
@@ -121,16 +121,16 @@ by_schedule document version fed none = schedule_tests
     (version_1 document version) fed none
 
 -- a plan's fault is the refusal, where its goals are identified where the document's are
-pub plan_tests : (fits ordered these identified : Bool) (fault : PlanFault) → (identified ≡ true → these ≡ true) → plan_by fits ordered these ≡ Some fault → scheduled fits ordered identified ≡ Some (code_of fault)
-plan_tests false ordered these identified fault same found = subst (λ (f : PlanFault). Some refused.Limit ≡ Some (code_of f)) (the plan_fault.Limit fault found) refl where
+pub plan_tests : (fits ordered these identified : Bool) (fault : PlanFault) → (identified ≡ true → these ≡ true) → plan_by fits ordered these ≡ Some fault → scheduled fits ordered identified ≡ Some (plan_refusal fault)
+plan_tests false ordered these identified fault same found = subst (λ (f : PlanFault). Some refused.Limit ≡ Some (plan_refusal f)) (the plan_fault.Limit fault found) refl where
   the : (a b : PlanFault) → Some a ≡ Some b → a ≡ b
   the a b e = cc
-plan_tests true false these identified fault same found = subst (λ (f : PlanFault). Some refused.Clock ≡ Some (code_of f)) (the plan_fault.Clock fault found) refl where
+plan_tests true false these identified fault same found = subst (λ (f : PlanFault). Some refused.Clock ≡ Some (plan_refusal f)) (the plan_fault.Clock fault found) refl where
   the : (a b : PlanFault) → Some a ≡ Some b → a ≡ b
   the a b e = cc
 plan_tests true true true identified fault same found = absurd cc
 plan_tests true true false true fault same found = let e = same refl in absurd cc
-plan_tests true true false false fault same found = subst (λ (f : PlanFault). Some refused.Id ≡ Some (code_of f)) (the plan_fault.Id fault found) refl where
+plan_tests true true false false fault same found = subst (λ (f : PlanFault). Some refused.Id ≡ Some (plan_refusal f)) (the plan_fault.Id fault found) refl where
   the : (a b : PlanFault) → Some a ≡ Some b → a ≡ b
   the a b e = cc
 

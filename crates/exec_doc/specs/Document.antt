@@ -10,7 +10,7 @@ use Rattle.exec_doc.specs.Forms.{draft_of}
 use Rattle.exec_graph.specs.Numbers.{topic_named, server_named}
 use Rattle.exec_graph.specs.Resolved.{graph_in}
 use Rattle.exec_graph.specs.Options.{◌>>=◌, each}
-use Rattle.exec_doc.specs.Refusals.{value_of, refusal_in}
+use Rattle.exec_doc.specs.Refusals.{value_read, refusal_in}
 use Rattle.exec_doc.specs.declared.refused.Refused.{Refused}
 use Rattle.exec_graph.specs.Plan.{PlanData}
 use Rattle.exec_graph.specs.declared.plan.Feed.{Feed}
@@ -34,8 +34,8 @@ resolved_fed drafted (draft.Cancel name said stamp) = do
   Some (Cancel server id stamp)
 
 -- an entry of the feed
-abbrev pub entry_in : GraphDraft → EntryDraft → Option Feed
-entry_in drafted entry = do
+abbrev pub resolved_entry : GraphDraft → EntryDraft → Option Feed
+resolved_entry drafted entry = do
   fed ← resolved_fed drafted entry.fed
   Some (record { round = entry.round; fed = fed })
 
@@ -45,7 +45,7 @@ entry_in drafted entry = do
 abbrev pub plan_of : DocumentDraft → Option PlanData
 plan_of document = do
   made ← graph_in document.graph
-  feed ← each (entry_in document.graph) document.feed
+  feed ← each (resolved_entry document.graph) document.feed
   Some (record { graph = made; moments = document.moments; feed = feed })
 
 -- something where nothing is refused
@@ -59,4 +59,4 @@ plan_in value = unless_refused (refusal_in value) (value >>= draft_of >>= plan_o
 
 -- the plan that bytes say, where they are a document
 abbrev pub document_of : List ℕ → Option PlanData
-document_of bytes = plan_in (value_of bytes)
+document_of bytes = plan_in (value_read bytes)

@@ -36,12 +36,12 @@ abbrev pub integer : Data → Option ℤ
 integer value = as_number value >>= as_i64
 
 -- the identifier that a text says, in any of the text forms of a UUID
-abbrev pub id_of : List ℕ → Option ℕ
-id_of text = option_map (from_be_bytes w128) (parsed text)
+abbrev pub id_in_text : List ℕ → Option ℕ
+id_in_text text = option_map (from_be_bytes w128) (parsed text)
 
 -- an identifier is a text, which may say none
 abbrev pub identifier : Data → Option (Option ℕ)
-identifier value = option_map id_of (text value)
+identifier value = option_map id_in_text (text value)
 
 -- the values of a list
 abbrev pub values_of : Items → List Data

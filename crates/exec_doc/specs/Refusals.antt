@@ -20,8 +20,8 @@ use Rattle.exec_graph.specs.Schedule.{schedule_fits, greatest, is_in_order}
 -- ---- 1: no JSON
 
 -- the value that bytes have: they are UTF-8, and JSON that nests at most 127 levels deep
-abbrev pub value_of : List ℕ → Option Data
-value_of bytes = if is_utf8 bytes then read bytes else None
+abbrev pub value_read : List ℕ → Option Data
+value_read bytes = if is_utf8 bytes then read bytes else None
 
 -- ---- 4: names
 
@@ -106,4 +106,4 @@ refusal_in value = find (λ code. holds code value) codes_in_order
 
 -- the refusal of bytes
 abbrev pub refusal_of : List ℕ → Option Refused
-refusal_of bytes = refusal_in (value_of bytes)
+refusal_of bytes = refusal_in (value_read bytes)

@@ -3,7 +3,7 @@ ghost use Rattle.serde_json.specs.View.{view};
 ghost use Rattle.exec_doc.specs.inner.Answering.{Answers, IsReady, draft_refusal, graph_refusal};
 ghost use Rattle.exec_doc.specs.Draft.{DocumentDraft};
 ghost use Rattle.exec_doc.specs.Document.{plan_of, document_of};
-ghost use Rattle.exec_doc.specs.Refusals.{value_of, refusal_of};
+ghost use Rattle.exec_doc.specs.Refusals.{value_read, refusal_of};
 ghost use Rattle.exec_graph.specs.declared.draft.GraphDraft.{GraphDraft};
 ghost use Rattle.exec_graph.specs.Refusals.{fault_in};
 
@@ -24,14 +24,14 @@ pub fn read_document(alloc: Global, bytes: &[u8]) -> Result<Plan, Refused>
     ensures plan { IfOk result (λ plan. document_of bytes.now ≡ Some plan) }
     ensures refused { IfErr result (λ code. (code ≡ Refused.Memory) ⊎ (refusal_of bytes.now ≡ Some code)) }
 {
-    let value = value_of(alloc, bytes)?;
+    let value = value_read(alloc, bytes)?;
     let draft = draft_of(alloc, value)?;
     plan_of(alloc, draft)
 }
 
-fn value_of(alloc: Global, bytes: &[u8]) -> Result<Value, Refused>
-    ensures value { IfOk result (λ value. value_of bytes.now ≡ Some (view value)) }
-    ensures refused { IfErr result (λ code. (code ≡ Refused.Memory) ⊎ ((code ≡ Refused.NotJson) × (value_of bytes.now ≡ None))) }
+fn value_read(alloc: Global, bytes: &[u8]) -> Result<Value, Refused>
+    ensures value { IfOk result (λ value. value_read bytes.now ≡ Some (view value)) }
+    ensures refused { IfErr result (λ code. (code ≡ Refused.Memory) ⊎ ((code ≡ Refused.NotJson) × (value_read bytes.now ≡ None))) }
 {
     match Value::from_slice(alloc, bytes) {
         Ok(value) => Ok(value),

@@ -9,7 +9,7 @@ mod scripts;
 
 ghost use Rattle.serde_json.specs.View.{view};
 ghost use Rattle.exec_doc.specs.Forms.{draft_of};
-ghost use Rattle.exec_doc.specs.inner.Reading.{Gives};
+ghost use Rattle.exec_doc.specs.inner.Reading.{ReadingGives};
 
 use crate::draft::DocumentDraft;
 use crate::refused::Refused;
@@ -23,7 +23,7 @@ use std::alloc::Global;
 /// # Errors
 /// [`Refused::Shape`] where the value hasn't the forms of a document, [`Refused::Memory`] where a growth was refused.
 pub fn draft_of(alloc: Global, document: Value) -> Result<DocumentDraft, Refused>
-    ensures { Gives (λ draft. draft) result (draft_of (view document)) }
+    ensures { ReadingGives (λ draft. draft) result (draft_of (view document)) }
 {
     Ok(DocumentDraft {
         version: required(alloc, &document, "version")?,

@@ -92,9 +92,9 @@ impl From<GraphFault> for Refused {
 }
 
 impl From<PlanFault> for Refused {
-    ghost use Rattle.exec_doc.specs.inner.Answering.{code_of};
+    ghost use Rattle.exec_doc.specs.inner.Answering.{plan_refusal};
 
-    ghost from_gives = { λ fault refused. refused ≡ code_of fault };
+    ghost from_gives = { λ fault refused. refused ≡ plan_refusal fault };
 
     fn from(fault: PlanFault) -> Refused {
         match fault {

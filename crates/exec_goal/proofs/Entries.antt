@@ -15,7 +15,7 @@ use Rattle.exec_goal.specs.Held.{record_of, records_of}
 use Rattle.exec_goal.specs.LawWords.{HaveDistinctIds}
 use Rattle.exec_goal.specs.State.{is_terminal, status_of}
 use Rattle.exec_goal.specs.declared.state.State.{State}
-use Rattle.exec_goal.specs.Table.{GoalRecord, told, later, unknown, has_id, holds, answer_to, asked_for}
+use Rattle.exec_goal.specs.Table.{GoalRecord, told, later, unknown, has_id, holds_id, answer_to, asked_for}
 use Rattle.exec_msg.specs.Lists.{change_first}
 use Rattle.exec_msg.specs.declared.goal.Event.{Event}
 use Rattle.exec_goal.specs.declared.held.HeldGoal.{HeldGoal}
@@ -53,14 +53,14 @@ module _ (eq : ℕ → ℕ → Bool) (decides : (a b : ℕ) → Decides (eq a b)
       AllPairs-from_IsDistinct decides ids (subst (λ keys. IsDistinct eq keys) (sym (ids-records entries)) unique) i j d.id before below
       (get_or-map (λ (goal : GoalRecord). goal.id) (records_of entries) i d d.id (omega (arith, before, within)) ∙ same ∙ sym (get_or-map (λ (goal : GoalRecord). goal.id) (records_of entries) j d d.id within))
 
-  inserted_by : (b c : Bool) (id : ℕ) (held : HeldGoal) (entry : ℕ × HeldGoal) (entries set : List (ℕ × HeldGoal)) → b ≡ c → (c || holds id (records_of entries)) ≡ false →
-      (holds id (records_of entries) ≡ false → records_of set ≡ records_of entries ++ record_of (id, held) ∷ []) →
+  inserted_by : (b c : Bool) (id : ℕ) (held : HeldGoal) (entry : ℕ × HeldGoal) (entries set : List (ℕ × HeldGoal)) → b ≡ c → (c || holds_id id (records_of entries)) ≡ false →
+      (holds_id id (records_of entries) ≡ false → records_of set ≡ records_of entries ++ record_of (id, held) ∷ []) →
       records_of (if b then (entry.0, held) ∷ entries else entry ∷ set) ≡ record_of entry ∷ (records_of entries ++ record_of (id, held) ∷ [])
   inserted_by b true id held entry entries set tests none others = absurd cc
   inserted_by b false id held entry entries set tests none others = rw tests (ap (λ goals. record_of entry ∷ goals) (others none))
 
   -- an entry of a new key stands last
-  pub inserted-new : (id : ℕ) (held : HeldGoal) (entries : List (ℕ × HeldGoal)) → holds id (records_of entries) ≡ false →
+  pub inserted-new : (id : ℕ) (held : HeldGoal) (entries : List (ℕ × HeldGoal)) → holds_id id (records_of entries) ≡ false →
       records_of (insert_entry eq entries id held) ≡ records_of entries ++ record_of (id, held) ∷ []
   inserted-new id held [] none = refl
   inserted-new id held (entry ∷ entries) none =
@@ -103,15 +103,15 @@ module _ (test : ℕ → Bool) (id : ℕ) (same : (key : ℕ) → test key ≡ (
   held_by b true any some held rest tests others = rw tests refl
   held_by b false any some held rest tests others = rw tests others
 
-  -- a table holds a goal where its map has the key
-  pub holds-lookup : (entries : List (ℕ × HeldGoal)) → holds id (records_of entries) ≡ is_some (lookup test entries)
+  -- a table holds_id a goal where its map has the key
+  pub holds-lookup : (entries : List (ℕ × HeldGoal)) → holds_id id (records_of entries) ≡ is_some (lookup test entries)
   holds-lookup [] = refl
   holds-lookup (entry ∷ entries) =
-      held_by (test entry.0) (entry.0 == id) (holds id (records_of entries)) false entry.1 (lookup test entries) (same entry.0) (holds-lookup entries)
+      held_by (test entry.0) (entry.0 == id) (holds_id id (records_of entries)) false entry.1 (lookup test entries) (same entry.0) (holds-lookup entries)
 
   module _ (change : GoalRecord → GoalRecord) (held after : HeldGoal) (changes : record_of (id, after) ≡ change (record_of (id, held))) where
     changed_here : (entry : ℕ × HeldGoal) → entry.0 ≡ id → entry.1 ≡ held → record_of (entry.0, after) ≡ change (record_of entry)
-    changed_here entry named holds = ap (λ key. record_of (key, after)) named ∙ changes ∙ (λ i. change (record_of (sym named i, sym holds i)))
+    changed_here entry named holds_id = ap (λ key. record_of (key, after)) named ∙ changes ∙ (λ i. change (record_of (sym named i, sym holds_id i)))
 
     changed_by : (b c : Bool) (entry : ℕ × HeldGoal) (entries : List (ℕ × HeldGoal)) (rest : Option HeldGoal) (set : List (ℕ × HeldGoal)) (others : List GoalRecord) → b ≡ c → (entry.0 == id) ≡ c →
         cond b (Some entry.1) rest ≡ Some held → (rest ≡ Some held → records_of set ≡ others) →
@@ -153,5 +153,5 @@ terminal-reached (Some reached) next is = by (is_terminal reached) is
 
 -- what holds holds on an error
 pub on_err : {X E : Type 0} {P : Type 0} (r : Result X E) → P → OnErr r P
-on_err (Ok x) holds = tt
-on_err (Err e) holds = holds
+on_err (Ok x) holds_id = tt
+on_err (Err e) holds_id = holds_id

@@ -8,7 +8,7 @@ use Rattle.exec_goal.proofs.Filtering.{filter-none, none-filter, find-none, none
 use Rattle.exec_goal.specs.Cancel.{CancelRequest, Decided, is_acceptance, is_refused, is_moved, moved, code_by, code_of}
 use Rattle.exec_goal.specs.LawWords.{AllRefused}
 use Rattle.exec_goal.specs.State.{is_terminal}
-use Rattle.exec_goal.specs.Table.{GoalRecord, has_id, holds}
+use Rattle.exec_goal.specs.Table.{GoalRecord, has_id, holds_id}
 use Rattle.exec_msg.specs.declared.goal.ReturnCode.{ReturnCode}
 use Rattle.exec_msg.specs.declared.goal.ReturnCode.TheVariants as code
 
@@ -103,7 +103,7 @@ unknown_by zero named some is = absurd (some refl)
 unknown_by (suc id) named some is = rw is refl
 
 pub unknown_to : (request : CancelRequest) (decisions : List Decided) (goals : List GoalRecord) → code_of request decisions goals ≡ code.UnknownGoalId →
-    (moved decisions goals ≡ []) × (AllRefused decisions → ⊥) × (request.id ≢ 0) × (holds request.id goals ≡ false)
+    (moved decisions goals ≡ []) × (AllRefused decisions → ⊥) × (request.id ≢ 0) × (holds_id request.id goals ≡ false)
 unknown_to request decisions goals is =
     let parts = parts_of (list_any (is_moved decisions) goals) (is_refused decisions) (code_by request.id (find (has_id request.id) goals)) code.UnknownGoalId (λ same. cc) (λ same. cc) is in
     let by = by_unknown request.id (find (has_id request.id) goals) parts.2 in (
@@ -114,7 +114,7 @@ unknown_to request decisions goals is =
     )
 
 pub unknown_from : (request : CancelRequest) (decisions : List Decided) (goals : List GoalRecord) →
-    (moved decisions goals ≡ []) × (AllRefused decisions → ⊥) × (request.id ≢ 0) × (holds request.id goals ≡ false) → code_of request decisions goals ≡ code.UnknownGoalId
+    (moved decisions goals ≡ []) × (AllRefused decisions → ⊥) × (request.id ≢ 0) × (holds_id request.id goals ≡ false) → code_of request decisions goals ≡ code.UnknownGoalId
 unknown_from request decisions goals known =
     coded (list_any (is_moved decisions) goals) (is_refused decisions) (code_by request.id (find (has_id request.id) goals)) code.UnknownGoalId
     (none-filter (is_moved decisions) goals known.0) (unrefused decisions known.1)

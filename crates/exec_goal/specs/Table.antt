@@ -26,8 +26,8 @@ abbrev pub has_id : ℕ → GoalRecord → Bool
 has_id id goal = goal.id == id
 
 -- whether the table holds a goal of this identifier
-abbrev pub holds : ℕ → List GoalRecord → Bool
-holds id goals = list_any (has_id id) goals
+abbrev pub holds_id : ℕ → List GoalRecord → Bool
+holds_id id goals = list_any (has_id id) goals
 
 -- whether the table has no room
 abbrev pub is_full : List GoalRecord → Bool

@@ -3,7 +3,7 @@ ghost use Rattle.std.specs.Prelude.{◌≡◌, ◌∷◌, [], pos, map, true, fa
 ghost use Rattle.exec_goal.specs.Cancel.{candidates, moved, code_of};
 ghost use Rattle.exec_goal.specs.Examples.{three_goals, cancel_until_20, one_accepted, one_canceling, one_canceled, cancel_1, cancel_9};
 ghost use Rattle.exec_goal.specs.State.{after};
-ghost use Rattle.exec_goal.specs.Table.{has_id, holds, expired, told, later, unknown, asked_for, asked_by};
+ghost use Rattle.exec_goal.specs.Table.{has_id, holds_id, expired, told, later, unknown, asked_for, asked_by};
 ghost use Rattle.exec_goal.specs.declared.state.State.TheVariants as state;
 ghost use Rattle.exec_msg.specs.declared.goal.Event.{Event};
 ghost use Rattle.exec_msg.specs.declared.goal.Event.TheVariants as event;
@@ -29,8 +29,8 @@ pub fn terminal_states()
 pub fn accepted_goals()
     ensures ids { map (λ goal. goal.id) three_goals ≡ 1 ∷ 2 ∷ 3 ∷ [] }
     ensures states { map (λ goal. goal.state) three_goals ≡ state.Accepted ∷ state.Accepted ∷ state.Executing ∷ [] }
-    ensures held { holds 2 three_goals ≡ true }
-    ensures other { holds 9 three_goals ≡ false }
+    ensures held { holds_id 2 three_goals ≡ true }
+    ensures other { holds_id 9 three_goals ≡ false }
 {}
 
 /// A stamp of 20 selects the goals that were accepted at 10 and 20, of which the first is accepted for cancelling.

@@ -48,7 +48,7 @@ impl Goals {
     ghost use Rattle.exec_goal.specs.Calls.{state_in};
     ghost use Rattle.exec_goal.specs.Info.{info_of};
     ghost use Rattle.exec_goal.specs.LawWords.{HaveDistinctIds};
-    ghost use Rattle.exec_goal.specs.Table.{holds, is_full, working, accepted_state, with_accepted};
+    ghost use Rattle.exec_goal.specs.Table.{holds_id, is_full, working, accepted_state, with_accepted};
     ghost use Rattle.exec_goal.specs.declared.refusals.Reject.TheVariants as reject;
 
     /// No goals. It takes no memory.
@@ -64,7 +64,7 @@ impl Goals {
 
     /// Whether a goal of this identifier is held, in whatever state.
     pub fn holds(&self, id: GoalId) -> bool
-        ensures { result ≡ holds id self.now }
+        ensures { result ≡ holds_id id self.now }
     {
         self.held.contains_key(&id)
     }
@@ -122,8 +122,8 @@ impl Goals {
         requires { (decision ≡ 2) ⊎ (decision ≡ 3) }
         ensures state { IfOk result (λ accepted. accepted.state ≡ accepted_state decision) }
         ensures accepted { OnOk result (self.new ≡ with_accepted id value moment decision self.old) }
-        ensures held { (result ≡ Err reject.Held) ↔ (holds id self.old ≡ true) }
-        ensures full { (result ≡ Err reject.Full) ↔ ((holds id self.old ≡ false) × (is_full self.old ≡ true)) }
+        ensures held { (result ≡ Err reject.Held) ↔ (holds_id id self.old ≡ true) }
+        ensures full { (result ≡ Err reject.Full) ↔ ((holds_id id self.old ≡ false) × (is_full self.old ≡ true)) }
         ensures refused { OnErr result (self.new ≡ self.old) }
     {
         if self.holds(id) {

@@ -6,7 +6,7 @@ ghost use Rattle.std.specs.Option.{option_map};
 ghost use Rattle.exec_goal.specs.Cancel.{CancelRequest, Decided, selects, is_candidate, candidates, is_moved, moved, after_answer, table_after, code_of};
 ghost use Rattle.exec_goal.specs.LawWords.{HaveDistinctIds, IsSublist, AllRefused};
 ghost use Rattle.exec_goal.specs.State.{Transition, after, status_of, is_terminal};
-ghost use Rattle.exec_goal.specs.Table.{GoalRecord, has_id, holds, is_full, is_accepting, new_goal, with_accepted, is_expired, expired, unexpired, told, later, unknown, asked_for};
+ghost use Rattle.exec_goal.specs.Table.{GoalRecord, has_id, holds_id, is_full, is_accepting, new_goal, with_accepted, is_expired, expired, unexpired, told, later, unknown, asked_for};
 ghost use Rattle.exec_goal.specs.declared.state.State.{State};
 ghost use Rattle.exec_goal.specs.declared.state.State.TheVariants as state;
 ghost use Rattle.exec_msg.specs.Goal.{status_number};
@@ -65,7 +65,7 @@ pub fn servers_hold_64_goals()
 /// accepted.
 pub fn accepting_keeps_identifiers_distinct()
     ensures { (id : ℕ) (value : ℤ) (moment decision : ℕ) (goals : List GoalRecord) →
-        HaveDistinctIds goals → holds id goals ≡ false → HaveDistinctIds (with_accepted id value moment decision goals) }
+        HaveDistinctIds goals → holds_id id goals ≡ false → HaveDistinctIds (with_accepted id value moment decision goals) }
 {}
 
 /// A goal that is accepted stands last, behind the goals that were held, and is held.
@@ -75,7 +75,7 @@ pub fn accepted_goals_stand_last()
     ensures last { (id : ℕ) (value : ℤ) (moment decision : ℕ) (goals : List GoalRecord) →
         drop (length goals) (with_accepted id value moment decision goals) ≡ new_goal id value moment decision ∷ [] }
     ensures held { (id : ℕ) (value : ℤ) (moment decision : ℕ) (goals : List GoalRecord) →
-        holds id (with_accepted id value moment decision goals) ≡ true }
+        holds_id id (with_accepted id value moment decision goals) ≡ true }
 {}
 
 /// A goal that is accepted is EXECUTING by decision 2, and ACCEPTED by decision 3.
@@ -99,7 +99,7 @@ pub fn results_of_active_goals_come_later()
 
 /// A result request is told that the goal is unknown exactly where its identifier isn't held.
 pub fn other_goals_are_unknown()
-    ensures { (id : ℕ) (goals : List GoalRecord) → (asked_for id goals ≡ unknown) ↔ (holds id goals ≡ false) }
+    ensures { (id : ℕ) (goals : List GoalRecord) → (asked_for id goals ≡ unknown) ↔ (holds_id id goals ≡ false) }
 {}
 
 /// What is forgotten and what is kept are together the table, each in order of acceptance.
@@ -215,7 +215,7 @@ pub fn code_is_rejected_where_all_were_refused()
 pub fn code_is_unknown_where_no_such_goal_is_held()
     ensures { (request : CancelRequest) (decisions : List Decided) (goals : List GoalRecord) →
         (code_of request decisions goals ≡ code.UnknownGoalId)
-        ↔ ((moved decisions goals ≡ []) × (AllRefused decisions → ⊥) × (request.id ≢ 0) × (holds request.id goals ≡ false)) }
+        ↔ ((moved decisions goals ≡ []) × (AllRefused decisions → ⊥) × (request.id ≢ 0) × (holds_id request.id goals ≡ false)) }
 {}
 
 /// The code is ERROR_GOAL_TERMINATED exactly where no goal moved, not all candidates were refused, and the goal that the

@@ -9,8 +9,8 @@ use Rattle.indexmap.specs.IndexMap.{insert_entry}
 use Rattle.exec_graph.specs.inner.Directory.{DirectoryData, directory_of}
 use Rattle.exec_graph.specs.declared.draft.GraphDraft.{GraphDraft}
 use Rattle.exec_graph.specs.inner.Entries.{entity_of}
-use Rattle.exec_graph.specs.inner.Entries.{entities_of as entries_of}
-use Rattle.exec_graph.specs.Faults.{names_of}
+use Rattle.exec_graph.specs.inner.Entries.{entities_in as entries_of}
+use Rattle.exec_graph.specs.Faults.{drafted_names}
 use Rattle.exec_graph.specs.Graph.{EntityData}
 use Rattle.exec_graph.specs.Names.{are_distinct}
 use Rattle.exec_graph.specs.Numbers.{Placed, entities_of}
@@ -119,8 +119,8 @@ next_topic topics i topic front after text within there same appends holds disti
 -- what stands so far, and then what is left, is all
 abbrev pub Stands : List (List ℕ) → DirectoryData → List Placed → List EntityData → Type 0
 Stands topics directory left front =
-    (source : GraphDraft) → are_distinct (names_of source) ≡ true → topics ≡ source.topics → directory ≡ directory_of source →
-    (map title front ++ map name_of left ≡ names_of source)
+    (source : GraphDraft) → are_distinct (drafted_names source) ≡ true → topics ≡ source.topics → directory ≡ directory_of source →
+    (map title front ++ map name_of left ≡ drafted_names source)
     × (option_map (λ others. front ++ others) (each (entity_in source) left) ≡ option_map (λ others. map topic_in source.topics ++ others) (each (entity_in source) (entities_of source)))
 
 -- the topics stand first
@@ -138,12 +138,12 @@ read_one front next (Some others) = ap (λ (es : List EntityData). Some es) (app
 
 -- what stands gains the next
 pub next_stands : (topics : List (List ℕ)) (directory : DirectoryData) (left rest : List Placed) (placed : Placed) (front after : List EntityData) (text : List ℕ) (is : Declared) → left ≡ placed ∷ rest → text ≡ name_of placed →
-    ((source : GraphDraft) → are_distinct (names_of source) ≡ true → directory ≡ directory_of source → entity_in source placed ≡ Some (entity (name_of placed) is)) →
+    ((source : GraphDraft) → are_distinct (drafted_names source) ≡ true → directory ≡ directory_of source → entity_in source placed ≡ Some (entity (name_of placed) is)) →
     (list_any (is_name text) (map title front) ≡ false → after ≡ front ++ entity text is ∷ []) →
     Stands topics directory left front → Stands topics directory rest after
 next_stands topics directory left rest placed front after text is here same gives appends holds = λ source distinct named from.
     let before = holds source distinct named from in
-    let names : map title front ++ text ∷ map name_of rest ≡ names_of source =
+    let names : map title front ++ text ∷ map name_of rest ≡ drafted_names source =
     ap (λ (name : List ℕ). map title front ++ name ∷ map name_of rest) same ∙ ap (λ (ps : List Placed). map title front ++ map name_of ps) (sym here) ∙ before.0 in
     let last : after ≡ front ++ entity text is ∷ [] = appends (not_in_front (map title front) text (map name_of rest) (ap are_distinct names ∙ distinct)) in (
       ap (λ (es : List EntityData). map title es ++ map name_of rest) last
@@ -160,7 +160,7 @@ next_stands topics directory left rest placed front after text is here same give
 
 -- all stand where nothing is left
 pub all_stand : (topics : List (List ℕ)) (directory : DirectoryData) (left : List Placed) (front : List EntityData) → left ≡ [] → Stands topics directory left front →
-    (source : GraphDraft) → are_distinct (names_of source) ≡ true → topics ≡ source.topics → directory ≡ directory_of source →
+    (source : GraphDraft) → are_distinct (drafted_names source) ≡ true → topics ≡ source.topics → directory ≡ directory_of source →
     option_map (λ others. map topic_in source.topics ++ others) (each (entity_in source) (entities_of source)) ≡ Some front
 all_stand topics directory left front none holds source distinct named from =
     sym (holds source distinct named from).1

@@ -9,8 +9,8 @@ use Rattle.std.proofs.lemmas.List.{length-map}
 use Rattle.exec_graph.specs.inner.Directory.{DirectoryData, directory_of, where_so, is_reentrant_at, fault_at, faults_of}
 use Rattle.exec_graph.specs.declared.draft.GraphDraft.{GraphDraft}
 use Rattle.exec_graph.specs.Entity.{scripts_of}
-use Rattle.exec_graph.specs.inner.Entries.{entities_of as entries_of}
-use Rattle.exec_graph.specs.Faults.{names_of, is_of_variable, is_well_named, is_small, has_faulty_script, shares_variables}
+use Rattle.exec_graph.specs.inner.Entries.{entities_in as entries_of}
+use Rattle.exec_graph.specs.Faults.{drafted_names, is_of_variable, is_well_named, is_small, has_faulty_script, shares_variables}
 use Rattle.exec_graph.specs.Graph as graph
 use Rattle.exec_graph.specs.Graph.{EntityData, GraphData}
 use Rattle.exec_graph.specs.Lawful.{IsLawful}
@@ -144,11 +144,11 @@ module _ (draft : GraphDraft) (found : DirectoryData) (there : Some found ≡ wh
   pub directory_is : found ≡ directory_of draft
   directory_is = so_same (is_well_named draft) found (directory_of draft) there
 
-  pub distinct : are_distinct (names_of draft) ≡ true
-  distinct = and_right (list_all is_name (names_of draft)) (are_distinct (names_of draft)) (names_kept draft named).names
+  pub distinct : are_distinct (drafted_names draft) ≡ true
+  distinct = and_right (list_all is_name (drafted_names draft)) (are_distinct (drafted_names draft)) (names_kept draft named).names
 
   module _ (small : is_small draft ≡ true) where
-    names_few : length (names_of draft) ≤ 65536
+    names_few : length (drafted_names draft) ≤ 65536
     names_few =
         let keeps = small_kept draft small in
         let topics = leb-true (length draft.topics) TOPICS keeps.few_topics in
@@ -215,7 +215,7 @@ module _ (draft : GraphDraft) (found : DirectoryData) (there : Some found ≡ wh
 -- ---- the graph
 
 -- the names of a graph
-graph_names : (draft : GraphDraft) (made : GraphData) → graph_in draft ≡ Some made → graph.names_of made ≡ names_of draft
+graph_names : (draft : GraphDraft) (made : GraphData) → graph_in draft ≡ Some made → graph.names_of made ≡ drafted_names draft
 graph_names draft made is =
     then_read _ (each (entity_in draft) (entities_of draft)) _ made is (λ entities read e.
     ap graph.names_of (sym (some_is (graph_of draft entities) made e)) ∙ lawful.names_kept draft entities (are_read (entity_in draft) (entities_of draft) entities read))
@@ -244,5 +244,5 @@ module _ (draft : GraphDraft) (made : GraphData) (nodes : made.nodes ≡ map (λ
   is_lawful faultless = lawful.graph_lawful draft made faultless graph_is
 
   -- and these are its names
-  pub names_are : names_of draft ≡ graph.names_of made
+  pub names_are : drafted_names draft ≡ graph.names_of made
   names_are = sym (graph_names draft made graph_is)

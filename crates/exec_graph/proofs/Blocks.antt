@@ -3,7 +3,7 @@ use Rattle.std.proofs.Common.{◌≡◌, ℕ, ◌≤◌, Bool, true, false, cond
 use Rattle.std.specs.List.{filter, flat_map}
 use Rattle.std.proofs.lemmas.Bool.{leb-true, le-leb, eqb-true}
 use Rattle.std.proofs.lemmas.List.{map-append}
-use Rattle.exec_graph.specs.Entity.{entity_kinds, rank_of, kind_of, is_of}
+use Rattle.exec_graph.specs.Entity.{entity_kinds, rank_of, kind_of_entity, is_of}
 use Rattle.exec_graph.specs.Lawful.{is_ascending_from}
 use Rattle.exec_graph.specs.Numbers.{Placed, entities_from, numbered}
 use Rattle.exec_graph.specs.declared.draft.NodeDraft.{NodeDraft}
@@ -34,7 +34,7 @@ all_mapped f block (x ∷ xs) same = (same x, all_mapped f block xs same)
 
 -- the place of a placed entity's kind in the order of numbers
 abbrev pub rank_at : Placed → ℕ
-rank_at placed = rank_of (kind_of placed.entity.is)
+rank_at placed = rank_of (kind_of_entity placed.entity.is)
 
 -- those of a kind
 abbrev of_kind : List Placed → EntityKind → List Placed

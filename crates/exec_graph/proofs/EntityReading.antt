@@ -1,7 +1,7 @@
 -- What an entity has of the one of which it is read, and when it can be read.
 use Rattle.std.proofs.Common.{◌≡◌, Bool, true, ◌&&◌, is_some, Option, None, Some, option_map, refl, ap, subst}
 use Rattle.std.specs.List.{list_all}
-use Rattle.exec_graph.specs.Entity.{RoleScriptData, kind_of, refers, is_within, result_scripts, scripts_of, if_there, read_by}
+use Rattle.exec_graph.specs.Entity.{RoleScriptData, kind_of_entity, refers, is_within, result_scripts, scripts_of, if_there, read_by}
 use Rattle.exec_graph.specs.declared.entity.EntityKind.TheVariants as entity_kind
 use Rattle.exec_graph.specs.declared.entity.EntityOf.{EntityOf}
 use Rattle.exec_graph.specs.declared.entity.EntityOf.TheVariants.{Timer, Subscription, Service, Client, Server, ActionClient}
@@ -22,7 +22,7 @@ roled_by read from = option_map (roled from.role) (read from.script)
 
 -- what an entity has of the one of which it is read
 pub record IsReadBy {N S M T : Type 0} (name : Referent → N → Option M) (read : S → Option T) (from : EntityOf N S) (is : EntityOf M T) : Type 0 where
-  pub kind : kind_of is ≡ kind_of from
+  pub kind : kind_of_entity is ≡ kind_of_entity from
   pub within : is_within is ≡ is_within from
   pub scripts : AreRead (roled_by read) (scripts_of from) (scripts_of is)
   pub referring : (test : Referent → M → Bool) → ((to : Referent) (text : N) (found : M) → name to text ≡ Some found → test to found ≡ true) → refers test is ≡ true

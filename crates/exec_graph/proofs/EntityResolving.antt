@@ -3,7 +3,7 @@ use Rattle.std.proofs.Common.{◌≡◌, ℕ, true, Option, None, Some, option_a
 use Rattle.exec_graph.specs.inner.Directory.{DirectoryData, Linked, NodeData, directory_of, group_in, referred, linked_in, resolved_by, titled}
 use Rattle.exec_graph.specs.declared.draft.GraphDraft.{GraphDraft}
 use Rattle.exec_graph.specs.Entity.{Resolved, read_by}
-use Rattle.exec_graph.specs.Faults.{names_of}
+use Rattle.exec_graph.specs.Faults.{drafted_names}
 use Rattle.exec_graph.specs.Graph.{in_group}
 use Rattle.exec_graph.specs.Names.{are_distinct}
 use Rattle.exec_graph.specs.Numbers.{Placed, named, group_named, scope_of}
@@ -31,7 +31,7 @@ has_links directory placed linked is =
 
 module _ (directory : DirectoryData) (linked : Linked) (by : linked_in directory linked.placed ≡ Some linked) (scope : NodeData) (of : scope ≡ record { directory = directory; node = linked.placed.node }) where
   -- what an entity is, where it is known what is said of it
-  is_said : (source : GraphDraft) (said : Option Resolved) → are_distinct (names_of source) ≡ true → directory ≡ directory_of source →
+  is_said : (source : GraphDraft) (said : Option Resolved) → are_distinct (drafted_names source) ≡ true → directory ≡ directory_of source →
       resolved_by scope linked.reference linked.placed.entity.is ≡ said → entity_in source linked.placed ≡ option_and_then (λ is. Some (titled linked.placed (in_group linked.group is))) said
   is_said source said distinct from is =
       let placed = linked.placed in
@@ -45,7 +45,7 @@ module _ (directory : DirectoryData) (linked : Linked) (by : linked_in directory
 
 -- the same, where the entity is seen from inside
 module _ (directory : DirectoryData) (inside linked : Linked) (view : inside ≡ linked) (by : linked_in directory linked.placed ≡ Some linked) (scope : NodeData) (of : scope ≡ record { directory = directory; node = inside.placed.node }) (reference : Option ℕ) (same : reference ≡ inside.reference) where
-  seen : (source : GraphDraft) (said : Option Resolved) → are_distinct (names_of source) ≡ true → directory ≡ directory_of source →
+  seen : (source : GraphDraft) (said : Option Resolved) → are_distinct (drafted_names source) ≡ true → directory ≡ directory_of source →
       resolved_by scope reference inside.placed.entity.is ≡ said → entity_in source linked.placed ≡ option_and_then (λ is. Some (titled linked.placed (in_group inside.group is))) said
   seen source said distinct from is =
       ap (λ (l : Linked). entity_in source l.placed) (sym view)
@@ -54,10 +54,10 @@ module _ (directory : DirectoryData) (inside linked : Linked) (view : inside ≡
 
   -- what it is where something is said
   pub declared_is : (is : Resolved) → resolved_by scope reference inside.placed.entity.is ≡ Some is →
-      (source : GraphDraft) → are_distinct (names_of source) ≡ true → directory ≡ directory_of source → entity_in source linked.placed ≡ Some (titled linked.placed (in_group inside.group is))
+      (source : GraphDraft) → are_distinct (drafted_names source) ≡ true → directory ≡ directory_of source → entity_in source linked.placed ≡ Some (titled linked.placed (in_group inside.group is))
   declared_is is said source distinct from = seen source (Some is) distinct from said
 
   -- and where nothing is
   pub declared_none : resolved_by scope reference inside.placed.entity.is ≡ None →
-      (source : GraphDraft) → are_distinct (names_of source) ≡ true → directory ≡ directory_of source → entity_in source linked.placed ≡ None
+      (source : GraphDraft) → are_distinct (drafted_names source) ≡ true → directory ≡ directory_of source → entity_in source linked.placed ≡ None
   declared_none said source distinct from = seen source None distinct from said

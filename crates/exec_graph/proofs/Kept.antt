@@ -4,7 +4,7 @@ use Rattle.std.specs.List.{list_all, list_any}
 use Rattle.exec_graph.specs.declared.draft.GraphDraft.{GraphDraft}
 use Rattle.exec_graph.specs.Entity.{is_within}
 use Rattle.exec_graph.specs.Numbers.{entities_of}
-use Rattle.exec_graph.specs.Faults.{are_names, has_named_groups, names_of, is_resolved, has_short_scripts, is_of_variable, has_faulty_script, shares_variables, is_well_named, is_small}
+use Rattle.exec_graph.specs.Faults.{are_names, has_named_groups, drafted_names, is_resolved, has_short_scripts, is_of_variable, has_faulty_script, shares_variables, is_well_named, is_small}
 use Rattle.exec_graph.specs.Refusals.{has_fault, faults_in_order, fault_in}
 use Rattle.exec_graph.specs.Scripts.{script_faults}
 use Rattle.exec_msg.specs.declared.limits.TheConstants.{NODES, NAMED_GROUPS, TOPICS, ENTITIES}
@@ -14,7 +14,7 @@ use Rattle.exec_graph.proofs.Bools.{and_left, and_right, or_left, or_right, not_
 pub record IsKept (source : GraphDraft) : Type 0 where
   pub node_names : are_names (map (λ node. node.name) source.nodes) ≡ true
   pub group_names : list_all has_named_groups source.nodes ≡ true
-  pub names : are_names (names_of source) ≡ true
+  pub names : are_names (drafted_names source) ≡ true
   pub resolved : list_all (is_resolved source) (entities_of source) ≡ true
   pub few_nodes : nat_le (length source.nodes) NODES ≡ true
   pub few_groups : nat_le (sum_by (λ node. length node.groups) source.nodes) NAMED_GROUPS ≡ true
@@ -39,20 +39,20 @@ none_passes test (x ∷ xs) found = none_here x (find test xs) (test x) (list_an
 pub record AreKept (source : GraphDraft) : Type 0 where
   pub node_names : are_names (map (λ node. node.name) source.nodes) ≡ true
   pub group_names : list_all has_named_groups source.nodes ≡ true
-  pub names : are_names (names_of source) ≡ true
+  pub names : are_names (drafted_names source) ≡ true
   pub resolved : list_all (is_resolved source) (entities_of source) ≡ true
 
 pub names_kept : (source : GraphDraft) → is_well_named source ≡ true → AreKept source
 names_kept source named =
     let names_1 = are_names (map (λ node. node.name) source.nodes) in
     let names_2 = names_1 && list_all has_named_groups source.nodes in
-    let names_3 = names_2 && are_names (names_of source) in
+    let names_3 = names_2 && are_names (drafted_names source) in
     let named_3 = and_left names_3 (list_all (is_resolved source) (entities_of source)) named in
-    let named_2 = and_left names_2 (are_names (names_of source)) named_3 in
+    let named_2 = and_left names_2 (are_names (drafted_names source)) named_3 in
     record {
       node_names = and_left names_1 (list_all has_named_groups source.nodes) named_2;
       group_names = and_right names_1 (list_all has_named_groups source.nodes) named_2;
-      names = and_right names_2 (are_names (names_of source)) named_3;
+      names = and_right names_2 (are_names (drafted_names source)) named_3;
       resolved = and_right names_3 (list_all (is_resolved source) (entities_of source)) named;
     }
 

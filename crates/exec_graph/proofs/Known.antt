@@ -4,7 +4,7 @@ use Rattle.std.specs.List.{list_all}
 use Rattle.exec_graph.proofs.Bools.{both_true}
 use Rattle.exec_graph.specs.Graph.{GraphData, is_topic, is_client, is_server, is_action_client}
 use Rattle.exec_graph.specs.Lawful.{is_at, is_at_node, is_known}
-use Rattle.exec_script.specs.Spelling.{ScopeNames, ◌>>=◌, operand_of, destination_of, operation_of, count_of, text_of, taken, known, set_of, skip_of, operand_alone, of_operand, of_name_and_operand, execute_of, yield_of, cancel_all_of, cancel_before_of, cancel_goal_of, cancel_goal_before_of, cancel_named, cancel_of, instruction_named, instruction_of, script_of}
+use Rattle.exec_script.specs.Spelling.{ScopeNames, ◌>>=◌, operand_of, destination_of, operation_of, count_of, text_in, or_wrong_operand, known, set_of, skip_of, operand_alone, of_operand, of_name_and_operand, execute_of, yield_of, cancel_all_of, cancel_before_of, cancel_goal_of, cancel_goal_before_of, cancel_named, cancel_of, instruction_named, instruction_of, script_of}
 use Rattle.exec_script.specs.declared.fault.ScriptFault.{ScriptFault}
 use Rattle.exec_script.specs.declared.instr.Instr.{Instr}
 use Rattle.exec_script.specs.Instruction as instr
@@ -44,16 +44,16 @@ same graph node i j is e = let is_same : i ≡ j = cc in subst (λ k. is_known g
 
 set_known : (graph : GraphData) (node : ℕ) (items : List Word) (i : Instr) → set_of items ≡ Ok i → is_known graph node i ≡ true
 set_known graph node (d ∷ o ∷ a ∷ b ∷ []) i e =
-    past _ (taken (destination_of d)) _ i e (λ destination _ e1.
-    past _ (taken (operation_of o)) _ i e1 (λ operation _ e2.
-    past _ (taken (operand_of a)) _ i e2 (λ left _ e3.
-    past _ (taken (operand_of b)) _ i e3 (λ right _ e4. same graph node (instr.Set destination operation left right) i refl e4))))
+    past _ (or_wrong_operand (destination_of d)) _ i e (λ destination _ e1.
+    past _ (or_wrong_operand (operation_of o)) _ i e1 (λ operation _ e2.
+    past _ (or_wrong_operand (operand_of a)) _ i e2 (λ left _ e3.
+    past _ (or_wrong_operand (operand_of b)) _ i e3 (λ right _ e4. same graph node (instr.Set destination operation left right) i refl e4))))
 set_known graph node _ i e = absurd cc
 
 skip_known : (graph : GraphData) (node : ℕ) (items : List Word) (i : Instr) → skip_of items ≡ Ok i → is_known graph node i ≡ true
 skip_known graph node (a ∷ n ∷ []) i e =
-    past _ (taken (operand_of a)) _ i e (λ condition _ e1.
-    past _ (taken (count_of n)) _ i e1 (λ count _ e2. same graph node (instr.Skip condition count) i refl e2))
+    past _ (or_wrong_operand (operand_of a)) _ i e (λ condition _ e1.
+    past _ (or_wrong_operand (count_of n)) _ i e1 (λ count _ e2. same graph node (instr.Skip condition count) i refl e2))
 skip_known graph node _ i e = absurd cc
 
 operand_known : (graph : GraphData) (node : ℕ) (make : Operand → Instr) (items : List Word) (i : Instr) → ((value : Operand) → is_known graph node (make value) ≡ true) → of_operand make items ≡ Ok i → is_known graph node i ≡ true
@@ -61,14 +61,14 @@ operand_known graph node make items i makes e = past _ (operand_alone items) _ i
 
 named_known : (graph : GraphData) (node : ℕ) (find : List ℕ → Option ℕ) (make : ℕ → Operand → Instr) (items : List Word) (i : Instr) → ((name : List ℕ) (number : ℕ) (value : Operand) → find name ≡ Some number → is_known graph node (make number value) ≡ true) → of_name_and_operand find make items ≡ Ok i → is_known graph node i ≡ true
 named_known graph node find make (n ∷ a ∷ []) i makes e =
-    past _ (taken (text_of n)) _ i e (λ name _ e1.
-    past _ (taken (operand_of a)) _ i e1 (λ value _ e2.
+    past _ (or_wrong_operand (text_in n)) _ i e (λ name _ e1.
+    past _ (or_wrong_operand (operand_of a)) _ i e1 (λ value _ e2.
     past _ (known (find name)) _ i e2 (λ number found e3. same graph node (make number value) i (makes name number value (found_of (find name) number _ found)) e3)))
 named_known graph node find make _ i makes e = absurd cc
 
 execute_known : (graph : GraphData) (node : ℕ) (scope : ScopeNames) (items : List Word) (i : Instr) → Knows scope graph node → execute_of scope items ≡ Ok i → is_known graph node i ≡ true
 execute_known graph node scope (n ∷ []) i knows e =
-    past _ (taken (text_of n)) _ i e (λ name _ e1.
+    past _ (or_wrong_operand (text_in n)) _ i e (λ name _ e1.
     past _ (known (scope.server name)) _ i e1 (λ number found e2. same graph node (instr.Execute number) i (knows.servers name number (found_of (scope.server name) number _ found)) e2))
 execute_known graph node scope _ i knows e = absurd cc
 
@@ -78,29 +78,29 @@ yield_known graph node (item ∷ items) i e = absurd cc
 
 all_known : (graph : GraphData) (node : ℕ) (scope : ScopeNames) (n : Word) (items : List Word) (i : Instr) → Knows scope graph node → cancel_all_of scope n items ≡ Ok i → is_known graph node i ≡ true
 all_known graph node scope n [] i knows e =
-    past _ (taken (text_of n)) _ i e (λ name _ e1.
+    past _ (or_wrong_operand (text_in n)) _ i e (λ name _ e1.
     past _ (known (scope.action_client name)) _ i e1 (λ number found e2. same graph node (instr.CancelAll number (operand.Value (pos 0))) i (knows.action_clients name number (found_of (scope.action_client name) number _ found)) e2))
 all_known graph node scope n (item ∷ items) i knows e = absurd cc
 
 before_known : (graph : GraphData) (node : ℕ) (scope : ScopeNames) (n : Word) (items : List Word) (i : Instr) → Knows scope graph node → cancel_before_of scope n items ≡ Ok i → is_known graph node i ≡ true
 before_known graph node scope n (s ∷ []) i knows e =
-    past _ (taken (text_of n)) _ i e (λ name _ e1.
-    past _ (taken (operand_of s)) _ i e1 (λ stamp _ e2.
+    past _ (or_wrong_operand (text_in n)) _ i e (λ name _ e1.
+    past _ (or_wrong_operand (operand_of s)) _ i e1 (λ stamp _ e2.
     past _ (known (scope.action_client name)) _ i e2 (λ number found e3. same graph node (instr.CancelAll number stamp) i (knows.action_clients name number (found_of (scope.action_client name) number _ found)) e3)))
 before_known graph node scope n _ i knows e = absurd cc
 
 goal_known : (graph : GraphData) (node : ℕ) (scope : ScopeNames) (n : Word) (items : List Word) (i : Instr) → Knows scope graph node → cancel_goal_of scope n items ≡ Ok i → is_known graph node i ≡ true
 goal_known graph node scope n (k ∷ []) i knows e =
-    past _ (taken (text_of n)) _ i e (λ name _ e1.
-    past _ (taken (operand_of k)) _ i e1 (λ goal _ e2.
+    past _ (or_wrong_operand (text_in n)) _ i e (λ name _ e1.
+    past _ (or_wrong_operand (operand_of k)) _ i e1 (λ goal _ e2.
     past _ (known (scope.action_client name)) _ i e2 (λ number found e3. same graph node (instr.CancelGoal number goal (operand.Value (pos 0))) i (knows.action_clients name number (found_of (scope.action_client name) number _ found)) e3)))
 goal_known graph node scope n _ i knows e = absurd cc
 
 goal_before_known : (graph : GraphData) (node : ℕ) (scope : ScopeNames) (n : Word) (items : List Word) (i : Instr) → Knows scope graph node → cancel_goal_before_of scope n items ≡ Ok i → is_known graph node i ≡ true
 goal_before_known graph node scope n (k ∷ s ∷ []) i knows e =
-    past _ (taken (text_of n)) _ i e (λ name _ e1.
-    past _ (taken (operand_of k)) _ i e1 (λ goal _ e2.
-    past _ (taken (operand_of s)) _ i e2 (λ stamp _ e3.
+    past _ (or_wrong_operand (text_in n)) _ i e (λ name _ e1.
+    past _ (or_wrong_operand (operand_of k)) _ i e1 (λ goal _ e2.
+    past _ (or_wrong_operand (operand_of s)) _ i e2 (λ stamp _ e3.
     past _ (known (scope.action_client name)) _ i e3 (λ number found e4. same graph node (instr.CancelGoal number goal stamp) i (knows.action_clients name number (found_of (scope.action_client name) number _ found)) e4))))
 goal_before_known graph node scope n _ i knows e = absurd cc
 

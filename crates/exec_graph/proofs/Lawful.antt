@@ -8,7 +8,7 @@ use Rattle.exec_graph.specs.Resolved.{entity_in, topic_in, graph_in}
 use Rattle.exec_graph.specs.declared.draft.GraphDraft.{GraphDraft}
 use Rattle.exec_graph.specs.Numbers.{Placed, entities_of, groups_of}
 use Rattle.exec_graph.specs.Options.{each}
-use Rattle.exec_graph.specs.Faults.{has_named_groups, names_of}
+use Rattle.exec_graph.specs.Faults.{has_named_groups, drafted_names}
 use Rattle.exec_graph.specs.Graph as graph
 use Rattle.exec_graph.specs.Graph.{EntityData, GraphData, is_topic}
 use Rattle.exec_graph.specs.Refusals.{fault_in}
@@ -30,7 +30,7 @@ topic_names : (topics : List (List ℕ)) → map (λ entity. entity.name) (map t
 topic_names [] = refl
 topic_names (name ∷ topics) = ap (λ (names : List (List ℕ)). name ∷ names) (topic_names topics)
 
-pub names_kept : (source : GraphDraft) (entities : List EntityData) → AreEntities source entities → graph.names_of (graph_of source entities) ≡ names_of source
+pub names_kept : (source : GraphDraft) (entities : List EntityData) → AreEntities source entities → graph.names_of (graph_of source entities) ≡ drafted_names source
 names_kept source entities reads =
     map-append (λ (entity : EntityData). entity.name) (map topic_in source.topics) entities
     ∙ ap (λ (names : List (List ℕ)). names ++ map (λ entity. entity.name) entities) (topic_names source.topics)
@@ -118,8 +118,8 @@ kept_lawful source entities keeps reads =
       few_entities = subst (λ n. n ≤ ENTITIES) (sym (entities_counted source entities reads)) few_entities;
       node_names = and_left (list_all is_name nodes) (are_distinct nodes) keeps.node_names;
       distinct_nodes = and_right (list_all is_name nodes) (are_distinct nodes) keeps.node_names;
-      names = ap (list_all is_name) names ∙ and_left (list_all is_name (names_of source)) (are_distinct (names_of source)) keeps.names;
-      distinct_names = ap are_distinct names ∙ and_right (list_all is_name (names_of source)) (are_distinct (names_of source)) keeps.names;
+      names = ap (list_all is_name) names ∙ and_left (list_all is_name (drafted_names source)) (are_distinct (drafted_names source)) keeps.names;
+      distinct_names = ap are_distinct names ∙ and_right (list_all is_name (drafted_names source)) (are_distinct (drafted_names source)) keeps.names;
       groups = groups_within 0 source.nodes (length nodes) (omega (arith, many));
       nodes = λ node below. node_lawful source entities node keeps.group_names (omega (arith, below, many));
       blocks = blocks_kept source entities reads;

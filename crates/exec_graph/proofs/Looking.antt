@@ -6,7 +6,7 @@ use Rattle.std.specs.Map.{keys_of, values_of}
 use Rattle.std.proofs.lemmas.Bool.Decides.{same_from_decides}
 use Rattle.std.proofs.lemmas.Iterator.Adapters.{position_from-zero}
 use Rattle.std.proofs.lemmas.Slice.Eq.{bytes_eq-Decides}
-use Rattle.exec_graph.specs.inner.Entries.{entity_of, entities_of}
+use Rattle.exec_graph.specs.inner.Entries.{entity_of, entities_in}
 use Rattle.exec_graph.specs.Graph.{EntityData}
 use Rattle.exec_graph.specs.Names.{are_distinct}
 use Rattle.exec_graph.specs.declared.entity.Declared.{Declared}
@@ -17,7 +17,7 @@ use Rattle.exec_graph.proofs.Positions.{slice_get-map}
 
 -- what a map holds at a place is declared at that number
 pub declared_by : (entries : List (String Global × Declared)) (number : ℕ) (declared : Declared) (default : EntityData) → slice_get (values_of entries) number ≡ Some declared →
-    (slice_index_or (entities_of entries) number default).is ≡ declared
+    (slice_index_or (entities_in entries) number default).is ≡ declared
 declared_by [] number declared default there = absurd cc
 declared_by (entry ∷ entries) zero declared default there = cc
 declared_by (entry ∷ entries) (suc number) declared default there = declared_by entries number declared default there
@@ -32,7 +32,7 @@ pub same_bytes : (one other : List ℕ) → bytes_eq one other ≡ true → one 
 same_bytes one other is = (bytes_eq-Decides one other).0 is
 
 keys_and_names : (name : List ℕ) (first : ℕ) (entries : List (String Global × Declared)) →
-    position_from (λ key. bytes_eq name (string_bytes key)) first (keys_of entries) ≡ position_from (λ entity. bytes_eq name entity.name) first (entities_of entries)
+    position_from (λ key. bytes_eq name (string_bytes key)) first (keys_of entries) ≡ position_from (λ entity. bytes_eq name entity.name) first (entities_in entries)
 keys_and_names name first [] = refl
 keys_and_names name first (entry ∷ entries) = ap (λ (later : Option ℕ). cond (bytes_eq name (string_bytes entry.0)) (Some first) later) (keys_and_names name (first + 1) entries)
 
@@ -102,29 +102,29 @@ module _ (kind : Declared → Bool) (name : List ℕ) where
 
 -- where a map has no such key no entity of the name is found
 pub found_none : (kind : Declared → Bool) (name : List ℕ) (entries : List (String Global × Declared)) → None ≡ position (λ key. bytes_eq name (string_bytes key)) (keys_of entries) →
-    None ≡ position_from (is_named kind name) 0 (entities_of entries)
+    None ≡ position_from (is_named kind name) 0 (entities_in entries)
 found_none kind name entries none =
-    sym (missing kind name 0 (entities_of entries)
+    sym (missing kind name 0 (entities_in entries)
     (sym (keys_and_names name 0 entries) ∙ sym (position_from-zero (λ key. bytes_eq name (string_bytes key)) (keys_of entries)) ∙ sym none))
 
 same_entity : (one other : Option EntityData) (entity found : EntityData) → one ≡ Some entity → other ≡ Some found → one ≡ other → entity ≡ found
 same_entity one other entity found is has same = cc
 
 -- where a map has the key at a place, the entity there is found if it passes the test
-pub found_some : (kind : Declared → Bool) (name : List ℕ) (entries : List (String Global × Declared)) (number : ℕ) (entry : String Global × Declared) → are_distinct (map (λ entity. entity.name) (entities_of entries)) ≡ true →
+pub found_some : (kind : Declared → Bool) (name : List ℕ) (entries : List (String Global × Declared)) (number : ℕ) (entry : String Global × Declared) → are_distinct (map (λ entity. entity.name) (entities_in entries)) ≡ true →
     Some number ≡ position (λ key. bytes_eq name (string_bytes key)) (keys_of entries) → slice_get entries number ≡ Some entry →
-    position_from (is_named kind name) 0 (entities_of entries) ≡ cond (kind entry.1) (Some number) None
+    position_from (is_named kind name) 0 (entities_in entries) ≡ cond (kind entry.1) (Some number) None
 found_some kind name entries number entry distinct at there =
-    let found = present kind name 0 (entities_of entries) number distinct
+    let found = present kind name 0 (entities_in entries) number distinct
     (sym (keys_and_names name 0 entries) ∙ sym (position_from-zero (λ key. bytes_eq name (string_bytes key)) (keys_of entries)) ∙ sym at) in
     let same : number ≡ found.place = omega (arith, found.counted) in
-    let entity = same_entity (slice_get (entities_of entries) number) (slice_get (entities_of entries) found.place) (entity_of entry) found.element
-    (slice_get-map entity_of entries number entry there) found.there (ap (slice_get (entities_of entries)) same) in
+    let entity = same_entity (slice_get (entities_in entries) number) (slice_get (entities_in entries) found.place) (entity_of entry) found.element
+    (slice_get-map entity_of entries number entry there) found.there (ap (slice_get (entities_in entries)) same) in
     found.is ∙ ap (λ (e : EntityData). cond (kind e.is) (Some number) None) (sym entity)
 
 -- the same where it is known whether it passes
-pub found_as : (kind : Declared → Bool) (name : List ℕ) (entries : List (String Global × Declared)) (number : ℕ) (entry : String Global × Declared) (passes : Bool) → are_distinct (map (λ entity. entity.name) (entities_of entries)) ≡ true →
+pub found_as : (kind : Declared → Bool) (name : List ℕ) (entries : List (String Global × Declared)) (number : ℕ) (entry : String Global × Declared) (passes : Bool) → are_distinct (map (λ entity. entity.name) (entities_in entries)) ≡ true →
     Some number ≡ position (λ key. bytes_eq name (string_bytes key)) (keys_of entries) → slice_get entries number ≡ Some entry → kind entry.1 ≡ passes →
-    cond passes (Some number) None ≡ position_from (is_named kind name) 0 (entities_of entries)
+    cond passes (Some number) None ≡ position_from (is_named kind name) 0 (entities_in entries)
 found_as kind name entries number entry passes distinct at there is =
     ap (λ (b : Bool). cond b (Some number) None) (sym is) ∙ sym (found_some kind name entries number entry distinct at there)

@@ -13,7 +13,7 @@ use Rattle.exec_graph.specs.declared.draft.GraphDraft.{GraphDraft}
 use Rattle.exec_graph.specs.Entity.{Drafted, is_of, reference_of, if_there, read_by}
 use Rattle.exec_graph.specs.declared.entity.EntityOf.{EntityOf}
 use Rattle.exec_graph.specs.declared.entity.EntityOf.TheVariants.{Timer, Subscription, Service, Client, Server, ActionClient}
-use Rattle.exec_graph.specs.Faults.{names_of}
+use Rattle.exec_graph.specs.Faults.{drafted_names}
 use Rattle.exec_graph.specs.Names.{are_distinct}
 use Rattle.exec_graph.specs.Numbers.{Placed, entities_of, topic_named, entity_named, named, scope_of}
 use Rattle.exec_graph.specs.Resolved.{script_in}
@@ -133,7 +133,7 @@ module _ (test : Placed → Bool) (name : List ℕ) (topics : ℕ) where
       (behind texts entities (first + 1) (omega (arith, is)) (and_right (not (list_any (is_name text) (texts ++ map name_of entities))) (are_distinct (texts ++ map name_of entities)) distinct))
 
 -- an entity is found by its name
-pub entity_found : (draft : GraphDraft) (test : Placed → Bool) (name : List ℕ) → are_distinct (names_of draft) ≡ true → entity_number (directory_of draft) test name ≡ entity_named draft test name
+pub entity_found : (draft : GraphDraft) (test : Placed → Bool) (name : List ℕ) → are_distinct (drafted_names draft) ≡ true → entity_number (directory_of draft) test name ≡ entity_named draft test name
 entity_found draft test name distinct = behind test name (length draft.topics) draft.topics (entities_of draft) 0 (omega arith) distinct
 
 -- ---- topics
@@ -166,12 +166,12 @@ topic_found draft name = topic_among name (length draft.topics) 0 draft.topics (
 -- ---- what names and scripts find
 
 -- the number of what a name must be declared as
-pub number_same : (draft : GraphDraft) → are_distinct (names_of draft) ≡ true → (to : Referent) (name : List ℕ) → number_in (directory_of draft) to name ≡ named draft to name
+pub number_same : (draft : GraphDraft) → are_distinct (drafted_names draft) ≡ true → (to : Referent) (name : List ℕ) → number_in (directory_of draft) to name ≡ named draft to name
 number_same draft distinct referent.Topic name = topic_found draft name
 number_same draft distinct (referent.Entity kind) name = entity_found draft (λ placed. is_of kind placed.entity.is) name distinct
 
 -- the names that a node's scripts may use
-pub scope_same : (draft : GraphDraft) → are_distinct (names_of draft) ≡ true → (node : ℕ) → scope_in (directory_of draft) node ≡ scope_of draft node
+pub scope_same : (draft : GraphDraft) → are_distinct (drafted_names draft) ≡ true → (node : ℕ) → scope_in (directory_of draft) node ≡ scope_of draft node
 scope_same draft distinct node = λ i. record {
   topic = λ name. topic_found draft name i;
   client = λ name. entity_found draft (λ placed. is_of entity_kind.Client placed.entity.is && (placed.node == node)) name distinct i;
@@ -197,7 +197,7 @@ module _ {S T : Type 0} (number : Referent → List ℕ → Option ℕ) (read : 
   read_same (ActionClient entity) there = λ i. read_by (λ to name. sym (read_as (number (referent.Entity entity_kind.Server) entity.server) reference there) i) read (ActionClient entity)
 
 -- what an entity of a node is that is linked
-pub resolved_same : (draft : GraphDraft) → are_distinct (names_of draft) ≡ true → (node : ℕ) (reference : Option ℕ) (entity : Drafted) → referred (directory_of draft) entity ≡ Some reference →
+pub resolved_same : (draft : GraphDraft) → are_distinct (drafted_names draft) ≡ true → (node : ℕ) (reference : Option ℕ) (entity : Drafted) → referred (directory_of draft) entity ≡ Some reference →
     resolved_by (record { directory = directory_of draft; node = node }) reference entity ≡ read_by (named draft) (script_in (scope_of draft node)) entity
 resolved_same draft distinct node reference entity there =
     read_same (number_in (directory_of draft)) (script_in (scope_in (directory_of draft) node)) reference entity there

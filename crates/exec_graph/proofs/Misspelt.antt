@@ -1,7 +1,7 @@
 -- The fault of a misspelt script is never that of a group variable.
 use Rattle.std.proofs.Common.{◌≡◌, ℕ, Bool, true, false, if◌then◌else◌, List, [], ◌∷◌, Option, None, Some, Result, Ok, Err, codes, bytes_eq, refl}
 use Rattle.exec_graph.specs.Faults.{is_of_variable}
-use Rattle.exec_script.specs.Spelling.{ScopeNames, ◌>>=◌, operand_of, destination_of, operation_of, count_of, text_of, taken, known, set_of, skip_of, operand_alone, of_operand, of_name_and_operand, execute_of, yield_of, cancel_all_of, cancel_before_of, cancel_goal_of, cancel_goal_before_of, cancel_named, cancel_of, instruction_named, instruction_of, script_of}
+use Rattle.exec_script.specs.Spelling.{ScopeNames, ◌>>=◌, operand_of, destination_of, operation_of, count_of, text_in, or_wrong_operand, known, set_of, skip_of, operand_alone, of_operand, of_name_and_operand, execute_of, yield_of, cancel_all_of, cancel_before_of, cancel_goal_of, cancel_goal_before_of, cancel_named, cancel_of, instruction_named, instruction_of, script_of}
 use Rattle.exec_script.specs.declared.fault.ScriptFault.{ScriptFault}
 use Rattle.exec_script.specs.declared.instr.Instr.{Instr}
 use Rattle.exec_script.specs.Instruction as instr
@@ -20,7 +20,7 @@ then_other : {A B : Type 0} (r : Result A ScriptFault) (f : A → Result B Scrip
 then_other (Ok a) f first next = next a
 then_other (Err fault) f first next = first
 
-item_other : {A : Type 0} (o : Option A) → IsOther (taken o)
+item_other : {A : Type 0} (o : Option A) → IsOther (or_wrong_operand o)
 item_other None = refl
 item_other (Some a) = tt
 
@@ -36,16 +36,16 @@ either_other false x y first second = second
 
 set_other : (items : List Word) → IsOther (set_of items)
 set_other (d ∷ o ∷ a ∷ b ∷ []) =
-    then_other (taken (destination_of d)) _ (item_other (destination_of d)) (λ destination.
-    then_other (taken (operation_of o)) _ (item_other (operation_of o)) (λ operation.
-    then_other (taken (operand_of a)) _ (item_other (operand_of a)) (λ left.
-    then_other (taken (operand_of b)) _ (item_other (operand_of b)) (λ right. tt))))
+    then_other (or_wrong_operand (destination_of d)) _ (item_other (destination_of d)) (λ destination.
+    then_other (or_wrong_operand (operation_of o)) _ (item_other (operation_of o)) (λ operation.
+    then_other (or_wrong_operand (operand_of a)) _ (item_other (operand_of a)) (λ left.
+    then_other (or_wrong_operand (operand_of b)) _ (item_other (operand_of b)) (λ right. tt))))
 set_other _ = refl
 
 skip_other : (items : List Word) → IsOther (skip_of items)
 skip_other (a ∷ n ∷ []) =
-    then_other (taken (operand_of a)) _ (item_other (operand_of a)) (λ condition.
-    then_other (taken (count_of n)) _ (item_other (count_of n)) (λ count. tt))
+    then_other (or_wrong_operand (operand_of a)) _ (item_other (operand_of a)) (λ condition.
+    then_other (or_wrong_operand (count_of n)) _ (item_other (count_of n)) (λ count. tt))
 skip_other _ = refl
 
 alone_other : (items : List Word) → IsOther (operand_alone items)
@@ -57,14 +57,14 @@ operand_other make items = then_other (operand_alone items) _ (alone_other items
 
 named_other : (find : List ℕ → Option ℕ) (make : ℕ → Operand → Instr) (items : List Word) → IsOther (of_name_and_operand find make items)
 named_other find make (n ∷ a ∷ []) =
-    then_other (taken (text_of n)) _ (item_other (text_of n)) (λ name.
-    then_other (taken (operand_of a)) _ (item_other (operand_of a)) (λ value.
+    then_other (or_wrong_operand (text_in n)) _ (item_other (text_in n)) (λ name.
+    then_other (or_wrong_operand (operand_of a)) _ (item_other (operand_of a)) (λ value.
     then_other (known (find name)) _ (name_other (find name)) (λ entity. tt)))
 named_other find make _ = refl
 
 execute_other : (scope : ScopeNames) (items : List Word) → IsOther (execute_of scope items)
 execute_other scope (n ∷ []) =
-    then_other (taken (text_of n)) _ (item_other (text_of n)) (λ name.
+    then_other (or_wrong_operand (text_in n)) _ (item_other (text_in n)) (λ name.
     then_other (known (scope.server name)) _ (name_other (scope.server name)) (λ server. tt))
 execute_other scope _ = refl
 
@@ -74,29 +74,29 @@ yield_other (item ∷ items) = refl
 
 all_other : (scope : ScopeNames) (n : Word) (items : List Word) → IsOther (cancel_all_of scope n items)
 all_other scope n [] =
-    then_other (taken (text_of n)) _ (item_other (text_of n)) (λ name.
+    then_other (or_wrong_operand (text_in n)) _ (item_other (text_in n)) (λ name.
     then_other (known (scope.action_client name)) _ (name_other (scope.action_client name)) (λ client. tt))
 all_other scope n (item ∷ items) = refl
 
 before_other : (scope : ScopeNames) (n : Word) (items : List Word) → IsOther (cancel_before_of scope n items)
 before_other scope n (s ∷ []) =
-    then_other (taken (text_of n)) _ (item_other (text_of n)) (λ name.
-    then_other (taken (operand_of s)) _ (item_other (operand_of s)) (λ stamp.
+    then_other (or_wrong_operand (text_in n)) _ (item_other (text_in n)) (λ name.
+    then_other (or_wrong_operand (operand_of s)) _ (item_other (operand_of s)) (λ stamp.
     then_other (known (scope.action_client name)) _ (name_other (scope.action_client name)) (λ client. tt)))
 before_other scope n _ = refl
 
 goal_other : (scope : ScopeNames) (n : Word) (items : List Word) → IsOther (cancel_goal_of scope n items)
 goal_other scope n (k ∷ []) =
-    then_other (taken (text_of n)) _ (item_other (text_of n)) (λ name.
-    then_other (taken (operand_of k)) _ (item_other (operand_of k)) (λ goal.
+    then_other (or_wrong_operand (text_in n)) _ (item_other (text_in n)) (λ name.
+    then_other (or_wrong_operand (operand_of k)) _ (item_other (operand_of k)) (λ goal.
     then_other (known (scope.action_client name)) _ (name_other (scope.action_client name)) (λ client. tt)))
 goal_other scope n _ = refl
 
 goal_before_other : (scope : ScopeNames) (n : Word) (items : List Word) → IsOther (cancel_goal_before_of scope n items)
 goal_before_other scope n (k ∷ s ∷ []) =
-    then_other (taken (text_of n)) _ (item_other (text_of n)) (λ name.
-    then_other (taken (operand_of k)) _ (item_other (operand_of k)) (λ goal.
-    then_other (taken (operand_of s)) _ (item_other (operand_of s)) (λ stamp.
+    then_other (or_wrong_operand (text_in n)) _ (item_other (text_in n)) (λ name.
+    then_other (or_wrong_operand (operand_of k)) _ (item_other (operand_of k)) (λ goal.
+    then_other (or_wrong_operand (operand_of s)) _ (item_other (operand_of s)) (λ stamp.
     then_other (known (scope.action_client name)) _ (name_other (scope.action_client name)) (λ client. tt))))
 goal_before_other scope n _ = refl
 

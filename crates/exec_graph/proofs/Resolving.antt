@@ -4,7 +4,7 @@ use Rattle.std.specs.Option.{option_map_or}
 use Rattle.std.proofs.lemmas.Bool.{eqb-true}
 use Rattle.std.proofs.lemmas.List.{length-map}
 use Rattle.exec_graph.specs.declared.draft.GraphDraft.{GraphDraft}
-use Rattle.exec_graph.specs.Entity.{Resolved, kind_of, rank_of, is_of, read_by}
+use Rattle.exec_graph.specs.Entity.{Resolved, kind_of_entity, rank_of, is_of, read_by}
 use Rattle.exec_graph.specs.Graph.{EntityData, GraphData, in_group, is_topic, is_a, is_server, group_of}
 use Rattle.exec_graph.specs.Lawful.{is_at, is_of_node, is_at_node, is_declared, block_of}
 use Rattle.exec_graph.specs.Numbers.{Placed, entities_of, topic_named, entity_named, kind_named, server_named, named, named_in_node, scope_of, is_group, same_name, groups_of, group_named}
@@ -62,7 +62,7 @@ module _ (source : GraphDraft) (placed : Placed) (entity : EntityData) (build : 
   same_kind kind = ap (is_a kind) build.declared ∙ ap (λ (of : EntityKind). rank_of kind == rank_of of) build.read.kind
 
   -- and stands in the block of that kind
-  pub same_block : block_of entity.is ≡ rank_of (kind_of placed.entity.is)
+  pub same_block : block_of entity.is ≡ rank_of (kind_of_entity placed.entity.is)
   same_block = ap block_of build.declared ∙ ap rank_of build.read.kind
 
   -- its group is the one that its draft names

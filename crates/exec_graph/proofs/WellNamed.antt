@@ -8,7 +8,7 @@ use Rattle.std.proofs.lemmas.List.{length-map}
 use Rattle.exec_graph.specs.inner.Directory.{DirectoryData, Linked, where_so, names_of_groups, node_groups_from, number_among, number_in, group_in, referred, linked_in, directory_of}
 use Rattle.exec_graph.specs.declared.draft.GraphDraft.{GraphDraft}
 use Rattle.exec_graph.specs.Entity.{ReferenceData, Drafted, reference_of, refers, if_there}
-use Rattle.exec_graph.specs.Faults.{are_names, has_named_groups, names_of, is_resolved, is_well_named}
+use Rattle.exec_graph.specs.Faults.{are_names, has_named_groups, drafted_names, is_resolved, is_well_named}
 use Rattle.exec_graph.specs.Names.{is_name, are_distinct}
 use Rattle.exec_graph.specs.Numbers.{Placed, entities_of, groups_from, named_group, is_group, same_name, group_named}
 use Rattle.exec_graph.specs.Options.{◌>>=◌, each}
@@ -121,7 +121,7 @@ both_there None reference placed = refl
 both_there (Some group) None placed = refl
 both_there (Some group) (Some reference) placed = refl
 
-links_same : (draft : GraphDraft) → are_distinct (names_of draft) ≡ true → (placed : Placed) → is_some (linked_in (directory_of draft) placed) ≡ is_resolved draft placed
+links_same : (draft : GraphDraft) → are_distinct (drafted_names draft) ≡ true → (placed : Placed) → is_some (linked_in (directory_of draft) placed) ≡ is_resolved draft placed
 links_same draft distinct placed =
     both_there (group_in (directory_of draft) placed.node placed.entity.group) (referred (directory_of draft) placed.entity.is) placed
     ∙ (λ i. is_some (group_same draft placed.node placed.entity.group i) && is_referred (directory_of draft) placed.entity.is i)
@@ -144,21 +144,21 @@ all_linked link [] = refl
 all_linked link (one ∷ placed) = both_some (link one) (each link placed) ∙ ap (λ (t : Bool). is_some (link one) && t) (all_linked link placed)
 
 module _ (draft : GraphDraft) (found : DirectoryData) (nodes : true ≡ are_names (map (λ node. node.name) draft.nodes)) where
-  by : (h n : Bool) → list_all has_named_groups draft.nodes ≡ h → are_names (names_of draft) ≡ n → Some found ≡ where_so (h && n) (directory_of draft) → (found ≡ directory_of draft) × (is_some (each (linked_in found) found.entities) ≡ is_well_named draft)
+  by : (h n : Bool) → list_all has_named_groups draft.nodes ≡ h → are_names (drafted_names draft) ≡ n → Some found ≡ where_so (h && n) (directory_of draft) → (found ≡ directory_of draft) × (is_some (each (linked_in found) found.entities) ≡ is_well_named draft)
   by true true grouped named there =
       let same : found ≡ directory_of draft = cc in
-      let distinct : are_distinct (names_of draft) ≡ true = and_right (list_all is_name (names_of draft)) (are_distinct (names_of draft)) named in
+      let distinct : are_distinct (drafted_names draft) ≡ true = and_right (list_all is_name (drafted_names draft)) (are_distinct (drafted_names draft)) named in
       let all : is_some (each (linked_in found) found.entities) ≡ list_all (is_resolved draft) (entities_of draft) =
       all_linked (linked_in found) found.entities
       ∙ ap (λ (directory : DirectoryData). list_all (λ placed. is_some (linked_in directory placed)) directory.entities) same
       ∙ (λ i. list_all (λ placed. links_same draft distinct placed i) (entities_of draft)) in
-      (same, all ∙ named_by (are_names (map (λ node. node.name) draft.nodes)) (list_all has_named_groups draft.nodes) (are_names (names_of draft)) (list_all (is_resolved draft) (entities_of draft)) nodes (λ i. grouped i && named i))
+      (same, all ∙ named_by (are_names (map (λ node. node.name) draft.nodes)) (list_all has_named_groups draft.nodes) (are_names (drafted_names draft)) (list_all (is_resolved draft) (entities_of draft)) nodes (λ i. grouped i && named i))
   by true false grouped named there = absurd cc
   by false n grouped named there = absurd cc
 
-  module _ (there : Some found ≡ where_so (list_all has_named_groups draft.nodes && are_names (names_of draft)) (directory_of draft)) where
+  module _ (there : Some found ≡ where_so (list_all has_named_groups draft.nodes && are_names (drafted_names draft)) (directory_of draft)) where
     both : (found ≡ directory_of draft) × (is_some (each (linked_in found) found.entities) ≡ is_well_named draft)
-    both = by (list_all has_named_groups draft.nodes) (are_names (names_of draft)) refl refl there
+    both = by (list_all has_named_groups draft.nodes) (are_names (drafted_names draft)) refl refl there
 
     -- what is found is well named where all of it is linked
     pub is_named : (linked : List Linked) → each (linked_in found) found.entities ≡ Some linked → is_well_named draft ≡ true

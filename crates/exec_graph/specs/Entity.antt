@@ -53,17 +53,17 @@ rank_of kind.Server = 5
 rank_of kind.ActionClient = 6
 
 -- the kind of an entity
-abbrev pub kind_of : {N S : Type 0} → EntityOf N S → EntityKind
-kind_of (Timer entity) = kind.Timer
-kind_of (Subscription entity) = kind.Subscription
-kind_of (Service entity) = kind.Service
-kind_of (Client entity) = kind.Client
-kind_of (Server entity) = kind.Server
-kind_of (ActionClient entity) = kind.ActionClient
+abbrev pub kind_of_entity : {N S : Type 0} → EntityOf N S → EntityKind
+kind_of_entity (Timer entity) = kind.Timer
+kind_of_entity (Subscription entity) = kind.Subscription
+kind_of_entity (Service entity) = kind.Service
+kind_of_entity (Client entity) = kind.Client
+kind_of_entity (Server entity) = kind.Server
+kind_of_entity (ActionClient entity) = kind.ActionClient
 
 -- whether an entity is of a kind
 abbrev pub is_of : {N S : Type 0} → EntityKind → EntityOf N S → Bool
-is_of kind entity = rank_of kind == rank_of (kind_of entity)
+is_of kind entity = rank_of kind == rank_of (kind_of_entity entity)
 
 -- ---- references
 

@@ -26,8 +26,8 @@ abbrev pub is_resolved : GraphDraft → Placed → Bool
 is_resolved draft placed = is_some (group_named draft placed.node placed.entity.group) && refers (λ to name. is_some (named draft to name)) placed.entity.is
 
 -- the names of topics and entities
-abbrev pub names_of : GraphDraft → List (List ℕ)
-names_of draft = draft.topics ++ map (λ placed. placed.entity.name) (entities_of draft)
+abbrev pub drafted_names : GraphDraft → List (List ℕ)
+drafted_names draft = draft.topics ++ map (λ placed. placed.entity.name) (entities_of draft)
 
 -- every name is a name; none stands twice among nodes, among the groups of a node, or among topics and entities; and what
 -- entities refer to is declared
@@ -35,7 +35,7 @@ abbrev pub is_well_named : GraphDraft → Bool
 is_well_named draft =
     are_names (map (λ node. node.name) draft.nodes)
     && list_all has_named_groups draft.nodes
-    && are_names (names_of draft)
+    && are_names (drafted_names draft)
     && list_all (is_resolved draft) (entities_of draft)
 
 -- ---- limits

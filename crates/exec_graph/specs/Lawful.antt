@@ -2,7 +2,7 @@
 use Rattle.std.specs.Prelude.{◌≡◌, ℕ, ◌<◌, ◌≤◌, ◌^◌, List, [], ◌∷◌, length, map, Bool, true, false, not, is_some, is_none, ◌&&◌, ◌==◌, nat_le, IsTrue, Some, slice_get, Ok, ◌-◌}
 use Rattle.std.specs.List.{All, filter, filter_map, list_all}
 use Rattle.std.specs.Option.{option_map_or}
-use Rattle.exec_graph.specs.Entity.{EntityNo, Script, RoleScriptData, rank_of, kind_of, refers, is_from_1, is_within, scripts_of}
+use Rattle.exec_graph.specs.Entity.{EntityNo, Script, RoleScriptData, rank_of, kind_of_entity, refers, is_from_1, is_within, scripts_of}
 use Rattle.exec_graph.specs.Graph.{GraphData, GroupNo, of_entity, is_topic, is_a, is_client, is_server, is_action_client, group_of, names_of}
 use Rattle.exec_graph.specs.declared.entity.CallbackGroup.{CallbackGroup}
 use Rattle.exec_graph.specs.declared.entity.Declared.{Declared}
@@ -74,7 +74,7 @@ IsLawfulDeclared graph (Entity entity) = IsLawfulEntity graph entity
 
 -- the place of what a name is declared as in the order of numbers: topics stand before all kinds of entities
 abbrev pub block_of : Declared → ℕ
-block_of = of_entity 0 (λ entity. rank_of (kind_of entity))
+block_of = of_entity 0 (λ entity. rank_of (kind_of_entity entity))
 
 -- each number is at or above the one before it
 abbrev pub is_ascending_from : ℕ → List ℕ → Bool

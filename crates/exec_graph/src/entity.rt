@@ -1,7 +1,7 @@
 //! Entities, as a draft and as a graph has them: a draft's refer to one another by texts and have spelled scripts, a
 //! graph's refer by numbers and have decoded scripts.
 ghost use Rattle.std.specs.Prelude.{◌≡◌, [], ◌∷◌, ◌++◌, ◌&&◌, OnOk, IfOk};
-ghost use Rattle.exec_graph.specs.Entity.{kind_of, is_of, is_within, is_from_1, is_timeout, reference_of, scripts_of, result_scripts};
+ghost use Rattle.exec_graph.specs.Entity.{kind_of_entity, is_of, is_within, is_from_1, is_timeout, reference_of, scripts_of, result_scripts};
 
 use crate::script::Script;
 use exec_msg::limits::{DEPTH, TICKS};
@@ -171,7 +171,7 @@ impl<'a, S> Model for RoleScript<'a, S> {
 impl<N, S> EntityOf<N, S> {
     /// Its kind.
     pub fn kind(&self) -> EntityKind
-        ensures { result ≡ kind_of self.now }
+        ensures { result ≡ kind_of_entity self.now }
     {
         match self {
             EntityOf::Timer(_) => EntityKind::Timer,

@@ -1,5 +1,5 @@
 ghost use Rattle.std.specs.Prelude.{◌≡◌};
-ghost use Rattle.exec_graph.specs.Refusals.{number_of};
+ghost use Rattle.exec_graph.specs.Refusals.{number_of_fault};
 ghost use Rattle.exec_graph.specs.Schedule.{plan_number_of};
 ghost use Rattle.exec_graph.specs.declared.fault.GraphFault.TheVariants as graph_fault;
 
@@ -30,7 +30,7 @@ pub enum GraphFault {
 impl GraphFault {
     /// The number of the fault, from 4 to 10.
     pub fn number(self) -> u8
-        ensures { result ≡ number_of self }
+        ensures { result ≡ number_of_fault self }
     {
         self as u8
     }

@@ -17,17 +17,17 @@ pub struct Graph {
 
 impl Model for Graph {
     ghost use Rattle.std.specs.Prelude.{◌≡◌};
-    ghost use Rattle.exec_graph.specs.inner.Entries.{entities_of};
+    ghost use Rattle.exec_graph.specs.inner.Entries.{entities_in};
     ghost use Rattle.exec_graph.specs.Graph.{GraphData, names_of};
     ghost use Rattle.exec_graph.specs.Lawful.{IsLawful};
 
     ghost Value = { GraphData };
 
-    ghost view = { λ graph. record { nodes = graph.nodes; groups = graph.groups.items; entities = entities_of graph.entities.entries } };
+    ghost view = { λ graph. record { nodes = graph.nodes; groups = graph.groups.items; entities = entities_in graph.entities.entries } };
 
     ghost invariant = { λ graph.
-        IsLawful (record { nodes = graph.nodes; groups = graph.groups.items; entities = entities_of graph.entities.entries })
-        × (graph.names ≡ names_of (record { nodes = graph.nodes; groups = graph.groups.items; entities = entities_of graph.entities.entries })) };
+        IsLawful (record { nodes = graph.nodes; groups = graph.groups.items; entities = entities_in graph.entities.entries })
+        × (graph.names ≡ names_of (record { nodes = graph.nodes; groups = graph.groups.items; entities = entities_in graph.entities.entries })) };
 }
 
 impl Graph {

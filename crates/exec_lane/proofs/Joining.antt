@@ -4,11 +4,11 @@ use Rattle.std.specs.List.{list_any}
 use Rattle.std.specs.Option.{option_map}
 use Rattle.std.proofs.lemmas.Bool.{and_parts, eqb-true, eq-eqb, both_ways}
 use Rattle.exec_graph.specs.Graph.{GroupNo}
-use Rattle.exec_lane.specs.inner.Cuts.{FindsLanes, is_lane_of, joined, place_for, takes, with_slot}
+use Rattle.exec_lane.specs.inner.Cuts.{FindsLanes, is_lane_of, lane_with, place_for, takes, with_slot}
 use Rattle.exec_lane.specs.inner.Slots.{SlotState}
 use Rattle.exec_msg.specs.Lists.{change_first}
 use Rattle.exec_msg.proofs.FirstPlaces.{change_first-first_place, first_place-behind, first_place-within, noted_at, place_or}
-use Rattle.exec_msg.specs.Places.{change_at, first_place, noted, place_under}
+use Rattle.exec_msg.specs.Places.{change_at, first_place, first_noted, place_under}
 
 -- ---- what a look-up gives is what the definition asks
 
@@ -51,27 +51,27 @@ taken_at : (slot : SlotState) (lanes : List (List SlotState)) (found : Option �
 taken_at slot lanes found is = takes_by slot lanes found is slot.ready.exclusive refl
 
 -- a slot is added to the lane at its place
-pub joins : (slot : SlotState) (lanes : List (List SlotState)) (place : ℕ) → place_for slot lanes ≡ Some place → change_at place (joined slot) lanes ≡ with_slot lanes slot
+pub joins : (slot : SlotState) (lanes : List (List SlotState)) (place : ℕ) → place_for slot lanes ≡ Some place → change_at place (lane_with slot) lanes ≡ with_slot lanes slot
 joins slot lanes place is =
     let at : first_place (takes slot) lanes ≡ Some place = taken_at slot lanes (Some place) is in
-    sym (ap (λ (b : Bool). if b then change_first (takes slot) (joined slot) lanes else lanes ++ (slot ∷ []) ∷ []) (some_any (takes slot) lanes place at)
-    ∙ change_first-first_place (takes slot) (joined slot) lanes place at)
+    sym (ap (λ (b : Bool). if b then change_first (takes slot) (lane_with slot) lanes else lanes ++ (slot ∷ []) ∷ []) (some_any (takes slot) lanes place at)
+    ∙ change_first-first_place (takes slot) (lane_with slot) lanes place at)
 
 -- or begins one
 pub begins : (slot : SlotState) (lanes : List (List SlotState)) → place_for slot lanes ≡ None → lanes ++ (slot ∷ []) ∷ [] ≡ with_slot lanes slot
 begins slot lanes is =
-    sym (ap (λ (b : Bool). if b then change_first (takes slot) (joined slot) lanes else lanes ++ (slot ∷ []) ∷ []) (none_any (takes slot) lanes (taken_at slot lanes None is)))
+    sym (ap (λ (b : Bool). if b then change_first (takes slot) (lane_with slot) lanes else lanes ++ (slot ∷ []) ∷ []) (none_any (takes slot) lanes (taken_at slot lanes None is)))
 
 -- ---- look-ups stay right
 
-same_lane : (group other : GroupNo) (slot : SlotState) (lane : List SlotState) → is_lane_of group lane ≡ true → is_lane_of other (joined slot lane) ≡ is_lane_of other lane
+same_lane : (group other : GroupNo) (slot : SlotState) (lane : List SlotState) → is_lane_of group lane ≡ true → is_lane_of other (lane_with slot lane) ≡ is_lane_of other lane
 same_lane group other slot [] is = absurd (true≢false (sym is))
 same_lane group other slot (first ∷ lane) is = refl
 
 placed_by : (group other : GroupNo) (slot : SlotState) (lane : List SlotState) (lanes : List (List SlotState)) (place : ℕ) (found : Option ℕ) (b : Bool) → is_lane_of group lane ≡ b →
     (if b then Some zero else option_map suc found) ≡ Some place →
-    ((i : ℕ) → found ≡ Some i → first_place (is_lane_of other) (change_at i (joined slot) lanes) ≡ first_place (is_lane_of other) lanes) →
-    first_place (is_lane_of other) (change_at place (joined slot) (lane ∷ lanes)) ≡ first_place (is_lane_of other) (lane ∷ lanes)
+    ((i : ℕ) → found ≡ Some i → first_place (is_lane_of other) (change_at i (lane_with slot) lanes) ≡ first_place (is_lane_of other) lanes) →
+    first_place (is_lane_of other) (change_at place (lane_with slot) (lane ∷ lanes)) ≡ first_place (is_lane_of other) (lane ∷ lanes)
 placed_by group other slot lane lanes zero found true e is rest = ap (λ (b : Bool). if b then Some zero else option_map suc (first_place (is_lane_of other) lanes)) (same_lane group other slot lane e)
 placed_by group other slot lane lanes (suc place) found true e is rest = absurd cc
 placed_by group other slot lane lanes place None false e is rest = absurd cc
@@ -79,7 +79,7 @@ placed_by group other slot lane lanes zero (Some i) false e is rest = absurd cc
 placed_by group other slot lane lanes (suc place) (Some i) false e is rest = ap (λ (found : Option ℕ). if is_lane_of other lane then Some zero else option_map suc found) (rest place cc)
 
 placed_same : (group other : GroupNo) (slot : SlotState) (lanes : List (List SlotState)) (place : ℕ) → first_place (is_lane_of group) lanes ≡ Some place →
-    first_place (is_lane_of other) (change_at place (joined slot) lanes) ≡ first_place (is_lane_of other) lanes
+    first_place (is_lane_of other) (change_at place (lane_with slot) lanes) ≡ first_place (is_lane_of other) lanes
 placed_same group other slot [] place is = refl
 placed_same group other slot (lane ∷ lanes) place is = placed_by group other slot lane lanes place (first_place (is_lane_of group) lanes) (is_lane_of group lane) refl is (placed_same group other slot lanes)
 
@@ -88,7 +88,7 @@ place_is slot lanes place true is = is
 place_is slot lanes place false is = absurd cc
 
 -- a lane that gets a slot more is found as before
-pub finds_joined : (places : List (Option ℕ)) (slot : SlotState) (lanes after : List (List SlotState)) (place : ℕ) → FindsLanes places lanes → place_for slot lanes ≡ Some place → after ≡ change_at place (joined slot) lanes → FindsLanes places after
+pub finds_joined : (places : List (Option ℕ)) (slot : SlotState) (lanes after : List (List SlotState)) (place : ℕ) → FindsLanes places lanes → place_for slot lanes ≡ Some place → after ≡ change_at place (lane_with slot) lanes → FindsLanes places after
 finds_joined places slot lanes after place finds at is = λ other.
     finds other
     ∙ sym (placed_same slot.ready.group other slot lanes place (place_is slot lanes place slot.ready.exclusive at))
@@ -97,7 +97,7 @@ finds_joined places slot lanes after place finds at is = λ other.
 -- a lane that begins is found where no other is
 pub finds_begun : (old made new : List (Option ℕ)) (lanes : List (List SlotState)) (slot : SlotState) (group : ℕ) → FindsLanes old lanes
     → ((other : ℕ) → place_under other made ≡ place_under other old) → group < length made
-    → group ≡ slot.ready.group → slot.ready.exclusive ≡ true → new ≡ change_at group (noted (length lanes)) made
+    → group ≡ slot.ready.group → slot.ready.exclusive ≡ true → new ≡ change_at group (first_noted (length lanes)) made
     → FindsLanes new (lanes ++ (slot ∷ []) ∷ [])
 finds_begun old made new lanes slot group finds same within is_group exclusive is = λ other.
     ap (λ places. place_under other places) is
@@ -125,7 +125,7 @@ finds_alone old made lanes slot finds same alone = λ other.
 
 module _ {A : Type 0} (f : A → List SlotState) where
   -- a lane with a slot more is written to its place
-  pub joined_in : (xs : List A) (i : ℕ) (x after : A) (slot : SlotState) → x ≡ get_or xs i x → f after ≡ f x ++ slot ∷ [] → map f (slice_set xs i after) ≡ change_at i (joined slot) (map f xs)
+  pub joined_in : (xs : List A) (i : ℕ) (x after : A) (slot : SlotState) → x ≡ get_or xs i x → f after ≡ f x ++ slot ∷ [] → map f (slice_set xs i after) ≡ change_at i (lane_with slot) (map f xs)
   joined_in [] i x after slot is more = refl
   joined_in (y ∷ xs) zero x after slot is more = ap (λ lane. lane ∷ map f xs) (more ∙ ap (λ (z : A). f z ++ slot ∷ []) is)
   joined_in (y ∷ xs) (suc i) x after slot is more = ap (λ lanes. f y ∷ lanes) (joined_in xs i x after slot is more)

@@ -5,7 +5,7 @@ use Rattle.std.proofs.lemmas.List.{append_assoc, reverse-append, reverse-reverse
 use Rattle.exec_graph.specs.Entity.{EntityNo}
 use Rattle.exec_lane.proofs.Putting.{apart_work, left_by_put, out_is}
 use Rattle.exec_lane.specs.Lane.{Lane, entry_in, goes_into, lanes_of, opened, opened_lanes, tasks_out, variables_at, with_callback, without_task}
-use Rattle.exec_lane.specs.inner.Cuts.{callbacks_of, cut_from, joined, opened_slots, slot_in, takes, with_slot}
+use Rattle.exec_lane.specs.inner.Cuts.{callbacks_of, cut_from, lane_with, opened_slots, slot_in, takes, with_slot}
 use Rattle.exec_lane.specs.inner.Slots.{SlotState, entries_of}
 use Rattle.exec_msg.specs.Lists.{change_first}
 use Rattle.exec_script.specs.Zeros.{zeros}
@@ -53,18 +53,18 @@ any_takes : (world : WorldState) (one : Ready) (lanes : List (List Ready)) → l
 any_takes world one [] = refl
 any_takes world one (lane ∷ lanes) = (λ i. lane_takes world one lane i || any_takes world one lanes i)
 
-joined_slots : (world : WorldState) (one : Ready) (lane : List Ready) → joined (slot_in world one) (map (slot_in world) lane) ≡ map (slot_in world) (lane ++ one ∷ [])
+joined_slots : (world : WorldState) (one : Ready) (lane : List Ready) → lane_with (slot_in world one) (map (slot_in world) lane) ≡ map (slot_in world) (lane ++ one ∷ [])
 joined_slots world one [] = refl
 joined_slots world one (first ∷ lane) = ap (λ slots. slot_in world first ∷ slots) (joined_slots world one lane)
 
 change_slots : (world : WorldState) (one : Ready) (lanes : List (List Ready)) →
-    change_first (takes (slot_in world one)) (joined (slot_in world one)) (slots_of world lanes) ≡ slots_of world (change_first (goes_into one) (λ lane. lane ++ one ∷ []) lanes)
+    change_first (takes (slot_in world one)) (lane_with (slot_in world one)) (slots_of world lanes) ≡ slots_of world (change_first (goes_into one) (λ lane. lane ++ one ∷ []) lanes)
 change_slots world one [] = refl
 change_slots world one (lane ∷ lanes) = by (takes (slot_in world one) (map (slot_in world) lane)) (goes_into one lane) refl refl (change_slots world one lanes)
   where
     by : (b d : Bool) → takes (slot_in world one) (map (slot_in world) lane) ≡ b → goes_into one lane ≡ d →
-        change_first (takes (slot_in world one)) (joined (slot_in world one)) (slots_of world lanes) ≡ slots_of world (change_first (goes_into one) (λ lane. lane ++ one ∷ []) lanes) →
-        change_first (takes (slot_in world one)) (joined (slot_in world one)) (slots_of world (lane ∷ lanes)) ≡ slots_of world (change_first (goes_into one) (λ lane. lane ++ one ∷ []) (lane ∷ lanes))
+        change_first (takes (slot_in world one)) (lane_with (slot_in world one)) (slots_of world lanes) ≡ slots_of world (change_first (goes_into one) (λ lane. lane ++ one ∷ []) lanes) →
+        change_first (takes (slot_in world one)) (lane_with (slot_in world one)) (slots_of world (lane ∷ lanes)) ≡ slots_of world (change_first (goes_into one) (λ lane. lane ++ one ∷ []) (lane ∷ lanes))
     by true true e f rest = rw (e, f) (ap (λ slots. slots ∷ slots_of world lanes) (joined_slots world one lane))
     by false false e f rest = rw (e, f) (ap (λ others. map (slot_in world) lane ∷ others) rest)
     by true false e f rest = absurd (true≢false (sym e ∙ lane_takes world one lane ∙ f))

@@ -28,7 +28,7 @@ impl Model for Cut {
 
 impl Cut {
     ghost use Rattle.std.specs.Prelude.{◌≡◌, [], ◌∷◌, ◌++◌, map, None, Some, OnOk};
-    ghost use Rattle.exec_lane.specs.inner.Cuts.{is_lane_of, joined, place_for, with_slot};
+    ghost use Rattle.exec_lane.specs.inner.Cuts.{is_lane_of, lane_with, place_for, with_slot};
     ghost use Rattle.exec_msg.specs.Places.{change_at};
 
     // No lanes. It takes no memory.
@@ -72,7 +72,7 @@ impl Cut {
     // Adds a slot to the lane at this place, into which it goes.
     fn join(&mut self, place: usize, slot: Slot) -> Result<(), Memory>
         requires { place_for slot self.old ≡ Some place }
-        ensures { OnOk result (self.new ≡ change_at place (joined slot) self.old) }
+        ensures { OnOk result (self.new ≡ change_at place (lane_with slot) self.old) }
     {
         self.lanes[place].push(slot)?;
         Ok(())

@@ -4,7 +4,7 @@ use Rattle.std.proofs.lemmas.Bool.{ltb-true, ltb-false}
 use Rattle.std.proofs.lemmas.Option.{slice_get-get_or, slice_get_past}
 use Rattle.std.specs.Option.{option_flatten, option_map}
 use Rattle.exec_msg.specs.Lists.{change_first}
-use Rattle.exec_msg.specs.Places.{first_place, change_at, noted, place_under}
+use Rattle.exec_msg.specs.Places.{first_place, change_at, first_noted, place_under}
 
 -- the first place once an element more stands behind
 abbrev pub place_or : Option ℕ → Bool → ℕ → Option ℕ
@@ -142,7 +142,7 @@ there_or_same change (suc place) (suc other) (x ∷ xs) = up (there_or_same chan
 
 -- a slot that exists finds the place that is noted in it
 there_at : (n slot : ℕ) (made : List (Option ℕ)) → slot < length made
-    → place_under slot (change_at slot (noted n) made) ≡ place_or (place_under slot made) true n
+    → place_under slot (change_at slot (first_noted n) made) ≡ place_or (place_under slot made) true n
 there_at n slot [] within = absurd (omega arith)
 there_at n zero (None ∷ made) within = refl
 there_at n zero (Some place ∷ made) within = refl
@@ -153,11 +153,11 @@ not_noted None n = refl
 not_noted (Some place) n = refl
 
 pub noted_at : (b : Bool) (n slot other : ℕ) (made : List (Option ℕ)) → slot < length made → (b ≡ true → slot ≡ other) → (b ≡ false → slot ≡ other → ⊥)
-    → place_under other (change_at slot (noted n) made) ≡ place_or (place_under other made) b n
+    → place_under other (change_at slot (first_noted n) made) ≡ place_or (place_under other made) b n
 noted_at true n slot other made within same apart =
-    subst (λ at. place_under at (change_at slot (noted n) made) ≡ place_or (place_under at made) true n) (same refl) (there_at n slot made within)
+    subst (λ at. place_under at (change_at slot (first_noted n) made) ≡ place_or (place_under at made) true n) (same refl) (there_at n slot made within)
 noted_at false n slot other made within same apart =
     ⊎_elim
     (λ here. absurd (apart refl here))
     (λ kept. ap option_flatten kept ∙ not_noted (place_under other made) n)
-    (there_or_same (noted n) slot other made)
+    (there_or_same (first_noted n) slot other made)

@@ -20,8 +20,8 @@ abbrev pub displaced : {A : Type 0} → ℕ → A → List A → List A
 displaced depth item items = take (excess depth (items ++ item ∷ [])) (items ++ item ∷ [])
 
 -- what it holds once its first item was taken
-abbrev pub taken : {A : Type 0} → List A → List A
-taken items = drop 1 items
+abbrev pub after_taking : {A : Type 0} → List A → List A
+after_taking items = drop 1 items
 
 -- a queue of items that have a code has one, as each value that a generic type has in contracts
 abbrev pub queue_code : {A : Type 0} → Coded A → Coded (Queue A)

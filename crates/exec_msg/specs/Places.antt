@@ -18,5 +18,5 @@ abbrev pub place_under : ℕ → List (Option ℕ) → Option ℕ
 place_under number table = option_flatten (slice_get table number)
 
 -- what stands in a slot of a table once a place is noted there: the first that was
-abbrev pub noted : ℕ → Option ℕ → Option ℕ
-noted place found = Some (unwrap_or found place)
+abbrev pub first_noted : ℕ → Option ℕ → Option ℕ
+first_noted place found = Some (unwrap_or found place)

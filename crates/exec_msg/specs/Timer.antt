@@ -25,8 +25,8 @@ abbrev pub next_call : TimerState → ℕ → ℕ
 next_call timer now = first_reached ((now - timer.next) / timer.period) (timer.next + timer.period) timer.period now
 
 -- the timer after its call at now
-abbrev pub called : TimerState → ℕ → TimerState
-called timer now = record timer { next = next_call timer now }
+abbrev pub after_call : TimerState → ℕ → TimerState
+after_call timer now = record timer { next = next_call timer now }
 
 -- the least of next + k * period, k at least 1, that is at or after now
 pub record IsNextCall (timer : TimerState) (now time : ℕ) : Type 0 where

@@ -1,6 +1,6 @@
 ghost use Rattle.std.specs.Prelude.{◌≡◌, ◌≤◌, [], length, slice_get, OnOk, IfOk};
 ghost use Rattle.std.specs.Option.{option_copied};
-ghost use Rattle.exec_msg.specs.KeepLast.{sent, displaced, taken};
+ghost use Rattle.exec_msg.specs.KeepLast.{sent, displaced, after_taking};
 ghost use Rattle.exec_msg.specs.declared.limits.TheConstants.{DEPTH};
 
 use crate::memory::Memory;
@@ -49,7 +49,7 @@ impl<T> KeepLast<T> {
 
     /// Takes the oldest item, where there is one.
     pub fn take(&mut self) -> Option<T>
-        ensures taken { self.new ≡ record self.old { items = taken self.old.items } }
+        ensures taken { self.new ≡ record self.old { items = after_taking self.old.items } }
         ensures oldest { result ≡ slice_get self.old.items 0 }
     {
         self.ring.pop_front()

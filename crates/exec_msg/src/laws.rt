@@ -6,7 +6,7 @@ ghost use Rattle.exec_msg.specs.Goal.{status_number, code_number};
 ghost use Rattle.exec_msg.specs.declared.goal.GoalStatus.{GoalStatus};
 ghost use Rattle.exec_msg.specs.declared.goal.ReturnCode.{ReturnCode};
 ghost use Rattle.exec_msg.specs.Kind.{ready_number};
-ghost use Rattle.exec_msg.specs.KeepLast.{sent, displaced, taken};
+ghost use Rattle.exec_msg.specs.KeepLast.{sent, displaced, after_taking};
 ghost use Rattle.exec_msg.specs.Timer.{TimerState, next_call, IsNextCall};
 ghost use Rattle.exec_msg.specs.declared.limits.TheConstants.{DOCUMENT, NODES, NAMED_GROUPS, TOPICS, ENTITIES, INSTRUCTIONS, GOALS, DEPTH, DEFAULT_DEPTH, MOMENTS, FEED, NAME_LENGTH, TICKS};
 
@@ -71,7 +71,7 @@ pub fn queue_of_depth_2()
     ensures second { displaced {A = ℕ} 2 2 (sent {A = ℕ} 2 1 []) ≡ [] }
     ensures third { displaced {A = ℕ} 2 3 (sent {A = ℕ} 2 2 (sent {A = ℕ} 2 1 [])) ≡ 1 ∷ [] }
     ensures held { sent {A = ℕ} 2 3 (sent {A = ℕ} 2 2 (sent {A = ℕ} 2 1 [])) ≡ 2 ∷ 3 ∷ [] }
-    ensures left { taken {A = ℕ} (sent {A = ℕ} 2 3 (sent {A = ℕ} 2 2 (sent {A = ℕ} 2 1 []))) ≡ 3 ∷ [] }
+    ensures left { after_taking {A = ℕ} (sent {A = ℕ} 2 3 (sent {A = ℕ} 2 2 (sent {A = ℕ} 2 1 []))) ≡ 3 ∷ [] }
 {}
 
 /// A timer's next call is whole periods after its old time, at or after now, and no earlier such

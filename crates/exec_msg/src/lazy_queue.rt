@@ -1,6 +1,6 @@
 ghost use Rattle.std.specs.Prelude.{◌≡◌, ◌≤◌, [], length, slice_get, OnOk, IfOk, OnErr};
 ghost use Rattle.std.specs.Option.{option_copied};
-ghost use Rattle.exec_msg.specs.KeepLast.{sent, displaced, taken};
+ghost use Rattle.exec_msg.specs.KeepLast.{sent, displaced, after_taking};
 ghost use Rattle.exec_msg.specs.declared.limits.TheConstants.{DEPTH};
 
 use crate::keep_last::KeepLast;
@@ -47,7 +47,7 @@ impl<T> LazyQueue<T> {
 
     /// Takes the oldest item, where there is one.
     pub fn take(&mut self) -> Option<T>
-        ensures taken { self.new ≡ record self.old { items = taken self.old.items } }
+        ensures taken { self.new ≡ record self.old { items = after_taking self.old.items } }
         ensures oldest { result ≡ slice_get self.old.items 0 }
     {
         match &mut self.made {

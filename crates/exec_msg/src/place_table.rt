@@ -1,6 +1,6 @@
 //! Places by number.
 ghost use Rattle.std.specs.Prelude.{◌≡◌, ◌<◌, ◌^◌, ℕ, [], length, OnOk};
-ghost use Rattle.exec_msg.specs.Places.{change_at, noted, place_under};
+ghost use Rattle.exec_msg.specs.Places.{change_at, first_noted, place_under};
 
 use crate::memory::Memory;
 use std::alloc::Global;
@@ -58,14 +58,14 @@ impl PlaceTable {
 
     /// Notes a place under a number. Where one stands there, or there is no room for the number, nothing changes.
     pub fn note(&mut self, number: usize, place: usize)
-        ensures { self.new ≡ change_at number (noted place) self.old }
+        ensures { self.new ≡ change_at number (first_noted place) self.old }
     {
         note_place(&mut self.slots, number, place);
     }
 }
 
 fn note_place(slots: &mut Vec<Option<usize>>, number: usize, place: usize)
-    ensures { slots.new.items ≡ change_at number (noted place) slots.old.items }
+    ensures { slots.new.items ≡ change_at number (first_noted place) slots.old.items }
 {
     if let Some(found) = slots.get_mut(number) {
         *found = Some(found.unwrap_or(place));

@@ -1,5 +1,5 @@
 ghost use Rattle.std.specs.Prelude.{◌≡◌, ◌≤◌, ◌^◌, IsTrue};
-ghost use Rattle.exec_msg.specs.Timer.{IsPeriod, is_due, next_call, called, IsNextCall};
+ghost use Rattle.exec_msg.specs.Timer.{IsPeriod, is_due, next_call, after_call, IsNextCall};
 
 use crate::limits::TICKS;
 use crate::numbers::Moment;
@@ -51,7 +51,7 @@ impl Timer {
     /// takes to reach `now`.
     pub fn call(&mut self, now: Moment)
         requires { IsTrue (is_due self.old now) }
-        ensures called { self.new ≡ called self.old now }
+        ensures called { self.new ≡ after_call self.old now }
         ensures least { IsNextCall self.old now self.new.next }
     {
         self.next = next_time(self.next, self.period, now.ticks());

@@ -6,13 +6,13 @@ use mir.Val.{SFits}
 use Rattle.exec_script.specs.Script.{result_of}
 use Rattle.exec_script.specs.declared.instr.Operation.{Operation}
 use Rattle.exec_script.specs.declared.instr.Operation.TheVariants as operation
-use Rattle.exec_script.specs.inner.Flat.{number_of}
+use Rattle.exec_script.specs.inner.Flat.{operation_number}
 use Rattle.exec_script.specs.declared.instr.Operand.{Operand}
 use Rattle.exec_script.specs.declared.instr.Operand.TheVariants as operand
-use Rattle.exec_script.specs.inner.Cells.{operand_at, cell_of, constant_of}
+use Rattle.exec_script.specs.inner.Cells.{cell_operand, cell_of, constant_of}
 
 -- an operand is its cell and its constant
-pub operand_is : (o : Operand) → operand_at (cell_of o) (constant_of o) ≡ o
+pub operand_is : (o : Operand) → cell_operand (cell_of o) (constant_of o) ≡ o
 operand_is (operand.Value value) = refl
 operand_is (operand.Register slot) = refl
 operand_is (operand.Variable slot) = refl
@@ -34,14 +34,14 @@ pub remainder_fits : (n : ℕ) → SFits w64 (to_z w64 (n % 18446744073709551616
 remainder_fits n = sfits_to_z (omega arith)
 
 -- of all results, the one at an operation's place is its own
-pub picked_is : (does : Operation) (left right sum difference product least most less equal : ℤ) (place : ℕ) → place ≡ number_of does →
+pub picked_is : (does : Operation) (left right sum difference product least most less equal : ℤ) (place : ℕ) → place ≡ operation_number does →
     SFits w64 sum → SFits w64 difference → SFits w64 product → SFits w64 least → SFits w64 most → SFits w64 less → SFits w64 equal →
     sum ≡ result_of operation.Add left right → difference ≡ result_of operation.Sub left right → product ≡ result_of operation.Mul left right → least ≡ result_of operation.Min left right → most ≡ result_of operation.Max left right → less ≡ result_of operation.Lt left right → equal ≡ result_of operation.Eq left right →
     to_z w64 (of_z w64 (get_or (sum ∷ difference ∷ product ∷ least ∷ most ∷ less ∷ equal ∷ []) place (pos 0))) ≡ result_of does left right
 picked_is does left right sum difference product least most less equal place h fa fb fc fd fe ff fg a b c d e f g =
     ap (λ (n : ℕ). to_z w64 (of_z w64 (get_or (sum ∷ difference ∷ product ∷ least ∷ most ∷ less ∷ equal ∷ []) n (pos 0)))) h ∙ own does
   where
-    own : (does : Operation) → to_z w64 (of_z w64 (get_or (sum ∷ difference ∷ product ∷ least ∷ most ∷ less ∷ equal ∷ []) (number_of does) (pos 0))) ≡ result_of does left right
+    own : (does : Operation) → to_z w64 (of_z w64 (get_or (sum ∷ difference ∷ product ∷ least ∷ most ∷ less ∷ equal ∷ []) (operation_number does) (pos 0))) ≡ result_of does left right
     own operation.Add = to_z-of_z w64 sum fa ∙ a
     own operation.Sub = to_z-of_z w64 difference fb ∙ b
     own operation.Mul = to_z-of_z w64 product fc ∙ c

@@ -4,7 +4,7 @@ use Rattle.std.specs.List.{list_any, list_all, All, AllByRecursion, Any}
 use Rattle.std.proofs.lemmas.List.{get_or_default}
 use Rattle.std.proofs.lemmas.List.Elements.{All-nil, All-push, All-drop, recursion_from_All}
 use Rattle.std.proofs.lemmas.Bool.{and_parts}
-use Rattle.exec_script.specs.LawWords.{goes_on_at, ended_by, IsEnding, MayGive, with_variables, give_all, given_later}
+use Rattle.exec_script.specs.LawWords.{goes_on_at, ended_by, IsEnding, MayGive, state_with_variables, give_each, given_later}
 use Rattle.exec_script.specs.Legality.{skips_end_within, is_variable, goes_to_variable, names_variable, replies, decides, works, is_allowed, legality_of}
 use Rattle.exec_script.specs.Script.{ScriptState, CallInput, value_of, step_of, passed_by, after_step, follow, resumed, called, call_of, listed}
 use Rattle.exec_script.specs.Zeros.{zeros}
@@ -267,7 +267,7 @@ step_untouched (instr.Succeed value) registers variables input h = refl
 step_untouched (instr.Abort value) registers variables input h = refl
 step_untouched (instr.Canceled value) registers variables input h = refl
 
-after_untouched : {S : Type 0} (give : Effect → S → S) (place : ℕ) (does : Step) (variables : List ℤ) (state : ScriptState S) → touches does ≡ false → after_step give place does (with_variables variables state) ≡ with_variables variables (after_step give place does state)
+after_untouched : {S : Type 0} (give : Effect → S → S) (place : ℕ) (does : Step) (variables : List ℤ) (state : ScriptState S) → touches does ≡ false → after_step give place does (state_with_variables variables state) ≡ state_with_variables variables (after_step give place does state)
 after_untouched give place (step.Store (destination.Register slot) value) variables state h = refl
 after_untouched give place (step.Store (destination.Variable slot) value) variables state h = absurd cc
 after_untouched give place (step.Pass count) variables state h = refl
@@ -278,14 +278,14 @@ after_untouched give place step.Yield variables state h = refl
 after_untouched give place (step.End event value) variables state h = refl
 
 -- a script that names no group variable does the same for all of them, and leaves them
-follow_alone : {S : Type 0} (give : Effect → S → S) (input : CallInput) (script : List Instr) (place over : ℕ) (variables : List ℤ) (state : ScriptState S) → list_any names_variable script ≡ false → follow give input script place over (with_variables variables state) ≡ with_variables variables (follow give input script place over state)
+follow_alone : {S : Type 0} (give : Effect → S → S) (input : CallInput) (script : List Instr) (place over : ℕ) (variables : List ℤ) (state : ScriptState S) → list_any names_variable script ≡ false → follow give input script place over (state_with_variables variables state) ≡ state_with_variables variables (follow give input script place over state)
 follow_alone give input [] place over variables state none = refl
 follow_alone give input (instruction ∷ rest) place (suc over) variables state none =
     follow_alone give input rest (suc place) over variables state (or_parts (names_variable instruction) (list_any names_variable rest) none).1
 follow_alone {S} give input (instruction ∷ rest) place zero variables state none =
     let parts = or_parts (names_variable instruction) (list_any names_variable rest) none in
     let does = step_of instruction state.registers state.variables input in
-    ap (λ (s : Step). follow give input rest (suc place) (passed_by s (length rest)) (after_step give (suc place) s (with_variables variables state))) (step_alone instruction state.registers variables state.variables input parts.0)
+    ap (λ (s : Step). follow give input rest (suc place) (passed_by s (length rest)) (after_step give (suc place) s (state_with_variables variables state))) (step_alone instruction state.registers variables state.variables input parts.0)
     ∙ ap (λ (after : ScriptState S). follow give input rest (suc place) (passed_by does (length rest)) after) (after_untouched give (suc place) does variables state (step_untouched instruction state.registers state.variables input parts.0))
     ∙ follow_alone give input rest (suc place) (passed_by does (length rest)) variables (after_step give (suc place) does state) parts.1
 
@@ -324,14 +324,14 @@ resumed_silent give script kept place registers variables answer input given p q
     follow_keeps (λ state. state.answer) (is_allowed kept.role) give input (answers_only_asked kept.role give input p q)
     (drop place script) place 0 _ (all_left (is_allowed kept.role) place script (legal_allowed script kept legal))
 
-pub resumed_alone : {S : Type 0} (give : Effect → S → S) (script : List Instr) (kept : Place) (place : ℕ) (registers variables others : List ℤ) (answer : Option ℤ) (input : CallInput) (given : S) → kept.reentrant ≡ true → legality_of script kept ≡ Ok tt → resumed give script place registers variables answer input given ≡ with_variables variables (resumed give script place registers others answer input given)
+pub resumed_alone : {S : Type 0} (give : Effect → S → S) (script : List Instr) (kept : Place) (place : ℕ) (registers variables others : List ℤ) (answer : Option ℤ) (input : CallInput) (given : S) → kept.reentrant ≡ true → legality_of script kept ≡ Ok tt → resumed give script place registers variables answer input given ≡ state_with_variables variables (resumed give script place registers others answer input given)
 resumed_alone give script kept place registers variables others answer input given reentrant legal =
     follow_alone give input (drop place script) place 0 variables
     (record { registers = registers; variables = others; answer = answer; given = given; stop = stop.End })
     (none_left names_variable place script (legal_alone script kept reentrant legal))
 
 -- one more effect is given last
-give_all_more : {S : Type 0} (give : Effect → S → S) (given : S) (effects : List Effect) (effect : Effect) → give effect (give_all give effects given) ≡ give_all give (effects ++ effect ∷ []) given
+give_all_more : {S : Type 0} (give : Effect → S → S) (given : S) (effects : List Effect) (effect : Effect) → give effect (give_each give effects given) ≡ give_each give (effects ++ effect ∷ []) given
 give_all_more give given [] effect = refl
 give_all_more give given (first ∷ effects) effect = give_all_more give (give first given) effects effect
 
@@ -355,14 +355,14 @@ follow_later {S} give given input (instruction ∷ rest) place zero state =
     ap (λ (after : ScriptState S). follow give input rest (suc place) (passed_by does (length rest)) after) (step_later give given (suc place) does state)
     ∙ follow_later give given input rest (suc place) (passed_by does (length rest)) (after_step listed (suc place) does state)
 
-pub resumed_later : {S : Type 0} (give : Effect → S → S) (script : List Instr) (place : ℕ) (registers variables : List ℤ) (answer : Option ℤ) (input : CallInput) (effects : List Effect) (given : S) → resumed give script place registers variables answer input (give_all give effects given) ≡ given_later give given (resumed listed script place registers variables answer input effects)
+pub resumed_later : {S : Type 0} (give : Effect → S → S) (script : List Instr) (place : ℕ) (registers variables : List ℤ) (answer : Option ℤ) (input : CallInput) (effects : List Effect) (given : S) → resumed give script place registers variables answer input (give_each give effects given) ≡ given_later give given (resumed listed script place registers variables answer input effects)
 resumed_later give script place registers variables answer input effects given =
     follow_later give given input (drop place script) place 0
     (record { registers = registers; variables = variables; answer = answer; given = effects; stop = stop.End })
 
 -- ---- effects behind others
 
-listed_after : (first effects : List Effect) → give_all listed effects first ≡ first ++ effects
+listed_after : (first effects : List Effect) → give_each listed effects first ≡ first ++ effects
 listed_after first [] = sym (append-nil first)
 listed_after first (effect ∷ effects) = listed_after (first ++ effect ∷ []) effects ∙ append_assoc first (effect ∷ []) effects
 

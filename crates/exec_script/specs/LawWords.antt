@@ -34,16 +34,16 @@ abbrev pub MayGive : CallInput → Effect → Instruction → Type 0
 MayGive input effect instruction = (registers : List ℤ) × (variables : List ℤ) × (step_of instruction registers variables input ≡ step.Give effect)
 
 -- the same but for the group's variables
-abbrev pub with_variables : {S : Type 0} → List ℤ → ScriptState S → ScriptState S
-with_variables variables state = record state { variables = variables }
+abbrev pub state_with_variables : {S : Type 0} → List ℤ → ScriptState S → ScriptState S
+state_with_variables variables state = record state { variables = variables }
 
 -- effects given one after another
-abbrev pub give_all : {S : Type 0} → (Effect → S → S) → List Effect → S → S
-give_all give effects given = fold (λ given effect. give effect given) given effects
+abbrev pub give_each : {S : Type 0} → (Effect → S → S) → List Effect → S → S
+give_each give effects given = fold (λ given effect. give effect given) given effects
 
 -- where a script stands that listed its effects, once these are given
 abbrev pub given_later : {S : Type 0} → (Effect → S → S) → S → ScriptState (List Effect) → ScriptState S
-given_later give given state = record { registers = state.registers; variables = state.variables; answer = state.answer; given = give_all give state.given given; stop = state.stop }
+given_later give given state = record { registers = state.registers; variables = state.variables; answer = state.answer; given = give_each give state.given given; stop = state.stop }
 
 -- a step that waits does so for fewer ticks than a bound
 abbrev pub PausesWithin : ℕ → Step → Type 0

@@ -88,13 +88,13 @@ count_of (Number (negsuc n)) = None
 count_of (Text text) = None
 
 -- a text that stands where a name does
-abbrev pub text_of : Word → Option (List ℕ)
-text_of (Number value) = None
-text_of (Text text) = Some text
+abbrev pub text_in : Word → Option (List ℕ)
+text_in (Number value) = None
+text_in (Text text) = Some text
 
 -- an item that its place takes
-abbrev pub taken : {A : Type 0} → Option A → Result A ScriptFault
-taken item = ok_or item fault.Operand
+abbrev pub or_wrong_operand : {A : Type 0} → Option A → Result A ScriptFault
+or_wrong_operand item = ok_or item fault.Operand
 
 -- a name that the scope has
 abbrev pub known : {A : Type 0} → Option A → Result A ScriptFault
@@ -103,24 +103,24 @@ known found = ok_or found fault.UnknownName
 -- set: a destination, an operation and two operands
 abbrev pub set_of : List Word → Result Instruction ScriptFault
 set_of (d ∷ o ∷ a ∷ b ∷ []) = do
-  destination ← taken (destination_of d)
-  operation ← taken (operation_of o)
-  left ← taken (operand_of a)
-  right ← taken (operand_of b)
+  destination ← or_wrong_operand (destination_of d)
+  operation ← or_wrong_operand (operation_of o)
+  left ← or_wrong_operand (operand_of a)
+  right ← or_wrong_operand (operand_of b)
   Ok (instr.Set destination operation left right)
 set_of _ = Err fault.Count
 
 -- skip: an operand and a count
 abbrev pub skip_of : List Word → Result Instruction ScriptFault
 skip_of (a ∷ n ∷ []) = do
-  condition ← taken (operand_of a)
-  count ← taken (count_of n)
+  condition ← or_wrong_operand (operand_of a)
+  count ← or_wrong_operand (count_of n)
   Ok (instr.Skip condition count)
 skip_of _ = Err fault.Count
 
 -- an operand, and nothing more
 abbrev pub operand_alone : List Word → Result Operand ScriptFault
-operand_alone (a ∷ []) = taken (operand_of a)
+operand_alone (a ∷ []) = or_wrong_operand (operand_of a)
 operand_alone _ = Err fault.Count
 
 -- the instruction that is made of one operand
@@ -132,8 +132,8 @@ of_operand make items = do
 -- the instruction that is made of what a name finds and of an operand
 abbrev pub of_name_and_operand : (List ℕ → Option ℕ) → (ℕ → Operand → Instruction) → List Word → Result Instruction ScriptFault
 of_name_and_operand find make (n ∷ a ∷ []) = do
-  name ← taken (text_of n)
-  value ← taken (operand_of a)
+  name ← or_wrong_operand (text_in n)
+  value ← or_wrong_operand (operand_of a)
   entity ← known (find name)
   Ok (make entity value)
 of_name_and_operand find make _ = Err fault.Count
@@ -141,7 +141,7 @@ of_name_and_operand find make _ = Err fault.Count
 -- execute: a server's name
 abbrev pub execute_of : ScopeNames → List Word → Result Instruction ScriptFault
 execute_of scope (n ∷ []) = do
-  name ← taken (text_of n)
+  name ← or_wrong_operand (text_in n)
   server ← known (scope.server name)
   Ok (instr.Execute server)
 execute_of scope _ = Err fault.Count
@@ -154,7 +154,7 @@ yield_of _ = Err fault.Count
 -- cancel all: a client's name, and no stamp
 abbrev pub cancel_all_of : ScopeNames → Word → List Word → Result Instruction ScriptFault
 cancel_all_of scope n [] = do
-  name ← taken (text_of n)
+  name ← or_wrong_operand (text_in n)
   client ← known (scope.action_client name)
   Ok (instr.CancelAll client (operand.Value (pos 0)))
 cancel_all_of scope n _ = Err fault.Count
@@ -162,8 +162,8 @@ cancel_all_of scope n _ = Err fault.Count
 -- cancel before: a client's name and a stamp
 abbrev pub cancel_before_of : ScopeNames → Word → List Word → Result Instruction ScriptFault
 cancel_before_of scope n (s ∷ []) = do
-  name ← taken (text_of n)
-  stamp ← taken (operand_of s)
+  name ← or_wrong_operand (text_in n)
+  stamp ← or_wrong_operand (operand_of s)
   client ← known (scope.action_client name)
   Ok (instr.CancelAll client stamp)
 cancel_before_of scope n _ = Err fault.Count
@@ -171,8 +171,8 @@ cancel_before_of scope n _ = Err fault.Count
 -- cancel goal: a client's name and the number of one of its goals, and no stamp
 abbrev pub cancel_goal_of : ScopeNames → Word → List Word → Result Instruction ScriptFault
 cancel_goal_of scope n (k ∷ []) = do
-  name ← taken (text_of n)
-  goal ← taken (operand_of k)
+  name ← or_wrong_operand (text_in n)
+  goal ← or_wrong_operand (operand_of k)
   client ← known (scope.action_client name)
   Ok (instr.CancelGoal client goal (operand.Value (pos 0)))
 cancel_goal_of scope n _ = Err fault.Count
@@ -180,9 +180,9 @@ cancel_goal_of scope n _ = Err fault.Count
 -- cancel goal-before: a client's name, the number of one of its goals, and a stamp
 abbrev pub cancel_goal_before_of : ScopeNames → Word → List Word → Result Instruction ScriptFault
 cancel_goal_before_of scope n (k ∷ s ∷ []) = do
-  name ← taken (text_of n)
-  goal ← taken (operand_of k)
-  stamp ← taken (operand_of s)
+  name ← or_wrong_operand (text_in n)
+  goal ← or_wrong_operand (operand_of k)
+  stamp ← or_wrong_operand (operand_of s)
   client ← known (scope.action_client name)
   Ok (instr.CancelGoal client goal stamp)
 cancel_goal_before_of scope n _ = Err fault.Count

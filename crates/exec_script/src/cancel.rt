@@ -3,7 +3,7 @@ ghost use Rattle.exec_script.specs.Spelling.{cancel_all_of, cancel_before_of, ca
 
 use crate::fault::ScriptFault;
 use crate::instr::{Instr, Operand};
-use crate::item::{operand_of, text_of};
+use crate::item::{operand_of, text_in};
 use crate::scope::Scope;
 use crate::word::Word;
 
@@ -14,7 +14,7 @@ pub fn cancel<S: Scope>(items: &[Word], scope: &S) -> Result<Instr, ScriptFault>
     let [client, form, items @ ..] = items else {
         return Err(ScriptFault::Count);
     };
-    let form = text_of(form).ok_or(ScriptFault::Operand)?;
+    let form = text_in(form).ok_or(ScriptFault::Operand)?;
     cancel_named(client, form, items, scope)
 }
 
@@ -41,7 +41,7 @@ fn cancel_all<S: Scope>(client: &Word, items: &[Word], scope: &S) -> Result<Inst
     let [] = items else {
         return Err(ScriptFault::Count);
     };
-    let name = text_of(client).ok_or(ScriptFault::Operand)?;
+    let name = text_in(client).ok_or(ScriptFault::Operand)?;
     let client = scope.action_client(name).ok_or(ScriptFault::UnknownName)?;
     Ok(Instr::cancel_all(client, Operand::Value(0)))
 }
@@ -52,7 +52,7 @@ fn cancel_before<S: Scope>(client: &Word, items: &[Word], scope: &S) -> Result<I
     let [stamp] = items else {
         return Err(ScriptFault::Count);
     };
-    let name = text_of(client).ok_or(ScriptFault::Operand)?;
+    let name = text_in(client).ok_or(ScriptFault::Operand)?;
     let stamp = operand_of(stamp).ok_or(ScriptFault::Operand)?;
     let client = scope.action_client(name).ok_or(ScriptFault::UnknownName)?;
     Ok(Instr::cancel_all(client, stamp))
@@ -64,7 +64,7 @@ fn cancel_goal<S: Scope>(client: &Word, items: &[Word], scope: &S) -> Result<Ins
     let [goal] = items else {
         return Err(ScriptFault::Count);
     };
-    let name = text_of(client).ok_or(ScriptFault::Operand)?;
+    let name = text_in(client).ok_or(ScriptFault::Operand)?;
     let goal = operand_of(goal).ok_or(ScriptFault::Operand)?;
     let client = scope.action_client(name).ok_or(ScriptFault::UnknownName)?;
     Ok(Instr::cancel_goal(client, goal, Operand::Value(0)))
@@ -80,7 +80,7 @@ fn cancel_goal_before<S: Scope>(
     let [goal, stamp] = items else {
         return Err(ScriptFault::Count);
     };
-    let name = text_of(client).ok_or(ScriptFault::Operand)?;
+    let name = text_in(client).ok_or(ScriptFault::Operand)?;
     let goal = operand_of(goal).ok_or(ScriptFault::Operand)?;
     let stamp = operand_of(stamp).ok_or(ScriptFault::Operand)?;
     let client = scope.action_client(name).ok_or(ScriptFault::UnknownName)?;

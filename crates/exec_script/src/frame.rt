@@ -142,7 +142,7 @@ impl Frame {
     ghost use Rattle.std.specs.Prelude.{◌≡◌};
     ghost use Rattle.exec_script.specs.Script.{value_of, registers_after, variables_after};
     ghost use Rattle.exec_script.specs.Zeros.{zeros};
-    ghost use Rattle.exec_script.specs.inner.Cells.{operand_at, constant_of};
+    ghost use Rattle.exec_script.specs.inner.Cells.{cell_operand, constant_of};
 
     // All are 0. A frame is filled where it stands: one that is handed on is copied as a whole just after it was filled, for
     // which a processor waits.
@@ -195,8 +195,8 @@ impl Frame {
     // The value of the operand that a source and a constant are.
     #[inline(always)]
     pub fn read(&self, source: Source, constant: i64) -> i64
-        requires { constant_of (operand_at source constant) ≡ constant }
-        ensures { result ≡ value_of (operand_at source constant) self.now.registers self.now.variables self.now.input }
+        requires { constant_of (cell_operand source constant) ≡ constant }
+        ensures { result ≡ value_of (cell_operand source constant) self.now.registers self.now.variables self.now.input }
     {
         let held = self.values[source.0 as usize];
         held.wrapping_add(constant)

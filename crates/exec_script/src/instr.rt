@@ -120,11 +120,11 @@ impl Model for Instr {
     ghost Value = { Instruction };
 
     ghost use Rattle.exec_script.specs.declared.instr.Flat.{Flat};
-    ghost use Rattle.exec_script.specs.inner.Flat.{instruction_of, flat_of};
+    ghost use Rattle.exec_script.specs.inner.Flat.{as_instruction, flat_of};
 
-    ghost view = { λ instr. instruction_of instr.flat };
+    ghost view = { λ instr. as_instruction instr.flat };
 
-    ghost invariant = { λ instr. flat_of (instruction_of instr.flat) ≡ instr.flat };
+    ghost invariant = { λ instr. flat_of (as_instruction instr.flat) ≡ instr.flat };
 
     ghost inverse = { λ instruction. record { flat = flat_of instruction } };
 

@@ -1,6 +1,6 @@
 ghost use Rattle.std.specs.Prelude.{◌≡◌, ◌<◌, ◌^◌, IfSome};
 ghost use Rattle.std.specs.Option.{option_copied};
-ghost use Rattle.exec_script.specs.Spelling.{cell_named, operand_of, destination_of, operation_of, count_of, text_of};
+ghost use Rattle.exec_script.specs.Spelling.{cell_named, operand_of, destination_of, operation_of, count_of, text_in};
 
 use crate::cells::Slot;
 use crate::instr::{Destination, Operand, Operation};
@@ -79,8 +79,8 @@ pub fn count_of(word: &Word) -> Option<u64>
 }
 
 /// The text of a word, where it is one.
-pub fn text_of(word: &Word) -> Option<&str>
-    ensures { option_copied result ≡ text_of word.now }
+pub fn text_in(word: &Word) -> Option<&str>
+    ensures { option_copied result ≡ text_in word.now }
 {
     match word {
         Word::Number(_) => None,

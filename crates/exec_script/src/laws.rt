@@ -3,7 +3,7 @@
 
 ghost use Rattle.std.specs.Prelude.{◌≡◌, ◌≢◌, ℕ, ◌+◌, ◌<◌, ◌≤◌, ℤ, List, [], length, Bool, true, Option, None, Result, Ok, IfSome};
 ghost use Rattle.std.specs.List.{All, Any};
-ghost use Rattle.exec_script.specs.LawWords.{goes_on_at, ended_by, IsEnding, MayGive, with_variables, give_all, given_later};
+ghost use Rattle.exec_script.specs.LawWords.{goes_on_at, ended_by, IsEnding, MayGive, state_with_variables, give_each, given_later};
 ghost use Rattle.exec_script.specs.Legality.{legality_of};
 ghost use Rattle.exec_script.specs.Script.{CallInput, ScriptState, call_of, called, listed, resumed};
 ghost use Rattle.exec_script.specs.declared.effects.Effect.{Effect};
@@ -36,7 +36,7 @@ pub fn reentrant_scripts_share_nothing<S>()
     ensures alike { (give : Effect → S → S) (script : List Instr) (allowed : Place) (place : ℕ) (registers variables others : List ℤ) (answer : Option ℤ) (input : CallInput) (given : S) →
         allowed.reentrant ≡ true → legality_of script allowed ≡ Ok tt →
         resumed give script place registers variables answer input given
-        ≡ with_variables variables (resumed give script place registers others answer input given) }
+        ≡ state_with_variables variables (resumed give script place registers others answer input given) }
 {}
 
 /// A script that `check` accepts for a callback that answers nothing, or for a goal's own work, gives no answer.
@@ -54,7 +54,7 @@ pub fn effects_may_be_given_later<S>()
     ensures call { (give : Effect → S → S) (script : List Instr) (variables : List ℤ) (input : CallInput) (given : S) →
         called give script variables input given ≡ given_later give given (call_of script variables input) }
     ensures anywhere { (give : Effect → S → S) (script : List Instr) (place : ℕ) (registers variables : List ℤ) (answer : Option ℤ) (input : CallInput) (effects : List Effect) (given : S) →
-        resumed give script place registers variables answer input (give_all give effects given)
+        resumed give script place registers variables answer input (give_each give effects given)
         ≡ given_later give given (resumed listed script place registers variables answer input effects) }
 {}
 

@@ -2,7 +2,7 @@ ghost use Rattle.std.specs.Prelude.{◌≡◌, ◌+◌, ◌-◌, ◌<◌, ◌≤
 ghost use Rattle.exec_script.specs.LawWords.{PausesWithin, WaitsWithin};
 ghost use Rattle.exec_script.specs.Script.{result_of, at_least_0, step_of, listed, resumed, call_of, decision_within, close_of};
 ghost use Rattle.exec_script.specs.declared.instr.Operation.TheVariants as operation;
-ghost use Rattle.exec_script.specs.inner.Flat.{number_of};
+ghost use Rattle.exec_script.specs.inner.Flat.{operation_number};
 
 use crate::cells::{Bank, Regs};
 use crate::effects::{Close, Effect, EffectList, Effects};
@@ -237,12 +237,12 @@ fn result_of(operation: Operation, left: i64, right: i64) -> i64
         less(left, right),
         equal(left, right),
     ];
-    results[number_of(operation)]
+    results[operation_number(operation)]
 }
 
 #[inline(always)]
-fn number_of(operation: Operation) -> usize
-    ensures value { result ≡ number_of operation }
+fn operation_number(operation: Operation) -> usize
+    ensures value { result ≡ operation_number operation }
     ensures bound { result < 7 }
 {
     operation as usize

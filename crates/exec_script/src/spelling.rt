@@ -5,7 +5,7 @@ ghost use Rattle.exec_script.specs.Instruction as instr;
 use crate::cancel::cancel;
 use crate::fault::ScriptFault;
 use crate::instr::{Instr, Operand};
-use crate::item::{count_of, destination_of, operand_of, operation_of, text_of};
+use crate::item::{count_of, destination_of, operand_of, operation_of, text_in};
 use crate::scope::Scope;
 use crate::word::Word;
 use std::alloc::Global;
@@ -94,7 +94,7 @@ fn publish<S: Scope>(items: &[Word], scope: &S) -> Result<Instr, ScriptFault>
     let [name, value] = items else {
         return Err(ScriptFault::Count);
     };
-    let name = text_of(name).ok_or(ScriptFault::Operand)?;
+    let name = text_in(name).ok_or(ScriptFault::Operand)?;
     let value = operand_of(value).ok_or(ScriptFault::Operand)?;
     let topic = scope.topic(name).ok_or(ScriptFault::UnknownName)?;
     Ok(Instr::publish(topic, value))
@@ -106,7 +106,7 @@ fn call<S: Scope>(items: &[Word], scope: &S) -> Result<Instr, ScriptFault>
     let [name, value] = items else {
         return Err(ScriptFault::Count);
     };
-    let name = text_of(name).ok_or(ScriptFault::Operand)?;
+    let name = text_in(name).ok_or(ScriptFault::Operand)?;
     let value = operand_of(value).ok_or(ScriptFault::Operand)?;
     let client = scope.client(name).ok_or(ScriptFault::UnknownName)?;
     Ok(Instr::call(client, value))
@@ -118,7 +118,7 @@ fn goal<S: Scope>(items: &[Word], scope: &S) -> Result<Instr, ScriptFault>
     let [name, value] = items else {
         return Err(ScriptFault::Count);
     };
-    let name = text_of(name).ok_or(ScriptFault::Operand)?;
+    let name = text_in(name).ok_or(ScriptFault::Operand)?;
     let value = operand_of(value).ok_or(ScriptFault::Operand)?;
     let client = scope.action_client(name).ok_or(ScriptFault::UnknownName)?;
     Ok(Instr::goal(client, value))
@@ -130,7 +130,7 @@ fn execute<S: Scope>(items: &[Word], scope: &S) -> Result<Instr, ScriptFault>
     let [name] = items else {
         return Err(ScriptFault::Count);
     };
-    let name = text_of(name).ok_or(ScriptFault::Operand)?;
+    let name = text_in(name).ok_or(ScriptFault::Operand)?;
     let server = scope.server(name).ok_or(ScriptFault::UnknownName)?;
     Ok(Instr::execute(server))
 }

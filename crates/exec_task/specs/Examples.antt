@@ -30,10 +30,10 @@ abbrev pub canceling_at : ℕ → Turn
 canceling_at moment = record { moment = moment; canceling = true }
 
 -- a poll whose effects are listed
-abbrev pub poll : List Instr → Turn → TaskState → Polled (List Effect)
-poll script turn task = polled listed script (pos 5) turn task zeros []
+abbrev pub poll_alone : List Instr → Turn → TaskState → Polled (List Effect)
+poll_alone script turn task = polled listed script (pos 5) turn task zeros []
 
 -- the task after polls in some turns, one after another
 abbrev pub after_polls : List Instr → List Turn → TaskState → TaskState
 after_polls script [] task = task
-after_polls script (turn ∷ later) task = after_polls script later (poll script turn task).task
+after_polls script (turn ∷ later) task = after_polls script later (poll_alone script turn task).task

@@ -1,6 +1,6 @@
 -- Words for the laws of goals' tasks.
 use Rattle.std.specs.Prelude.{List, Bool, false, nat_le}
-use Rattle.exec_script.specs.LawWords.{give_all}
+use Rattle.exec_script.specs.LawWords.{give_each}
 use Rattle.exec_script.specs.declared.effects.Effect.{Effect}
 use Rattle.exec_task.specs.Task.{Polled}
 use Rattle.exec_task.specs.declared.wait.Source.{Source}
@@ -15,4 +15,4 @@ has_come turn source.Reply = false
 
 -- what a poll leaves that listed its effects, once these are given
 abbrev pub polled_later : {S : Type 0} → (Effect → S → S) → S → Polled (List Effect) → Polled S
-polled_later give given poll = record { task = poll.task; variables = poll.variables; given = give_all give poll.given given }
+polled_later give given poll = record { task = poll.task; variables = poll.variables; given = give_each give poll.given given }

@@ -80,8 +80,8 @@ answer_by None waits = pending waits
 answer_by (Some ending) waits = ready ending
 
 -- what a task answers, as it stands
-abbrev pub answer_of : TaskState → Answer
-answer_of task = answer_by task.ending task.waits
+abbrev pub task_answer : TaskState → Answer
+task_answer task = answer_by task.ending task.waits
 
 -- a poll: the task, its group's variables and what its effects made of where they went, all after it
 pub record Polled (S : Type 0) : Type 0 where

@@ -2,7 +2,7 @@ ghost use Rattle.std.specs.Prelude.{◌≡◌, ◌||◌, ◌^◌, [], OnOk, OnEr
 ghost use Rattle.exec_script.specs.LawWords.{WaitsWithin};
 ghost use Rattle.exec_script.specs.Script.{listed};
 ghost use Rattle.exec_task.specs.Goal.{meaning_of};
-ghost use Rattle.exec_task.specs.Task.{new_task, has_ended, is_reached, is_awake, after_stop, ran, run_of, answer_of, ending_event};
+ghost use Rattle.exec_task.specs.Task.{new_task, has_ended, is_reached, is_awake, after_stop, ran, run_of, task_answer, ending_event};
 
 use crate::wait::{Answer, Ending, Turn, Wait};
 use exec_msg::{Event, Memory, Moment};
@@ -70,7 +70,7 @@ impl Progress {
     }
 
     pub(crate) fn answer(&self) -> Answer
-        ensures { meaning_of result ≡ answer_of self.now }
+        ensures { meaning_of result ≡ task_answer self.now }
     {
         match self.ending {
             Some(ending) => Answer::Ready(ending),

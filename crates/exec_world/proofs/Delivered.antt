@@ -19,7 +19,7 @@ use Rattle.exec_world.proofs.Keeping.{is_message}
 use Rattle.exec_world.proofs.OfKinds.{AreOfTheirKinds, lost_of_kind, same_kind}
 use Rattle.exec_world.proofs.Pairs.{all_weaker}
 use Rattle.exec_world.proofs.Subscribed.{brought}
-use Rattle.exec_world.specs.Exchanges.{taken_at, dropped_at, Leaving, taken, dropped, value_of, taken_by, dropped_by}
+use Rattle.exec_world.specs.Exchanges.{taken_at, dropped_at, Leaving, taken, dropped, leaving_value, taken_by, dropped_by}
 use Rattle.exec_world.specs.Item.{taker_of, first_of}
 use Rattle.exec_world.specs.World.{WorldState, Queue, is_queue, drop_line, lost_by, queue_after, push}
 use Rattle.exec_world.specs.declared.item.Item.{Item}
@@ -28,7 +28,7 @@ use Rattle.exec_world.specs.declared.item.Item.TheVariants as item
 -- ---- lists
 
 -- messages that leave by one way
-dropped_values : (values : List ℤ) → map value_of (map (λ value. dropped value) values) ≡ values
+dropped_values : (values : List ℤ) → map leaving_value (map (λ value. dropped value) values) ≡ values
 dropped_values [] = refl
 dropped_values (value ∷ values) = ap (λ (rest : List ℤ). value ∷ rest) (dropped_values values)
 
@@ -40,7 +40,7 @@ dropped_taken : (values : List ℤ) → flat_map taken_by (map (λ value. droppe
 dropped_taken [] = refl
 dropped_taken (value ∷ values) = dropped_taken values
 
-taken_values : (values : List ℤ) → map value_of (map (λ value. taken value) values) ≡ values
+taken_values : (values : List ℤ) → map leaving_value (map (λ value. taken value) values) ≡ values
 taken_values [] = refl
 taken_values (value ∷ values) = ap (λ (rest : List ℤ). value ∷ rest) (taken_values values)
 
@@ -58,7 +58,7 @@ module _ (subscription : EntityNo) where
   -- what was sent left the queue or is in it; lines say what left it, but for what a callback has in hand
   pub record Flow (sent hand : List ℤ) (queues : List Queue) (lines : List Line) : Type 0 where
     pub left : List Leaving
-    pub in_order : sent ≡ map value_of left ++ held_in subscription queues
+    pub in_order : sent ≡ map leaving_value left ++ held_in subscription queues
     pub takings : flat_map (taken_at subscription) lines ++ hand ≡ flat_map taken_by left
     pub losses : flat_map (dropped_at subscription) lines ≡ flat_map dropped_by left
 
@@ -92,11 +92,11 @@ module _ (subscription : EntityNo) where
       record {
         left = f.left ++ map (λ value. taken value) first;
         in_order =
-            f.in_order ∙ ap (λ (some : List ℤ). map value_of f.left ++ some) (sym (take-append-drop 1 (held_in subscription queues)))
-            ∙ sym (append_assoc (map value_of f.left) first (drop 1 (held_in subscription queues)))
-            ∙ ap (λ (some : List ℤ). (map value_of f.left ++ some) ++ drop 1 (held_in subscription queues)) (sym (taken_values first))
-            ∙ ap (λ (some : List ℤ). some ++ drop 1 (held_in subscription queues)) (sym (map-append value_of f.left (map (λ value. taken value) first)))
-            ∙ ap (λ (some : List ℤ). map value_of (f.left ++ map (λ value. taken value) first) ++ some) (sym rest);
+            f.in_order ∙ ap (λ (some : List ℤ). map leaving_value f.left ++ some) (sym (take-append-drop 1 (held_in subscription queues)))
+            ∙ sym (append_assoc (map leaving_value f.left) first (drop 1 (held_in subscription queues)))
+            ∙ ap (λ (some : List ℤ). (map leaving_value f.left ++ some) ++ drop 1 (held_in subscription queues)) (sym (taken_values first))
+            ∙ ap (λ (some : List ℤ). some ++ drop 1 (held_in subscription queues)) (sym (map-append leaving_value f.left (map (λ value. taken value) first)))
+            ∙ ap (λ (some : List ℤ). map leaving_value (f.left ++ map (λ value. taken value) first) ++ some) (sym rest);
         takings =
             ap (λ (some : List ℤ). some ++ first) (sym (append-nil (flat_map (taken_at subscription) lines)) ∙ f.takings)
             ∙ ap (λ (some : List ℤ). flat_map taken_by f.left ++ some) (sym (taken_taken first))
@@ -126,7 +126,7 @@ module _ (subscription : EntityNo) where
       flow_lines sent hand (push entity new world).queues world.lines (map (drop_line entity) (lost_by entity new world)) mute
       (record {
         left = f.left;
-        in_order = f.in_order ∙ ap (λ (some : List ℤ). map value_of f.left ++ some) (sym (held_apart entity new apart world.queues));
+        in_order = f.in_order ∙ ap (λ (some : List ℤ). map leaving_value f.left ++ some) (sym (held_apart entity new apart world.queues));
         takings = f.takings;
         losses = f.losses;
       })
@@ -231,11 +231,11 @@ module _ (subscription : EntityNo) where
         left = f.left ++ map (λ one. dropped one) values;
         in_order =
             ap (λ (some : List ℤ). some ++ value ∷ []) f.in_order
-            ∙ append_assoc (map value_of f.left) (held_in subscription world.queues) (value ∷ [])
-            ∙ ap (λ (some : List ℤ). map value_of f.left ++ some) (sym (held_more value world.queues there))
-            ∙ sym (append_assoc (map value_of f.left) values after)
-            ∙ ap (λ (some : List ℤ). (map value_of f.left ++ some) ++ after) (sym (dropped_values values))
-            ∙ ap (λ (some : List ℤ). some ++ after) (sym (map-append value_of f.left (map (λ one. dropped one) values)));
+            ∙ append_assoc (map leaving_value f.left) (held_in subscription world.queues) (value ∷ [])
+            ∙ ap (λ (some : List ℤ). map leaving_value f.left ++ some) (sym (held_more value world.queues there))
+            ∙ sym (append_assoc (map leaving_value f.left) values after)
+            ∙ ap (λ (some : List ℤ). (map leaving_value f.left ++ some) ++ after) (sym (dropped_values values))
+            ∙ ap (λ (some : List ℤ). some ++ after) (sym (map-append leaving_value f.left (map (λ one. dropped one) values)));
         takings =
             ap (λ (some : List ℤ). some ++ hand) (flat_more (taken_at subscription) world.lines (map (drop_line subscription) lost) (drops_take_none subscription lost)) ∙ f.takings
             ∙ sym (append-nil (flat_map taken_by f.left)) ∙ ap (λ (some : List ℤ). flat_map taken_by f.left ++ some) (sym (dropped_taken values))

@@ -15,7 +15,7 @@ use Rattle.exec_script.specs.declared.effects.Close.TheVariants as close
 use Rattle.exec_script.specs.declared.effects.Effect.{Effect}
 use Rattle.exec_script.specs.declared.step.Stop.{Stop}
 use Rattle.exec_script.specs.declared.step.Stop.TheVariants as stop
-use Rattle.exec_task.specs.Task.{TaskState, has_ended, is_reached, is_awake, ending_event, after_stop, run_of, answer_of, poll_input}
+use Rattle.exec_task.specs.Task.{TaskState, has_ended, is_reached, is_awake, ending_event, after_stop, run_of, task_answer, poll_input}
 use Rattle.exec_task.specs.declared.wait.Ending.{Ending}
 use Rattle.exec_task.specs.declared.wait.Turn.{Turn}
 use Rattle.exec_world.proofs.AtWork.{IsIn, is_in, PollsAnother, StaysAtWork, all_others_run, stays_unclosed}
@@ -60,7 +60,7 @@ unended (Some ending) e = absurd (true≢false (sym e))
 
 module _ (turn : Turn) (by : Event) (value : ℤ) where
   -- a task that hadn't ended ends as its script stops
-  stopped : (stops : Stop) (task : TaskState) → task.ending ≡ None → IfSome (ended_by stops) IsEnding → close_of_answer (answer_of (after_stop turn stops task)) ≡ close.Ended by value → EndsSo turn.canceling by
+  stopped : (stops : Stop) (task : TaskState) → task.ending ≡ None → IfSome (ended_by stops) IsEnding → close_of_answer (task_answer (after_stop turn stops task)) ≡ close.Ended by value → EndsSo turn.canceling by
   stopped (stop.Wait ticks place) task none well e = let pends : close.Pending ≡ close.Ended by value = rw none at e in absurd cc
   stopped (stop.Yield place) task none well e = let pends : close.Pending ≡ close.Ended by value = rw none at e in absurd cc
   stopped (stop.Ended asked result) task none well e =
@@ -78,7 +78,7 @@ module _ (turn : Turn) (by : Event) (value : ℤ) where
       where_awake true awake ends =
           let none : work.task.ending ≡ None = unended work.task.ending (and_parts (not (has_ended work.task)) (is_reached work.task.waits turn.moment || (turn.canceling && not work.task.told)) awake).0 in
           let ran = run_of put work.script work.value turn work.task variables given in
-          let closes : close_of_answer (answer_of (after_stop turn ran.stop (record work.task { registers = ran.registers; told = work.task.told || turn.canceling }))) ≡ close.Ended by value = rw awake at ends in
+          let closes : close_of_answer (task_answer (after_stop turn ran.stop (record work.task { registers = ran.registers; told = work.task.told || turn.canceling }))) ≡ close.Ended by value = rw awake at ends in
           stopped ran.stop (record work.task { registers = ran.registers; told = work.task.told || turn.canceling }) none (resumed_ending put work.script work.task.place work.task.registers variables None (poll_input work.value turn) given) closes
 
 -- such an event leads to a terminal state from one that may be polled so

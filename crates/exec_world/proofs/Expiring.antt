@@ -6,7 +6,7 @@ use Rattle.std.proofs.lemmas.Bool.{eqb-true, eq-eqb, ne_eqb, or_parts, or_from, 
 use Rattle.exec_goal.specs.Calls.{is_among, next_state, moved_to}
 use Rattle.exec_goal.specs.Info.{info_of}
 use Rattle.exec_goal.specs.State.{after, is_accepted}
-use Rattle.exec_goal.specs.Table.{GoalRecord, has_id, holds, after_event, is_expired, expired, unexpired}
+use Rattle.exec_goal.specs.Table.{GoalRecord, has_id, holds_id, after_event, is_expired, expired, unexpired}
 use Rattle.exec_goal.specs.declared.info.GoalInfo.{GoalInfo}
 use Rattle.exec_goal.specs.declared.state.State.{State}
 use Rattle.exec_msg.specs.declared.goal.Event.{Event}
@@ -162,28 +162,28 @@ kept-dropped test goals after held left id is drops others kept = rw (drops, oth
   distinct = distinct-dropped test goals kept.distinct;
 })
 
-holds-filter : (test : GoalRecord → Bool) (goals : List GoalRecord) (id : ℕ) → is_among (goal_ids goals) id ≡ false → holds id (filter test goals) ≡ false
+holds-filter : (test : GoalRecord → Bool) (goals : List GoalRecord) (id : ℕ) → is_among (goal_ids goals) id ≡ false → holds_id id (filter test goals) ≡ false
 holds-filter test [] id none = refl
 holds-filter test (goal ∷ goals) id none =
     let parts = or_parts (goal.id == id) (is_among (goal_ids goals) id) none in
     by (test goal) parts.0 (holds-filter test goals id parts.1)
   where
-    by : (b : Bool) → (goal.id == id) ≡ false → holds id (filter test goals) ≡ false → holds id (cond b (goal ∷ filter test goals) (filter test goals)) ≡ false
-    by true here others = or_from (goal.id == id) (holds id (filter test goals)) here others
+    by : (b : Bool) → (goal.id == id) ≡ false → holds_id id (filter test goals) ≡ false → holds_id id (cond b (goal ∷ filter test goals) (filter test goals)) ≡ false
+    by true here others = or_from (goal.id == id) (holds_id id (filter test goals)) here others
     by false here others = others
 
 -- no goal that is left has the identifier of the goal that was found
-unheld : (test : GoalRecord → Bool) (goals : List GoalRecord) (id : ℕ) → Some id ≡ option_map (λ goal. goal.id) (find test goals) → AreDistinct (goal_ids goals) → holds id (filter (λ goal. not (test goal)) goals) ≡ false
+unheld : (test : GoalRecord → Bool) (goals : List GoalRecord) (id : ℕ) → Some id ≡ option_map (λ goal. goal.id) (find test goals) → AreDistinct (goal_ids goals) → holds_id id (filter (λ goal. not (test goal)) goals) ≡ false
 unheld test [] id is distinct = absurd cc
 unheld test (goal ∷ goals) id is distinct = by (test goal) is (unheld test goals id)
   where
     by : (b : Bool) → Some id ≡ option_map (λ goal. goal.id) (cond b (Some goal) (find test goals)) →
-        (Some id ≡ option_map (λ goal. goal.id) (find test goals) → AreDistinct (goal_ids goals) → holds id (filter (λ goal. not (test goal)) goals) ≡ false) →
-        holds id (cond (not b) (goal ∷ filter (λ goal. not (test goal)) goals) (filter (λ goal. not (test goal)) goals)) ≡ false
+        (Some id ≡ option_map (λ goal. goal.id) (find test goals) → AreDistinct (goal_ids goals) → holds_id id (filter (λ goal. not (test goal)) goals) ≡ false) →
+        holds_id id (cond (not b) (goal ∷ filter (λ goal. not (test goal)) goals) (filter (λ goal. not (test goal)) goals)) ≡ false
     by true is others =
         let same : goal.id ≡ id = cc in
         holds-filter (λ goal. not (test goal)) goals id (ap (is_among (goal_ids goals)) (sym same) ∙ distinct.0)
-    by false is others = or_from (goal.id == id) (holds id (filter (λ goal. not (test goal)) goals)) (not_among (goal_ids goals) id goal.id (among-found test goals id is) distinct.0) (others is distinct.1)
+    by false is others = or_from (goal.id == id) (holds_id id (filter (λ goal. not (test goal)) goals)) (not_among (goal_ids goals) id goal.id (among-found test goals id is) distinct.0) (others is distinct.1)
 
 filter-dropped : (test : HeldGoal → Bool) (id : ℕ) → ((one : HeldGoal) → is_for id one ≡ true → test one ≡ false) → (held : List HeldGoal) → filter test (drop_first (is_for id) held) ≡ filter test held
 filter-dropped test id fails [] = refl
@@ -199,10 +199,10 @@ pub expired-dropped : (moment : ℕ) (entry left : ServerEntry) (id : ℕ) → S
     server_expired moment left ≡ server_expired moment entry
 expired-dropped moment entry left id is distinct same others handler timeout =
     let kept = unexpired moment entry.timeout entry.goals in
-    let fails : (one : HeldGoal) → is_for id one ≡ true → holds one.id kept ≡ false = λ one named. ap (λ key. holds key kept) (eqb-true one.id id named) ∙ unheld (is_expired moment entry.timeout) entry.goals id is distinct in
+    let fails : (one : HeldGoal) → is_for id one ≡ true → holds_id one.id kept ≡ false = λ one named. ap (λ key. holds_id key kept) (eqb-true one.id id named) ∙ unheld (is_expired moment entry.timeout) entry.goals id is distinct in
     let goals : unexpired moment left.timeout left.goals ≡ kept = ap (λ timeout. unexpired moment timeout left.goals) timeout ∙ same in
-    let held : filter (λ held. holds held.id (unexpired moment left.timeout left.goals)) left.held ≡ filter (λ held. holds held.id kept) entry.held =
-    ap (λ (goals : List GoalRecord). filter (λ held. holds held.id goals) left.held) goals ∙ ap (filter (λ held. holds held.id kept)) others ∙ filter-dropped (λ held. holds held.id kept) id fails entry.held in
+    let held : filter (λ held. holds_id held.id (unexpired moment left.timeout left.goals)) left.held ≡ filter (λ held. holds_id held.id kept) entry.held =
+    ap (λ (goals : List GoalRecord). filter (λ held. holds_id held.id goals) left.held) goals ∙ ap (filter (λ held. holds_id held.id kept)) others ∙ filter-dropped (λ held. holds_id held.id kept) id fails entry.held in
     (λ i. record { handler = handler i; timeout = timeout i; goals = goals i; held = held i })
 
 none-left : {A : Type 0} (test : A → Bool) (xs : List A) → find test xs ≡ None → filter (λ x. not (test x)) xs ≡ xs
@@ -230,9 +230,9 @@ unfound (Some goal) is = absurd cc
 pub settled : (moment : ℕ) (entry : ServerEntry) → AreKept entry.goals entry.held → None ≡ option_map (λ goal. goal.id) (find (is_expired moment entry.timeout) entry.goals) → server_expired moment entry ≡ entry
 settled moment entry kept none =
     let goals : unexpired moment entry.timeout entry.goals ≡ entry.goals = none-left (is_expired moment entry.timeout) entry.goals (unfound (find (is_expired moment entry.timeout) entry.goals) none) in
-    let held : filter (λ held. holds held.id (unexpired moment entry.timeout entry.goals)) entry.held ≡ entry.held =
-    ap (λ (goals : List GoalRecord). filter (λ held. holds held.id goals) entry.held) goals
-    ∙ all-kept (λ id. holds id entry.goals) entry.held (λ id is. sym (among-goals id entry.goals) ∙ ap (λ ids. is_among ids id) kept.same ∙ is) in
+    let held : filter (λ held. holds_id held.id (unexpired moment entry.timeout entry.goals)) entry.held ≡ entry.held =
+    ap (λ (goals : List GoalRecord). filter (λ held. holds_id held.id goals) entry.held) goals
+    ∙ all-kept (λ id. holds_id id entry.goals) entry.held (λ id is. sym (among-goals id entry.goals) ∙ ap (λ ids. is_among ids id) kept.same ∙ is) in
     (λ i. record entry { goals = goals i; held = held i })
 
 -- a server without a timeout finds none
@@ -276,5 +276,5 @@ settled-in moment entry timeout lasts kept none = settled moment entry kept (sub
 
 -- what holds holds where there is no value
 pub on_none : {A : Type 0} {P : Type 0} (found : Option A) → P → IfNone found P
-on_none None holds = holds
-on_none (Some x) holds = tt
+on_none None holds_id = holds_id
+on_none (Some x) holds_id = tt

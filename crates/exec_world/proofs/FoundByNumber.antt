@@ -7,7 +7,7 @@ use Rattle.std.proofs.lemmas.Option.{slice_get_past}
 use Rattle.exec_msg.specs.Lists.{change_first}
 use Rattle.exec_msg.proofs.FirstPlaces.{find-nowhere, find-first_place, change_first-nowhere, change_first-first_place, first_place-behind, first_place-set, first_place-within, place_or, none_beyond, noted_at, read_at, written}
 use Rattle.exec_world.specs.inner.Numbered.{FindsByNumber}
-use Rattle.exec_msg.specs.Places.{first_place, place_under, change_at, noted}
+use Rattle.exec_msg.specs.Places.{first_place, place_under, change_at, first_noted}
 use Rattle.exec_world.specs.inner.Places.{place_in}
 
 -- ---- what stands at a place that is looked up
@@ -84,7 +84,7 @@ module _ {E : Type 0} (number_of : E → ℕ) where
   -- each look-up finds as before, or the entry that is declared
   pub finds_behind : (old made new : List (Option ℕ)) (entries : List E) (entry : E) (number : ℕ) → FindsByNumber number_of old entries
       → ((other : ℕ) → place_under other made ≡ place_under other old) → number < length made
-      → number ≡ number_of entry → new ≡ change_at number (noted (length entries)) made → FindsByNumber number_of new (entries ++ entry ∷ [])
+      → number ≡ number_of entry → new ≡ change_at number (first_noted (length entries)) made → FindsByNumber number_of new (entries ++ entry ∷ [])
   finds_behind old made new entries entry number finds same within is_number is = λ other.
       ap (λ places. place_under other places) is
       ∙ noted_at (number_of entry == other) (length entries) number other made within

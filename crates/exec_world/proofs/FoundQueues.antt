@@ -11,7 +11,7 @@ use Rattle.exec_msg.specs.declared.kind.Kind.TheVariants as kind
 use Rattle.exec_msg.proofs.FirstPlaces.{first_place-changed, first_place-behind, noted_at, place_or, there_or_same}
 use Rattle.exec_world.specs.World.{Queue, is_queue, queue_after}
 use Rattle.exec_world.specs.declared.item.Item.{Item}
-use Rattle.exec_msg.specs.Places.{first_place, place_under, change_at, noted}
+use Rattle.exec_msg.specs.Places.{first_place, place_under, change_at, first_noted}
 use Rattle.exec_world.specs.inner.Queues.{slot_of, has_item, is_filled_at, FindsQueues, CoversFilled}
 
 -- what a look-up gives is the first place
@@ -81,7 +81,7 @@ other_slot a b m n low high is same =
 -- each look-up finds as before, or the queue that is declared
 pub finds_behind : (old made new : List (Option ℕ)) (queues : List Queue) (queue : Queue) (entity slot : ℕ) (of : Kind) → FindsQueues old queues
     → ((other : ℕ) → place_under other made ≡ place_under other old) → slot < length made
-    → slot ≡ slot_of entity of → queue.handler.entity ≡ entity → queue.kind ≡ of → new ≡ change_at slot (noted (length queues)) made
+    → slot ≡ slot_of entity of → queue.handler.entity ≡ entity → queue.kind ≡ of → new ≡ change_at slot (first_noted (length queues)) made
     → FindsQueues new (queues ++ queue ∷ [])
 finds_behind old made new queues queue entity slot of finds same within counted is_entity is_kind is = λ other kind.
     ap (λ places. place_under (slot_of other kind) places) is

@@ -3,7 +3,7 @@ use Rattle.std.proofs.Common.{◌≡◌, ◌⊎◌, inl, inr, ℕ, Bool, true, f
 use Rattle.std.specs.List.{AllByRecursion, IsDistinct, filter, find, list_any}
 use Rattle.std.specs.Option.{option_map, option_map_or}
 use Rattle.std.proofs.lemmas.Bool.{eqb-true, eq-eqb}
-use Rattle.exec_goal.specs.Table.{GoalRecord, holds, has_id, is_full, is_expired, new_goal, unexpired}
+use Rattle.exec_goal.specs.Table.{GoalRecord, holds_id, has_id, is_full, is_expired, new_goal, unexpired}
 use Rattle.exec_graph.specs.Entity.{EntityNo}
 use Rattle.exec_graph.specs.Graph.{GraphData, entities_where, is_server}
 use Rattle.exec_graph.specs.Plan.{PlanData}
@@ -31,11 +31,11 @@ or_false true b e = absurd (true≢false e)
 or_false false b e = (refl, e)
 
 -- one more goal, whose identifier isn't held
-pub distinct_more : (goals : List GoalRecord) (new : GoalRecord) → Distinct (ids goals) → holds new.id goals ≡ false → Distinct (ids (goals ++ new ∷ []))
+pub distinct_more : (goals : List GoalRecord) (new : GoalRecord) → Distinct (ids goals) → holds_id new.id goals ≡ false → Distinct (ids (goals ++ new ∷ []))
 unfolding IsDistinct
 distinct_more [] new p e = (tt, tt)
 distinct_more (goal ∷ goals) new p e =
-    let parts = or_false (has_id new.id goal) (holds new.id goals) e in
+    let parts = or_false (has_id new.id goal) (holds_id new.id goals) e in
     (all_more (λ other. goal.id == other ≡ false) goals new p.0 parts.0, distinct_more goals new p.1 parts.1)
 
 pub filter_all : (P : GoalId → Type 0) (test : GoalRecord → Bool) (goals : List GoalRecord) → AllByRecursion P (ids goals) → AllByRecursion P (ids (filter test goals))
@@ -60,8 +60,8 @@ not_true true e = absurd (true≢false (sym e))
 not_true false e = refl
 
 -- a server with room holds no goal of the identifier
-pub room_without : (id : GoalId) (goals : List GoalRecord) → has_room_for id goals ≡ true → holds id goals ≡ false
-room_without id goals room = (or_false (holds id goals) (is_full goals) (not_true (holds id goals || is_full goals) room)).0
+pub room_without : (id : GoalId) (goals : List GoalRecord) → has_room_for id goals ≡ true → holds_id id goals ≡ false
+room_without id goals room = (or_false (holds_id id goals) (is_full goals) (not_true (holds_id id goals || is_full goals) room)).0
 
 -- ---- the goals of a server, where some server is changed
 
@@ -164,7 +164,7 @@ distinct_accepted server moment decision request world room p one =
     by (inr q) =
         subst (λ (some : List GoalRecord). Distinct (ids some)) (sym q.1)
         (distinct_more (goals_of one world) (new_goal request.id request.value moment decision) (p one)
-        (subst (λ (at : EntityNo). holds request.id (goals_of at world) ≡ false) q.0 (room_without request.id (goals_of server world) room)))
+        (subst (λ (at : EntityNo). holds_id request.id (goals_of at world) ≡ false) q.0 (room_without request.id (goals_of server world) room)))
 
 pub distinct_kept : KeptByRounds HasDistinct
 distinct_kept = record {

@@ -4,7 +4,7 @@ use Rattle.std.specs.List.{fold}
 use Rattle.exec_goal.specs.declared.info.GoalInfo.{GoalInfo}
 use Rattle.exec_graph.specs.Entity.{Script}
 use Rattle.exec_script.proofs.Lasting.{resumed_later}
-use Rattle.exec_script.specs.LawWords.{give_all}
+use Rattle.exec_script.specs.LawWords.{give_each}
 use Rattle.exec_script.specs.Script.{ScriptState, listed}
 use Rattle.exec_script.specs.Zeros.{zeros}
 use Rattle.exec_script.specs.declared.effects.Effect.{Effect}
@@ -25,11 +25,11 @@ use Rattle.exec_world.specs.declared.ready.Ready.{Ready}
 module _ {S : Type 0} (put : Effect → S → S) (given : S) where
   -- a callback that listed its effects, once these are given
   abbrev pub outcome_later : Outcome (List Effect) → Outcome S
-  outcome_later outcome = record { variables = outcome.variables; given = give_all put outcome.given given; close = outcome.close; task = outcome.task }
+  outcome_later outcome = record { variables = outcome.variables; given = give_each put outcome.given given; close = outcome.close; task = outcome.task }
 
   -- a cancel handler that listed them
   abbrev handling_later : Handling (List Effect) → Handling S
-  handling_later handling = record { variables = handling.variables; given = give_all put handling.given given; decisions = handling.decisions }
+  handling_later handling = record { variables = handling.variables; given = give_each put handling.given given; decisions = handling.decisions }
 
   in_role_later : (role : Role) (one : Ready) (variables : Variables) → call_in role put one variables given ≡ outcome_later (call_in role listed one variables [])
   in_role_later role one variables =

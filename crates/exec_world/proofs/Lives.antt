@@ -7,7 +7,7 @@ use Rattle.std.proofs.lemmas.Grind.{flat_map-append}
 use Rattle.exec_goal.specs.Calls.{end_state}
 use Rattle.exec_goal.specs.Cancel.{Decided, moved, table_after}
 use Rattle.exec_goal.specs.State.{Transition, after, status_of}
-use Rattle.exec_goal.specs.Table.{GoalRecord, has_id, holds, after_event, after_end, expired, new_goal}
+use Rattle.exec_goal.specs.Table.{GoalRecord, has_id, holds_id, after_event, after_end, expired, new_goal}
 use Rattle.exec_goal.specs.declared.state.State.{State}
 use Rattle.exec_graph.specs.Entity.{EntityNo}
 use Rattle.exec_graph.specs.Feeding.{fed_in}
@@ -45,7 +45,7 @@ use Rattle.exec_world.specs.declared.ready.Ready.{Ready}
 -- ---- a world
 
 module _ (server : EntityNo) (id : GoalId) (listed : List EntityNo) where
-  -- the statuses that a world's lines say of a goal fit the state that its server holds; and these are the servers
+  -- the statuses that a world's lines say of a goal fit the state that its server holds_id; and these are the servers
   abbrev View : WorldState → Type 0
   View world = Fits server id world.lines (goals_of server world) × (servers_of world ≡ listed)
 
@@ -130,7 +130,7 @@ module _ (server : EntityNo) (id : GoalId) (listed : List EntityNo) where
       changed (accepting moment decision request) other (world.lines ++ accepted_lines other request.id decision) world
       (λ is. subst (λ (n : EntityNo). Fits server id (world.lines ++ accepted_lines n request.id decision) (goals_of server world ++ new_goal request.id request.value moment decision ∷ [])) (sym is)
       (fits_accepted server id world.lines (goals_of server world) v.0 request moment decision
-      (subst (λ (n : EntityNo). holds request.id (goals_of n world) ≡ false) is (room_without request.id (goals_of other world) room))))
+      (subst (λ (n : EntityNo). holds_id request.id (goals_of n world) ≡ false) is (room_without request.id (goals_of other world) room))))
       (λ differs. elsewhere (accepted_lines other request.id decision) world (accepted_elsewhere server id other request.id decision (decision == 2) refl differs) v)
       (λ is. inl (any_listed world.servers ∙ ap (λ (some : List EntityNo). is_listed some server) v.1 ∙ ap (λ (n : EntityNo). is_listed listed n) (sym is) ∙ there)) v.1
 

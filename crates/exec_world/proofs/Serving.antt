@@ -5,7 +5,7 @@ use Rattle.std.proofs.lemmas.Bool.{eqb-false, ne_eqb, or_parts, not-true, or_fro
 use Rattle.std.proofs.lemmas.List.{map_push}
 use Rattle.exec_goal.specs.Calls.{is_among, noted, after_asking}
 use Rattle.exec_goal.specs.Cancel.{Decided, is_moved, table_after}
-use Rattle.exec_goal.specs.Table.{GoalRecord, Asked, told, later, unknown, has_id, holds, is_full, after_event, asked_for, asked_by}
+use Rattle.exec_goal.specs.Table.{GoalRecord, Asked, told, later, unknown, has_id, holds_id, is_full, after_event, asked_for, asked_by}
 use Rattle.exec_msg.specs.declared.goal.Event.TheVariants as event
 use Rattle.exec_msg.specs.Lists.{change_first}
 use Rattle.exec_world.specs.World.{HeldGoal, has_room_for, is_for}
@@ -62,7 +62,7 @@ kept-asked id client goals held kept = noted_by (asked_for id goals) id client g
 -- ---- one more goal
 
 -- what holds a goal has its identifier
-pub among-goals : (id : ℕ) (goals : List GoalRecord) → is_among (goal_ids goals) id ≡ holds id goals
+pub among-goals : (id : ℕ) (goals : List GoalRecord) → is_among (goal_ids goals) id ≡ holds_id id goals
 among-goals id [] = refl
 among-goals id (goal ∷ goals) = ap (λ others. (goal.id == id) || others) (among-goals id goals)
 
@@ -71,7 +71,7 @@ among-held id [] = refl
 among-held id (one ∷ held) = ap (λ others. (one.id == id) || others) (among-held id held)
 
 -- a server that holds no goal of an identifier keeps nothing for it
-pub kept-none : (id : ℕ) (goals : List GoalRecord) (held : List HeldGoal) → AreKept goals held → holds id goals ≡ false → list_any (is_for id) held ≡ false
+pub kept-none : (id : ℕ) (goals : List GoalRecord) (held : List HeldGoal) → AreKept goals held → holds_id id goals ≡ false → list_any (is_for id) held ≡ false
 kept-none id goals held kept none = sym (among-held id held) ∙ ap (λ ids. is_among ids id) (sym kept.same) ∙ among-goals id goals ∙ none
 
 apart : (a b : ℕ) → (a == b) ≡ false → (b == a) ≡ false
@@ -90,7 +90,7 @@ distinct-push (one ∷ ids) id none distinct =
     (among-push ids one id (apart one id parts.0) distinct.0, distinct-push ids id parts.1 distinct.1)
 
 -- one more goal is kept with its work
-pub kept-accepted : (goals : List GoalRecord) (held : List HeldGoal) (goal : GoalRecord) (one : HeldGoal) → goal.id ≡ one.id → holds goal.id goals ≡ false → AreKept goals held →
+pub kept-accepted : (goals : List GoalRecord) (held : List HeldGoal) (goal : GoalRecord) (one : HeldGoal) → goal.id ≡ one.id → holds_id goal.id goals ≡ false → AreKept goals held →
     AreKept (goals ++ goal ∷ []) (held ++ one ∷ [])
 kept-accepted goals held goal one named none kept = record {
   same = map_push (λ (goal : GoalRecord). goal.id) goals goal ∙ (λ i. kept.same i ++ named i ∷ []) ∙ sym (map_push (λ (one : HeldGoal). one.id) held one);
@@ -98,10 +98,10 @@ kept-accepted goals held goal one named none kept = record {
 }
 
 -- the same, where it is known which lists come of it
-pub kept-accepted-in : (goals after : List GoalRecord) (held before left : List HeldGoal) (goal : GoalRecord) (one : HeldGoal) → after ≡ goals ++ goal ∷ [] → before ≡ held → left ≡ before ++ one ∷ [] → goal.id ≡ one.id → holds goal.id goals ≡ false → AreKept goals held →
+pub kept-accepted-in : (goals after : List GoalRecord) (held before left : List HeldGoal) (goal : GoalRecord) (one : HeldGoal) → after ≡ goals ++ goal ∷ [] → before ≡ held → left ≡ before ++ one ∷ [] → goal.id ≡ one.id → holds_id goal.id goals ≡ false → AreKept goals held →
     AreKept after left
 kept-accepted-in goals after held before left goal one is stays others named none kept = rw (is, others, stays) (kept-accepted goals held goal one named none kept)
 
 -- a server that has room for an identifier holds no goal of it
-pub room-none : (id : ℕ) (goals : List GoalRecord) → has_room_for id goals ≡ true → holds id goals ≡ false
-room-none id goals room = (or_parts (holds id goals) (is_full goals) (not-true (holds id goals || is_full goals) room)).0
+pub room-none : (id : ℕ) (goals : List GoalRecord) → has_room_for id goals ≡ true → holds_id id goals ≡ false
+room-none id goals room = (or_parts (holds_id id goals) (is_full goals) (not-true (holds_id id goals || is_full goals) room)).0

@@ -16,7 +16,7 @@ use Rattle.exec_world.specs.inner.Listing.{listed_behind}
 use Rattle.exec_world.specs.inner.Mail.{MailState, mail_of}
 use Rattle.exec_world.specs.inner.Places.{places_from, places_where}
 use Rattle.exec_world.specs.inner.Queues.{has_item, is_in_part}
-use Rattle.exec_world.specs.inner.Snapshots.{fronts_at, replies_at, reply_at}
+use Rattle.exec_world.specs.inner.Snapshots.{fronts_at, replies_at, with_reply_at}
 
 has_one : (item : Item) (items : List Item) → not (length (item ∷ items) == 0) ≡ false → ⊥
 has_one item items is = let none = eqb-true (length (item ∷ items)) 0 (no (length (item ∷ items) == 0) is) in omega arith
@@ -63,8 +63,8 @@ module _ {B : Type 0} (test : Queue → Bool) (f : B → Queue → B) (step : B 
 
 pub answered_before : (world : WorldState) → replies_at world.queues world.clients (places_where (λ queue. has_item queue && is_in_part true queue) world.queues) ≡ fold reply_taken world.clients (queues_before_polls world)
 answered_before world =
-    stepped_from (is_in_part true) reply_taken (reply_at world.queues) (λ clients queue is. none_answered queue.handler.entity queue.items clients is) 0 world.queues
-    (λ k clients. let e : 0 + k ≡ k = omega arith in ap (reply_at world.queues clients) e) world.clients
+    stepped_from (is_in_part true) reply_taken (with_reply_at world.queues) (λ clients queue is. none_answered queue.handler.entity queue.items clients is) 0 world.queues
+    (λ k clients. let e : 0 + k ≡ k = omega arith in ap (with_reply_at world.queues clients) e) world.clients
 
 -- where there is no client, none is answered
 no_client : (entity : EntityNo) (items : List Item) → answered_by_first entity items [] ≡ []

@@ -5,7 +5,7 @@ use Rattle.std.specs.Option.{unwrap_or}
 use Rattle.std.proofs.lemmas.Bool.{eqb-true, eq-eqb}
 use Rattle.exec_goal.specs.Calls.{state_in, moved_to, where_terminal}
 use Rattle.exec_goal.specs.State.{Transition, after, status_of, is_terminal}
-use Rattle.exec_goal.specs.Table.{GoalRecord, has_id, holds, moved_by}
+use Rattle.exec_goal.specs.Table.{GoalRecord, has_id, holds_id, moved_by}
 use Rattle.exec_goal.specs.declared.state.State.{State}
 use Rattle.exec_goal.specs.declared.state.State.TheVariants as state
 use Rattle.exec_msg.specs.Lists.{change_first}
@@ -135,10 +135,10 @@ found_state test (one ∷ goals) goal p found = by (test one) refl (found_state 
         rw (found_apart one.id test goals goal p.0 there) (rest there)
 
 -- no goal of an identifier has a state
-pub none_in : (id : GoalId) (goals : List GoalRecord) → holds id goals ≡ false → state_in id goals ≡ None
+pub none_in : (id : GoalId) (goals : List GoalRecord) → holds_id id goals ≡ false → state_in id goals ≡ None
 none_in id [] e = refl
 none_in id (goal ∷ goals) e =
-    let parts = or_false (has_id id goal) (holds id goals) e in
+    let parts = or_false (has_id id goal) (holds_id id goals) e in
     rw parts.0 (none_in id goals parts.1)
 
 -- one more goal is found behind the others

@@ -8,7 +8,7 @@ use Rattle.std.proofs.lemmas.List.{append-nil}
 use Rattle.exec_goal.specs.Calls.{state_in, end_state}
 use Rattle.exec_goal.specs.Cancel.{Decided, is_moved, moved, is_accepted_for, table_after}
 use Rattle.exec_goal.specs.State.{Transition, after, status_of, is_cancelable, is_accepted, is_terminal, execute, cancel_accepted, cancel_executing}
-use Rattle.exec_goal.specs.Table.{GoalRecord, has_id, holds, moved_by, after_event, after_end, accepted_state, new_goal, is_expired, unexpired}
+use Rattle.exec_goal.specs.Table.{GoalRecord, has_id, holds_id, moved_by, after_event, after_end, accepted_state, new_goal, is_expired, unexpired}
 use Rattle.exec_goal.specs.declared.state.State.{State}
 use Rattle.exec_goal.specs.declared.state.State.TheVariants as state
 use Rattle.exec_msg.specs.Lists.{change_first}
@@ -265,7 +265,7 @@ module _ (server : EntityNo) (id : GoalId) where
 
     -- ---- acceptance
 
-    pub fits_accepted : (request : GoalRequest) (moment : Moment) (decision : ℕ) → holds request.id goals ≡ false → Fits server id (lines ++ accepted_lines server request.id decision) (goals ++ new_goal request.id request.value moment decision ∷ [])
+    pub fits_accepted : (request : GoalRequest) (moment : Moment) (decision : ℕ) → holds_id request.id goals ≡ false → Fits server id (lines ++ accepted_lines server request.id decision) (goals ++ new_goal request.id request.value moment decision ∷ [])
     fits_accepted request moment decision fresh = where_same (request.id == id) refl
       where
         where_same : (b : Bool) → request.id == id ≡ b → Fits server id (lines ++ accepted_lines server request.id decision) (goals ++ new_goal request.id request.value moment decision ∷ [])

@@ -13,7 +13,7 @@ use Rattle.exec_script.specs.declared.effects.Close.TheVariants as close
 use Rattle.exec_script.specs.declared.effects.Effect.{Effect}
 use Rattle.exec_script.specs.declared.place.Role.{Role}
 use Rattle.exec_script.specs.declared.place.Role.TheVariants as role
-use Rattle.exec_task.specs.Task.{TaskState, Answer, ready, pending, Polled, polled, is_awake, answer_of}
+use Rattle.exec_task.specs.Task.{TaskState, Answer, ready, pending, Polled, polled, is_awake, task_answer}
 use Rattle.exec_task.specs.declared.wait.Turn.{Turn}
 use Rattle.exec_world.specs.Ready.{turn_at, input_of}
 use Rattle.exec_world.specs.World.{Moment, Variables, GoalWork}
@@ -97,7 +97,7 @@ close_of_answer (pending waits) = close.Pending
 
 -- a poll
 abbrev pub after_poll : {S : Type 0} → Polled S → Outcome S
-after_poll poll = record { variables = poll.variables; given = poll.given; close = close_of_answer (answer_of poll.task); task = Some poll.task }
+after_poll poll = record { variables = poll.variables; given = poll.given; close = close_of_answer (task_answer poll.task); task = Some poll.task }
 
 -- nothing is done, and the goal pends
 abbrev pub unpolled : {S : Type 0} → Variables → S → Outcome S

@@ -80,9 +80,9 @@ pub data Leaving : Type 0 where
   taken : ℤ → Leaving
   dropped : ℤ → Leaving
 
-abbrev pub value_of : Leaving → ℤ
-value_of (taken value) = value
-value_of (dropped value) = value
+abbrev pub leaving_value : Leaving → ℤ
+leaving_value (taken value) = value
+leaving_value (dropped value) = value
 
 abbrev pub taken_by : Leaving → List ℤ
 taken_by (taken value) = value ∷ []
@@ -96,7 +96,7 @@ dropped_by (dropped value) = value ∷ []
 -- it holds; of those that left, lines say in order which its callbacks took, and which were dropped
 pub record IsDelivered (plan : PlanData) (topic subscription : EntityNo) (world : WorldState) : Type 0 where
   pub left : List Leaving
-  pub in_order : flat_map (published_at plan topic) world.lines ≡ map value_of left ++ held_at subscription world
+  pub in_order : flat_map (published_at plan topic) world.lines ≡ map leaving_value left ++ held_at subscription world
   pub takings : flat_map (taken_at subscription) world.lines ≡ flat_map taken_by left
   pub losses : flat_map (dropped_at subscription) world.lines ≡ flat_map dropped_by left
 

@@ -10,7 +10,7 @@ use Rattle.exec_goal.specs.declared.info.GoalInfo.{GoalInfo}
 use Rattle.exec_graph.specs.Entity.{EntityNo, Script}
 use Rattle.exec_msg.specs.Kind.{ready_number}
 use Rattle.exec_msg.specs.Lists.{change_first, drop_first}
-use Rattle.exec_msg.specs.Timer.{is_due, called}
+use Rattle.exec_msg.specs.Timer.{is_due, after_call}
 use Rattle.exec_msg.specs.declared.kind.Kind.{Kind}
 use Rattle.exec_msg.specs.declared.kind.Kind.TheVariants as kind
 use Rattle.exec_msg.specs.declared.line.Line.{Line}
@@ -88,16 +88,16 @@ candidates_for _ goals = []
 
 -- the script that runs for an item that is taken, where these are the server's goals: none for an ask, and none for a goal
 -- request whose identifier is held or that finds no room
-abbrev pub script_for : Item → List GoalRecord → Script → Option Script
-script_for (item.Goal id client value) goals script = if has_room_for id goals then Some script else None
-script_for (item.Ask id client) goals script = None
-script_for _ goals script = Some script
+abbrev pub script_to_take : Item → List GoalRecord → Script → Option Script
+script_to_take (item.Goal id client value) goals script = if has_room_for id goals then Some script else None
+script_to_take (item.Ask id client) goals script = None
+script_to_take _ goals script = Some script
 
 -- the callback that takes the first of these items, where these are the server's goals
 abbrev pub item_ready : Moment → Handler → List GoalRecord → List Item → List Ready
 item_ready moment handler goals [] = []
 item_ready moment handler goals (first ∷ items) =
-    ready_for moment handler (cause.Took first) (candidates_for first goals) (script_for first goals handler.script) ∷ []
+    ready_for moment handler (cause.Took first) (candidates_for first goals) (script_to_take first goals handler.script) ∷ []
 
 -- the callback that takes from a queue where that has an item
 abbrev pub queue_ready : Moment → WorldState → Queue → List Ready
@@ -150,7 +150,7 @@ ready_list moment world = placed_from 1
 
 -- a timer after the snapshot at a moment: its call is made where it is due
 abbrev pub timer_taken : Moment → TimerEntry → TimerEntry
-timer_taken moment entry = if is_due entry.timer moment then record entry { timer = called entry.timer moment } else entry
+timer_taken moment entry = if is_due entry.timer moment then record entry { timer = after_call entry.timer moment } else entry
 
 -- a queue after it: its first item is taken
 abbrev pub queue_taken : Queue → Queue

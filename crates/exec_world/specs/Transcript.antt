@@ -2,7 +2,7 @@
 use Rattle.std.specs.Prelude.{ℕ, zero, suc, List, [], ◌∷◌, ◌++◌, length, map, replicate, Bool, is_some, ◌==◌, Option, None, true, false}
 use Rattle.std.specs.List.{filter, flat_map, fold}
 use Rattle.std.specs.Option.{unwrap_or}
-use Rattle.exec_goal.specs.Table.{GoalRecord, holds, expired, unexpired}
+use Rattle.exec_goal.specs.Table.{GoalRecord, holds_id, expired, unexpired}
 use Rattle.exec_graph.specs.Entity.{EntityNo, Resolved}
 use Rattle.exec_graph.specs.Feeding.{fed_in}
 use Rattle.exec_graph.specs.Graph.{GraphData, of_entity, is_topic, is_timer, is_client, is_server, is_action_client, wait_set, declared_at, group_of, is_exclusive, depth_of, script_for, entities_where, names_of, Waitable}
@@ -133,7 +133,7 @@ expire_lines moment entry = map (λ goal. line.Expire entry.handler.entity goal.
 
 -- a server that keeps these goals alone
 abbrev pub keeping : List GoalRecord → ServerEntry → ServerEntry
-keeping goals entry = record entry { goals = goals; held = filter (λ held. holds held.id goals) entry.held }
+keeping goals entry = record entry { goals = goals; held = filter (λ held. holds_id held.id goals) entry.held }
 
 -- a server without the goals that it forgets
 abbrev pub server_expired : Moment → ServerEntry → ServerEntry

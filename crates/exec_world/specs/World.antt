@@ -2,7 +2,7 @@
 use Rattle.std.specs.Prelude.{ℕ, ◌+◌, ℤ, List, [], ◌∷◌, ◌++◌, map, Bool, not, ◌&&◌, ◌||◌, ◌==◌, Option, None, Some, slice_index_or, slice_set}
 use Rattle.std.specs.List.{find}
 use Rattle.std.specs.Option.{option_and_then, option_map, option_map_or}
-use Rattle.exec_goal.specs.Table.{GoalRecord, holds, is_full}
+use Rattle.exec_goal.specs.Table.{GoalRecord, holds_id, is_full}
 use Rattle.exec_graph.specs.Entity.{EntityNo, Script}
 use Rattle.exec_graph.specs.Graph.{GroupNo}
 use Rattle.exec_msg.specs.KeepLast.{sent, displaced}
@@ -173,7 +173,7 @@ goals_of server world = option_map_or (λ entry. entry.goals) (find (is_server_a
 
 -- whether a server with these goals can hold one more of an identifier: it holds none of it, and isn't full
 abbrev pub has_room_for : GoalId → List GoalRecord → Bool
-has_room_for id goals = not (holds id goals || is_full goals)
+has_room_for id goals = not (holds_id id goals || is_full goals)
 
 -- what a server keeps beside them
 abbrev pub held_by : EntityNo → WorldState → List HeldGoal

@@ -1,7 +1,7 @@
 //! Callbacks that take an item from a queue.
 ghost use Rattle.std.specs.Prelude.{◌≡◌, [], IfOk};
 ghost use Rattle.std.specs.Option.{option_copied, option_map_or};
-ghost use Rattle.exec_world.specs.Ready.{candidates_for, ready_for, script_for};
+ghost use Rattle.exec_world.specs.Ready.{candidates_for, ready_for, script_to_take};
 ghost use Rattle.exec_world.specs.World.{has_room_for};
 ghost use Rattle.exec_world.specs.declared.ready.Cause.TheVariants as cause;
 
@@ -25,10 +25,10 @@ pub(crate) fn ready_for_item(
 ) -> Result<Ready, Memory>
     ensures { IfOk result (λ ready. ready ≡ ready_for moment handler.now (cause.Took item)
         (candidates_for item (option_map_or (λ entry. entry.goals) (option_copied server.entry) []))
-        (script_for item (option_map_or (λ entry. entry.goals) (option_copied server.entry) []) handler.now.script)) }
+        (script_to_take item (option_map_or (λ entry. entry.goals) (option_copied server.entry) []) handler.now.script)) }
 {
     let candidates = candidates_for(alloc, &item, server)?;
-    let script = script_for(&item, server, handler)?;
+    let script = script_to_take(&item, server, handler)?;
     Ok(handler.ready(moment, Cause::Took(item), candidates, script))
 }
 
@@ -47,12 +47,12 @@ fn candidates_for(
 }
 
 #[inline(always)]
-fn script_for(
+fn script_to_take(
     item: &Item,
     server: Option<&Server>,
     handler: &Handler,
 ) -> Result<Option<Script>, Memory>
-    ensures { IfOk result (λ script. script ≡ script_for item.now (option_map_or (λ entry. entry.goals) (option_copied server.entry) []) handler.now.script) }
+    ensures { IfOk result (λ script. script ≡ script_to_take item.now (option_map_or (λ entry. entry.goals) (option_copied server.entry) []) handler.now.script) }
 {
     let runs = match item {
         Item::Ask { .. } => false,

@@ -52,10 +52,10 @@ graph_code_of graph_fault.GroupVariable = refused.GroupVariable
 graph_code_of graph_fault.Memory = refused.Memory
 
 -- the code of a plan's fault
-abbrev pub code_of : PlanFault → Refused
-code_of plan_fault.Limit = refused.Limit
-code_of plan_fault.Clock = refused.Clock
-code_of plan_fault.Id = refused.Id
+abbrev pub plan_refusal : PlanFault → Refused
+plan_refusal plan_fault.Limit = refused.Limit
+plan_refusal plan_fault.Clock = refused.Clock
+plan_refusal plan_fault.Id = refused.Id
 
 -- what is found where nothing is refused, and else the refusal; unless memory was refused
 abbrev pub Answers : {A : Type 0} → Option Refused → Option A → Result A Refused → Type 0

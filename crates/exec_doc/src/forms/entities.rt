@@ -3,7 +3,7 @@ ghost use Rattle.serde_json.specs.View.{view};
 ghost use Rattle.exec_doc.specs.Forms.{depth_field, timer_form, subscription_form, service_form, client_form, server_form, action_client_form, entity, list};
 ghost use Rattle.exec_graph.specs.Options.{each};
 ghost use Rattle.exec_doc.specs.inner.Kinds.{form_of};
-ghost use Rattle.exec_doc.specs.inner.Reading.{Gives, Fails, IsAppended};
+ghost use Rattle.exec_doc.specs.inner.Reading.{ReadingGives, ReadingFails, IsAppended};
 
 use crate::forms::fields::{optional, required};
 use crate::forms::scripts::script_field;
@@ -26,7 +26,7 @@ pub fn append_entities(
     entities: &mut Vec<EntityDraft>,
 ) -> Result<(), Refused>
     ensures ok { OnOk result (IsAppended (list (entity (form_of kind)) name.now (view node.now)) entities.old.items entities.new.items) }
-    ensures err { IfErr result (λ code. Fails code (list (entity (form_of kind)) name.now (view node.now))) }
+    ensures err { IfErr result (λ code. ReadingFails code (list (entity (form_of kind)) name.now (view node.now))) }
 {
     match node.get(name) {
         Some(value) => append_each(
@@ -46,7 +46,7 @@ fn append_each(
     entities: &mut Vec<EntityDraft>,
 ) -> Result<(), Refused>
     ensures ok { OnOk result (IsAppended (each (entity (form_of kind)) (map view values.now)) entities.old.items entities.new.items) }
-    ensures err { IfErr result (λ code. Fails code (each (entity (form_of kind)) (map view values.now))) }
+    ensures err { IfErr result (λ code. ReadingFails code (each (entity (form_of kind)) (map view values.now))) }
 {
     for value in values {
         entities.push(entity(alloc, value, kind)?)?;
@@ -55,7 +55,7 @@ fn append_each(
 }
 
 fn entity(alloc: Global, value: &Value, kind: EntityKind) -> Result<EntityDraft, Refused>
-    ensures { Gives (λ found. found) result (entity (form_of kind) (view value.now)) }
+    ensures { ReadingGives (λ found. found) result (entity (form_of kind) (view value.now)) }
 {
     Ok(EntityDraft {
         name: required(alloc, value, "name")?,
@@ -65,7 +65,7 @@ fn entity(alloc: Global, value: &Value, kind: EntityKind) -> Result<EntityDraft,
 }
 
 fn drafted(alloc: Global, value: &Value, kind: EntityKind) -> Result<Drafted, Refused>
-    ensures { Gives (λ found. found) result (form_of kind (view value.now)) }
+    ensures { ReadingGives (λ found. found) result (form_of kind (view value.now)) }
 {
     match kind {
         EntityKind::Timer => timer(alloc, value),
@@ -78,7 +78,7 @@ fn drafted(alloc: Global, value: &Value, kind: EntityKind) -> Result<Drafted, Re
 }
 
 fn timer(alloc: Global, value: &Value) -> Result<Drafted, Refused>
-    ensures { Gives (λ found. found) result (timer_form (view value.now)) }
+    ensures { ReadingGives (λ found. found) result (timer_form (view value.now)) }
 {
     Ok(EntityOf::Timer(TimerEntity {
         period: required(alloc, value, "period")?,
@@ -87,7 +87,7 @@ fn timer(alloc: Global, value: &Value) -> Result<Drafted, Refused>
 }
 
 fn subscription(alloc: Global, value: &Value) -> Result<Drafted, Refused>
-    ensures { Gives (λ found. found) result (subscription_form (view value.now)) }
+    ensures { ReadingGives (λ found. found) result (subscription_form (view value.now)) }
 {
     Ok(EntityOf::Subscription(SubscriptionEntity {
         topic: required(alloc, value, "topic")?,
@@ -97,7 +97,7 @@ fn subscription(alloc: Global, value: &Value) -> Result<Drafted, Refused>
 }
 
 fn service(alloc: Global, value: &Value) -> Result<Drafted, Refused>
-    ensures { Gives (λ found. found) result (service_form (view value.now)) }
+    ensures { ReadingGives (λ found. found) result (service_form (view value.now)) }
 {
     Ok(EntityOf::Service(ServiceEntity {
         depth: depth_field(alloc, value)?,
@@ -106,7 +106,7 @@ fn service(alloc: Global, value: &Value) -> Result<Drafted, Refused>
 }
 
 fn client(alloc: Global, value: &Value) -> Result<Drafted, Refused>
-    ensures { Gives (λ found. found) result (client_form (view value.now)) }
+    ensures { ReadingGives (λ found. found) result (client_form (view value.now)) }
 {
     Ok(EntityOf::Client(ClientEntity {
         service: required(alloc, value, "service")?,
@@ -116,7 +116,7 @@ fn client(alloc: Global, value: &Value) -> Result<Drafted, Refused>
 }
 
 fn server(alloc: Global, value: &Value) -> Result<Drafted, Refused>
-    ensures { Gives (λ found. found) result (server_form (view value.now)) }
+    ensures { ReadingGives (λ found. found) result (server_form (view value.now)) }
 {
     Ok(EntityOf::Server(ServerEntity {
         depth: depth_field(alloc, value)?,
@@ -128,7 +128,7 @@ fn server(alloc: Global, value: &Value) -> Result<Drafted, Refused>
 }
 
 fn action_client(alloc: Global, value: &Value) -> Result<Drafted, Refused>
-    ensures { Gives (λ found. found) result (action_client_form (view value.now)) }
+    ensures { ReadingGives (λ found. found) result (action_client_form (view value.now)) }
 {
     Ok(EntityOf::ActionClient(ActionClientEntity {
         server: required(alloc, value, "action")?,
@@ -141,7 +141,7 @@ fn action_client(alloc: Global, value: &Value) -> Result<Drafted, Refused>
 }
 
 fn depth_field(alloc: Global, value: &Value) -> Result<u64, Refused>
-    ensures { Gives (λ found. found) result (depth_field (view value.now)) }
+    ensures { ReadingGives (λ found. found) result (depth_field (view value.now)) }
 {
     Ok(optional(alloc, value, "depth")?.unwrap_or(DEFAULT_DEPTH))
 }

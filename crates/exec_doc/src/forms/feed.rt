@@ -1,7 +1,7 @@
 ghost use Rattle.std.specs.Prelude.{◌≡◌, codes};
 ghost use Rattle.serde_json.specs.View.{view};
-ghost use Rattle.exec_doc.specs.Forms.{id_of, identifier, has, message_form, goal_form, cancel_form, fed, entry};
-ghost use Rattle.exec_doc.specs.inner.Reading.{Gives};
+ghost use Rattle.exec_doc.specs.Forms.{id_in_text, identifier, has, message_form, goal_form, cancel_form, fed, entry};
+ghost use Rattle.exec_doc.specs.inner.Reading.{ReadingGives};
 
 use crate::draft::{EntryDraft, FedDraft};
 use crate::forms::fields::{Form, optional, required};
@@ -23,7 +23,7 @@ impl Form for EntryDraft {
 }
 
 fn fed(alloc: Global, value: &Value) -> Result<FedDraft, Refused>
-    ensures { Gives (λ found. found) result (fed (view value.now)) }
+    ensures { ReadingGives (λ found. found) result (fed (view value.now)) }
 {
     match (
         has(value, "topic"),
@@ -44,7 +44,7 @@ fn has(value: &Value, name: &str) -> bool
 }
 
 fn message(alloc: Global, value: &Value) -> Result<FedDraft, Refused>
-    ensures { Gives (λ found. found) result (message_form (view value.now)) }
+    ensures { ReadingGives (λ found. found) result (message_form (view value.now)) }
 {
     Ok(FedDraft::Message {
         topic: required(alloc, value, "topic")?,
@@ -53,7 +53,7 @@ fn message(alloc: Global, value: &Value) -> Result<FedDraft, Refused>
 }
 
 fn goal(alloc: Global, value: &Value) -> Result<FedDraft, Refused>
-    ensures { Gives (λ found. found) result (goal_form (view value.now)) }
+    ensures { ReadingGives (λ found. found) result (goal_form (view value.now)) }
 {
     Ok(FedDraft::Goal {
         action: required(alloc, value, "action")?,
@@ -63,7 +63,7 @@ fn goal(alloc: Global, value: &Value) -> Result<FedDraft, Refused>
 }
 
 fn cancel(alloc: Global, value: &Value) -> Result<FedDraft, Refused>
-    ensures { Gives (λ found. found) result (cancel_form (view value.now)) }
+    ensures { ReadingGives (λ found. found) result (cancel_form (view value.now)) }
 {
     Ok(FedDraft::Cancel {
         action: required(alloc, value, "action")?,
@@ -77,12 +77,12 @@ impl Form for Option<GoalId> {
 
     fn read(_alloc: Global, value: &Value) -> Result<Option<GoalId>, Refused> {
         let text = value.as_str().ok_or(Refused::Shape)?;
-        Ok(id_of(text))
+        Ok(id_in_text(text))
     }
 }
 
-fn id_of(text: &str) -> Option<GoalId>
-    ensures { result ≡ id_of text.now }
+fn id_in_text(text: &str) -> Option<GoalId>
+    ensures { result ≡ id_in_text text.now }
 {
     match Uuid::parse_str(text) {
         Ok(id) => Some(GoalId::new(id.as_u128())),

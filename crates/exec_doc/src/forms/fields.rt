@@ -2,7 +2,7 @@ ghost use Rattle.std.specs.Prelude.{Option, map};
 ghost use Rattle.serde_json.specs.Data.{Data};
 ghost use Rattle.serde_json.specs.View.{view};
 ghost use Rattle.exec_doc.specs.Forms.{text, count, integer, list_of, required, optional, defaulted, list};
-ghost use Rattle.exec_doc.specs.inner.Reading.{Gives};
+ghost use Rattle.exec_doc.specs.inner.Reading.{ReadingGives};
 ghost use Rattle.exec_graph.specs.Options.{each};
 
 use crate::refused::Refused;
@@ -19,7 +19,7 @@ pub trait Form: Drop {
     /// # Errors
     /// [`Refused::Shape`] where the value hasn't the form, [`Refused::Memory`] where a growth was refused.
     fn read(alloc: Global, value: &Value) -> Result<Self, Refused>
-        ensures { Gives (λ found. found) result (form (view value.now)) };
+        ensures { ReadingGives (λ found. found) result (form (view value.now)) };
 }
 
 impl Form for WordText {
@@ -49,7 +49,7 @@ impl Form for u64 {
 
 /// The value of a required field.
 pub fn required<T: Form>(alloc: Global, holder: &Value, name: &str) -> Result<T, Refused>
-    ensures { Gives (λ found. found) result (required T.form name.now (view holder.now)) }
+    ensures { ReadingGives (λ found. found) result (required T.form name.now (view holder.now)) }
 {
     let value = holder.get(name).ok_or(Refused::Shape)?;
     T::read(alloc, value)
@@ -57,7 +57,7 @@ pub fn required<T: Form>(alloc: Global, holder: &Value, name: &str) -> Result<T,
 
 /// The value of an optional field.
 pub fn optional<T: Form>(alloc: Global, holder: &Value, name: &str) -> Result<Option<T>, Refused>
-    ensures { Gives (λ found. found) result (optional T.form name.now (view holder.now)) }
+    ensures { ReadingGives (λ found. found) result (optional T.form name.now (view holder.now)) }
 {
     match holder.get(name) {
         Some(value) => Ok(Some(T::read(alloc, value)?)),
@@ -67,7 +67,7 @@ pub fn optional<T: Form>(alloc: Global, holder: &Value, name: &str) -> Result<Op
 
 /// The list in a field, which is empty where the field is missing.
 pub fn list<T: Form>(alloc: Global, holder: &Value, name: &str) -> Result<Vec<T>, Refused>
-    ensures { Gives (λ found. found.items) result (list T.form name.now (view holder.now)) }
+    ensures { ReadingGives (λ found. found.items) result (list T.form name.now (view holder.now)) }
 {
     match holder.get(name) {
         Some(value) => list_of(alloc, value),
@@ -78,14 +78,14 @@ pub fn list<T: Form>(alloc: Global, holder: &Value, name: &str) -> Result<Vec<T>
 /// The list that a value is.
 #[tactic(auto, using(crate::proofs::Lists::any_list))]
 pub fn list_of<T: Form>(alloc: Global, value: &Value) -> Result<Vec<T>, Refused>
-    ensures { Gives (λ found. found.items) result (list_of T.form (view value.now)) }
+    ensures { ReadingGives (λ found. found.items) result (list_of T.form (view value.now)) }
 {
     let values = value.as_array().ok_or(Refused::Shape)?;
     each(alloc, values)
 }
 
 fn each<T: Form>(alloc: Global, values: &[Value]) -> Result<Vec<T>, Refused>
-    ensures { Gives (λ found. found.items) result (each T.form (map view values.now)) }
+    ensures { ReadingGives (λ found. found.items) result (each T.form (map view values.now)) }
 {
     let mut found = Vec::with_capacity(alloc, values.len())?;
     for value in values {

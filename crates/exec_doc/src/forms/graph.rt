@@ -4,7 +4,7 @@ ghost use Rattle.serde_json.specs.View.{view};
 ghost use Rattle.exec_graph.specs.Options.{each};
 ghost use Rattle.exec_doc.specs.Forms.{text, list_of, declared};
 ghost use Rattle.exec_graph.specs.Entity.{if_there};
-ghost use Rattle.exec_doc.specs.inner.Reading.{Gives, Fails, IsAppended};
+ghost use Rattle.exec_doc.specs.inner.Reading.{ReadingGives, ReadingFails, IsAppended};
 
 use crate::forms::fields::list;
 use crate::forms::owned::{into_array, into_field, into_text};
@@ -16,7 +16,7 @@ use std::alloc::Global;
 
 /// What a document declares. The names of its topics, of which there may be a million, are taken out of it.
 pub fn declared(alloc: Global, document: Value) -> Result<GraphBuilder, Refused>
-    ensures { Gives (λ found. found) result (declared (view document)) }
+    ensures { ReadingGives (λ found. found) result (declared (view document)) }
 {
     let mut graph = GraphBuilder::new(alloc);
     declare_nodes(list(alloc, &document, "nodes")?, &mut graph)?;
@@ -37,7 +37,7 @@ fn declare_nodes(nodes: Vec<NodeDraft>, graph: &mut GraphBuilder) -> Result<(), 
 fn declare_topics(field: Option<Value>, graph: &mut GraphBuilder) -> Result<(), Refused>
     ensures ok { OnOk result (IsAppended (option_map (λ found. unwrap_or found []) (if_there (list_of text) (option_map view field))) graph.old.topics graph.new.topics) }
     ensures nodes { graph.new.nodes ≡ graph.old.nodes }
-    ensures err { IfErr result (λ code. Fails code (option_map (λ found. unwrap_or found []) (if_there (list_of text) (option_map view field)))) }
+    ensures err { IfErr result (λ code. ReadingFails code (option_map (λ found. unwrap_or found []) (if_there (list_of text) (option_map view field)))) }
 {
     match field {
         Some(value) => declare_each(into_array(value).ok_or(Refused::Shape)?, graph),
@@ -48,7 +48,7 @@ fn declare_topics(field: Option<Value>, graph: &mut GraphBuilder) -> Result<(), 
 fn declare_each(names: Vec<Value>, graph: &mut GraphBuilder) -> Result<(), Refused>
     ensures ok { OnOk result (IsAppended (each text (map view names.items)) graph.old.topics graph.new.topics) }
     ensures nodes { graph.new.nodes ≡ graph.old.nodes }
-    ensures err { IfErr result (λ code. Fails code (each text (map view names.items))) }
+    ensures err { IfErr result (λ code. ReadingFails code (each text (map view names.items))) }
 {
     for name in names {
         graph.topic(into_text(name).ok_or(Refused::Shape)?)?;

@@ -2,7 +2,7 @@ ghost use Rattle.std.specs.Prelude.{map};
 ghost use Rattle.serde_json.specs.View.{view};
 ghost use Rattle.exec_graph.specs.Options.{each};
 ghost use Rattle.exec_doc.specs.Forms.{list_of, word, script, script_field};
-ghost use Rattle.exec_doc.specs.inner.Reading.{Gives};
+ghost use Rattle.exec_doc.specs.inner.Reading.{ReadingGives};
 
 use crate::forms::fields::{self, Form};
 use crate::refused::Refused;
@@ -34,7 +34,7 @@ impl Form for Spelled {
 }
 
 fn instructions(alloc: Global, values: &[Value]) -> Result<Vec<Vec<Word>>, Refused>
-    ensures { Gives (λ found. map (λ words. words.items) found.items) result (each (list_of word) (map view values.now)) }
+    ensures { ReadingGives (λ found. map (λ words. words.items) found.items) result (each (list_of word) (map view values.now)) }
 {
     let mut instructions = Vec::with_capacity(alloc, values.len())?;
     for value in values {
@@ -45,7 +45,7 @@ fn instructions(alloc: Global, values: &[Value]) -> Result<Vec<Vec<Word>>, Refus
 
 /// The script in a field, which is empty where the field is missing.
 pub fn script_field(alloc: Global, holder: &Value, name: &str) -> Result<Spelled, Refused>
-    ensures { Gives (λ found. found) result (script_field name.now (view holder.now)) }
+    ensures { ReadingGives (λ found. found) result (script_field name.now (view holder.now)) }
 {
     match fields::optional(alloc, holder, name)? {
         Some(script) => Ok(script),

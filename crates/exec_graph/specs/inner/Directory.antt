@@ -16,7 +16,7 @@ use Rattle.exec_graph.specs.declared.draft.GraphDraft.{GraphDraft}
 use Rattle.exec_graph.specs.Entity.{Drafted, Script, Resolved, RoleScriptData, is_of, reference_of, scripts_of, if_there, read_by}
 use Rattle.exec_graph.specs.Graph.{EntityData, GroupNo}
 use Rattle.exec_graph.specs.declared.draft.NodeDraft.{NodeDraft}
-use Rattle.exec_graph.specs.Faults.{names_of}
+use Rattle.exec_graph.specs.Faults.{drafted_names}
 use Rattle.exec_graph.specs.Names.{is_name}
 use Rattle.exec_graph.specs.Numbers.{Placed, entities_of}
 use Rattle.exec_graph.specs.Options.{◌>>=◌}
@@ -66,7 +66,7 @@ pub record DirectoryData : Type 0 where
 abbrev pub directory_of : GraphDraft → DirectoryData
 directory_of draft = record {
   topics = length draft.topics;
-  names = names_of draft;
+  names = drafted_names draft;
   groups = node_groups_from 0 draft.nodes;
   entities = entities_of draft;
 }

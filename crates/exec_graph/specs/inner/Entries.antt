@@ -9,5 +9,5 @@ abbrev pub entity_of : String Global × Declared → EntityData
 entity_of entry = record { name = string_bytes entry.0; is = entry.1 }
 
 -- those of a map's entries
-abbrev pub entities_of : List (String Global × Declared) → List EntityData
-entities_of entries = map entity_of entries
+abbrev pub entities_in : List (String Global × Declared) → List EntityData
+entities_in entries = map entity_of entries

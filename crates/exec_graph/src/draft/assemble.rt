@@ -5,7 +5,7 @@ ghost use Rattle.std.specs.Option.{option_map};
 ghost use Rattle.std.specs.Str.{bytes_eq};
 ghost use Rattle.exec_graph.specs.inner.Directory.{IsLinked, directory_of, linked_in, titled, where_so};
 ghost use Rattle.exec_graph.specs.declared.draft.GraphDraft.{GraphDraft};
-ghost use Rattle.exec_graph.specs.inner.Entries.{entities_of as entries_of};
+ghost use Rattle.exec_graph.specs.inner.Entries.{entities_in as entries_of};
 ghost use Rattle.exec_graph.specs.Faults.{is_well_named};
 ghost use Rattle.exec_graph.specs.Faults as faults;
 ghost use Rattle.exec_graph.specs.Names.{are_distinct};
@@ -103,7 +103,7 @@ fn entities_of(
     requires names { length directory.now.names ≤ 65536 }
     requires links { All (IsLinked directory.now) links.now }
     requires entities { map (λ linked. linked.placed) links.now ≡ directory.now.entities }
-    ensures { IfOk result (λ found. (source : GraphDraft) → are_distinct (faults.names_of source) ≡ true → topics.now ≡ source.topics → directory.now ≡ directory_of source →
+    ensures { IfOk result (λ found. (source : GraphDraft) → are_distinct (faults.drafted_names source) ≡ true → topics.now ≡ source.topics → directory.now ≡ directory_of source →
         option_map (λ others. map topic_in source.topics ++ others) (each (entity_in source) (numbers.entities_of source)) ≡ option_map (λ entities. entries_of entities.entries) found) }
 {
     let mut entities = topics_of(alloc, topics)?;
@@ -149,7 +149,7 @@ fn declared(
 ) -> Result<Option<Declared>, Memory>
     requires names { length directory.now.names ≤ 65536 }
     requires linked { IsLinked directory.now linked.now }
-    ensures { IfOk result (λ found. (source : GraphDraft) → are_distinct (faults.names_of source) ≡ true → directory.now ≡ directory_of source →
+    ensures { IfOk result (λ found. (source : GraphDraft) → are_distinct (faults.drafted_names source) ≡ true → directory.now ≡ directory_of source →
         entity_in source linked.now.placed ≡ option_map (titled linked.now.placed) found) }
 {
     let scope = NodeScope::of(directory, linked.node);

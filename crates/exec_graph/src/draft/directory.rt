@@ -4,7 +4,7 @@ ghost use Rattle.std.specs.List.{list_all};
 ghost use Rattle.std.specs.Option.{option_map};
 ghost use Rattle.exec_graph.specs.inner.Directory.{names_from, node_groups_from, where_so, topic_number, placed_named, entity_number, number_in, group_in, referred, linked_in, directory_of};
 ghost use Rattle.exec_graph.specs.Entity.{is_of};
-ghost use Rattle.exec_graph.specs.Faults.{are_names, has_named_groups, names_of};
+ghost use Rattle.exec_graph.specs.Faults.{are_names, has_named_groups, drafted_names};
 ghost use Rattle.exec_graph.specs.Options.{each};
 
 use crate::draft::groups::NodeGroups;
@@ -41,7 +41,7 @@ impl<'a> Directory<'a> {
     // are names and differ.
     pub(crate) fn of(alloc: Global, draft: &'a GraphDraft) -> Result<Option<Directory<'a>>, Memory>
         ensures { IfOk result (λ found. found ≡ where_so
-            (list_all has_named_groups draft.now.nodes && are_names (names_of draft.now))
+            (list_all has_named_groups draft.now.nodes && are_names (drafted_names draft.now))
             (directory_of draft.now)) }
     {
         let Some(groups) = node_groups(alloc, draft.nodes.as_slice())? else {

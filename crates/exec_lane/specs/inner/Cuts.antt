@@ -19,12 +19,12 @@ abbrev pub takes : SlotState → List SlotState → Bool
 takes slot lane = goes_into slot.ready (callbacks_of lane)
 
 -- a lane with one more slot
-abbrev pub joined : SlotState → List SlotState → List SlotState
-joined slot lane = lane ++ slot ∷ []
+abbrev pub lane_with : SlotState → List SlotState → List SlotState
+lane_with slot lane = lane ++ slot ∷ []
 
 -- the lanes with one more slot: it goes into the lane of its group, and begins one where there is none
 abbrev pub with_slot : List (List SlotState) → SlotState → List (List SlotState)
-with_slot lanes slot = if list_any (takes slot) lanes then change_first (takes slot) (joined slot) lanes else lanes ++ (slot ∷ []) ∷ []
+with_slot lanes slot = if list_any (takes slot) lanes then change_first (takes slot) (lane_with slot) lanes else lanes ++ (slot ∷ []) ∷ []
 
 -- whether a lane is that of a mutually exclusive group
 abbrev pub is_lane_of : GroupNo → List SlotState → Bool

@@ -45,13 +45,13 @@ place_of_target (destination.Register slot) = slot
 place_of_target (destination.Variable slot) = slot + 8
 
 -- the operand that a cell is with a constant that is added to it
-abbrev pub operand_at : Cell → ℤ → Operand
-operand_at (Register slot) constant = operand.Register slot
-operand_at (Variable slot) constant = operand.Variable slot
-operand_at In constant = operand.In
-operand_at Aux constant = operand.Aux
-operand_at Now constant = operand.Now
-operand_at Zero constant = operand.Value constant
+abbrev pub cell_operand : Cell → ℤ → Operand
+cell_operand (Register slot) constant = operand.Register slot
+cell_operand (Variable slot) constant = operand.Variable slot
+cell_operand In constant = operand.In
+cell_operand Aux constant = operand.Aux
+cell_operand Now constant = operand.Now
+cell_operand Zero constant = operand.Value constant
 
 -- the cell of an operand
 abbrev pub cell_of : Operand → Cell

@@ -1,7 +1,7 @@
 -- Instructions in their flat form.
 use Rattle.std.specs.Prelude.{ℕ, ℤ, pos, negsuc}
 use Rattle.exec_script.specs.Instruction.{Instruction, Set, Skip, Pub, Call, Goal, CancelAll, CancelGoal, Execute, Log, Reply, Decide, Feedback, Wait, Yield, Succeed, Abort, Canceled}
-use Rattle.exec_script.specs.inner.Cells.{operand_at, cell_of, constant_of}
+use Rattle.exec_script.specs.inner.Cells.{cell_operand, cell_of, constant_of}
 use Rattle.exec_script.specs.declared.instr.Destination.TheVariants as destination
 use Rattle.exec_script.specs.declared.instr.Flat.{Flat}
 use Rattle.exec_script.specs.declared.instr.Operand.{Operand}
@@ -13,10 +13,10 @@ use Rattle.exec_script.specs.declared.instr.What.TheVariants as what
 
 -- the two operands of a flat instruction
 abbrev pub left_of : Flat → Operand
-left_of flat = operand_at flat.left_source flat.left
+left_of flat = cell_operand flat.left_source flat.left
 
 abbrev pub right_of : Flat → Operand
-right_of flat = operand_at flat.right_source flat.right
+right_of flat = cell_operand flat.right_source flat.right
 
 -- a count that stands in an operand's constant
 abbrev pub count_in : ℤ → ℕ
@@ -44,8 +44,8 @@ made what.Abort flat = Abort (left_of flat)
 made what.Canceled flat = Canceled (left_of flat)
 
 -- the instruction that a flat one is
-abbrev pub instruction_of : Flat → Instruction
-instruction_of flat = made flat.what flat
+abbrev pub as_instruction : Flat → Instruction
+as_instruction flat = made flat.what flat
 
 -- a flat instruction of one entity and two operands, with the first destination and operation
 abbrev pub parts_of : What → ℕ → Operand → Operand → Flat
@@ -61,14 +61,14 @@ parts_of kind entity left right = record {
 }
 
 -- the place of an operation among all
-abbrev pub number_of : Operation → ℕ
-number_of operation.Add = 0
-number_of operation.Sub = 1
-number_of operation.Mul = 2
-number_of operation.Min = 3
-number_of operation.Max = 4
-number_of operation.Lt = 5
-number_of operation.Eq = 6
+abbrev pub operation_number : Operation → ℕ
+operation_number operation.Add = 0
+operation_number operation.Sub = 1
+operation_number operation.Mul = 2
+operation_number operation.Min = 3
+operation_number operation.Max = 4
+operation_number operation.Lt = 5
+operation_number operation.Eq = 6
 
 -- an operand that is always 0
 abbrev pub no_operand : Operand

@@ -2,7 +2,7 @@
 use Rattle.std.specs.Prelude.{ℕ, List, [], slice_get}
 use Rattle.std.specs.List.{flat_map, fold}
 use Rattle.std.specs.Option.{option_map_or}
-use Rattle.exec_world.specs.Ready.{candidates_for, item_ready, ready_for, reply_taken, script_for}
+use Rattle.exec_world.specs.Ready.{candidates_for, item_ready, ready_for, reply_taken, script_to_take}
 use Rattle.exec_world.specs.World.{ClientEntry, Handler, Moment, Queue, ServerEntry}
 use Rattle.exec_world.specs.declared.item.Item.{Item}
 use Rattle.exec_world.specs.declared.ready.Cause.TheVariants as cause
@@ -12,7 +12,7 @@ use Rattle.exec_world.specs.inner.Servers.{goals_in}
 -- the callback that takes an item, where these are the servers
 abbrev pub taking : Moment → List ServerEntry → Handler → Item → Ready
 taking moment servers handler taken = ready_for moment handler (cause.Took taken)
-    (candidates_for taken (goals_in handler.entity servers)) (script_for taken (goals_in handler.entity servers) handler.script)
+    (candidates_for taken (goals_in handler.entity servers)) (script_to_take taken (goals_in handler.entity servers) handler.script)
 
 -- the callback that takes from a queue where that has an item
 abbrev pub front_of : Moment → List ServerEntry → Queue → List Ready
@@ -27,9 +27,9 @@ abbrev pub fronts_at : Moment → List ServerEntry → List Queue → List ℕ �
 fronts_at moment servers queues places = flat_map (front_at moment servers queues) places
 
 -- service clients after the queue at a place hands on its first item
-abbrev pub reply_at : List Queue → List ClientEntry → ℕ → List ClientEntry
-reply_at queues clients place = option_map_or (reply_taken clients) (slice_get queues place) clients
+abbrev pub with_reply_at : List Queue → List ClientEntry → ℕ → List ClientEntry
+with_reply_at queues clients place = option_map_or (reply_taken clients) (slice_get queues place) clients
 
 -- service clients after the queues at these places do
 abbrev pub replies_at : List Queue → List ClientEntry → List ℕ → List ClientEntry
-replies_at queues clients places = fold (reply_at queues) clients places
+replies_at queues clients places = fold (with_reply_at queues) clients places

@@ -2,7 +2,7 @@
 ghost use Rattle.std.specs.Prelude.{◌≡◌, [], ◌∷◌, IfOk, OnOk};
 ghost use Rattle.exec_world.specs.Ready.{answered_by_first};
 ghost use Rattle.exec_world.specs.inner.Listing.{listed_behind};
-ghost use Rattle.exec_world.specs.inner.Snapshots.{front_at, fronts_at, replies_at, reply_at, taking};
+ghost use Rattle.exec_world.specs.inner.Snapshots.{front_at, fronts_at, replies_at, with_reply_at, taking};
 
 use super::State;
 use crate::client::Clients;
@@ -141,7 +141,7 @@ fn answer_calls(clients: &mut Clients, queues: &Queues, places: &[usize])
 
 // Gives a call the reply that stands first in the queue at a place, if one does.
 fn answer_call(clients: &mut Clients, queues: &Queues, place: usize)
-    ensures { clients.new ≡ reply_at queues.now clients.old place }
+    ensures { clients.new ≡ with_reply_at queues.now clients.old place }
 {
     let Some(handler) = queues.handler(place) else {
         return;

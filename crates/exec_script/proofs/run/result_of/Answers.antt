@@ -12,7 +12,7 @@ returns c =
     let equal : SFits w64 c.equal.result = search rules in
     let l = c.ranges.left in
     let r = c.ranges.right in
-    picked_is c.args.operation c.args.left c.args.right _ _ _ _ _ _ _ c.number_of.result c.number_of.ensures.value
+    picked_is c.args.operation c.args.left c.args.right _ _ _ _ _ _ _ c.operation_number.result c.operation_number.ensures.value
     (remainder_fits _) (remainder_fits _) (remainder_fits _) (stored_fits _ least) (stored_fits _ most) (stored_fits _ less) (stored_fits _ equal)
     refl refl refl
     (stored_is operation.Min _ _ _ l r least c.min.ensures.value)

@@ -1,6 +1,6 @@
 use Rattle.std.proofs.Common.{◌≡◌, [], sym, ap, subst, ◌∙◌}
 use Rattle.atomic_table.specs.Seated.{TableId}
-use Rattle.exec_board.specs.Board.{IsSeated, PassView, slots_of}
+use Rattle.exec_board.specs.Board.{IsSeated, PassView, held_slots}
 use Rattle.exec_board.proofs.Seating.{both_seated}
 use Rattle.exec_board.proofs.Shares.{joins}
 use Rattle.exec_board.proofs.board.Board.join.Goals as goal
@@ -11,7 +11,7 @@ join_seat-requires c =
     let neighbours : c.back.inside.seat.me.0.start ≡ c.front.inside.seat.me.0.stop = subst (λ (x : PassView × PassView). x.1.view.start ≡ x.0.view.stop) (λ i. (sym c.front.view_is i, sym c.back.view_is i)) c.requires.neighbours in (
       ap (λ x. x.board) c.front.view_is ∙ c.requires.board.0 ∙ sym c.self.view_is,
       ap (λ x. x.board) c.back.view_is ∙ c.requires.board.1 ∙ sym c.self.view_is,
-      c.back.invariant.slots_are ∙ ap slots_of free,
+      c.back.invariant.slots_are ∙ ap held_slots free,
       c.self.invariant.1,
       joins c.front.inside.seat.id c.front.inside.seat.me.0 c.back.inside.seat.id c.back.inside.seat.me.0 c.front.invariant.some_share c.back.invariant.some_share neighbours free,
     )

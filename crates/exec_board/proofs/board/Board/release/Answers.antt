@@ -1,6 +1,6 @@
 use Rattle.std.proofs.Common.{◌≡◌, ◌<◌, sym, ap, subst, ◌∙◌}
 use Rattle.atomic_table.specs.Seated.{TableId}
-use Rattle.exec_board.specs.Board.{ClaimView, IsSeated, MayRelease, PassView, slots_of}
+use Rattle.exec_board.specs.Board.{ClaimView, IsSeated, MayRelease, PassView, held_slots}
 use Rattle.exec_board.specs.Seats.{without}
 use Rattle.exec_board.proofs.Holding.{filled_is, fillable, home_is, seated_on}
 use Rattle.exec_board.proofs.Releases.{releases}
@@ -23,7 +23,7 @@ store-requires c =
     subst (λ (x : PassView × ClaimView). MayRelease x.0.view x.1) (λ i. (sym c.pass.view_is i, sym c.claim.view_is i)) c.requires.claim in (
       c.exchange.ensures.0 ∙ c.bring.ensures.0 ∙ table,
       subst (λ (z : TableId). c.claim.inside.lane < z.words) claim c.claim.invariant,
-      releases c.self.inside.table.shared.table_id.slots c.exchange.new.seat.id c.pass.inside.seat.me.0 (slots_of (without c.claim.inside.lane c.pass.inside.seat.me.0.holds)) c.claim.inside.lane c.claim.inside.start.value c.claim.inside.work c.exchange.new.seat.me c.home_word-word.result
+      releases c.self.inside.table.shared.table_id.slots c.exchange.new.seat.id c.pass.inside.seat.me.0 (held_slots (without c.claim.inside.lane c.pass.inside.seat.me.0.holds)) c.claim.inside.lane c.claim.inside.start.value c.claim.inside.work c.exchange.new.seat.me c.home_word-word.result
           c.pass.invariant.some_share held.held held.work held.count c.home_word-word.ensures.within
           (filled_is c.claim.inside.lane c.claim.inside.start.value c.pass.inside.seat.me c.bring.new.seat.me held.held c.pass.invariant.slots_are c.bring.ensures.2 c.claim.inside.work c.exchange.new.seat.me c.exchange.ensures.3)
           c.home_word-word.ensures.value,

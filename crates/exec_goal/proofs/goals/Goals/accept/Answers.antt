@@ -3,7 +3,7 @@ use mir.Val.{SFits}
 use Rattle.exec_goal.proofs.Entries.{ids_decide, inserted-new}
 use Rattle.exec_goal.proofs.Tallying.{tallied-fits, tallied-accepted}
 use Rattle.exec_goal.specs.Held.{records_of}
-use Rattle.exec_goal.specs.Table.{GoalRecord, holds, new_goal}
+use Rattle.exec_goal.specs.Table.{GoalRecord, holds_id, new_goal}
 use Rattle.exec_goal.specs.declared.state.State.TheVariants as state
 use Rattle.exec_goal.specs.inner.Tally.{CountsMove, IsTallied}
 use Rattle.exec_msg.specs.declared.limits.TheConstants.{GOALS}
@@ -12,7 +12,7 @@ use Rattle.exec_goal.proofs.goals.Goals.accept.Goals as goal
 pub returns-clause-accepted : goal.returns-clause-accepted
 returns-clause-accepted c =
     let fits : SFits w64 c.args.value = search rules in
-    let none : holds c.args.id (records_of c.self.inside.held.entries) ≡ false = ap (holds c.args.id) c.self.view_is ∙ sym c.holds.ensures ∙ c.if-holds.false in
+    let none : holds_id c.args.id (records_of c.self.inside.held.entries) ≡ false = ap (holds_id c.args.id) c.self.view_is ∙ sym c.holds.ensures ∙ c.if-holds.false in
     ap records_of c.in_ok-insert.ensures.entries ∙ inserted-new _ (λ a b. ids_decide a b) c.args.id _ c.self.inside.held.entries none
     ∙ ap (λ goal. records_of c.self.inside.held.entries ++ goal ∷ []) (c.accepted-goal.ensures.stands_for c.args.id)
     ∙ ap (λ value. records_of c.self.inside.held.entries ++ new_goal c.args.id value c.args.moment c.args.decision ∷ []) (to_z-of_z fits)
@@ -24,7 +24,7 @@ count_move-requires-clause-fits c = tallied-fits c.self.inside.tally (records_of
 pub invariant_of-self-2 : goal.invariant_of-self-2
 invariant_of-self-2 c =
     let goals : List GoalRecord = records_of c.self.inside.held.entries in
-    let none : holds c.args.id goals ≡ false = ap (holds c.args.id) c.self.view_is ∙ sym c.holds.ensures ∙ c.if-holds.false in
+    let none : holds_id c.args.id goals ≡ false = ap (holds_id c.args.id) c.self.view_is ∙ sym c.holds.ensures ∙ c.if-holds.false in
     let room : length goals < GOALS = omega (arith, leb-false GOALS (length c.args.self.now) (sym c.is_full.ensures ∙ c.if-is_full.false), ap length c.self.view_is) in
     subst (λ (goals : List GoalRecord). IsTallied c.count_move.new.self goals)
     (sym (ap records_of c.in_ok-insert.ensures.entries ∙ inserted-new _ (λ a b. ids_decide a b) c.args.id _ c.self.inside.held.entries none))

@@ -1,7 +1,7 @@
 use Rattle.std.proofs.Common.{ℕ, ◌==◌, inl, inr, ap, sym, ◌∙◌, ◌≡◌, ◌++◌, map, string_bytes, List, true}
 use Rattle.std.proofs.lemmas.Result.{err_from_is_err_and}
 use Rattle.exec_graph.specs.inner.Directory.{DirectoryData}
-use Rattle.exec_graph.specs.inner.Entries.{entities_of as entries_of}
+use Rattle.exec_graph.specs.inner.Entries.{entities_in as entries_of}
 use Rattle.exec_graph.specs.Faults.{is_small}
 use Rattle.exec_graph.specs.Graph.{GraphData}
 use Rattle.exec_graph.specs.Numbers.{Placed, groups_from}

@@ -1,6 +1,6 @@
 use Rattle.std.proofs.Common.{◌++◌, map, sym, ap, ◌∙◌, append-nil, List, ℕ}
 use Rattle.std.proofs.Math.ListN.{drop_of_length-le}
-use Rattle.exec_graph.specs.inner.Entries.{entities_of as entries_of}
+use Rattle.exec_graph.specs.inner.Entries.{entities_in as entries_of}
 use Rattle.exec_graph.specs.Graph.{EntityData}
 use Rattle.exec_graph.specs.Resolved.{topic_in}
 use Rattle.exec_graph.proofs.Appended.{next_topic}

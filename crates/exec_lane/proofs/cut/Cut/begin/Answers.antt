@@ -2,7 +2,7 @@ use Rattle.std.proofs.Common.{◌≡◌, List, length, map, true, false, ◌∷�
 use Rattle.exec_lane.proofs.Joining.{as_long, finds_alone, finds_begun, one_more}
 use Rattle.exec_lane.specs.inner.Cuts.{FindsLanes}
 use Rattle.exec_lane.specs.inner.Slots.{SlotState}
-use Rattle.exec_msg.specs.Places.{change_at, noted}
+use Rattle.exec_msg.specs.Places.{change_at, first_noted}
 use Rattle.exec_lane.proofs.cut.Cut.begin.Goals as goal
 
 pub invariant_of-self-then-exclusive : goal.invariant_of-self-then-exclusive
@@ -15,7 +15,7 @@ invariant_of-self-then-exclusive c =
     (finds_begun c.self.inside.of_group c.reserve.new.self c.note.new.self (map (λ lane. lane.items) c.self.inside.lanes.items) c.args.slot c.number_of-group.result c.self.invariant c.in_ok-reserve.ensures.same c.in_ok-reserve.ensures.room
     same
     (sym (ap (λ (slot : SlotState). slot.ready.exclusive) c.slot.view_is) ∙ e)
-    (c.note.ensures ∙ ap (λ n. change_at c.number_of-group.result (noted n) c.reserve.new.self) (ap length c.as_slice-place.ensures.value ∙ sym (as_long (λ lane. lane.items) c.self.inside.lanes.items))))
+    (c.note.ensures ∙ ap (λ n. change_at c.number_of-group.result (first_noted n) c.reserve.new.self) (ap length c.as_slice-place.ensures.value ∙ sym (as_long (λ lane. lane.items) c.self.inside.lanes.items))))
 
 pub invariant_of-self-else-exclusive : goal.invariant_of-self-else-exclusive
 invariant_of-self-else-exclusive c =

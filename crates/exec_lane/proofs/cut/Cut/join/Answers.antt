@@ -1,6 +1,6 @@
 use Rattle.std.proofs.Common.{◌≡◌, List, length, map, vec_len, ap, sym, subst, ◌∙◌, arith}
 use Rattle.exec_lane.proofs.Joining.{as_long, finds_joined, joined_in, kept_in, place_within}
-use Rattle.exec_lane.specs.inner.Cuts.{FindsLanes, joined, place_for}
+use Rattle.exec_lane.specs.inner.Cuts.{FindsLanes, lane_with, place_for}
 use Rattle.exec_lane.specs.inner.Slots.{SlotState}
 use Rattle.exec_msg.specs.Places.{change_at}
 use Rattle.exec_lane.proofs.cut.Cut.join.Goals as goal
@@ -25,4 +25,4 @@ invariant_of-self-2 c =
 pub returns : goal.returns
 returns c =
     joined_in (λ lane. lane.items) c.self.inside.lanes.items c.args.place c.index_mut.result.now c.push.new.self c.args.slot c.index_mut.ensures.value c.in_ok-push.ensures.items
-    ∙ ap (change_at c.args.place (joined c.args.slot)) c.self.view_is
+    ∙ ap (change_at c.args.place (lane_with c.args.slot)) c.self.view_is

@@ -1,7 +1,7 @@
 use Rattle.std.proofs.Common.{length, refl, ap, subst, sym, ◌∙◌, true≢false}
 use Rattle.exec_world.proofs.FoundQueues.{finds_behind, covers_behind}
 use Rattle.exec_world.specs.World.{Handler, Queue}
-use Rattle.exec_msg.specs.Places.{change_at, noted}
+use Rattle.exec_msg.specs.Places.{change_at, first_noted}
 use Rattle.exec_world.specs.inner.Queues.{slot_of, FindsQueues, CoversFilled}
 use Rattle.exec_world.proofs.queue.Queues.declare.Goals as goal
 
@@ -11,7 +11,7 @@ invariant_of-self-2 c =
       subst (FindsQueues c.note.new.self) (sym c.in_ok-push.ensures.items)
           (finds_behind c.self.inside.places c.reserve.new.self c.note.new.self c.self.inside.cells.items queue c.args.handler.entity c.slot-slot.result c.args.kind c.self.invariant.0 c.in_ok-reserve.ensures.same c.in_ok-reserve.ensures.room
           (c.slot-slot.ensures.value ∙ ap (λ (handler : Handler). slot_of handler.entity c.args.kind) c.handler.view_is) refl refl
-          (c.note.ensures ∙ ap (λ n. change_at c.slot-slot.result (noted n) c.reserve.new.self) (c.count-place.ensures ∙ ap length c.deref.ensures.value))),
+          (c.note.ensures ∙ ap (λ n. change_at c.slot-slot.result (first_noted n) c.reserve.new.self) (c.count-place.ensures ∙ ap length c.deref.ensures.value))),
       subst (CoversFilled c.self.inside.filled.items) (sym c.in_ok-push.ensures.items)
           (covers_behind c.self.inside.filled.items c.self.inside.cells.items queue c.self.invariant.1 (ap (λ queue. queue.items) c.new-queue.ensures)),
       λ settled. absurd (true≢false (sym settled)),

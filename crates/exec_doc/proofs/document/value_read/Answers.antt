@@ -1,6 +1,6 @@
 use Rattle.std.proofs.Common.{inr, refl}
 use Rattle.exec_doc.proofs.Bytes.{has_value, has_none}
-use Rattle.exec_doc.proofs.document.value_of.Goals as goal
+use Rattle.exec_doc.proofs.document.value_read.Goals as goal
 
 pub returns-in-Ok-clause-value : goal.returns-in-Ok-clause-value
 returns-in-Ok-clause-value c = has_value c.args.bytes.now _ c.in-Ok.ensures.ok.0 c.in-Ok.ensures.ok.1
