@@ -1,6 +1,7 @@
-ghost use Rattle.std.specs.Prelude.{◌≡◌, ◌+◌, ◌-◌, ◌<◌, ◌≤◌, ◌^◌, ◌++◌, None, length, vec_len, vec_capacity, OnOk, OnErr, IfOk};
+ghost use Rattle.std.specs.Prelude.{◌≡◌, ◌+◌, ◌-◌, ◌<◌, ◌≤◌, ◌^◌, ◌++◌, ℤ, List, Option, None, length, vec_len, vec_capacity, OnOk, OnErr, IfOk};
 ghost use Rattle.exec_script.specs.LawWords.{PausesWithin, WaitsWithin};
 ghost use Rattle.exec_script.specs.Script.{result_of, at_least_0, step_of, listed, resumed, call_of, decision_within, close_of};
+ghost use Rattle.exec_script.specs.declared.effects.Effect.{Effect};
 ghost use Rattle.exec_script.specs.declared.instr.Operation.TheVariants as operation;
 ghost use Rattle.exec_script.specs.inner.Flat.{operation_number};
 
@@ -132,8 +133,12 @@ fn follow(
     ensures ticks { WaitsWithin (2 ^ 63) result }
 {
     let mut pc = place;
-    while pc < script.len() {
-        let step = step_of(&script[pc], frame);
+    loop {
+        pc = follow_sets(script, pc, frame);
+        let Some(instr) = script.get(pc) else {
+            return Stop::End;
+        };
+        let step = step_of(instr, frame);
         pc += 1;
         match step {
             Step::Store(target, value) => frame.write(target, value),
@@ -145,7 +150,25 @@ fn follow(
             Step::End(event, value) => return Stop::Ended(event, value),
         }
     }
-    Stop::End
+}
+
+// Runs the `set`s that stand at a place one after another, and says where they end. Scripts have many of them: in a loop of
+// their own all that it needs stays in a processor's registers.
+#[inline(always)]
+fn follow_sets(script: &[Instr], place: usize, frame: &mut Frame) -> usize
+    ensures behind { place ≤ result }
+    ensures input { frame.new.input ≡ frame.old.input }
+    ensures same_end { (answer : Option ℤ) → (given : List Effect) → resumed listed script.now result frame.new.registers frame.new.variables answer frame.new.input given ≡ resumed listed script.now place frame.old.registers frame.old.variables answer frame.old.input given }
+{
+    let mut pc = place;
+    while pc < script.len() {
+        let Step::Store(target, value) = step_of(&script[pc], frame) else {
+            break;
+        };
+        frame.write(target, value);
+        pc += 1;
+    }
+    pc
 }
 
 #[inline(always)]
