@@ -9,6 +9,7 @@ pub mod Least
 pub mod Lists
 pub mod OnLiterals
 pub mod Placed
+pub mod Picks
 pub mod Planned
 pub mod Ready
 pub mod Refusing

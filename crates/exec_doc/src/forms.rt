@@ -5,6 +5,7 @@ mod fields;
 mod graph;
 mod nodes;
 mod owned;
+mod picked;
 mod scripts;
 
 ghost use Rattle.serde_json.specs.View.{view};

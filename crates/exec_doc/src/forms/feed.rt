@@ -1,10 +1,11 @@
 ghost use Rattle.std.specs.Prelude.{◌≡◌, codes};
-ghost use Rattle.serde_json.specs.View.{view};
-ghost use Rattle.exec_doc.specs.Forms.{id_in_text, identifier, has, message_form, goal_form, cancel_form, fed, entry};
+ghost use Rattle.exec_doc.specs.Forms.{id_in_text, identifier, entry};
+ghost use Rattle.exec_doc.specs.inner.Picking.{seen, message_in, goal_in, cancel_in, fed_in, entry_in};
 ghost use Rattle.exec_doc.specs.inner.Reading.{ReadingGives};
 
 use crate::draft::{EntryDraft, FedDraft};
-use crate::forms::fields::{Form, optional, required};
+use crate::forms::fields::{Form, if_there, needed};
+use crate::forms::picked::EntryFields;
 use crate::refused::Refused;
 use exec_msg::GoalId;
 use serde_json::Value;
@@ -15,60 +16,60 @@ impl Form for EntryDraft {
     ghost form = { entry };
 
     fn read(alloc: Global, value: &Value) -> Result<EntryDraft, Refused> {
-        Ok(EntryDraft {
-            round: required(alloc, value, "round")?,
-            fed: fed(alloc, value)?,
-        })
+        entry(alloc, &EntryFields::of(value))
     }
 }
 
-fn fed(alloc: Global, value: &Value) -> Result<FedDraft, Refused>
-    ensures { ReadingGives (λ found. found) result (fed (view value.now)) }
+fn entry(alloc: Global, fields: &EntryFields<'_>) -> Result<EntryDraft, Refused>
+    ensures { ReadingGives (λ found. found) result (entry_in (seen fields.now)) }
+{
+    Ok(EntryDraft {
+        round: needed(alloc, fields.round)?,
+        fed: fed(alloc, fields)?,
+    })
+}
+
+fn fed(alloc: Global, fields: &EntryFields<'_>) -> Result<FedDraft, Refused>
+    ensures { ReadingGives (λ found. found) result (fed_in (seen fields.now)) }
 {
     match (
-        has(value, "topic"),
-        has(value, "goal"),
-        has(value, "cancel"),
+        fields.topic.is_some(),
+        fields.goal.is_some(),
+        fields.cancel.is_some(),
     ) {
-        (true, false, false) => message(alloc, value),
-        (false, true, false) => goal(alloc, value),
-        (false, false, true) => cancel(alloc, value),
+        (true, false, false) => message(alloc, fields),
+        (false, true, false) => goal(alloc, fields),
+        (false, false, true) => cancel(alloc, fields),
         _ => Err(Refused::Shape),
     }
 }
 
-fn has(value: &Value, name: &str) -> bool
-    ensures { result ≡ has name.now (view value.now) }
-{
-    value.get(name).is_some()
-}
-
-fn message(alloc: Global, value: &Value) -> Result<FedDraft, Refused>
-    ensures { ReadingGives (λ found. found) result (message_form (view value.now)) }
+fn message(alloc: Global, fields: &EntryFields<'_>) -> Result<FedDraft, Refused>
+    ensures { ReadingGives (λ found. found) result (message_in (seen fields.now)) }
 {
     Ok(FedDraft::Message {
-        topic: required(alloc, value, "topic")?,
-        value: required(alloc, value, "value")?,
+        topic: needed(alloc, fields.topic)?,
+        value: needed(alloc, fields.value)?,
     })
 }
 
-fn goal(alloc: Global, value: &Value) -> Result<FedDraft, Refused>
-    ensures { ReadingGives (λ found. found) result (goal_form (view value.now)) }
+fn goal(alloc: Global, fields: &EntryFields<'_>) -> Result<FedDraft, Refused>
+    ensures { ReadingGives (λ found. found) result (goal_in (seen fields.now)) }
 {
     Ok(FedDraft::Goal {
-        action: required(alloc, value, "action")?,
-        id: required(alloc, value, "goal")?,
-        value: required(alloc, value, "value")?,
+        action: needed(alloc, fields.action)?,
+        id: needed(alloc, fields.goal)?,
+        value: needed(alloc, fields.value)?,
     })
 }
 
-fn cancel(alloc: Global, value: &Value) -> Result<FedDraft, Refused>
-    ensures { ReadingGives (λ found. found) result (cancel_form (view value.now)) }
+fn cancel(alloc: Global, fields: &EntryFields<'_>) -> Result<FedDraft, Refused>
+    ensures { ReadingGives (λ found. found) result (cancel_in (seen fields.now)) }
 {
     Ok(FedDraft::Cancel {
-        action: required(alloc, value, "action")?,
-        id: required(alloc, value, "cancel")?,
-        stamp: optional(alloc, value, "stamp")?.unwrap_or(0),
+        action: needed(alloc, fields.action)?,
+        id: needed(alloc, fields.cancel)?,
+        stamp: if_there(alloc, fields.stamp)?.unwrap_or(0),
     })
 }
 

@@ -2,7 +2,9 @@ ghost use Rattle.std.specs.Prelude.{Option, map};
 ghost use Rattle.serde_json.specs.Data.{Data};
 ghost use Rattle.serde_json.specs.View.{view};
 ghost use Rattle.exec_doc.specs.Forms.{text, count, integer, list_of, required, optional, defaulted, list};
+ghost use Rattle.exec_doc.specs.inner.Picking.{found, needed};
 ghost use Rattle.exec_doc.specs.inner.Reading.{ReadingGives};
+ghost use Rattle.exec_graph.specs.Entity.{if_there};
 ghost use Rattle.exec_graph.specs.Options.{each};
 
 use crate::refused::Refused;
@@ -51,15 +53,28 @@ impl Form for u64 {
 pub fn required<T: Form>(alloc: Global, holder: &Value, name: &str) -> Result<T, Refused>
     ensures { ReadingGives (λ found. found) result (required T.form name.now (view holder.now)) }
 {
-    let value = holder.get(name).ok_or(Refused::Shape)?;
-    T::read(alloc, value)
+    needed(alloc, holder.get(name))
+}
+
+/// What a field says that is needed.
+pub fn needed<T: Form>(alloc: Global, field: Option<&Value>) -> Result<T, Refused>
+    ensures { ReadingGives (λ read. read) result (needed T.form (found field.entry)) }
+{
+    T::read(alloc, field.ok_or(Refused::Shape)?)
 }
 
 /// The value of an optional field.
 pub fn optional<T: Form>(alloc: Global, holder: &Value, name: &str) -> Result<Option<T>, Refused>
     ensures { ReadingGives (λ found. found) result (optional T.form name.now (view holder.now)) }
 {
-    match holder.get(name) {
+    if_there(alloc, holder.get(name))
+}
+
+/// What a field says where it is there.
+pub fn if_there<T: Form>(alloc: Global, field: Option<&Value>) -> Result<Option<T>, Refused>
+    ensures { ReadingGives (λ read. read) result (if_there T.form (found field.entry)) }
+{
+    match field {
         Some(value) => Ok(Some(T::read(alloc, value)?)),
         None => Ok(None),
     }
