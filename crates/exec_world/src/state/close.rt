@@ -23,6 +23,7 @@ impl<L: Lines> State<L> {
     ghost use Rattle.exec_world.specs.World.{action_client_at, add_line, add_lines, goals_of, has_room_for, push};
 
     // Closes a ready callback.
+    #[inline(always)]
     pub(super) fn close(&mut self, one: &Ready, closing: &Close) -> Result<(), Memory>
         ensures { OnOk result (self.new ≡ close_callback one.now closing.now self.old) }
     {
@@ -33,6 +34,8 @@ impl<L: Lines> State<L> {
         }
     }
 
+    // Most items need nothing, which is decided where it is asked.
+    #[inline(always)]
     fn close_item(
         &mut self,
         entity: EntityNo,

@@ -14,6 +14,7 @@ impl<L: Lines> State<L> {
     ghost use Rattle.exec_world.specs.World.{action_client_at, add_line, client_at, push, push_any};
 
     // Gives effects of a ready callback, one after another.
+    #[inline(always)]
     pub(super) fn give_all(&mut self, one: &Ready, effects: &[Effect]) -> Result<(), Memory>
         ensures { OnOk result (self.new ≡ give_all one.now effects.now self.old) }
     {
