@@ -121,8 +121,7 @@ pub(crate) fn call_in(
     ensures effects { OnOk result (effects.new ≡ (call_in role listed one.now bank.old effects.old).given) }
     ensures close { IfOk result (λ close. close ≡ (call_in role listed one.now bank.old effects.old).close) }
 {
-    let close = run_call_into(instructions_of(one), role, bank, &one.input(), effects)?;
-    Ok(close)
+    run_call_into(instructions_of(one), role, bank, &one.input(), effects)
 }
 
 // The instructions of a callback's script; none is empty.

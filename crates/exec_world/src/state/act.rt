@@ -112,8 +112,7 @@ impl<L: Lines> State<L> {
                     moment: one.moment,
                     canceling: *canceling,
                 };
-                let close = self.poll(one.entity, *id, &turn, bank, effects, cx)?;
-                Ok(close)
+                self.poll(one.entity, *id, &turn, bank, effects, cx)
             }
         }
     }
@@ -133,7 +132,6 @@ impl<L: Lines> State<L> {
         ensures close { IfOk result (λ close. close ≡ (poll_listed turn.now (work_in server id self.old.servers) bank.old).close) }
         ensures task { OnOk result (self.new ≡ change_server server (server_polled id (poll_listed turn.now (work_in server id self.old.servers) bank.old).task) self.old) }
     {
-        let close = self.servers.poll(server, id, turn, bank, cx, effects)?;
-        Ok(close)
+        self.servers.poll(server, id, turn, bank, cx, effects)
     }
 }
