@@ -8,9 +8,9 @@ use crate::{
     ServerEntity, Spelled, schedule_fits,
 };
 use exec_msg::limits::{FEED, TICKS};
-use exec_msg::{Items, Moment};
+use exec_msg::{Items, Memory, Moment};
 use exec_script::{Instr, Word, WordText};
-use std::alloc::{AllocError, Global};
+use std::alloc::Global;
 use std::fmt::Debug;
 use std::process::Abort;
 use std::sync::Arc;
@@ -21,15 +21,11 @@ fn same<T: PartialEq + Debug + Drop>(rt: &impl Abort, found: T, wanted: T) {
     assert_eq!(rt; found, wanted);
 }
 
-fn text(alloc: Global, text: &str) -> Result<WordText, AllocError> {
-    Ok(WordText::of(String::from_str(alloc, text)?))
-}
-
 fn nothing(alloc: Global) -> Spelled {
     Spelled::of(Vec::new(alloc))
 }
 
-fn server(alloc: Global, name: &str) -> Result<EntityDraft, AllocError> {
+fn server(alloc: Global, name: &str) -> Result<EntityDraft, Memory> {
     let server = ServerEntity {
         depth: 10,
         result_timeout: None,
@@ -38,7 +34,7 @@ fn server(alloc: Global, name: &str) -> Result<EntityDraft, AllocError> {
         script: nothing(alloc),
     };
     Ok(EntityDraft {
-        name: text(alloc, name)?,
+        name: WordText::copy_of(alloc, name)?,
         group: None,
         is: EntityOf::Server(server),
     })
@@ -49,7 +45,7 @@ fn node(alloc: Global, name: &str, entity: EntityDraft) -> Result<NodeDraft, Fai
     entities.push(entity)?;
     let groups: Vec<GroupDraft> = Vec::new(alloc);
     Ok(NodeDraft {
-        name: text(alloc, name)?,
+        name: WordText::copy_of(alloc, name)?,
         groups: Items::of(groups),
         entities: Items::of(entities),
     })

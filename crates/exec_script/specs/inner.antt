@@ -1,4 +1,5 @@
 pub mod Cells
 pub mod Flat
 pub mod Frame
+pub mod Held
 pub mod Places

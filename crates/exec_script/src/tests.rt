@@ -8,7 +8,7 @@ use crate::{
 use arithmetic::RESULTS;
 use exec_msg::{EntityNo, Event, GoalId, Memory, Moment};
 use spellings::{LEGALITIES, SPELLINGS};
-use std::alloc::{AllocError, Global};
+use std::alloc::Global;
 use std::test::Fail;
 
 /// A topic `x`, and a node with a service client `c`, an action server `a` and an action client `ac`.
@@ -54,15 +54,15 @@ impl Scope for Node {
     }
 }
 
-fn word(alloc: Global, item: &str) -> Result<Word, AllocError> {
+fn word(alloc: Global, item: &str) -> Result<Word, Memory> {
     match item.parse::<i64>() {
         Ok(value) => Ok(Word::Number(value)),
-        Err(_) => Ok(Word::Text(WordText::of(String::from_str(alloc, item)?))),
+        Err(_) => Ok(Word::Text(WordText::copy_of(alloc, item)?)),
     }
 }
 
 // The words of a script whose instructions stand in lines, with spaces between their items.
-fn words(alloc: Global, script: &str) -> Result<Vec<Vec<Word>>, AllocError> {
+fn words(alloc: Global, script: &str) -> Result<Vec<Vec<Word>>, Memory> {
     let mut spelled = Vec::new(alloc);
     for line in script.split('\n') {
         let mut items = Vec::new(alloc);
@@ -75,7 +75,7 @@ fn words(alloc: Global, script: &str) -> Result<Vec<Vec<Word>>, AllocError> {
 }
 
 // Where memory is refused, the call is made once more.
-fn decoded(alloc: Global, script: &str) -> Result<Result<Vec<Instr>, ScriptFault>, AllocError> {
+fn decoded(alloc: Global, script: &str) -> Result<Result<Vec<Instr>, ScriptFault>, Memory> {
     let spelled = words(alloc, script)?;
     match decode(alloc, spelled.as_slice(), &Node) {
         Err(ScriptFault::Memory) => Ok(decode(alloc, spelled.as_slice(), &Node)),
@@ -366,7 +366,7 @@ fn adds_to_the_effects(rt: HostRuntime) -> Result<(), Fail> {
     Ok(())
 }
 
-// The lists that effects and closings hold, and the text of a word, are made of vectors and a text, and give them back.
+// The lists that effects and closings hold are made of vectors, and give them back.
 #[test]
 fn makes_lists_of_vectors(rt: HostRuntime) -> Result<(), Fail> {
     for count in 0..5u8 {
@@ -384,8 +384,22 @@ fn makes_lists_of_vectors(rt: HostRuntime) -> Result<(), Fail> {
         assert_eq!(rt; decisions.as_slice().len(), usize::from(count));
         assert_eq!(rt; decisions.into_vec().len(), usize::from(count));
     }
-    let text = WordText::of(String::from_str(rt.alloc(), "in")?);
-    assert_eq!(rt; text.as_str(), "in");
-    assert_eq!(rt; text.into_string().as_str(), "in");
+    Ok(())
+}
+
+// A word has its text, whether it holds 24 bytes in place or has memory for more.
+#[test]
+fn holds_short_and_long_texts(rt: HostRuntime) -> Result<(), Fail> {
+    for text in [
+        "",
+        "in",
+        "a_topic_of_24_characters",
+        "a_topic_of_25_characters_",
+    ] {
+        let copy = WordText::copy_of(rt.alloc(), text)?;
+        assert_eq!(rt; copy.as_str(), text);
+        let word = WordText::of(String::from_str(rt.alloc(), text)?);
+        assert_eq!(rt; word.as_str(), text);
+    }
     Ok(())
 }

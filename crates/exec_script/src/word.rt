@@ -1,39 +1,60 @@
+use arrayvec::ArrayString;
+use exec_msg::Memory;
+use std::alloc::Global;
 use std::marker::Model;
 
 /// A text, seen by contracts as its bytes.
 #[derive(Debug, Drop)]
-pub struct WordText(String);
+pub struct WordText(Held);
+
+// A text in place, or one with memory of its own.
+#[derive(Debug, Drop)]
+enum Held {
+    Short(ArrayString<24>),
+    Long(String),
+}
 
 impl Model for WordText {
-    ghost use Rattle.std.specs.Prelude.{ℕ, List, string_bytes};
+    ghost use Rattle.std.specs.Prelude.{ℕ, List};
+    ghost use Rattle.exec_script.specs.inner.Held.{bytes_held};
 
     ghost Value = { List ℕ };
 
-    ghost view = { λ text. string_bytes text.0 };
+    ghost view = { λ text. bytes_held text.0 };
 }
 
 impl WordText {
-    ghost use Rattle.std.specs.Prelude.{◌≡◌, string_bytes};
+    ghost use Rattle.std.specs.Prelude.{◌≡◌, ◌≤◌, length, string_bytes, IsOk, IfOk};
 
     /// A word of this text.
     pub fn of(text: String) -> WordText
         ensures { result ≡ string_bytes text }
     {
-        WordText(text)
+        WordText(Held::Long(text))
+    }
+
+    /// A word of a copy of this text. One of at most 24 bytes takes no memory.
+    ///
+    /// # Errors
+    /// [`Memory`] where a growth was refused.
+    pub fn copy_of(alloc: Global, text: &str) -> Result<WordText, Memory>
+        ensures copy { IfOk result (λ word. word ≡ text.now) }
+        ensures short { length text.now ≤ 24 → IsOk result }
+    {
+        match ArrayString::from(text) {
+            Ok(short) => Ok(WordText(Held::Short(short))),
+            Err(_) => Ok(WordText(Held::Long(String::from_str(alloc, text)?))),
+        }
     }
 
     /// The text.
     pub fn as_str(&self) -> &str
         ensures { result.now ≡ self.now }
     {
-        self.0.as_str()
-    }
-
-    /// The text, given back. It takes no memory.
-    pub fn into_string(self) -> String
-        ensures { string_bytes result ≡ self }
-    {
-        self.0
+        match &self.0 {
+            Held::Short(text) => text.as_str(),
+            Held::Long(text) => text.as_str(),
+        }
     }
 }
 

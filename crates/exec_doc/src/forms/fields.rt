@@ -29,7 +29,7 @@ impl Form for WordText {
 
     fn read(alloc: Global, value: &Value) -> Result<WordText, Refused> {
         let text = value.as_str().ok_or(Refused::Shape)?;
-        Ok(WordText::of(String::from_str(alloc, text)?))
+        Ok(WordText::copy_of(alloc, text)?)
     }
 }
 

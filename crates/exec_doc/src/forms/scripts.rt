@@ -16,7 +16,7 @@ impl Form for Word {
 
     fn read(alloc: Global, value: &Value) -> Result<Word, Refused> {
         if let Some(text) = value.as_str() {
-            return Ok(Word::Text(WordText::of(String::from_str(alloc, text)?)));
+            return Ok(Word::Text(WordText::copy_of(alloc, text)?));
         }
         let number = value.as_i64().ok_or(Refused::Shape)?;
         Ok(Word::Number(number))

@@ -96,7 +96,7 @@ fn append_named(
     ensures { OnOk result (groups.new.items ≡ groups.old.items ++ map (named_group node) drafts.now) }
 {
     for draft in drafts {
-        let name = WordText::of(String::from_str(alloc, draft.name.as_str())?);
+        let name = WordText::copy_of(alloc, draft.name.as_str())?;
         groups.push(CallbackGroup {
             node,
             name: Some(name),

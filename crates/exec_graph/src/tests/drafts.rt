@@ -55,7 +55,7 @@ pub(super) fn builder_of(alloc: Global, text: &str) -> Result<GraphBuilder, Unre
 // The node of a text: its name, and then its groups and entities, each behind a `;`.
 pub(super) fn node_of(alloc: Global, text: &str) -> Result<NodeDraft, Unread> {
     let mut lines = text.split(';');
-    let name = word_text(alloc, lines.next().unwrap_or("").trim())?;
+    let name = WordText::copy_of(alloc, lines.next().unwrap_or("").trim())?;
     let mut groups = Vec::new(alloc);
     let mut entities = Vec::new(alloc);
     for text in lines {
@@ -71,10 +71,6 @@ pub(super) fn node_of(alloc: Global, text: &str) -> Result<NodeDraft, Unread> {
         groups: Items::of(groups),
         entities: Items::of(entities),
     })
-}
-
-fn word_text(alloc: Global, text: &str) -> Result<WordText, AllocError> {
-    Ok(WordText::of(String::from_str(alloc, text)?))
 }
 
 // A group or an entity: its kind and its name, and what else is said of it, where `-` says nothing. The scripts of an
@@ -108,19 +104,19 @@ impl<'a> Line<'a> {
         self.words.get(place).copied().unwrap_or("")
     }
 
-    fn text(&self, place: usize) -> Result<WordText, AllocError> {
-        word_text(self.alloc, self.word(place))
+    fn text(&self, place: usize) -> Result<WordText, Memory> {
+        WordText::copy_of(self.alloc, self.word(place))
     }
 
     fn number(&self, place: usize) -> Result<u64, Unread> {
         Ok(self.word(place).parse()?)
     }
 
-    fn script(&self, place: usize) -> Result<Spelled, AllocError> {
+    fn script(&self, place: usize) -> Result<Spelled, Memory> {
         spelled(self.alloc, self.scripts.get(place).copied().unwrap_or(""))
     }
 
-    fn group(&self, exclusive: bool) -> Result<GroupDraft, AllocError> {
+    fn group(&self, exclusive: bool) -> Result<GroupDraft, Memory> {
         Ok(GroupDraft {
             name: self.text(1)?,
             exclusive,
@@ -135,7 +131,7 @@ impl<'a> Line<'a> {
         })
     }
 
-    fn group_name(&self) -> Result<Option<WordText>, AllocError> {
+    fn group_name(&self) -> Result<Option<WordText>, Memory> {
         match self.word(2) {
             "-" => Ok(None),
             _ => Ok(Some(self.text(2)?)),
@@ -212,7 +208,7 @@ impl<'a> Line<'a> {
         })
     }
 
-    fn on_result(&self) -> Result<Option<Spelled>, AllocError> {
+    fn on_result(&self) -> Result<Option<Spelled>, Memory> {
         if self.scripts.len() > 3 {
             Ok(Some(self.script(3)?))
         } else {
@@ -222,7 +218,7 @@ impl<'a> Line<'a> {
 }
 
 // The script of a text; a blank one has no instruction.
-fn spelled(alloc: Global, text: &str) -> Result<Spelled, AllocError> {
+fn spelled(alloc: Global, text: &str) -> Result<Spelled, Memory> {
     let mut instructions = Vec::new(alloc);
     if !text.trim().is_empty() {
         for instruction in text.split(',') {
@@ -232,7 +228,7 @@ fn spelled(alloc: Global, text: &str) -> Result<Spelled, AllocError> {
     Ok(Spelled::of(instructions))
 }
 
-fn instruction_of(alloc: Global, text: &str) -> Result<Vec<Word>, AllocError> {
+fn instruction_of(alloc: Global, text: &str) -> Result<Vec<Word>, Memory> {
     let mut items = Vec::new(alloc);
     for item in text.split_ascii_whitespace() {
         items.push(word(alloc, item)?)?;
@@ -240,9 +236,9 @@ fn instruction_of(alloc: Global, text: &str) -> Result<Vec<Word>, AllocError> {
     Ok(items)
 }
 
-fn word(alloc: Global, item: &str) -> Result<Word, AllocError> {
+fn word(alloc: Global, item: &str) -> Result<Word, Memory> {
     match item.parse::<i64>() {
         Ok(value) => Ok(Word::Number(value)),
-        Err(_) => Ok(Word::Text(word_text(alloc, item)?)),
+        Err(_) => Ok(Word::Text(WordText::copy_of(alloc, item)?)),
     }
 }
