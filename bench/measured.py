@@ -12,7 +12,7 @@ PROGRAM = os.path.join(TOP, "crates", "exec_run", "out", "exec_run")
 # What ./exec_run sets for the program.
 TUNABLES = (
     "glibc.malloc.hugetlb=1:glibc.malloc.mmap_threshold=4294967296:glibc.malloc.top_pad=67108864"
-    ":glibc.malloc.tcache_count=65535:glibc.malloc.mxfast=0"
+    ":glibc.malloc.trim_threshold=4294967296:glibc.malloc.mxfast=0"
 )
 # The words for one worker.
 ALONE = "1", "1"

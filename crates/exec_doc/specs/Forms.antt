@@ -1,6 +1,7 @@
 -- The forms of a document: which JSON value is which draft, object by object.
-use Rattle.std.specs.Prelude.{ℕ, ℤ, List, [], ◌∷◌, ◌++◌, codes, Bool, true, false, if◌then◌else◌, is_some, Option, None, Some}
+use Rattle.std.specs.Prelude.{ℕ, ℤ, List, [], ◌∷◌, ◌++◌, codes, Bool, true, false, is_some, Option, None, Some}
 use Rattle.std.specs.Int.{from_be_bytes, w128}
+use Rattle.std.specs.Map.{lookup}
 use Rattle.std.specs.Option.{option_map, unwrap_or}
 use Rattle.std.specs.Str.{bytes_eq}
 use Rattle.serde_json.specs.Data.{Data, null, boolean, number, string, array, object, Items, no_items, item}
@@ -15,6 +16,8 @@ use Rattle.exec_graph.specs.declared.draft.EntityDraft.{EntityDraft}
 use Rattle.exec_graph.specs.declared.draft.GraphDraft.{GraphDraft}
 use Rattle.exec_graph.specs.Entity.{Drafted, Spelled, if_there}
 use Rattle.exec_graph.specs.Options.{◌>>=◌, each}
+use Rattle.exec_graph.specs.declared.entity.EntityKind.{EntityKind}
+use Rattle.exec_graph.specs.declared.entity.EntityKind.TheVariants as kind
 use Rattle.exec_graph.specs.declared.entity.EntityOf.TheVariants.{Timer, Subscription, Service, Client, Server, ActionClient}
 use Rattle.exec_msg.specs.declared.limits.TheConstants.{DEFAULT_DEPTH}
 use Rattle.exec_script.specs.declared.word.Word.{Word}
@@ -97,9 +100,7 @@ script_field name holder = defaulted script [] name holder
 
 -- whether a group of this kind is mutually exclusive
 abbrev pub exclusive_named : List ℕ → Option Bool
-exclusive_named kind =
-    if bytes_eq kind (codes "exclusive") then Some true else
-    (if bytes_eq kind (codes "reentrant") then Some false else None)
+exclusive_named kind = lookup (bytes_eq kind) ((codes "exclusive", true) ∷ (codes "reentrant", false) ∷ [])
 
 -- a group's kind
 abbrev pub group_kind : Data → Option Bool
@@ -114,49 +115,34 @@ group value = do
 
 -- ---- entities
 
--- a timer
-abbrev pub timer_form : Data → Option Drafted
-timer_form value = do
+-- what an entity of a kind is said to be
+abbrev pub form_of : EntityKind → Data → Option Drafted
+form_of kind.Timer value = do
   period ← required count (codes "period") value
   called ← script_field (codes "script") value
   Some (Timer (record { period = period; script = called }))
-
--- a subscription
-abbrev pub subscription_form : Data → Option Drafted
-subscription_form value = do
+form_of kind.Subscription value = do
   topic ← required text (codes "topic") value
   depth ← depth_field value
   called ← script_field (codes "script") value
   Some (Subscription (record { topic = topic; depth = depth; script = called }))
-
--- a service
-abbrev pub service_form : Data → Option Drafted
-service_form value = do
+form_of kind.Service value = do
   depth ← depth_field value
   called ← script_field (codes "script") value
   Some (Service (record { depth = depth; script = called }))
-
--- a service client
-abbrev pub client_form : Data → Option Drafted
-client_form value = do
+form_of kind.Client value = do
   of ← required text (codes "service") value
   depth ← depth_field value
   called ← script_field (codes "script") value
   Some (Client (record { service = of; depth = depth; script = called }))
-
--- an action server
-abbrev pub server_form : Data → Option Drafted
-server_form value = do
+form_of kind.Server value = do
   depth ← depth_field value
   result_timeout ← optional count (codes "result_timeout") value
   on_goal ← script_field (codes "on_goal") value
   on_cancel ← script_field (codes "on_cancel") value
   called ← script_field (codes "script") value
   Some (Server (record { depth = depth; result_timeout = result_timeout; on_goal = on_goal; on_cancel = on_cancel; script = called }))
-
--- an action client
-abbrev pub action_client_form : Data → Option Drafted
-action_client_form value = do
+form_of kind.ActionClient value = do
   of ← required text (codes "action") value
   depth ← depth_field value
   on_response ← script_field (codes "on_response") value
@@ -178,12 +164,12 @@ abbrev pub node : Data → Option NodeDraft
 node value = do
   name ← required text (codes "name") value
   groups ← list group (codes "groups") value
-  timers ← list (entity timer_form) (codes "timers") value
-  subscriptions ← list (entity subscription_form) (codes "subscriptions") value
-  services ← list (entity service_form) (codes "services") value
-  clients ← list (entity client_form) (codes "clients") value
-  servers ← list (entity server_form) (codes "actions") value
-  action_clients ← list (entity action_client_form) (codes "action_clients") value
+  timers ← list (entity (form_of kind.Timer)) (codes "timers") value
+  subscriptions ← list (entity (form_of kind.Subscription)) (codes "subscriptions") value
+  services ← list (entity (form_of kind.Service)) (codes "services") value
+  clients ← list (entity (form_of kind.Client)) (codes "clients") value
+  servers ← list (entity (form_of kind.Server)) (codes "actions") value
+  action_clients ← list (entity (form_of kind.ActionClient)) (codes "action_clients") value
   Some (record { name = name; groups = groups; entities = timers ++ subscriptions ++ services ++ clients ++ servers ++ action_clients })
 
 -- ---- the feed

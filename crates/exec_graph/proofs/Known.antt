@@ -1,11 +1,13 @@
 -- A script that is spelt well names what its scope has.
-use Rattle.std.proofs.Common.{◌≡◌, ℕ, suc, Bool, true, false, if◌then◌else◌, length, pos, List, [], ◌∷◌, Option, None, Some, Result, Ok, Err, ok_or, codes, bytes_eq, refl, ap, subst}
+use Rattle.std.proofs.Common.{◌≡◌, ℕ, suc, true, length, pos, List, [], ◌∷◌, Option, None, Some, Result, Ok, Err, ok_or, refl, ap, subst}
 use Rattle.std.specs.List.{list_all}
 use Rattle.exec_graph.proofs.Bools.{both_true}
+use Rattle.exec_graph.proofs.Tables.{◌also◌, read_by_name}
 use Rattle.exec_graph.specs.Graph.{GraphData, is_topic, is_client, is_server, is_action_client}
 use Rattle.exec_graph.specs.Lawful.{is_at, is_at_node, is_known}
-use Rattle.exec_script.specs.Spelling.{ScopeNames, ◌>>=◌, operand_of, destination_of, operation_of, count_of, text_in, or_wrong_operand, known, set_of, skip_of, operand_alone, of_operand, of_name_and_operand, execute_of, yield_of, cancel_all_of, cancel_before_of, cancel_goal_of, cancel_goal_before_of, cancel_named, cancel_of, instruction_named, instruction_of, script_of}
+use Rattle.exec_script.specs.Spelling.{ScopeNames, ◌>>=◌, operand_of, destination_of, operation_of, count_of, text_in, or_wrong_operand, known, set_of, skip_of, operand_alone, of_operand, of_name_and_operand, execute_of, yield_of, cancel_all_of, cancel_before_of, cancel_goal_of, cancel_goal_before_of, cancel_forms, cancel_named, cancel_of, instructions, instruction_named, instruction_of, script_of}
 use Rattle.exec_script.specs.declared.fault.ScriptFault.{ScriptFault}
+use Rattle.exec_script.specs.declared.fault.ScriptFault.TheVariants as fault
 use Rattle.exec_script.specs.declared.instr.Instr.{Instr}
 use Rattle.exec_script.specs.Instruction as instr
 use Rattle.exec_script.specs.declared.instr.Operand.{Operand}
@@ -26,10 +28,6 @@ past : {A B E : Type 0} (K : Type 0) (r : Result A E) (f : A → Result B E) (b 
 past K (Ok a) f b e next = next a refl e
 past K (Err fault) f b e next = absurd cc
 
-either : (K : Type 0) (b : Bool) (x y : Result Instr ScriptFault) (i : Instr) → (if b then x else y) ≡ Ok i → (x ≡ Ok i → K) → (y ≡ Ok i → K) → K
-either K true x y i e first second = first e
-either K false x y i e first second = second e
-
 found_of : {A : Type 0} (o : Option A) (a : A) (fault : ScriptFault) → ok_or o fault ≡ Ok a → o ≡ Some a
 found_of None a fault e = absurd cc
 found_of (Some x) a fault e = cc
@@ -37,109 +35,117 @@ found_of (Some x) a fault e = cc
 abbrev read_as : Instr → Result Instr ScriptFault
 read_as i = Ok i
 
-same : (graph : GraphData) (node : ℕ) (i j : Instr) → is_known graph node i ≡ true → read_as i ≡ Ok j → is_known graph node j ≡ true
-same graph node i j is e = let is_same : i ≡ j = cc in subst (λ k. is_known graph node k ≡ true) is_same is
+-- an instruction that is read names what is there
+abbrev ReadsKnown : GraphData → ℕ → Result Instr ScriptFault → Type 0
+ReadsKnown graph node read = (i : Instr) → read ≡ Ok i → is_known graph node i ≡ true
+
+same : (graph : GraphData) (node : ℕ) (i : Instr) → is_known graph node i ≡ true → ReadsKnown graph node (read_as i)
+same graph node i is j e = let is_same : i ≡ j = cc in subst (λ k. is_known graph node k ≡ true) is_same is
 
 -- ---- instructions
 
-set_known : (graph : GraphData) (node : ℕ) (items : List Word) (i : Instr) → set_of items ≡ Ok i → is_known graph node i ≡ true
+set_known : (graph : GraphData) (node : ℕ) (items : List Word) → ReadsKnown graph node (set_of items)
 set_known graph node (d ∷ o ∷ a ∷ b ∷ []) i e =
     past _ (or_wrong_operand (destination_of d)) _ i e (λ destination _ e1.
     past _ (or_wrong_operand (operation_of o)) _ i e1 (λ operation _ e2.
     past _ (or_wrong_operand (operand_of a)) _ i e2 (λ left _ e3.
-    past _ (or_wrong_operand (operand_of b)) _ i e3 (λ right _ e4. same graph node (instr.Set destination operation left right) i refl e4))))
+    past _ (or_wrong_operand (operand_of b)) _ i e3 (λ right _ e4. same graph node (instr.Set destination operation left right) refl i e4))))
 set_known graph node _ i e = absurd cc
 
-skip_known : (graph : GraphData) (node : ℕ) (items : List Word) (i : Instr) → skip_of items ≡ Ok i → is_known graph node i ≡ true
+skip_known : (graph : GraphData) (node : ℕ) (items : List Word) → ReadsKnown graph node (skip_of items)
 skip_known graph node (a ∷ n ∷ []) i e =
     past _ (or_wrong_operand (operand_of a)) _ i e (λ condition _ e1.
-    past _ (or_wrong_operand (count_of n)) _ i e1 (λ count _ e2. same graph node (instr.Skip condition count) i refl e2))
+    past _ (or_wrong_operand (count_of n)) _ i e1 (λ count _ e2. same graph node (instr.Skip condition count) refl i e2))
 skip_known graph node _ i e = absurd cc
 
-operand_known : (graph : GraphData) (node : ℕ) (make : Operand → Instr) (items : List Word) (i : Instr) → ((value : Operand) → is_known graph node (make value) ≡ true) → of_operand make items ≡ Ok i → is_known graph node i ≡ true
-operand_known graph node make items i makes e = past _ (operand_alone items) _ i e (λ value _ e1. same graph node (make value) i (makes value) e1)
+operand_known : (graph : GraphData) (node : ℕ) (make : Operand → Instr) (items : List Word) → ((value : Operand) → is_known graph node (make value) ≡ true) → ReadsKnown graph node (of_operand make items)
+operand_known graph node make items makes i e = past _ (operand_alone items) _ i e (λ value _ e1. same graph node (make value) (makes value) i e1)
 
-named_known : (graph : GraphData) (node : ℕ) (find : List ℕ → Option ℕ) (make : ℕ → Operand → Instr) (items : List Word) (i : Instr) → ((name : List ℕ) (number : ℕ) (value : Operand) → find name ≡ Some number → is_known graph node (make number value) ≡ true) → of_name_and_operand find make items ≡ Ok i → is_known graph node i ≡ true
-named_known graph node find make (n ∷ a ∷ []) i makes e =
+named_known : (graph : GraphData) (node : ℕ) (find : List ℕ → Option ℕ) (make : ℕ → Operand → Instr) (items : List Word) → ((name : List ℕ) (number : ℕ) (value : Operand) → find name ≡ Some number → is_known graph node (make number value) ≡ true) → ReadsKnown graph node (of_name_and_operand find make items)
+named_known graph node find make (n ∷ a ∷ []) makes i e =
     past _ (or_wrong_operand (text_in n)) _ i e (λ name _ e1.
     past _ (or_wrong_operand (operand_of a)) _ i e1 (λ value _ e2.
-    past _ (known (find name)) _ i e2 (λ number found e3. same graph node (make number value) i (makes name number value (found_of (find name) number _ found)) e3)))
-named_known graph node find make _ i makes e = absurd cc
+    past _ (known (find name)) _ i e2 (λ number found e3. same graph node (make number value) (makes name number value (found_of (find name) number _ found)) i e3)))
+named_known graph node find make _ makes i e = absurd cc
 
-execute_known : (graph : GraphData) (node : ℕ) (scope : ScopeNames) (items : List Word) (i : Instr) → Knows scope graph node → execute_of scope items ≡ Ok i → is_known graph node i ≡ true
-execute_known graph node scope (n ∷ []) i knows e =
+execute_known : (graph : GraphData) (node : ℕ) (scope : ScopeNames) (items : List Word) → Knows scope graph node → ReadsKnown graph node (execute_of scope items)
+execute_known graph node scope (n ∷ []) knows i e =
     past _ (or_wrong_operand (text_in n)) _ i e (λ name _ e1.
-    past _ (known (scope.server name)) _ i e1 (λ number found e2. same graph node (instr.Execute number) i (knows.servers name number (found_of (scope.server name) number _ found)) e2))
-execute_known graph node scope _ i knows e = absurd cc
+    past _ (known (scope.server name)) _ i e1 (λ number found e2. same graph node (instr.Execute number) (knows.servers name number (found_of (scope.server name) number _ found)) i e2))
+execute_known graph node scope _ knows i e = absurd cc
 
-yield_known : (graph : GraphData) (node : ℕ) (items : List Word) (i : Instr) → yield_of items ≡ Ok i → is_known graph node i ≡ true
-yield_known graph node [] i e = same graph node instr.Yield i refl e
+yield_known : (graph : GraphData) (node : ℕ) (items : List Word) → ReadsKnown graph node (yield_of items)
+yield_known graph node [] i e = same graph node instr.Yield refl i e
 yield_known graph node (item ∷ items) i e = absurd cc
 
-all_known : (graph : GraphData) (node : ℕ) (scope : ScopeNames) (n : Word) (items : List Word) (i : Instr) → Knows scope graph node → cancel_all_of scope n items ≡ Ok i → is_known graph node i ≡ true
-all_known graph node scope n [] i knows e =
+all_known : (graph : GraphData) (node : ℕ) (scope : ScopeNames) (n : Word) (items : List Word) → Knows scope graph node → ReadsKnown graph node (cancel_all_of scope n items)
+all_known graph node scope n [] knows i e =
     past _ (or_wrong_operand (text_in n)) _ i e (λ name _ e1.
-    past _ (known (scope.action_client name)) _ i e1 (λ number found e2. same graph node (instr.CancelAll number (operand.Value (pos 0))) i (knows.action_clients name number (found_of (scope.action_client name) number _ found)) e2))
-all_known graph node scope n (item ∷ items) i knows e = absurd cc
+    past _ (known (scope.action_client name)) _ i e1 (λ number found e2. same graph node (instr.CancelAll number (operand.Value (pos 0))) (knows.action_clients name number (found_of (scope.action_client name) number _ found)) i e2))
+all_known graph node scope n (item ∷ items) knows i e = absurd cc
 
-before_known : (graph : GraphData) (node : ℕ) (scope : ScopeNames) (n : Word) (items : List Word) (i : Instr) → Knows scope graph node → cancel_before_of scope n items ≡ Ok i → is_known graph node i ≡ true
-before_known graph node scope n (s ∷ []) i knows e =
+before_known : (graph : GraphData) (node : ℕ) (scope : ScopeNames) (n : Word) (items : List Word) → Knows scope graph node → ReadsKnown graph node (cancel_before_of scope n items)
+before_known graph node scope n (s ∷ []) knows i e =
     past _ (or_wrong_operand (text_in n)) _ i e (λ name _ e1.
     past _ (or_wrong_operand (operand_of s)) _ i e1 (λ stamp _ e2.
-    past _ (known (scope.action_client name)) _ i e2 (λ number found e3. same graph node (instr.CancelAll number stamp) i (knows.action_clients name number (found_of (scope.action_client name) number _ found)) e3)))
-before_known graph node scope n _ i knows e = absurd cc
+    past _ (known (scope.action_client name)) _ i e2 (λ number found e3. same graph node (instr.CancelAll number stamp) (knows.action_clients name number (found_of (scope.action_client name) number _ found)) i e3)))
+before_known graph node scope n _ knows i e = absurd cc
 
-goal_known : (graph : GraphData) (node : ℕ) (scope : ScopeNames) (n : Word) (items : List Word) (i : Instr) → Knows scope graph node → cancel_goal_of scope n items ≡ Ok i → is_known graph node i ≡ true
-goal_known graph node scope n (k ∷ []) i knows e =
+goal_known : (graph : GraphData) (node : ℕ) (scope : ScopeNames) (n : Word) (items : List Word) → Knows scope graph node → ReadsKnown graph node (cancel_goal_of scope n items)
+goal_known graph node scope n (k ∷ []) knows i e =
     past _ (or_wrong_operand (text_in n)) _ i e (λ name _ e1.
     past _ (or_wrong_operand (operand_of k)) _ i e1 (λ goal _ e2.
-    past _ (known (scope.action_client name)) _ i e2 (λ number found e3. same graph node (instr.CancelGoal number goal (operand.Value (pos 0))) i (knows.action_clients name number (found_of (scope.action_client name) number _ found)) e3)))
-goal_known graph node scope n _ i knows e = absurd cc
+    past _ (known (scope.action_client name)) _ i e2 (λ number found e3. same graph node (instr.CancelGoal number goal (operand.Value (pos 0))) (knows.action_clients name number (found_of (scope.action_client name) number _ found)) i e3)))
+goal_known graph node scope n _ knows i e = absurd cc
 
-goal_before_known : (graph : GraphData) (node : ℕ) (scope : ScopeNames) (n : Word) (items : List Word) (i : Instr) → Knows scope graph node → cancel_goal_before_of scope n items ≡ Ok i → is_known graph node i ≡ true
-goal_before_known graph node scope n (k ∷ s ∷ []) i knows e =
+goal_before_known : (graph : GraphData) (node : ℕ) (scope : ScopeNames) (n : Word) (items : List Word) → Knows scope graph node → ReadsKnown graph node (cancel_goal_before_of scope n items)
+goal_before_known graph node scope n (k ∷ s ∷ []) knows i e =
     past _ (or_wrong_operand (text_in n)) _ i e (λ name _ e1.
     past _ (or_wrong_operand (operand_of k)) _ i e1 (λ goal _ e2.
     past _ (or_wrong_operand (operand_of s)) _ i e2 (λ stamp _ e3.
-    past _ (known (scope.action_client name)) _ i e3 (λ number found e4. same graph node (instr.CancelGoal number goal stamp) i (knows.action_clients name number (found_of (scope.action_client name) number _ found)) e4))))
-goal_before_known graph node scope n _ i knows e = absurd cc
+    past _ (known (scope.action_client name)) _ i e3 (λ number found e4. same graph node (instr.CancelGoal number goal stamp) (knows.action_clients name number (found_of (scope.action_client name) number _ found)) i e4))))
+goal_before_known graph node scope n _ knows i e = absurd cc
 
-cancel_named_known : (graph : GraphData) (node : ℕ) (scope : ScopeNames) (n : Word) (form : List ℕ) (items : List Word) (i : Instr) → Knows scope graph node → cancel_named scope n form items ≡ Ok i → is_known graph node i ≡ true
-cancel_named_known graph node scope n form items i knows e =
-    either _ (bytes_eq form (codes "all")) _ _ i e (all_known graph node scope n items i knows) (λ e.
-    either _ (bytes_eq form (codes "before")) _ _ i e (before_known graph node scope n items i knows) (λ e.
-    either _ (bytes_eq form (codes "goal")) _ _ i e (goal_known graph node scope n items i knows) (λ e.
-    either _ (bytes_eq form (codes "goal-before")) _ _ i e (goal_before_known graph node scope n items i knows) (λ e. absurd cc))))
+cancel_named_known : (graph : GraphData) (node : ℕ) (scope : ScopeNames) (n : Word) (form : List ℕ) (items : List Word) → Knows scope graph node → ReadsKnown graph node (cancel_named scope n form items)
+cancel_named_known graph node scope n form items knows =
+    read_by_name (ReadsKnown graph node) (λ read. read scope n items) form cancel_forms fault.Operand (λ i e. absurd cc)
+    (all_known graph node scope n items knows
+    also before_known graph node scope n items knows
+    also goal_known graph node scope n items knows
+    also goal_before_known graph node scope n items knows
+    also tt)
 
-cancel_known : (graph : GraphData) (node : ℕ) (scope : ScopeNames) (items : List Word) (i : Instr) → Knows scope graph node → cancel_of scope items ≡ Ok i → is_known graph node i ≡ true
-cancel_known graph node scope (n ∷ Text form ∷ items) i knows e = cancel_named_known graph node scope n form items i knows e
-cancel_known graph node scope (n ∷ Number value ∷ items) i knows e = absurd cc
-cancel_known graph node scope _ i knows e = absurd cc
+cancel_known : (graph : GraphData) (node : ℕ) (scope : ScopeNames) (items : List Word) → Knows scope graph node → ReadsKnown graph node (cancel_of scope items)
+cancel_known graph node scope (n ∷ Text form ∷ items) knows i e = cancel_named_known graph node scope n form items knows i e
+cancel_known graph node scope (n ∷ Number value ∷ items) knows i e = absurd cc
+cancel_known graph node scope _ knows i e = absurd cc
 
 -- the instruction of a name
-instruction_known : (graph : GraphData) (node : ℕ) (scope : ScopeNames) (name : List ℕ) (items : List Word) (i : Instr) → Knows scope graph node → instruction_named scope name items ≡ Ok i → is_known graph node i ≡ true
-instruction_known graph node scope name items i knows e =
-    either _ (bytes_eq name (codes "set")) _ _ i e (set_known graph node items i) (λ e.
-    either _ (bytes_eq name (codes "skip")) _ _ i e (skip_known graph node items i) (λ e.
-    either _ (bytes_eq name (codes "pub")) _ _ i e (named_known graph node scope.topic instr.Pub items i (λ name number value found. knows.topics name number found)) (λ e.
-    either _ (bytes_eq name (codes "call")) _ _ i e (named_known graph node scope.client instr.Call items i (λ name number value found. knows.clients name number found)) (λ e.
-    either _ (bytes_eq name (codes "goal")) _ _ i e (named_known graph node scope.action_client instr.Goal items i (λ name number value found. knows.action_clients name number found)) (λ e.
-    either _ (bytes_eq name (codes "cancel")) _ _ i e (cancel_known graph node scope items i knows) (λ e.
-    either _ (bytes_eq name (codes "execute")) _ _ i e (execute_known graph node scope items i knows) (λ e.
-    either _ (bytes_eq name (codes "log")) _ _ i e (operand_known graph node instr.Log items i (λ value. refl)) (λ e.
-    either _ (bytes_eq name (codes "reply")) _ _ i e (operand_known graph node instr.Reply items i (λ value. refl)) (λ e.
-    either _ (bytes_eq name (codes "decide")) _ _ i e (operand_known graph node instr.Decide items i (λ value. refl)) (λ e.
-    either _ (bytes_eq name (codes "feedback")) _ _ i e (operand_known graph node instr.Feedback items i (λ value. refl)) (λ e.
-    either _ (bytes_eq name (codes "wait")) _ _ i e (operand_known graph node instr.Wait items i (λ value. refl)) (λ e.
-    either _ (bytes_eq name (codes "yield")) _ _ i e (yield_known graph node items i) (λ e.
-    either _ (bytes_eq name (codes "succeed")) _ _ i e (operand_known graph node instr.Succeed items i (λ value. refl)) (λ e.
-    either _ (bytes_eq name (codes "abort")) _ _ i e (operand_known graph node instr.Abort items i (λ value. refl)) (λ e.
-    either _ (bytes_eq name (codes "canceled")) _ _ i e (operand_known graph node instr.Canceled items i (λ value. refl)) (λ e. absurd cc))))))))))))))))
+instruction_known : (graph : GraphData) (node : ℕ) (scope : ScopeNames) (name : List ℕ) (items : List Word) → Knows scope graph node → ReadsKnown graph node (instruction_named scope name items)
+instruction_known graph node scope name items knows =
+    read_by_name (ReadsKnown graph node) (λ read. read items) name (instructions scope) fault.Instruction (λ i e. absurd cc)
+    (set_known graph node items
+    also skip_known graph node items
+    also named_known graph node scope.topic instr.Pub items (λ name number value. knows.topics name number)
+    also named_known graph node scope.client instr.Call items (λ name number value. knows.clients name number)
+    also named_known graph node scope.action_client instr.Goal items (λ name number value. knows.action_clients name number)
+    also cancel_known graph node scope items knows
+    also execute_known graph node scope items knows
+    also operand_known graph node instr.Log items (λ value. refl)
+    also operand_known graph node instr.Reply items (λ value. refl)
+    also operand_known graph node instr.Decide items (λ value. refl)
+    also operand_known graph node instr.Feedback items (λ value. refl)
+    also operand_known graph node instr.Wait items (λ value. refl)
+    also yield_known graph node items
+    also operand_known graph node instr.Succeed items (λ value. refl)
+    also operand_known graph node instr.Abort items (λ value. refl)
+    also operand_known graph node instr.Canceled items (λ value. refl)
+    also tt)
 
-one_known : (graph : GraphData) (node : ℕ) (scope : ScopeNames) (words : List Word) (i : Instr) → Knows scope graph node → instruction_of scope words ≡ Ok i → is_known graph node i ≡ true
-one_known graph node scope [] i knows e = absurd cc
-one_known graph node scope (Number value ∷ items) i knows e = absurd cc
-one_known graph node scope (Text name ∷ items) i knows e = instruction_known graph node scope name items i knows e
+one_known : (graph : GraphData) (node : ℕ) (scope : ScopeNames) (words : List Word) → Knows scope graph node → ReadsKnown graph node (instruction_of scope words)
+one_known graph node scope [] knows i e = absurd cc
+one_known graph node scope (Number value ∷ items) knows i e = absurd cc
+one_known graph node scope (Text name ∷ items) knows i e = instruction_known graph node scope name items knows i e
 
 -- ---- scripts
 
@@ -163,5 +169,5 @@ spelt_by graph node scope (words ∷ others) script knows e =
     as_read graph node (words ∷ others) (i ∷ rest) script
     (record {
       as_long = ap suc behind.as_long;
-      known = both_true (is_known graph node i) (list_all (is_known graph node) rest) (one_known graph node scope words i knows first) behind.known;
+      known = both_true (is_known graph node i) (list_all (is_known graph node) rest) (one_known graph node scope words knows i first) behind.known;
     }) e2))

@@ -28,5 +28,6 @@ pub mod Reading
 pub mod Resolving
 pub mod SameTexts
 pub mod Scheduled
+pub mod Tables
 pub mod TextPlaces
 pub mod WellNamed

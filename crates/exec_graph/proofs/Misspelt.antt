@@ -1,8 +1,10 @@
 -- The fault of a misspelt script is never that of a group variable.
-use Rattle.std.proofs.Common.{◌≡◌, ℕ, Bool, true, false, if◌then◌else◌, List, [], ◌∷◌, Option, None, Some, Result, Ok, Err, codes, bytes_eq, refl}
+use Rattle.std.proofs.Common.{◌≡◌, ℕ, false, List, [], ◌∷◌, Option, None, Some, Result, Ok, Err, refl}
+use Rattle.exec_graph.proofs.Tables.{◌also◌, read_by_name}
 use Rattle.exec_graph.specs.Faults.{is_of_variable}
-use Rattle.exec_script.specs.Spelling.{ScopeNames, ◌>>=◌, operand_of, destination_of, operation_of, count_of, text_in, or_wrong_operand, known, set_of, skip_of, operand_alone, of_operand, of_name_and_operand, execute_of, yield_of, cancel_all_of, cancel_before_of, cancel_goal_of, cancel_goal_before_of, cancel_named, cancel_of, instruction_named, instruction_of, script_of}
+use Rattle.exec_script.specs.Spelling.{ScopeNames, ◌>>=◌, operand_of, destination_of, operation_of, count_of, text_in, or_wrong_operand, known, set_of, skip_of, operand_alone, of_operand, of_name_and_operand, execute_of, yield_of, cancel_all_of, cancel_before_of, cancel_goal_of, cancel_goal_before_of, cancel_forms, cancel_named, cancel_of, instructions, instruction_named, instruction_of, script_of}
 use Rattle.exec_script.specs.declared.fault.ScriptFault.{ScriptFault}
+use Rattle.exec_script.specs.declared.fault.ScriptFault.TheVariants as fault
 use Rattle.exec_script.specs.declared.instr.Instr.{Instr}
 use Rattle.exec_script.specs.Instruction as instr
 use Rattle.exec_script.specs.declared.instr.Operand.{Operand}
@@ -27,10 +29,6 @@ item_other (Some a) = tt
 name_other : {A : Type 0} (o : Option A) → IsOther (known o)
 name_other None = refl
 name_other (Some a) = tt
-
-either_other : (b : Bool) (x y : Result Instr ScriptFault) → IsOther x → IsOther y → IsOther (if b then x else y)
-either_other true x y first second = first
-either_other false x y first second = second
 
 -- ---- instructions
 
@@ -102,10 +100,12 @@ goal_before_other scope n _ = refl
 
 cancel_named_other : (scope : ScopeNames) (n : Word) (form : List ℕ) (items : List Word) → IsOther (cancel_named scope n form items)
 cancel_named_other scope n form items =
-    either_other (bytes_eq form (codes "all")) _ _ (all_other scope n items)
-    (either_other (bytes_eq form (codes "before")) _ _ (before_other scope n items)
-    (either_other (bytes_eq form (codes "goal")) _ _ (goal_other scope n items)
-    (either_other (bytes_eq form (codes "goal-before")) _ _ (goal_before_other scope n items) refl)))
+    read_by_name IsOther (λ read. read scope n items) form cancel_forms fault.Operand refl
+    (all_other scope n items
+    also before_other scope n items
+    also goal_other scope n items
+    also goal_before_other scope n items
+    also tt)
 
 cancel_other : (scope : ScopeNames) (items : List Word) → IsOther (cancel_of scope items)
 cancel_other scope (n ∷ Text form ∷ items) = cancel_named_other scope n form items
@@ -115,22 +115,24 @@ cancel_other scope [] = refl
 
 instruction_named_other : (scope : ScopeNames) (name : List ℕ) (items : List Word) → IsOther (instruction_named scope name items)
 instruction_named_other scope name items =
-    either_other (bytes_eq name (codes "set")) _ _ (set_other items)
-    (either_other (bytes_eq name (codes "skip")) _ _ (skip_other items)
-    (either_other (bytes_eq name (codes "pub")) _ _ (named_other scope.topic instr.Pub items)
-    (either_other (bytes_eq name (codes "call")) _ _ (named_other scope.client instr.Call items)
-    (either_other (bytes_eq name (codes "goal")) _ _ (named_other scope.action_client instr.Goal items)
-    (either_other (bytes_eq name (codes "cancel")) _ _ (cancel_other scope items)
-    (either_other (bytes_eq name (codes "execute")) _ _ (execute_other scope items)
-    (either_other (bytes_eq name (codes "log")) _ _ (operand_other instr.Log items)
-    (either_other (bytes_eq name (codes "reply")) _ _ (operand_other instr.Reply items)
-    (either_other (bytes_eq name (codes "decide")) _ _ (operand_other instr.Decide items)
-    (either_other (bytes_eq name (codes "feedback")) _ _ (operand_other instr.Feedback items)
-    (either_other (bytes_eq name (codes "wait")) _ _ (operand_other instr.Wait items)
-    (either_other (bytes_eq name (codes "yield")) _ _ (yield_other items)
-    (either_other (bytes_eq name (codes "succeed")) _ _ (operand_other instr.Succeed items)
-    (either_other (bytes_eq name (codes "abort")) _ _ (operand_other instr.Abort items)
-    (either_other (bytes_eq name (codes "canceled")) _ _ (operand_other instr.Canceled items) refl)))))))))))))))
+    read_by_name IsOther (λ read. read items) name (instructions scope) fault.Instruction refl
+    (set_other items
+    also skip_other items
+    also named_other scope.topic instr.Pub items
+    also named_other scope.client instr.Call items
+    also named_other scope.action_client instr.Goal items
+    also cancel_other scope items
+    also execute_other scope items
+    also operand_other instr.Log items
+    also operand_other instr.Reply items
+    also operand_other instr.Decide items
+    also operand_other instr.Feedback items
+    also operand_other instr.Wait items
+    also yield_other items
+    also operand_other instr.Succeed items
+    also operand_other instr.Abort items
+    also operand_other instr.Canceled items
+    also tt)
 
 instruction_other : (scope : ScopeNames) (words : List Word) → IsOther (instruction_of scope words)
 instruction_other scope [] = refl

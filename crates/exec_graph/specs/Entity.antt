@@ -5,6 +5,7 @@ use Rattle.std.specs.Option.{option_map, option_map_or}
 use Rattle.exec_graph.specs.Options.{◌>>=◌}
 use Rattle.exec_graph.specs.declared.entity.EntityKind.{EntityKind}
 use Rattle.exec_graph.specs.declared.entity.EntityKind.TheVariants as kind
+use Rattle.exec_graph.specs.declared.entity.TheConstants.EntityKind.{IN_ORDER}
 use Rattle.exec_graph.specs.declared.entity.EntityOf.{EntityOf}
 use Rattle.exec_graph.specs.declared.entity.EntityOf.TheVariants.{Timer, Subscription, Service, Client, Server, ActionClient}
 use Rattle.exec_graph.specs.declared.entity.Referent.{Referent}
@@ -41,7 +42,7 @@ Resolved = EntityOf EntityNo Script
 
 -- the kinds in the order of numbers
 abbrev pub entity_kinds : List EntityKind
-entity_kinds = kind.Timer ∷ kind.Subscription ∷ kind.Service ∷ kind.Client ∷ kind.Server ∷ kind.ActionClient ∷ []
+entity_kinds = IN_ORDER
 
 -- the place of a kind in that order, from 1
 abbrev pub rank_of : EntityKind → ℕ
@@ -94,14 +95,20 @@ abbrev pub is_timeout : Option ℕ → Bool
 is_timeout None = true
 is_timeout (Some ticks) = nat_le ticks TICKS
 
+-- how many items each of an entity's queues holds; a timer has none
+abbrev pub queue_depth : {N S : Type 0} → EntityOf N S → ℕ
+queue_depth (Timer entity) = 0
+queue_depth (Subscription entity) = entity.depth
+queue_depth (Service entity) = entity.depth
+queue_depth (Client entity) = entity.depth
+queue_depth (Server entity) = entity.depth
+queue_depth (ActionClient entity) = entity.depth
+
 -- whether an entity's period, depth and timeout are within their limits
 abbrev pub is_within : {N S : Type 0} → EntityOf N S → Bool
 is_within (Timer entity) = is_from_1 TICKS entity.period
-is_within (Subscription entity) = is_from_1 DEPTH entity.depth
-is_within (Service entity) = is_from_1 DEPTH entity.depth
-is_within (Client entity) = is_from_1 DEPTH entity.depth
 is_within (Server entity) = is_from_1 DEPTH entity.depth && is_timeout entity.result_timeout
-is_within (ActionClient entity) = is_from_1 DEPTH entity.depth
+is_within entity = is_from_1 DEPTH (queue_depth entity)
 
 -- ---- scripts
 

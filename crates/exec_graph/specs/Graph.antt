@@ -4,7 +4,7 @@ use Rattle.std.specs.List.{flat_map}
 use Rattle.std.specs.Option.{option_map_or, unwrap_or}
 use Rattle.exec_msg.specs.declared.kind.Kind.{Kind}
 use Rattle.exec_msg.specs.declared.kind.Kind.TheVariants as kind
-use Rattle.exec_graph.specs.Entity.{EntityNo, Script, Resolved, is_of}
+use Rattle.exec_graph.specs.Entity.{EntityNo, Script, Resolved, is_of, queue_depth}
 use Rattle.exec_graph.specs.declared.entity.CallbackGroup.{CallbackGroup}
 use Rattle.exec_graph.specs.declared.entity.Declared.{Declared}
 use Rattle.exec_graph.specs.declared.entity.Declared.TheVariants.{Topic, Entity}
@@ -72,15 +72,6 @@ is_action_client = is_a entity_kind.ActionClient
 abbrev pub group_of : Declared → GroupNo
 group_of Topic = 0
 group_of (Entity entity) = entity.group
-
--- how many items each of an entity's queues holds; a timer has none
-abbrev pub queue_depth : Resolved → ℕ
-queue_depth (Timer entity) = 0
-queue_depth (Subscription entity) = entity.depth
-queue_depth (Service entity) = entity.depth
-queue_depth (Client entity) = entity.depth
-queue_depth (Server entity) = entity.depth
-queue_depth (ActionClient entity) = entity.depth
 
 -- how many items the queues of what stands at a number hold
 abbrev pub depth_of : Declared → ℕ

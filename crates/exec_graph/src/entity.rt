@@ -1,13 +1,14 @@
 //! Entities, as a draft and as a graph has them: a draft's refer to one another by texts and have spelled scripts, a
 //! graph's refer by numbers and have decoded scripts.
-ghost use Rattle.std.specs.Prelude.{◌≡◌, [], ◌∷◌, ◌++◌, ◌&&◌, OnOk, IfOk};
-ghost use Rattle.exec_graph.specs.Entity.{kind_of_entity, is_of, is_within, is_from_1, is_timeout, reference_of, scripts_of, result_scripts};
+ghost use Rattle.std.specs.Prelude.{◌≡◌, [], ◌∷◌, ◌&&◌, Some, None};
+ghost use Rattle.std.specs.List.{filter_map};
+ghost use Rattle.std.specs.Option.{option_map};
+ghost use Rattle.exec_graph.specs.Entity.{kind_of_entity, is_of, queue_depth, is_within, is_from_1, is_timeout, reference_of, scripts_of};
 
 use crate::script::Script;
+use exec_msg::EntityNo;
 use exec_msg::limits::{DEPTH, TICKS};
-use exec_msg::{EntityNo, Memory};
 use exec_script::{Role, WordText};
-use std::alloc::Global;
 use std::marker::Model;
 
 /// The kinds of entities that the `rclcpp` documentation names, in the order of their numbers.
@@ -190,19 +191,30 @@ impl<N, S> EntityOf<N, S> {
         self.kind() == kind
     }
 
+    /// How many items each of its queues holds; a timer has none.
+    pub fn queue_depth(&self) -> u64
+        ensures { result ≡ queue_depth self.now }
+    {
+        match self {
+            EntityOf::Timer(_) => 0,
+            EntityOf::Subscription(entity) => entity.depth,
+            EntityOf::Service(entity) => entity.depth,
+            EntityOf::Client(entity) => entity.depth,
+            EntityOf::Server(entity) => entity.depth,
+            EntityOf::ActionClient(entity) => entity.depth,
+        }
+    }
+
     // Whether its period, depth and timeout are within their limits.
     pub(crate) fn is_within(&self) -> bool
         ensures { result ≡ is_within self.now }
     {
         match self {
             EntityOf::Timer(entity) => is_from_1(entity.period, TICKS),
-            EntityOf::Subscription(entity) => is_from_1(entity.depth, DEPTH),
-            EntityOf::Service(entity) => is_from_1(entity.depth, DEPTH),
-            EntityOf::Client(entity) => is_from_1(entity.depth, DEPTH),
             EntityOf::Server(entity) => {
                 is_from_1(entity.depth, DEPTH) && is_timeout(entity.result_timeout)
             }
-            EntityOf::ActionClient(entity) => is_from_1(entity.depth, DEPTH),
+            _ => is_from_1(self.queue_depth(), DEPTH),
         }
     }
 
@@ -222,43 +234,47 @@ impl<N, S> EntityOf<N, S> {
         Some(Reference { to, name })
     }
 
-    // Its scripts.
-    pub(crate) fn scripts(&self, alloc: Global) -> Result<Vec<RoleScript<'_, S>>, Memory>
-        ensures { IfOk result (λ scripts. scripts.items ≡ scripts_of self.now) }
+    // Its scripts, with nothing behind the last.
+    pub(crate) fn scripts(&self) -> [Option<RoleScript<'_, S>>; 4]
+        ensures { filter_map (λ script. script) result ≡ scripts_of self.now }
     {
-        let mut scripts = Vec::new(alloc);
         match self {
-            EntityOf::Timer(entity) => append(&mut scripts, Role::Callback, &entity.script)?,
-            EntityOf::Subscription(entity) => append(&mut scripts, Role::Callback, &entity.script)?,
-            EntityOf::Service(entity) => append(&mut scripts, Role::Service, &entity.script)?,
-            EntityOf::Client(entity) => append(&mut scripts, Role::Callback, &entity.script)?,
-            EntityOf::Server(entity) => {
-                append(&mut scripts, Role::GoalHandler, &entity.on_goal)?;
-                append(&mut scripts, Role::CancelHandler, &entity.on_cancel)?;
-                append(&mut scripts, Role::Goal, &entity.script)?;
-            }
-            EntityOf::ActionClient(entity) => {
-                append(&mut scripts, Role::Callback, &entity.on_response)?;
-                append(&mut scripts, Role::Callback, &entity.on_code)?;
-                append(&mut scripts, Role::Callback, &entity.on_feedback)?;
-                if let Some(on_result) = &entity.on_result {
-                    append(&mut scripts, Role::Callback, on_result)?;
-                }
-            }
+            EntityOf::Timer(entity) => one(Role::Callback, &entity.script),
+            EntityOf::Subscription(entity) => one(Role::Callback, &entity.script),
+            EntityOf::Service(entity) => one(Role::Service, &entity.script),
+            EntityOf::Client(entity) => one(Role::Callback, &entity.script),
+            EntityOf::Server(entity) => [
+                in_role(Role::GoalHandler, &entity.on_goal),
+                in_role(Role::CancelHandler, &entity.on_cancel),
+                in_role(Role::Goal, &entity.script),
+                None,
+            ],
+            EntityOf::ActionClient(entity) => [
+                in_role(Role::Callback, &entity.on_response),
+                in_role(Role::Callback, &entity.on_code),
+                in_role(Role::Callback, &entity.on_feedback),
+                in_role_if_there(Role::Callback, &entity.on_result),
+            ],
         }
-        Ok(scripts)
     }
 }
 
-fn append<'a, S>(
-    scripts: &mut Vec<RoleScript<'a, S>>,
-    role: Role,
-    script: &'a S,
-) -> Result<(), Memory>
-    ensures { OnOk result (scripts.new.items ≡ scripts.old.items ++ record { role = role; script = script.now } ∷ []) }
+fn one<S>(role: Role, script: &S) -> [Option<RoleScript<'_, S>>; 4]
+    ensures { result ≡ Some (record { role = role; script = script.now }) ∷ None ∷ None ∷ None ∷ [] }
 {
-    scripts.push(RoleScript { role, script })?;
-    Ok(())
+    [in_role(role, script), None, None, None]
+}
+
+fn in_role<S>(role: Role, script: &S) -> Option<RoleScript<'_, S>>
+    ensures { result ≡ Some (record { role = role; script = script.now }) }
+{
+    Some(RoleScript { role, script })
+}
+
+fn in_role_if_there<S>(role: Role, script: &Option<S>) -> Option<RoleScript<'_, S>>
+    ensures { result ≡ option_map (λ script. record { role = role; script = script }) script.now }
+{
+    in_role(role, script.as_ref()?)
 }
 
 fn is_from_1(number: u64, most: u64) -> bool

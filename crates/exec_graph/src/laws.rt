@@ -1,5 +1,5 @@
 //! Laws of graphs: each function's contract says one, and its body is empty or calls the law that it rests on.
-ghost use Rattle.std.specs.Prelude.{◌≡◌, ℕ, ◌<◌, ◌≤◌, ◌==◌, ℤ, List, length, Bool, true, false, cond, Option, None, Some, is_some, IsTrue, ◌&&◌};
+ghost use Rattle.std.specs.Prelude.{◌≡◌, ℕ, ◌-◌, ◌<◌, ◌≤◌, ◌==◌, ℤ, List, [], ◌∷◌, length, slice_get, Bool, true, false, cond, Option, None, Some, is_some, IsTrue, ◌&&◌};
 ghost use Rattle.std.specs.List.{filter, list_all, position_from};
 ghost use Rattle.std.specs.Ordering.{nat_cmp};
 ghost use Rattle.std.specs.Str.{bytes_eq};
@@ -9,7 +9,7 @@ ghost use Rattle.exec_graph.specs.Feeding.{goes_somewhere, has_128_bits};
 ghost use Rattle.exec_graph.specs.Graph.{GraphData, declared_at, entities_where, is_topic, is_server};
 ghost use Rattle.exec_graph.specs.declared.entity.CallbackGroup.{CallbackGroup};
 ghost use Rattle.exec_graph.specs.declared.entity.Declared.{Declared};
-ghost use Rattle.exec_graph.specs.Entity.{RoleScriptData, rank_of};
+ghost use Rattle.exec_graph.specs.Entity.{RoleScriptData, entity_kinds, rank_of};
 ghost use Rattle.exec_graph.specs.Lawful.{IsLawful, IsLawfulPlan, IsLawfulScript, is_at};
 ghost use Rattle.exec_graph.specs.Numbers.{topic_named, server_named};
 ghost use Rattle.exec_graph.specs.Refusals.{fault_in};
@@ -25,6 +25,12 @@ use crate::{EntityKind, Graph, Plan, Script};
 /// The order of kinds is that in which their entities are numbered.
 pub fn kinds_are_in_the_order_of_numbers()
     ensures { (one other : EntityKind) → ⟦<EntityKind as Ord>⟧.cmp one other ≡ nat_cmp (rank_of one) (rank_of other) }
+{}
+
+/// The list of all kinds has each once, at its place in that order.
+pub fn kinds_are_listed_once()
+    ensures once { (kind : EntityKind) → filter (λ other. rank_of other == rank_of kind) entity_kinds ≡ kind ∷ [] }
+    ensures place { (kind : EntityKind) → slice_get entity_kinds (rank_of kind - 1) ≡ Some kind }
 {}
 
 /// A graph's entities that pass a test are listed once each, and nothing else is.

@@ -33,6 +33,7 @@ pub enum Kind {
 
 impl Kind {
     /// The kind's word in a transcript.
+    #[inline(always)]
     pub fn word(self) -> &'static str
         ensures word { result.now ≡ word_of self }
         ensures bound { length result.now ≤ 8 }

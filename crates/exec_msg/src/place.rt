@@ -53,20 +53,13 @@ fn place_short(bytes: &mut [u8], at: usize, text: &str) -> usize
     ensures text { take result bytes.new ≡ take at bytes.old ++ text.now }
     ensures end { result ≡ at + length text.now }
 {
-    let length = text.len();
-    if length > 64 || length < 2 {
-        return place(bytes, at, text);
-    }
-    if length >= 32 {
-        place_ends::<32>(bytes, at, text.as_bytes())
-    } else if length >= 16 {
-        place_ends::<16>(bytes, at, text.as_bytes())
-    } else if length >= 8 {
-        place_ends::<8>(bytes, at, text.as_bytes())
-    } else if length >= 4 {
-        place_ends::<4>(bytes, at, text.as_bytes())
-    } else {
-        place_ends::<2>(bytes, at, text.as_bytes())
+    match text.len() {
+        2..4 => place_ends::<2>(bytes, at, text.as_bytes()),
+        4..8 => place_ends::<4>(bytes, at, text.as_bytes()),
+        8..16 => place_ends::<8>(bytes, at, text.as_bytes()),
+        16..32 => place_ends::<16>(bytes, at, text.as_bytes()),
+        32..=64 => place_ends::<32>(bytes, at, text.as_bytes()),
+        _ => place(bytes, at, text),
     }
 }
 
@@ -95,12 +88,36 @@ pub fn place_named(bytes: &mut [u8], at: usize, word: &str, name: &str) -> usize
 // A line's word, and the callback that it speaks of: its entity's name and its kind.
 #[inline(always)]
 pub fn place_callback(bytes: &mut [u8], at: usize, word: &str, name: &str, kind: Kind) -> usize
-    requires { at + length word.now + length name.now + 10 ≤ length bytes.old }
+    requires { at + length word.now + length name.now + 17 ≤ length bytes.old }
     ensures text { take result bytes.new ≡ take at bytes.old ++ joined (word.now ∷ name.now ∷ word_of kind ∷ []) }
     ensures within { result ≤ at + length word.now + length name.now + 10 }
 {
     let end = place_named(bytes, at, word, name);
-    place_field(bytes, end, kind.word())
+    place_kind(bytes, end, kind)
+}
+
+// For each kind of callback sixteen bytes: its word with a space before it, and spaces behind.
+static KIND_FIELDS: [u8; 192] =
+    *b" timer           message         request         reply           goal            cancel          ask             poll            response        code            feedback        result         ";
+
+// A kind's sixteen bytes, and what stands behind them.
+#[inline(always)]
+fn kind_field(kind: Kind) -> &'static [u8]
+    ensures field { take (1 + length (word_of kind)) result.now ≡ 32 ∷ word_of kind }
+    ensures within { (length (word_of kind) ≤ 8) × (16 ≤ length result.now) }
+{
+    &KIND_FIELDS[kind as usize * 16..]
+}
+
+// A kind's word with a space before it: one copy of a fixed length.
+#[inline(always)]
+fn place_kind(bytes: &mut [u8], at: usize, kind: Kind) -> usize
+    requires { at + 16 ≤ length bytes.old }
+    ensures text { take result bytes.new ≡ take at bytes.old ++ spaced (word_of kind ∷ []) }
+    ensures within { result ≤ at + 9 }
+{
+    place_front::<16>(bytes, at, kind_field(kind));
+    at + 1 + kind.word().len()
 }
 
 // A line's word, and the goal that it speaks of: the name of its server or client and its identifier.
@@ -139,20 +156,71 @@ pub fn place_value(bytes: &mut [u8], at: usize, value: i64) -> usize
     place_digits(bytes, at + 2, value.unsigned_abs())
 }
 
-// Most numbers are one digit, and need no count of their digits.
+// Most numbers have few digits, and need no count of them.
 #[inline(always)]
 fn place_digits(bytes: &mut [u8], at: usize, number: u64) -> usize
     requires { at + 20 ≤ length bytes.old }
     ensures text { take result bytes.new ≡ take at bytes.old ++ decimal number }
     ensures within { result ≤ at + 20 }
 {
-    if number < 10 {
-        bytes[at] = b'0' + number as u8;
-        return at + 1;
+    if number < 10_000 {
+        return place_thousands(bytes, at, number);
     }
     let end = at + count_digits(number);
     write_digits(number, bytes, end);
     end
+}
+
+// A number of up to four digits.
+#[inline(always)]
+fn place_thousands(bytes: &mut [u8], at: usize, number: u64) -> usize
+    requires { (number < 10000) × (at + 4 ≤ length bytes.old) }
+    ensures text { take result bytes.new ≡ take at bytes.old ++ decimal number }
+    ensures within { result ≤ at + 4 }
+{
+    if number < 1_000 {
+        return place_hundreds(bytes, at, number);
+    }
+    let end = place_hundreds(bytes, at, number / 10);
+    place_digit(bytes, end, number % 10)
+}
+
+// A number of up to three digits.
+#[inline(always)]
+fn place_hundreds(bytes: &mut [u8], at: usize, number: u64) -> usize
+    requires { (number < 1000) × (at + 3 ≤ length bytes.old) }
+    ensures text { take result bytes.new ≡ take at bytes.old ++ decimal number }
+    ensures within { result ≤ at + 3 }
+{
+    if number < 100 {
+        return place_tens(bytes, at, number);
+    }
+    let end = place_tens(bytes, at, number / 10);
+    place_digit(bytes, end, number % 10)
+}
+
+// A number of one or two digits.
+#[inline(always)]
+fn place_tens(bytes: &mut [u8], at: usize, number: u64) -> usize
+    requires { (number < 100) × (at + 2 ≤ length bytes.old) }
+    ensures text { take result bytes.new ≡ take at bytes.old ++ decimal number }
+    ensures within { result ≤ at + 2 }
+{
+    if number < 10 {
+        return place_digit(bytes, at, number);
+    }
+    let end = place_digit(bytes, at, number / 10);
+    place_digit(bytes, end, number % 10)
+}
+
+#[inline(always)]
+fn place_digit(bytes: &mut [u8], at: usize, digit: u64) -> usize
+    requires { (digit < 10) × (at < length bytes.old) }
+    ensures text { take result bytes.new ≡ take at bytes.old ++ (48 + digit) ∷ [] }
+    ensures end { result ≡ at + 1 }
+{
+    bytes[at] = b'0' + digit as u8;
+    at + 1
 }
 
 // How many digits a number has.

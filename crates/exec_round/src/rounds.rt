@@ -44,7 +44,9 @@ pub fn round_forked<L: Lines, R: Threads + Sync, G: Gate>(
     ensures { IfOk result (λ after. after ≡ after_round round world) }
 {
     let mut world = world;
-    run_round(rt, alloc, &mut world, round, workers, Sharing::Dealt, gate)?;
+    if run_round(rt, alloc, &mut world, round, workers, Sharing::Dealt, gate).is_err() {
+        return Err(world.give_up());
+    }
     Ok(world)
 }
 
@@ -72,20 +74,15 @@ pub fn round_claimed<L: Lines, R: Threads + Sync, G: Gate>(
     ensures { IfOk result (λ after. after ≡ after_round round world) }
 {
     let mut world = world;
-    run_round(
-        rt,
-        alloc,
-        &mut world,
-        round,
-        workers,
-        Sharing::Claimed(quantum),
-        gate,
-    )?;
+    let sharing = Sharing::Claimed(quantum);
+    if run_round(rt, alloc, &mut world, round, workers, sharing, gate).is_err() {
+        return Err(world.give_up());
+    }
     Ok(world)
 }
 
 // Runs a round. Where nobody watches, callbacks that take less time than workers to start run where they stand.
-fn run_round<L: Lines, R: Threads + Sync, G: Gate>(
+pub(crate) fn run_round<L: Lines, R: Threads + Sync, G: Gate>(
     rt: &R,
     alloc: Global,
     world: &mut World<L>,

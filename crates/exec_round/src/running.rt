@@ -1,12 +1,13 @@
-ghost use Rattle.std.specs.Prelude.{◌≡◌, ◌<◌, ◌≤◌, [], Some, IfOk, IfErr};
+ghost use Rattle.std.specs.Prelude.{◌≡◌, ◌<◌, ◌≤◌, [], false, length, Some, IfOk, IfErr, OnOk};
 ghost use Rattle.std.specs.Arc.{arc_value};
 ghost use Rattle.exec_doc.specs.Document.{document_of};
 ghost use Rattle.exec_graph.specs.Graph.{names_of};
 ghost use Rattle.exec_graph.specs.Plan.{PlanData};
 ghost use Rattle.exec_round.specs.Run.{IsRefusalOf};
+ghost use Rattle.exec_world.specs.Calls.{new_world};
 ghost use Rattle.exec_world.specs.Transcript.{lines_of, text_of};
 
-use crate::rounds::round_claimed;
+use crate::rounds::{Sharing, run_round};
 use exec_doc::{Refused, read_document};
 use exec_graph::Plan;
 use exec_lane::Gate;
@@ -94,14 +95,38 @@ fn run_rounds<L: Lines, R: Threads + Sync, G: Gate>(
     requires quantum { 0 < quantum }
     ensures { IfOk result (λ lines. L.lines lines ≡ lines_of (arc_value plan)) }
 {
-    exec_world::laws::rounds_follow_one_another();
     let rounds = plan.moments().len();
     let mut world = World::with_lines(alloc, plan, lines)?;
+    if run_each(rt, alloc, &mut world, rounds, workers, quantum, gate).is_err() {
+        return Err(world.give_up());
+    }
+    Ok(world.into_lines())
+}
+
+// Runs so many rounds, all that the plan of a new world has, and closes its transcript.
+fn run_each<L: Lines, R: Threads + Sync, G: Gate>(
+    rt: &R,
+    alloc: Global,
+    world: &mut World<L>,
+    rounds: usize,
+    workers: usize,
+    quantum: usize,
+    gate: &G,
+) -> Result<(), Memory>
+    requires new { world.old ≡ new_world world.old.plan }
+    requires all { rounds ≡ length world.old.plan.moments }
+    requires workers { 0 < workers }
+    requires quantum { 0 < quantum }
+    ensures unfailed { OnOk result (world.new.failed ≡ false) }
+    ensures lines { OnOk result (world.new.state.lines ≡ lines_of world.old.plan) }
+{
+    exec_world::laws::rounds_follow_one_another();
+    let sharing = Sharing::Claimed(quantum);
     for done in 0..rounds {
-        world = round_claimed(rt, alloc, world, done + 1, workers, quantum, gate)?;
+        run_round(rt, alloc, world, done + 1, workers, sharing, gate)?;
     }
-    match world.finish() {
-        Ok(()) => Ok(world.into_lines()),
-        Err(_) => Err(Memory),
+    if world.finish().is_err() {
+        return Err(Memory);
     }
+    Ok(())
 }

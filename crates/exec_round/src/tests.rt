@@ -5,10 +5,13 @@ mod fixture;
 mod holding;
 mod lanes;
 
+ghost use Rattle.std.specs.Prelude.{◌≡◌, ◌<◌, true, false};
+ghost use Rattle.exec_world.specs.Calls.{IsNext};
+
 use crate::{round_claimed, round_forked, run};
 use exec_doc::{Refused, read_document};
 use exec_lane::Gate;
-use exec_msg::Memory;
+use exec_msg::{LineList, Memory};
 use exec_world::World;
 use std::alloc::Global;
 use std::sync::Arc;
@@ -21,10 +24,9 @@ use std::thread::Threads;
 // that long.
 const TURNS: u64 = 4_000_000_000;
 
-// How a round is run.
+// How workers share a round.
 #[derive(Clone, Copy)]
 enum Way {
-    Alone,
     Forked,
     // So many callbacks are claimed at a time.
     Claimed(usize),
@@ -35,7 +37,15 @@ fn world_of(alloc: Global, document: &[u8]) -> Result<World, Refused> {
     Ok(World::new(alloc, plan)?)
 }
 
-// Runs the round of this number, by so many workers where there are any.
+// Whether a world may run the round of this number.
+fn is_ready(world: &World, round: usize) -> bool
+    ensures unfailed { result ≡ true → world.now.failed ≡ false }
+    ensures next { result ≡ true → IsNext round world.now }
+{
+    !world.is_failed() && world.is_next(round)
+}
+
+// Runs the round of this number by so many workers, where the world may run it.
 fn next<R: Threads + Sync, G: Gate>(
     rt: &R,
     alloc: Global,
@@ -45,11 +55,27 @@ fn next<R: Threads + Sync, G: Gate>(
     way: Way,
     gate: &G,
 ) -> Result<World, Memory> {
-    if world.is_failed() || !world.is_next(round) || workers == 0 {
+    if !is_ready(&world, round) || workers == 0 {
         return Err(Memory);
     }
+    share(rt, alloc, world, round, workers, way, gate)
+}
+
+// Runs the round of this number by so many workers.
+fn share<R: Threads + Sync, G: Gate>(
+    rt: &R,
+    alloc: Global,
+    world: World,
+    round: usize,
+    workers: usize,
+    way: Way,
+    gate: &G,
+) -> Result<World, Memory>
+    requires unfailed { world.failed ≡ false }
+    requires next { IsNext round world }
+    requires workers { 0 < workers }
+{
     match way {
-        Way::Alone => world.round_alone(round),
         Way::Forked => round_forked(rt, alloc, world, round, workers, gate),
         Way::Claimed(quantum) => {
             round_claimed(rt, alloc, world, round, workers, quantum.max(1), gate)
@@ -130,8 +156,8 @@ fn meet_in_a_round<R: Threads + Sync>(
     gate: &Meeting,
     both: bool,
 ) -> Result<bool, Refused> {
-    next(rt, alloc, world_of(alloc, document)?, 1, workers, way, gate)?;
-    Ok(gate.met(both))
+    let world = world_of(alloc, document)?;
+    Ok(next(rt, alloc, world, 1, workers, way, gate).is_ok() && gate.met(both))
 }
 
 #[test]
@@ -224,34 +250,57 @@ impl Gate for Watching {
 const SIXTEEN_GOALS: &[u8] =
     br#"{"version":1,"nodes":[{"name":"n","groups":[{"name":"A","kind":"exclusive"},{"name":"B","kind":"exclusive"},{"name":"R","kind":"reentrant"}],"timers":[{"name":"ta","period":20,"group":"A","script":[["log","now"]]},{"name":"tb1","period":20,"group":"B","script":[["set","g0","add","g0",3],["log","g0"]]},{"name":"tb2","period":20,"group":"B","script":[["set","g0","mul","g0",2],["log","g0"]]}],"actions":[{"name":"a","group":"R","on_goal":[["decide",2]],"script":[["set","r0","sub",20,"now"],["wait","r0"],["succeed","in"]]}]}],"moments":[1, 2, 3, 4, 5, 6, 7, 8, 9, 10, 11, 12, 13, 14, 15, 16, 17, 18, 19, 20],"feed":[{"round":1,"action":"a","goal":"00000000-0000-0000-0000-000000000001","value":1},{"round":2,"action":"a","goal":"00000000-0000-0000-0000-000000000002","value":2},{"round":3,"action":"a","goal":"00000000-0000-0000-0000-000000000003","value":3},{"round":4,"action":"a","goal":"00000000-0000-0000-0000-000000000004","value":4},{"round":5,"action":"a","goal":"00000000-0000-0000-0000-000000000005","value":5},{"round":6,"action":"a","goal":"00000000-0000-0000-0000-000000000006","value":6},{"round":7,"action":"a","goal":"00000000-0000-0000-0000-000000000007","value":7},{"round":8,"action":"a","goal":"00000000-0000-0000-0000-000000000008","value":8},{"round":9,"action":"a","goal":"00000000-0000-0000-0000-000000000009","value":9},{"round":10,"action":"a","goal":"00000000-0000-0000-0000-000000000010","value":10},{"round":11,"action":"a","goal":"00000000-0000-0000-0000-000000000011","value":11},{"round":12,"action":"a","goal":"00000000-0000-0000-0000-000000000012","value":12},{"round":13,"action":"a","goal":"00000000-0000-0000-0000-000000000013","value":13},{"round":14,"action":"a","goal":"00000000-0000-0000-0000-000000000014","value":14},{"round":15,"action":"a","goal":"00000000-0000-0000-0000-000000000015","value":15},{"round":16,"action":"a","goal":"00000000-0000-0000-0000-000000000016","value":16}]}"#;
 
-// The world after all rounds.
-fn rounds_by<R: Threads + Sync>(
-    rt: &R,
-    alloc: Global,
-    workers: usize,
-    way: Way,
-) -> Result<World, Refused> {
-    let mut world = world_of(alloc, SIXTEEN_GOALS)?;
-    for round in 1..21 {
-        world = next(rt, alloc, world, round, workers, way, &Watching)?;
+// What a world that hasn't failed has written.
+fn lines_of(world: World) -> Result<LineList, Memory> {
+    if world.is_failed() {
+        return Err(Memory);
     }
-    Ok(world)
+    Ok(world.into_lines())
 }
 
-// Whether they leave the transcript of one thread.
+// What workers write in so many rounds.
+fn lines_by<R: Threads + Sync>(
+    rt: &R,
+    alloc: Global,
+    mut world: World,
+    rounds: usize,
+    workers: usize,
+    way: Way,
+) -> Result<LineList, Memory> {
+    for done in 0..rounds {
+        world = next(rt, alloc, world, done + 1, workers, way, &Watching)?;
+    }
+    lines_of(world)
+}
+
+// What one thread writes in so many rounds.
+fn lines_alone(mut world: World, rounds: usize) -> Result<LineList, Memory> {
+    for done in 0..rounds {
+        if !is_ready(&world, done + 1) {
+            return Err(Memory);
+        }
+        world = world.round_alone(done + 1)?;
+    }
+    lines_of(world)
+}
+
+// What one thread writes in the first rounds of a document.
+fn first_lines(alloc: Global, document: &[u8], rounds: usize) -> Result<LineList, Refused> {
+    let world = world_of(alloc, document)?;
+    Ok(lines_alone(world, rounds)?)
+}
+
+// Whether workers leave the transcript of one thread.
 fn leave_the_same<R: Threads + Sync>(
     rt: &R,
     alloc: Global,
     workers: usize,
     way: Way,
 ) -> Result<bool, Refused> {
-    let alone = rounds_by(rt, alloc, 1, Way::Alone)?;
-    let other = rounds_by(rt, alloc, workers, way)?;
-    Ok(have_one_transcript(&alone, &other))
-}
-
-fn have_one_transcript(one: &World, other: &World) -> bool {
-    !one.is_failed() && !other.is_failed() && one.transcript() == other.transcript()
+    let alone = first_lines(alloc, SIXTEEN_GOALS, 20)?;
+    let world = world_of(alloc, SIXTEEN_GOALS)?;
+    let lines = lines_by(rt, alloc, world, 20, workers, way)?;
+    Ok(lines.as_slice() == alone.as_slice())
 }
 
 #[test]

@@ -1,6 +1,7 @@
 -- How words spell a script, and the fault of each misspelling.
 use Rattle.std.specs.Prelude.{ℕ, ◌-◌, pos, negsuc, List, [], ◌∷◌, codes, ◌==◌, nat_le, ◌&&◌, if◌then◌else◌, Option, None, Some, option_and_then, Result, Ok, Err}
-use Rattle.std.specs.Option.{option_map, ok_or}
+use Rattle.std.specs.Map.{lookup}
+use Rattle.std.specs.Option.{option_map, option_or, ok_or}
 use Rattle.std.specs.Str.{bytes_eq}
 use Rattle.exec_script.specs.declared.fault.ScriptFault.{ScriptFault}
 use Rattle.exec_script.specs.declared.fault.ScriptFault.TheVariants as fault
@@ -47,13 +48,16 @@ abbrev pub operand_at : Destination → Operand
 operand_at (destination.Register slot) = operand.Register slot
 operand_at (destination.Variable slot) = operand.Variable slot
 
+-- the operands that have a name of their own
+abbrev pub inputs : List (List ℕ × Operand)
+inputs =
+    (codes "in", operand.In) ∷
+    (codes "aux", operand.Aux) ∷
+    (codes "now", operand.Now) ∷ []
+
 -- the operand that a text names
 abbrev pub operand_named : List ℕ → Option Operand
-operand_named text =
-    if bytes_eq text (codes "in") then Some operand.In else
-    (if bytes_eq text (codes "aux") then Some operand.Aux else
-    (if bytes_eq text (codes "now") then Some operand.Now else
-    option_map operand_at (cell_named text)))
+operand_named text = option_or (lookup (bytes_eq text) inputs) (option_map operand_at (cell_named text))
 
 -- an operand is a value, or named by a text
 abbrev pub operand_of : Word → Option Operand
@@ -65,21 +69,21 @@ abbrev pub destination_of : Word → Option Destination
 destination_of (Number value) = None
 destination_of (Text text) = cell_named text
 
--- the operation that a text names
-abbrev pub operation_named : List ℕ → Option Operation
-operation_named text =
-    if bytes_eq text (codes "add") then Some operation.Add else
-    (if bytes_eq text (codes "sub") then Some operation.Sub else
-    (if bytes_eq text (codes "mul") then Some operation.Mul else
-    (if bytes_eq text (codes "min") then Some operation.Min else
-    (if bytes_eq text (codes "max") then Some operation.Max else
-    (if bytes_eq text (codes "lt") then Some operation.Lt else
-    (if bytes_eq text (codes "eq") then Some operation.Eq else None))))))
+-- the operations
+abbrev pub operations : List (List ℕ × Operation)
+operations =
+    (codes "add", operation.Add) ∷
+    (codes "sub", operation.Sub) ∷
+    (codes "mul", operation.Mul) ∷
+    (codes "min", operation.Min) ∷
+    (codes "max", operation.Max) ∷
+    (codes "lt", operation.Lt) ∷
+    (codes "eq", operation.Eq) ∷ []
 
 -- an operation is named by a text
 abbrev pub operation_of : Word → Option Operation
 operation_of (Number value) = None
-operation_of (Text text) = operation_named text
+operation_of (Text text) = lookup (bytes_eq text) operations
 
 -- a number of instructions to pass over: a written value, at least 1
 abbrev pub count_of : Word → Option ℕ
@@ -187,13 +191,19 @@ cancel_goal_before_of scope n (k ∷ s ∷ []) = do
   Ok (instr.CancelGoal client goal stamp)
 cancel_goal_before_of scope n _ = Err fault.Count
 
+-- the forms of cancel, and how each reads what stands behind it
+abbrev pub cancel_forms : List (List ℕ × (ScopeNames → Word → List Word → Result Instruction ScriptFault))
+cancel_forms =
+    (codes "all", cancel_all_of) ∷
+    (codes "before", cancel_before_of) ∷
+    (codes "goal", cancel_goal_of) ∷
+    (codes "goal-before", cancel_goal_before_of) ∷ []
+
 -- cancel in its form of this name
 abbrev pub cancel_named : ScopeNames → Word → List ℕ → List Word → Result Instruction ScriptFault
-cancel_named scope n form items =
-    if bytes_eq form (codes "all") then cancel_all_of scope n items else
-    (if bytes_eq form (codes "before") then cancel_before_of scope n items else
-    (if bytes_eq form (codes "goal") then cancel_goal_of scope n items else
-    (if bytes_eq form (codes "goal-before") then cancel_goal_before_of scope n items else Err fault.Operand)))
+cancel_named scope n form items = do
+  read ← or_wrong_operand (lookup (bytes_eq form) cancel_forms)
+  read scope n items
 
 -- cancel: a client's name, a form, and what the form takes
 abbrev pub cancel_of : ScopeNames → List Word → Result Instruction ScriptFault
@@ -201,25 +211,31 @@ cancel_of scope (n ∷ Text form ∷ items) = cancel_named scope n form items
 cancel_of scope (n ∷ Number value ∷ items) = Err fault.Operand
 cancel_of scope _ = Err fault.Count
 
+-- the instructions, and how each reads the items behind its name
+abbrev pub instructions : ScopeNames → List (List ℕ × (List Word → Result Instruction ScriptFault))
+instructions scope =
+    (codes "set", set_of) ∷
+    (codes "skip", skip_of) ∷
+    (codes "pub", of_name_and_operand scope.topic instr.Pub) ∷
+    (codes "call", of_name_and_operand scope.client instr.Call) ∷
+    (codes "goal", of_name_and_operand scope.action_client instr.Goal) ∷
+    (codes "cancel", cancel_of scope) ∷
+    (codes "execute", execute_of scope) ∷
+    (codes "log", of_operand instr.Log) ∷
+    (codes "reply", of_operand instr.Reply) ∷
+    (codes "decide", of_operand instr.Decide) ∷
+    (codes "feedback", of_operand instr.Feedback) ∷
+    (codes "wait", of_operand instr.Wait) ∷
+    (codes "yield", yield_of) ∷
+    (codes "succeed", of_operand instr.Succeed) ∷
+    (codes "abort", of_operand instr.Abort) ∷
+    (codes "canceled", of_operand instr.Canceled) ∷ []
+
 -- the instruction of this name, with these items behind the name
 abbrev pub instruction_named : ScopeNames → List ℕ → List Word → Result Instruction ScriptFault
-instruction_named scope name items =
-    if bytes_eq name (codes "set") then set_of items else
-    (if bytes_eq name (codes "skip") then skip_of items else
-    (if bytes_eq name (codes "pub") then of_name_and_operand scope.topic instr.Pub items else
-    (if bytes_eq name (codes "call") then of_name_and_operand scope.client instr.Call items else
-    (if bytes_eq name (codes "goal") then of_name_and_operand scope.action_client instr.Goal items else
-    (if bytes_eq name (codes "cancel") then cancel_of scope items else
-    (if bytes_eq name (codes "execute") then execute_of scope items else
-    (if bytes_eq name (codes "log") then of_operand instr.Log items else
-    (if bytes_eq name (codes "reply") then of_operand instr.Reply items else
-    (if bytes_eq name (codes "decide") then of_operand instr.Decide items else
-    (if bytes_eq name (codes "feedback") then of_operand instr.Feedback items else
-    (if bytes_eq name (codes "wait") then of_operand instr.Wait items else
-    (if bytes_eq name (codes "yield") then yield_of items else
-    (if bytes_eq name (codes "succeed") then of_operand instr.Succeed items else
-    (if bytes_eq name (codes "abort") then of_operand instr.Abort items else
-    (if bytes_eq name (codes "canceled") then of_operand instr.Canceled items else Err fault.Instruction)))))))))))))))
+instruction_named scope name items = do
+  read ← ok_or (lookup (bytes_eq name) (instructions scope)) fault.Instruction
+  read items
 
 -- the instruction that words spell
 abbrev pub instruction_of : ScopeNames → List Word → Result Instruction ScriptFault

@@ -35,6 +35,7 @@ pub mod Keeping
 pub mod Later
 pub mod Lawful
 pub mod Listing
+mod ListedFronts
 pub mod Lives
 pub mod Noted
 pub mod OfKinds
@@ -51,6 +52,7 @@ pub mod Running
 pub mod Serving
 pub mod Shapes
 pub mod Snapshots
+mod ScriptsHome
 pub mod Sound
 pub mod Statuses
 pub mod Subscribed

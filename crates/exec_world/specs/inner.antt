@@ -1,3 +1,4 @@
+pub mod Homes
 pub mod Keeping
 pub mod Listing
 pub mod Mail

@@ -2,7 +2,7 @@
 ghost use Rattle.std.specs.Prelude.{◌≡◌, ◌<◌, ◌^◌, ◌++◌, [], false, true, length, map, replicate, IsTrue, OnOk, IfOk};
 ghost use Rattle.std.specs.Option.{unwrap_or};
 ghost use Rattle.exec_graph.specs.Entity.{is_within};
-ghost use Rattle.exec_graph.specs.Graph.{callback_script, cons_if, entities_where, has_kind, in_group, is_action_client, is_client, is_exclusive, is_server, is_timer, is_topic, of_entity, queue_depth};
+ghost use Rattle.exec_graph.specs.Graph.{callback_script, cons_if, entities_where, has_kind, in_group, is_action_client, is_client, is_exclusive, is_server, is_timer, is_topic, of_entity};
 ghost use Rattle.exec_graph.specs.declared.entity.EntityOf.TheVariants as resolved;
 ghost use Rattle.exec_script.specs.Zeros.{zeros};
 ghost use Rattle.exec_world.specs.Transcript.{first_world, new_topic, subscribes_to, takes_from_queue};
@@ -157,22 +157,8 @@ fn declare_queue_of(
         return Ok(());
     };
     let handler = handler(graph, entity, found, script);
-    let depth = queue_depth(&found.is) as usize;
+    let depth = found.is.queue_depth() as usize;
     queues.declare(handler, kind, depth)
-}
-
-// How many items each of an entity's queues holds; a timer has none.
-fn queue_depth(is: &EntityOf<EntityNo, Script>) -> u64
-    ensures { result ≡ queue_depth is.now }
-{
-    match is {
-        EntityOf::Timer(_) => 0,
-        EntityOf::Subscription(entity) => entity.depth,
-        EntityOf::Service(entity) => entity.depth,
-        EntityOf::Client(entity) => entity.depth,
-        EntityOf::Server(entity) => entity.depth,
-        EntityOf::ActionClient(entity) => entity.depth,
-    }
 }
 
 // The servers of a graph, in the order of declaration, none with a goal.
@@ -393,10 +379,5 @@ pub(crate) fn new_banks(alloc: Global, graph: &Graph) -> Result<Vec<Bank>, Memor
 fn handler(graph: &Graph, entity: EntityNo, found: &GraphEntity, script: Script) -> Handler
     ensures { result ≡ record { entity = entity; group = found.now.group; exclusive = is_exclusive graph.now found.now.group; script = script } }
 {
-    Handler {
-        entity,
-        group: found.group,
-        exclusive: graph.is_exclusive(found.group),
-        script,
-    }
+    Handler::new(entity, found.group, graph.is_exclusive(found.group), script)
 }

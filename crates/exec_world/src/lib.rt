@@ -9,6 +9,7 @@ mod client;
 pub mod examples;
 mod first_world;
 mod handler;
+mod homes;
 mod item;
 pub mod laws;
 mod mail;

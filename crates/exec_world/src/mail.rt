@@ -1,6 +1,11 @@
+use crate::homes::Home;
 use crate::item::Item;
-use crate::queue::Queues;
-use exec_msg::{EntityNo, Line, Lines, Memory};
+use crate::queue::{Queues, bring_scripts_home};
+use crate::ready_list::ReadyList;
+use crate::server::Servers;
+use crate::state::list_fronts;
+use exec_msg::{EntityNo, Line, Lines, Memory, Moment};
+use std::alloc::Global;
 use std::marker::Model;
 
 // Where goes what callbacks send: the queues of entities, and the lines of the transcript.
@@ -23,7 +28,10 @@ impl<L: Lines> Mail<L> {
     ghost use Rattle.std.specs.Option.{option_to_list};
     ghost use Rattle.exec_world.specs.World.{drop_line};
     ghost use Rattle.exec_world.specs.Ready.{queue_taken};
+    ghost use Rattle.exec_world.specs.inner.Homes.{AreHomes, handlers_of};
+    ghost use Rattle.exec_world.specs.inner.Listing.{listed_behind};
     ghost use Rattle.exec_world.specs.inner.Places.{places_where};
+    ghost use Rattle.exec_world.specs.inner.Snapshots.{fronts_at};
     ghost use Rattle.exec_world.specs.inner.Queues.{has_item, is_in_part};
     ghost use Rattle.exec_world.specs.inner.Mail.{with_line, sent_to, sent_to_any, sent_to_each};
 
@@ -66,6 +74,39 @@ impl<L: Lines> Mail<L> {
         ensures places { OnOk result (places.new.items ≡ places_where (λ queue. has_item queue && is_in_part before_polls queue) self.old.queues) }
     {
         self.queues.filled(before_polls, places)
+    }
+
+    // Lists the callbacks that take from the queues at these places.
+    pub(crate) fn list_fronts(
+        &mut self,
+        alloc: Global,
+        moment: Moment,
+        places: &[usize],
+        servers: &Servers,
+        list: &mut ReadyList,
+        homes: &mut Vec<Home>,
+    ) -> Result<(), Memory>
+        ensures list { OnOk result (list.new ≡ listed_behind list.old (fronts_at moment servers.now self.old.queues places.now)) }
+        ensures same { self.new ≡ self.old }
+        ensures homes { OnOk result (AreHomes (handlers_of self.old.queues) list.old homes.old.items → AreHomes (handlers_of self.old.queues) list.new homes.new.items) }
+    {
+        list_fronts(
+            alloc,
+            moment,
+            places,
+            &mut self.queues,
+            servers,
+            list,
+            homes,
+        )
+    }
+
+    // Brings home the scripts that come from queues.
+    pub(crate) fn bring_scripts_home(&mut self, list: &mut ReadyList, homes: &[Home])
+        requires { AreHomes (handlers_of self.old.queues) list.old homes.now }
+        ensures { self.new ≡ self.old }
+    {
+        bring_scripts_home(&mut self.queues, list, homes);
     }
 
     // Takes the first item of each queue that has one.

@@ -1,6 +1,6 @@
 //! The queues of a plan's entities in ready order, found by entity and kind. A snapshot walks over those that have an item,
 //! and over no other.
-ghost use Rattle.std.specs.Prelude.{◌≡◌, ◌==◌, ◌&&◌, ℕ, ◌<◌, ◌≤◌, ◌^◌, [], ◌∷◌, ◌++◌, false, true, None, Some, length, map, slice_get, OnOk, OnErr, IfOk, IfSome};
+ghost use Rattle.std.specs.Prelude.{◌≡◌, ◌==◌, ◌&&◌, ℕ, List, ◌<◌, ◌≤◌, ◌^◌, [], ◌∷◌, ◌++◌, false, true, None, Some, length, map, slice_get, OnOk, OnErr, IfOk, IfSome};
 ghost use Rattle.std.specs.List.{Contains, filter, find};
 ghost use Rattle.std.specs.List.Sorted.{IsPermutation, IsSorted, IsStrictlyIncreasing};
 ghost use Rattle.std.specs.Option.{option_copied, option_map, option_map_or, option_to_list};
@@ -10,78 +10,25 @@ ghost use Rattle.exec_msg.specs.Kind.{ready_number};
 ghost use Rattle.exec_msg.specs.Lists.{change_first};
 ghost use Rattle.exec_msg.specs.declared.limits.TheConstants.{DEPTH};
 ghost use Rattle.exec_world.specs.Item.{taker_of};
-ghost use Rattle.exec_world.specs.Ready.{is_before_polls, queue_taken};
-ghost use Rattle.exec_world.specs.World.{Queue, is_queue, queue_after};
+ghost use Rattle.exec_world.specs.Ready.{queue_taken};
+ghost use Rattle.exec_world.specs.World.{Handler, Queue, is_queue, queue_after};
+ghost use Rattle.exec_world.specs.declared.homes.Home.{Home as HomeAt};
+ghost use Rattle.exec_world.specs.inner.Homes.{AreHomes, IsHome, handlers_of};
 ghost use Rattle.exec_msg.specs.Places.{change_at};
 ghost use Rattle.exec_world.specs.inner.Places.{change_each, places_where};
 ghost use Rattle.exec_world.specs.inner.Queues.{slot_of, CoversFilled, has_item, is_filled_at, is_in_part, is_in_part_at, lost_from};
 
+mod entry;
+
 use crate::handler::Handler;
+use crate::homes::Home;
 use crate::item::Item;
+use crate::ready_list::ReadyList;
+use entry::Cell;
+use exec_graph::Script;
 use exec_msg::{EntityNo, Kind, LazyQueue, Memory, PlaceTable};
 use std::alloc::Global;
 use std::marker::Model;
-
-// The queue of an entity from which its callback of a kind takes.
-#[derive(Drop)]
-struct Cell {
-    handler: Handler,
-    kind: Kind,
-    queue: LazyQueue<Item>,
-}
-
-impl Model for Cell {
-    ghost use Rattle.exec_world.specs.World.{Queue};
-
-    ghost Value = { Queue };
-
-    ghost view = { λ cell. record { handler = cell.handler; kind = cell.kind; depth = cell.queue.depth; items = cell.queue.items } };
-}
-
-impl Cell {
-    fn send(&mut self, item: Item) -> Result<Option<Item>, Memory>
-        ensures ok { OnOk result (self.new ≡ queue_after item self.old) }
-        ensures lost { IfOk result (λ lost. lost ≡ slice_get (displaced self.old.depth item self.old.items) 0) }
-        ensures err { OnErr result (self.new ≡ self.old) }
-    {
-        let lost = self.queue.send(item)?;
-        Ok(lost)
-    }
-
-    fn take(&mut self)
-        ensures { self.new ≡ queue_taken self.old }
-    {
-        self.queue.take();
-    }
-
-    fn front(&self) -> Option<Item>
-        ensures { result ≡ slice_get self.now.items 0 }
-    {
-        match self.queue.front() {
-            None => None,
-            Some(item) => Some(*item),
-        }
-    }
-
-    fn is_empty(&self) -> bool
-        ensures value { result ≡ (length self.now.items == 0) }
-        ensures bound { length self.now.items ≤ self.now.depth }
-    {
-        self.queue.len() == 0
-    }
-
-    fn handler(&self) -> &Handler
-        ensures { result.now ≡ self.now.handler }
-    {
-        &self.handler
-    }
-
-    fn is_before_polls(&self) -> bool
-        ensures { result ≡ is_before_polls self.now.kind }
-    {
-        number(self.kind) <= number(Kind::Poll)
-    }
-}
 
 /// Queues in the order in which they were declared.
 #[derive(Drop)]
@@ -208,11 +155,56 @@ impl Queues {
         handler_at(&self.cells, place)
     }
 
+    /// Whose queue it is that stands at a place.
+    pub(crate) fn entity(&self, place: usize) -> Option<EntityNo>
+        ensures { result ≡ option_map (λ queue. queue.handler.entity) (slice_get self.now place) }
+    {
+        entity_at(&self.cells, place)
+    }
+
+    /// The script of the callback that takes from the queue at a place, which may be brought home.
+    pub(crate) fn take_script(&mut self, place: usize) -> Result<Option<Script>, Memory>
+        ensures script { IfOk result (λ script. script ≡ option_map (λ queue. queue.handler.script) (slice_get self.old place)) }
+        ensures same { self.new ≡ self.old }
+    {
+        take_script_at(&mut self.cells, place)
+    }
+
+    /// Brings the script of the callback that takes from the queue at a place home.
+    pub(crate) fn bring_home(&mut self, place: usize, script: Script)
+        requires { (queue : Queue) → slice_get self.old place ≡ Some queue → script ≡ queue.handler.script }
+        ensures { self.new ≡ self.old }
+    {
+        bring_home_at(&mut self.cells, place, script);
+    }
+
     /// The oldest item of the queue at a place.
     pub(crate) fn front(&self, place: usize) -> Option<Item>
         ensures { result ≡ option_map_or (λ queue. slice_get queue.items 0) (slice_get self.now place) None }
     {
         front_at(&self.cells, place)
+    }
+}
+
+// Brings home the scripts that come from queues.
+pub(crate) fn bring_scripts_home(queues: &mut Queues, list: &mut ReadyList, homes: &[Home])
+    requires { AreHomes (handlers_of queues.old) list.old homes.now }
+    ensures queues { queues.new ≡ queues.old }
+    ensures others { (handlers : List Handler) (others : List HomeAt) → AreHomes handlers list.old others → AreHomes handlers list.new others }
+{
+    for home in homes {
+        bring_script_home(queues, list, home);
+    }
+}
+
+#[inline(always)]
+fn bring_script_home(queues: &mut Queues, list: &mut ReadyList, home: &Home)
+    requires { IsHome (handlers_of queues.old) list.old home.now }
+    ensures queues { queues.new ≡ queues.old }
+    ensures others { (handlers : List Handler) (others : List HomeAt) → AreHomes handlers list.old others → AreHomes handlers list.new others }
+{
+    if let Some(script) = list.take_script(home.at) {
+        queues.bring_home(home.place, script);
     }
 }
 
@@ -222,6 +214,37 @@ fn handler_at(cells: &[Cell], place: usize) -> Option<&Handler>
     match cells.get(place) {
         None => None,
         Some(cell) => Some(cell.handler()),
+    }
+}
+
+fn entity_at(cells: &[Cell], place: usize) -> Option<EntityNo>
+    ensures { result ≡ option_map (λ queue. queue.handler.entity) (slice_get cells.now place) }
+{
+    match cells.get(place) {
+        None => None,
+        Some(cell) => Some(cell.handler().entity),
+    }
+}
+
+fn take_script_at(cells: &mut Vec<Cell>, place: usize) -> Result<Option<Script>, Memory>
+    ensures script { IfOk result (λ script. script ≡ option_map (λ queue. queue.handler.script) (slice_get cells.old.items place)) }
+    ensures same { cells.new.items ≡ cells.old.items }
+{
+    match cells.get_mut(place) {
+        None => Ok(None),
+        Some(cell) => {
+            let script = cell.take_script()?;
+            Ok(Some(script))
+        }
+    }
+}
+
+fn bring_home_at(cells: &mut Vec<Cell>, place: usize, script: Script)
+    requires { (queue : Queue) → slice_get cells.old.items place ≡ Some queue → script ≡ queue.handler.script }
+    ensures { cells.new.items ≡ cells.old.items }
+{
+    if let Some(cell) = cells.get_mut(place) {
+        cell.bring_home(script);
     }
 }
 

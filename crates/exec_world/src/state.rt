@@ -18,6 +18,7 @@ use crate::topic::Topics;
 use exec_graph::{Graph, GroupNo};
 use exec_msg::{EntityNo, Line, Lines, Memory};
 use exec_script::Bank;
+pub(crate) use snapshot::list_fronts;
 use std::alloc::Global;
 use std::marker::Model;
 
@@ -56,7 +57,6 @@ impl<L: Lines> Model for State<L> {
 
 impl<L: Lines> State<L> {
     ghost use Rattle.std.specs.Prelude.{◌≡◌, [], IfOk, OnOk};
-    ghost use Rattle.exec_script.specs.Zeros.{zeros};
     ghost use Rattle.exec_world.specs.Transcript.{first_world};
     ghost use Rattle.exec_world.specs.World.{add_line, variables_of, with_variables};
 
@@ -106,17 +106,6 @@ impl<L: Lines> State<L> {
         match self.banks.get(group.0 as usize) {
             Some(bank) => *bank,
             None => Bank::new(),
-        }
-    }
-
-    // Fills a new bank with the variables of a group.
-    #[inline(always)]
-    fn fill_bank(&self, group: GroupNo, bank: &mut Bank)
-        requires { bank.old ≡ zeros }
-        ensures { bank.new ≡ variables_of group self.now }
-    {
-        if let Some(found) = self.banks.get(group.0 as usize) {
-            *bank = *found;
         }
     }
 

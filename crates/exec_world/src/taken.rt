@@ -1,6 +1,7 @@
 //! Callbacks that take an item from a queue.
-ghost use Rattle.std.specs.Prelude.{◌≡◌, [], IfOk};
+ghost use Rattle.std.specs.Prelude.{◌≡◌, [], None, Some, if◌then◌else◌, IfOk};
 ghost use Rattle.std.specs.Option.{option_copied, option_map_or};
+ghost use Rattle.exec_graph.specs.Entity.{Script};
 ghost use Rattle.exec_world.specs.Ready.{candidates_for, ready_for, script_to_take};
 ghost use Rattle.exec_world.specs.World.{has_room_for};
 ghost use Rattle.exec_world.specs.declared.ready.Cause.TheVariants as cause;
@@ -14,7 +15,7 @@ use exec_graph::Script;
 use exec_msg::{GoalId, Items, Memory, Moment};
 use std::alloc::Global;
 
-// The callback that takes an item, where its entity is this server, if it is one.
+// The callback that takes an item, where its entity is this server, if it is one, and this is the script that it runs, if any.
 #[inline(always)]
 pub(crate) fn ready_for_item(
     alloc: Global,
@@ -22,13 +23,12 @@ pub(crate) fn ready_for_item(
     handler: &Handler,
     server: Option<&Server>,
     item: Item,
+    script: Option<Script>,
 ) -> Result<Ready, Memory>
     ensures { IfOk result (λ ready. ready ≡ ready_for moment handler.now (cause.Took item)
-        (candidates_for item (option_map_or (λ entry. entry.goals) (option_copied server.entry) []))
-        (script_to_take item (option_map_or (λ entry. entry.goals) (option_copied server.entry) []) handler.now.script)) }
+        (candidates_for item (option_map_or (λ entry. entry.goals) (option_copied server.entry) [])) script) }
 {
     let candidates = candidates_for(alloc, &item, server)?;
-    let script = script_to_take(&item, server, handler)?;
     Ok(handler.ready(moment, Cause::Took(item), candidates, script))
 }
 
@@ -46,24 +46,15 @@ fn candidates_for(
     }
 }
 
+// Whether a script runs for an item, where its entity is this server, if it is one.
 #[inline(always)]
-fn script_to_take(
-    item: &Item,
-    server: Option<&Server>,
-    handler: &Handler,
-) -> Result<Option<Script>, Memory>
-    ensures { IfOk result (λ script. script ≡ script_to_take item.now (option_map_or (λ entry. entry.goals) (option_copied server.entry) []) handler.now.script) }
+pub(crate) fn runs_script(item: &Item, server: Option<&Server>) -> bool
+    ensures { (script : Script) → script_to_take item.now (option_map_or (λ entry. entry.goals) (option_copied server.entry) []) script ≡ (if result then Some script else None) }
 {
-    let runs = match item {
+    match item {
         Item::Ask { .. } => false,
         Item::Goal { id, .. } => has_room_for(server, *id),
         _ => true,
-    };
-    if runs {
-        let script = handler.share_script()?;
-        Ok(Some(script))
-    } else {
-        Ok(None)
     }
 }
 

@@ -2,6 +2,7 @@ ghost use Rattle.std.specs.Prelude.{◌≡◌, [], IfOk};
 ghost use Rattle.std.specs.Arc.{arc_value};
 ghost use Rattle.exec_world.specs.Transcript.{lines_of};
 
+use crate::homes::Homes;
 use crate::ready::Ready;
 use crate::ready_list::ReadyList;
 use crate::state::State;
@@ -52,6 +53,7 @@ pub struct World<L: Lines = LineList> {
     failed: bool,
     // Room that is used again.
     list: ReadyList,
+    homes: Homes,
     effects: EffectList,
 }
 
@@ -100,6 +102,7 @@ impl<L: Lines> World<L> {
     ghost use Rattle.exec_world.specs.Calls.{AreHome, HasFailed, HaveVariables, IsNext, after_all, after_commit, after_finish, after_round, after_snapshot, new_world, ready_in, world_after};
     ghost use Rattle.exec_world.specs.declared.world.WorldFault.TheVariants as fault;
     ghost use Rattle.exec_world.specs.World.{GoalWork, variables_of, with_variables, with_work, work_at, work_of};
+    ghost use Rattle.exec_world.specs.Transcript.{lines_of};
 
     /// The world of a plan before its first round, whose lines go where there are none yet.
     ///
@@ -122,6 +125,7 @@ impl<L: Lines> World<L> {
             left: 0,
             failed: false,
             list: ReadyList::new(alloc),
+            homes: Homes::new(alloc),
             effects: EffectList::new(alloc),
         })
     }
@@ -196,9 +200,13 @@ impl<L: Lines> World<L> {
         self.check()?;
         let moment = self.plan.moments()[round - 1];
         let mut list = ReadyList::new(self.alloc);
-        let begun = self
-            .state
-            .begin_round(round as u64, moment, self.feed.fed_in(round), &mut list);
+        let begun = self.state.begin_round(
+            round as u64,
+            moment,
+            self.feed.fed_in(round),
+            &mut list,
+            &mut self.homes,
+        );
         if begun.is_err() {
             self.failed = true;
             return Err(WorldFault::Memory);
@@ -294,7 +302,9 @@ impl<L: Lines> World<L> {
         ensures { IfOk result (λ world. world ≡ after_round round self) }
     {
         let mut world = self;
-        world.run_round(round)?;
+        if world.run_round(round).is_err() {
+            return Err(world.give_up());
+        }
         Ok(world)
     }
 
@@ -309,6 +319,7 @@ impl<L: Lines> World<L> {
             moment,
             self.feed.fed_in(round),
             &mut self.list,
+            &mut self.homes,
             &mut self.effects,
             &mut context,
         );
@@ -335,6 +346,20 @@ impl<L: Lines> World<L> {
         Ok(rounds as u64)
     }
 
+    // Runs all rounds of a world that is new, and closes its transcript.
+    fn run_to_end(&mut self) -> Result<(), Memory>
+        requires { self.old ≡ new_world self.old.plan }
+        ensures unfailed { OnOk result (self.new.failed ≡ false) }
+        ensures lines { OnOk result (self.new.state.lines ≡ lines_of self.old.plan) }
+    {
+        let rounds = self.run_rounds()?;
+        if self.state.finish(rounds).is_err() {
+            self.failed = true;
+            return Err(Memory);
+        }
+        Ok(())
+    }
+
     /// Closes the transcript after the rounds that are done: the plan's, each of them.
     ///
     /// # Errors
@@ -352,6 +377,12 @@ impl<L: Lines> World<L> {
             return Err(WorldFault::Memory);
         }
         Ok(())
+    }
+
+    /// Drops a world that was refused memory. Worlds are dropped here alone, since a function that may drop one is proved over
+    /// the drops of all its parts.
+    pub fn give_up(self) -> Memory {
+        Memory
     }
 
     /// Where the lines of the transcript went.
@@ -372,7 +403,8 @@ pub fn run_plan<L: Lines>(alloc: Global, plan: Arc<Plan>, lines: L) -> Result<L,
     ensures { IfOk result (λ lines. L.lines lines ≡ lines_of (arc_value plan)) }
 {
     let mut world = World::with_lines(alloc, plan, lines)?;
-    let rounds = world.run_rounds()?;
-    world.state.finish(rounds)?;
+    if world.run_to_end().is_err() {
+        return Err(world.give_up());
+    }
     Ok(world.into_lines())
 }

@@ -1,8 +1,7 @@
 ghost use Rattle.std.specs.Prelude.{◌≡◌, ◌++◌, OnOk, IfErr, map};
 ghost use Rattle.serde_json.specs.View.{view};
-ghost use Rattle.exec_doc.specs.Forms.{depth_field, timer_form, subscription_form, service_form, client_form, server_form, action_client_form, entity, list};
+ghost use Rattle.exec_doc.specs.Forms.{depth_field, form_of, entity, list};
 ghost use Rattle.exec_graph.specs.Options.{each};
-ghost use Rattle.exec_doc.specs.inner.Kinds.{form_of};
 ghost use Rattle.exec_doc.specs.inner.Reading.{ReadingGives, ReadingFails, IsAppended};
 
 use crate::forms::fields::{optional, required};
@@ -67,77 +66,41 @@ fn entity(alloc: Global, value: &Value, kind: EntityKind) -> Result<EntityDraft,
 fn drafted(alloc: Global, value: &Value, kind: EntityKind) -> Result<Drafted, Refused>
     ensures { ReadingGives (λ found. found) result (form_of kind (view value.now)) }
 {
-    match kind {
-        EntityKind::Timer => timer(alloc, value),
-        EntityKind::Subscription => subscription(alloc, value),
-        EntityKind::Service => service(alloc, value),
-        EntityKind::Client => client(alloc, value),
-        EntityKind::Server => server(alloc, value),
-        EntityKind::ActionClient => action_client(alloc, value),
-    }
-}
-
-fn timer(alloc: Global, value: &Value) -> Result<Drafted, Refused>
-    ensures { ReadingGives (λ found. found) result (timer_form (view value.now)) }
-{
-    Ok(EntityOf::Timer(TimerEntity {
-        period: required(alloc, value, "period")?,
-        script: script_field(alloc, value, "script")?,
-    }))
-}
-
-fn subscription(alloc: Global, value: &Value) -> Result<Drafted, Refused>
-    ensures { ReadingGives (λ found. found) result (subscription_form (view value.now)) }
-{
-    Ok(EntityOf::Subscription(SubscriptionEntity {
-        topic: required(alloc, value, "topic")?,
-        depth: depth_field(alloc, value)?,
-        script: script_field(alloc, value, "script")?,
-    }))
-}
-
-fn service(alloc: Global, value: &Value) -> Result<Drafted, Refused>
-    ensures { ReadingGives (λ found. found) result (service_form (view value.now)) }
-{
-    Ok(EntityOf::Service(ServiceEntity {
-        depth: depth_field(alloc, value)?,
-        script: script_field(alloc, value, "script")?,
-    }))
-}
-
-fn client(alloc: Global, value: &Value) -> Result<Drafted, Refused>
-    ensures { ReadingGives (λ found. found) result (client_form (view value.now)) }
-{
-    Ok(EntityOf::Client(ClientEntity {
-        service: required(alloc, value, "service")?,
-        depth: depth_field(alloc, value)?,
-        script: script_field(alloc, value, "script")?,
-    }))
-}
-
-fn server(alloc: Global, value: &Value) -> Result<Drafted, Refused>
-    ensures { ReadingGives (λ found. found) result (server_form (view value.now)) }
-{
-    Ok(EntityOf::Server(ServerEntity {
-        depth: depth_field(alloc, value)?,
-        result_timeout: optional(alloc, value, "result_timeout")?,
-        on_goal: script_field(alloc, value, "on_goal")?,
-        on_cancel: script_field(alloc, value, "on_cancel")?,
-        script: script_field(alloc, value, "script")?,
-    }))
-}
-
-fn action_client(alloc: Global, value: &Value) -> Result<Drafted, Refused>
-    ensures { ReadingGives (λ found. found) result (action_client_form (view value.now)) }
-{
-    Ok(EntityOf::ActionClient(ActionClientEntity {
-        server: required(alloc, value, "action")?,
-        depth: depth_field(alloc, value)?,
-        on_response: script_field(alloc, value, "on_response")?,
-        on_code: script_field(alloc, value, "on_code")?,
-        on_feedback: script_field(alloc, value, "on_feedback")?,
-        on_result: optional(alloc, value, "on_result")?,
-    }))
+    Ok(match kind {
+        EntityKind::Timer => EntityOf::Timer(TimerEntity {
+            period: required(alloc, value, "period")?,
+            script: script_field(alloc, value, "script")?,
+        }),
+        EntityKind::Subscription => EntityOf::Subscription(SubscriptionEntity {
+            topic: required(alloc, value, "topic")?,
+            depth: depth_field(alloc, value)?,
+            script: script_field(alloc, value, "script")?,
+        }),
+        EntityKind::Service => EntityOf::Service(ServiceEntity {
+            depth: depth_field(alloc, value)?,
+            script: script_field(alloc, value, "script")?,
+        }),
+        EntityKind::Client => EntityOf::Client(ClientEntity {
+            service: required(alloc, value, "service")?,
+            depth: depth_field(alloc, value)?,
+            script: script_field(alloc, value, "script")?,
+        }),
+        EntityKind::Server => EntityOf::Server(ServerEntity {
+            depth: depth_field(alloc, value)?,
+            result_timeout: optional(alloc, value, "result_timeout")?,
+            on_goal: script_field(alloc, value, "on_goal")?,
+            on_cancel: script_field(alloc, value, "on_cancel")?,
+            script: script_field(alloc, value, "script")?,
+        }),
+        EntityKind::ActionClient => EntityOf::ActionClient(ActionClientEntity {
+            server: required(alloc, value, "action")?,
+            depth: depth_field(alloc, value)?,
+            on_response: script_field(alloc, value, "on_response")?,
+            on_code: script_field(alloc, value, "on_code")?,
+            on_feedback: script_field(alloc, value, "on_feedback")?,
+            on_result: optional(alloc, value, "on_result")?,
+        }),
+    })
 }
 
 fn depth_field(alloc: Global, value: &Value) -> Result<u64, Refused>

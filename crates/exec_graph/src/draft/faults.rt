@@ -1,6 +1,6 @@
 //! The faults of a graph's scripts, which are decoded, in their places.
 ghost use Rattle.std.specs.Option.{option_to_list};
-ghost use Rattle.std.specs.Prelude.{◌≡◌, [], ◌++◌, not, IfOk, OnOk};
+ghost use Rattle.std.specs.Prelude.{◌≡◌, [], ◌++◌, not, option_and_then, IfOk, OnOk};
 ghost use Rattle.std.specs.List.{filter_map, flat_map, list_any};
 ghost use Rattle.std.specs.Map.{values_of};
 ghost use Rattle.exec_graph.specs.inner.Directory.{fault_at, faults_at, faults_of, is_reentrant_at};
@@ -24,13 +24,12 @@ pub(crate) fn script_faults(
 {
     let mut faults = Vec::new(alloc);
     for number in 0..entities.len() {
-        append_declared(alloc, groups, &entities[number], &mut faults)?;
+        append_declared(groups, &entities[number], &mut faults)?;
     }
     Ok(faults)
 }
 
 fn append_declared(
-    alloc: Global,
     groups: &[CallbackGroup],
     declared: &Declared,
     faults: &mut Vec<ScriptFault>,
@@ -39,12 +38,11 @@ fn append_declared(
 {
     match declared {
         Declared::Topic => Ok(()),
-        Declared::Entity(entity) => append_faults(alloc, groups, entity, faults),
+        Declared::Entity(entity) => append_faults(groups, entity, faults),
     }
 }
 
 fn append_faults(
-    alloc: Global,
     groups: &[CallbackGroup],
     entity: &GraphEntity,
     faults: &mut Vec<ScriptFault>,
@@ -52,8 +50,8 @@ fn append_faults(
     ensures { OnOk result (faults.new.items ≡ faults.old.items ++ faults_at groups.now entity.now) }
 {
     let reentrant = is_reentrant(groups, entity.group);
-    for roled in entity.is.scripts(alloc)?.iter() {
-        append_fault(faults, fault_of(reentrant, roled))?;
+    for script in entity.is.scripts().iter() {
+        append_fault(faults, fault_of(reentrant, script))?;
     }
     Ok(())
 }
@@ -67,9 +65,11 @@ fn append_fault(faults: &mut Vec<ScriptFault>, fault: Option<ScriptFault>) -> Re
     Ok(())
 }
 
-fn fault_of(reentrant: bool, roled: &RoleScript<'_, Script>) -> Option<ScriptFault>
-    ensures { result ≡ fault_at reentrant roled.now }
+// The fault of a script, where it is there.
+fn fault_of(reentrant: bool, script: &Option<RoleScript<'_, Script>>) -> Option<ScriptFault>
+    ensures { result ≡ option_and_then (fault_at reentrant) script.now }
 {
+    let roled = script.as_ref()?;
     let place = Place {
         reentrant,
         role: roled.role,

@@ -1,14 +1,14 @@
 //! The limits of a graph.
-ghost use Rattle.std.specs.Prelude.{◌≡◌, ◌&&◌, length, nat_le};
+ghost use Rattle.std.specs.Prelude.{◌≡◌, ◌&&◌, true, length, nat_le};
 ghost use Rattle.std.specs.List.{list_all, sum_by};
-ghost use Rattle.exec_graph.specs.Entity.{is_within, result_scripts};
+ghost use Rattle.std.specs.Option.{option_map_or};
+ghost use Rattle.exec_graph.specs.Entity.{is_within};
 ghost use Rattle.exec_graph.specs.Faults.{has_short_scripts, is_small};
 ghost use Rattle.exec_graph.specs.Numbers.{entities_of};
-ghost use Rattle.exec_graph.specs.declared.entity.EntityOf.TheVariants as variant;
 
 use crate::draft::numbers::PlacedEntity;
 use crate::draft::{Drafted, GraphDraft, NodeDraft};
-use crate::entity::{ActionClientEntity, EntityOf, ServerEntity};
+use crate::entity::RoleScript;
 use crate::script::Spelled;
 use exec_msg::limits::{ENTITIES, INSTRUCTIONS, NAMED_GROUPS, NODES, TOPICS};
 use exec_script::WordText;
@@ -59,42 +59,21 @@ fn is_entity_small(entity: &Drafted) -> bool
 fn has_short_scripts(entity: &Drafted) -> bool
     ensures { result ≡ has_short_scripts entity.now }
 {
-    match entity {
-        EntityOf::Timer(entity) => is_short(&entity.script),
-        EntityOf::Subscription(entity) => is_short(&entity.script),
-        EntityOf::Service(entity) => is_short(&entity.script),
-        EntityOf::Client(entity) => is_short(&entity.script),
-        EntityOf::Server(entity) => are_short_of_server(entity),
-        EntityOf::ActionClient(entity) => are_short_of_action_client(entity),
-    }
+    are_short(&entity.scripts())
 }
 
-fn are_short_of_server(server: &ServerEntity<Spelled>) -> bool
-    ensures { result ≡ has_short_scripts (variant.Server server.now) }
+fn are_short(scripts: &[Option<RoleScript<'_, Spelled>>]) -> bool
+    ensures { result ≡ list_all (λ script. option_map_or (λ roled. nat_le (length roled.script) INSTRUCTIONS) script true) scripts.now }
 {
-    is_short(&server.on_goal) && is_short(&server.on_cancel) && is_short(&server.script)
+    scripts.iter().all(is_short)
 }
 
-fn are_short_of_action_client(client: &ActionClientEntity<WordText, Spelled>) -> bool
-    ensures { result ≡ has_short_scripts (variant.ActionClient client.now) }
-{
-    is_short(&client.on_response)
-        && is_short(&client.on_code)
-        && is_short(&client.on_feedback)
-        && is_short_if_there(&client.on_result)
-}
-
-fn is_short_if_there(script: &Option<Spelled>) -> bool
-    ensures { result ≡ list_all (λ roled. nat_le (length roled.script) INSTRUCTIONS) (result_scripts script.now) }
+// Whether a script is short, where it is there.
+fn is_short(script: &Option<RoleScript<'_, Spelled>>) -> bool
+    ensures { result ≡ option_map_or (λ roled. nat_le (length roled.script) INSTRUCTIONS) script.now true }
 {
     match script {
         None => true,
-        Some(script) => is_short(script),
+        Some(roled) => roled.script.as_slice().len() <= INSTRUCTIONS,
     }
-}
-
-fn is_short(script: &Spelled) -> bool
-    ensures { result ≡ nat_le (length script.now) INSTRUCTIONS }
-{
-    script.as_slice().len() <= INSTRUCTIONS
 }

@@ -4,7 +4,7 @@ ghost use Rattle.exec_board.specs.Seats.{IsLast};
 ghost use Rattle.exec_round.specs.inner.Sharing.{IsSweptPass};
 
 use super::TURNS;
-use super::fixture::{open, run_some, visit};
+use super::fixture::{have_run, open, run_some, visit};
 use exec_board::{Board, Busy, Pass};
 use exec_lane::Open;
 use exec_msg::Memory;
@@ -21,7 +21,7 @@ fn closes_at(alloc: Global, board: Board, pass: Pass, done: usize) -> Result<boo
     requires holds_none { pass.view.holds ≡ [] }
 {
     let boxes = board.close(alloc, pass)?;
-    Ok(boxes.len() == 1 && boxes.iter().all(|lane| lane.done() == done))
+    Ok(boxes.len() == 1 && have_run(&boxes, done))
 }
 
 #[test]

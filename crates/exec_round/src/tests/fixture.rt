@@ -1,32 +1,57 @@
 // Boards with lanes of given lengths, and claims of them.
 ghost use Rattle.std.specs.Prelude.{◌≡◌, ◌<◌, ◌≤◌, [], length, IfOk};
 
+use super::lanes::split_first;
 use super::world_of;
 use exec_board::{Board, Busy, Pass};
 use exec_doc::Refused;
-use exec_lane::{LaneBox, Open, split};
+use exec_lane::{LaneBox, Open};
 use exec_msg::Memory;
+use exec_world::World;
 use std::alloc::{AllocError, Global};
 
 // A document in whose first round there is a lane of each length, in their order: one mutually exclusive group with as many timers.
 fn document_of(alloc: Global, lengths: &[usize]) -> Result<String, AllocError> {
     let mut text = String::from_str(alloc, r#"{"version":1,"nodes":[{"name":"n","groups":["#)?;
-    for group in 0..lengths.len() {
-        separate(&mut text, group == 0)?;
-        write!(text, r#"{{"name":"g{group}","kind":"exclusive"}}"#)?;
-    }
+    push_groups(&mut text, lengths.len())?;
     text.push_str(r#"],"timers":["#)?;
-    for (group, length) in lengths.iter().enumerate() {
-        for timer in 0..*length {
-            separate(&mut text, group == 0 && timer == 0)?;
-            write!(
-                text,
-                r#"{{"name":"t{group}_{timer}","period":1,"group":"g{group}"}}"#
-            )?;
-        }
-    }
+    push_timers(&mut text, lengths)?;
     text.push_str(r#"]}],"moments":[1]}"#)?;
     Ok(text)
+}
+
+fn push_groups(text: &mut String, count: usize) -> Result<(), AllocError> {
+    for group in 0..count {
+        separate(text, group == 0)?;
+        push_group(text, group)?;
+    }
+    Ok(())
+}
+
+fn push_group(text: &mut String, group: usize) -> Result<(), AllocError> {
+    write!(text, r#"{{"name":"g{group}","kind":"exclusive"}}"#)
+}
+
+fn push_timers(text: &mut String, lengths: &[usize]) -> Result<(), AllocError> {
+    for group in 0..lengths.len() {
+        push_timers_of(text, group, lengths[group])?;
+    }
+    Ok(())
+}
+
+fn push_timers_of(text: &mut String, group: usize, count: usize) -> Result<(), AllocError> {
+    for timer in 0..count {
+        separate(text, group == 0 && timer == 0)?;
+        push_timer(text, group, timer)?;
+    }
+    Ok(())
+}
+
+fn push_timer(text: &mut String, group: usize, timer: usize) -> Result<(), AllocError> {
+    write!(
+        text,
+        r#"{{"name":"t{group}_{timer}","period":1,"group":"g{group}"}}"#
+    )
 }
 
 fn separate(text: &mut String, is_first: bool) -> Result<(), AllocError> {
@@ -36,14 +61,14 @@ fn separate(text: &mut String, is_first: bool) -> Result<(), AllocError> {
 // Lanes of these lengths.
 fn lanes_of(alloc: Global, lengths: &[usize]) -> Result<Vec<LaneBox>, Refused> {
     let document = document_of(alloc, lengths)?;
-    let mut world = world_of(alloc, document.as_bytes())?;
-    if !world.is_next(1) {
-        return Err(Refused::Memory);
-    }
-    let Ok(list) = world.snapshot(1) else {
-        return Err(Refused::Memory);
-    };
-    Ok(split(alloc, list, &mut world)?)
+    let world = world_of(alloc, document.as_bytes())?;
+    Ok(lanes_in(alloc, world)?)
+}
+
+// The lanes of a world's first round. The world is made elsewhere, since a function that makes one and lends it takes minutes to
+// prove.
+fn lanes_in(alloc: Global, mut world: World) -> Result<Vec<LaneBox>, Memory> {
+    split_first(alloc, &mut world)
 }
 
 // A board with lanes of these lengths, for at most so many passes, and its first pass.
@@ -63,6 +88,11 @@ pub(super) fn open(
         return Err(Refused::Memory);
     }
     Ok(Board::open(alloc, boxes, passes)?)
+}
+
+// Whether so many callbacks of each lane ran.
+pub(super) fn have_run(lanes: &[LaneBox], count: usize) -> bool {
+    lanes.iter().all(|lane| lane.done() == count)
 }
 
 // Runs the next callbacks of a lane, at most so many, until one is refused memory.

@@ -1,8 +1,9 @@
 // Calls of lanes on one thread.
-use super::{have_one_transcript, world_of};
+use super::fixture::have_run;
+use super::{first_lines, world_of};
 use exec_doc::Refused;
 use exec_lane::{Gate, LaneBox, Open, Ran, gather, split};
-use exec_msg::Memory;
+use exec_msg::{Line, Memory};
 use exec_world::World;
 use std::alloc::Global;
 use std::sync::atomic::AtomicU64;
@@ -44,7 +45,7 @@ impl Gate for Told {
 }
 
 // The lanes of the first round.
-fn split_first(alloc: Global, world: &mut World) -> Result<Vec<LaneBox>, Memory> {
+pub(super) fn split_first(alloc: Global, world: &mut World) -> Result<Vec<LaneBox>, Memory> {
     if !world.is_next(1) {
         return Err(Memory);
     }
@@ -82,45 +83,71 @@ fn are_at(all: &[Ran], positions: &[usize]) -> bool {
 // Commits callbacks that ran.
 fn commit(all: Vec<Ran>, world: &mut World) -> Result<(), Memory> {
     for one in all {
-        let Ran { ready, effects } = one;
-        if world.left() == 0 || world.commit(&ready, effects).is_err() {
-            return Err(Memory);
-        }
+        commit_one(one, world)?;
     }
     Ok(())
 }
 
-// Whether a world is as the first round of a document leaves it on one thread.
-fn is_as_alone(alloc: Global, document: &[u8], world: &World) -> Result<bool, Refused> {
-    let alone = world_of(alloc, document)?;
-    if alone.is_failed() || !alone.is_next(1) {
-        return Ok(false);
+fn commit_one(one: Ran, world: &mut World) -> Result<(), Memory> {
+    let Ran { ready, effects } = one;
+    if world.left() == 0 || world.commit(&ready, effects).is_err() {
+        return Err(Memory);
     }
-    Ok(have_one_transcript(&alone.round_alone(1)?, world))
+    Ok(())
+}
+
+// Runs the next callback of each of these lanes. Gives the positions that the gate was told.
+fn run_each(lanes: &mut Vec<LaneBox>, numbers: &[usize]) -> Result<u64, Memory> {
+    let gate = Told::new();
+    for number in numbers {
+        run_next(lanes, *number, &gate)?;
+    }
+    Ok(gate.digits.load(SeqCst))
+}
+
+// Brings lanes home and commits what ran. Tells whether both callbacks came home in ready order.
+fn come_home(alloc: Global, lanes: Vec<LaneBox>, world: &mut World) -> Result<bool, Memory> {
+    let all = gather(alloc, lanes, world)?;
+    let ordered = are_at(&all, &[1, 2]);
+    commit(all, world)?;
+    Ok(ordered)
+}
+
+// Whether a world that hasn't failed has written these lines.
+fn has_written(world: &World, lines: &[Line]) -> bool {
+    !world.is_failed() && world.transcript() == lines
 }
 
 // Cuts the first round into lanes, runs the next callback of each of these and commits what ran. Tells whether the lanes had these
-// lengths, the gate was told these positions, and both callbacks came home in ready order.
+// lengths, the gate was told these positions, both callbacks came home in ready order, and these lines were written.
 fn run_lanes(
     alloc: Global,
     world: &mut World,
     lengths: &[usize],
     numbers: &[usize],
     digits: u64,
+    lines: &[Line],
 ) -> Result<bool, Memory> {
-    let gate = Told::new();
     let mut lanes = split_first(alloc, world)?;
     let cut = have_lengths(&lanes, lengths);
-    for number in numbers {
-        run_next(&mut lanes, *number, &gate)?;
-    }
-    let all = gather(alloc, lanes, world)?;
-    let ordered = are_at(&all, &[1, 2]);
-    commit(all, world)?;
-    Ok(cut && ordered && gate.digits.load(SeqCst) == digits)
+    let told = run_each(&mut lanes, numbers)?;
+    let ordered = come_home(alloc, lanes, world)?;
+    Ok(cut && ordered && told == digits && has_written(world, lines))
 }
 
-// The same of the world of a document, which is then as one thread leaves it.
+// The same of a world that is made elsewhere, since a function that makes one and lends it takes minutes to prove.
+fn run_world(
+    alloc: Global,
+    mut world: World,
+    lengths: &[usize],
+    numbers: &[usize],
+    digits: u64,
+    lines: &[Line],
+) -> Result<bool, Memory> {
+    run_lanes(alloc, &mut world, lengths, numbers, digits, lines)
+}
+
+// The same of the world of a document, which writes what one thread writes.
 fn run_round(
     alloc: Global,
     document: &[u8],
@@ -128,9 +155,9 @@ fn run_round(
     numbers: &[usize],
     digits: u64,
 ) -> Result<bool, Refused> {
-    let mut world = world_of(alloc, document)?;
-    let ran = run_lanes(alloc, &mut world, lengths, numbers, digits)?;
-    Ok(ran && is_as_alone(alloc, document, &world)?)
+    let lines = first_lines(alloc, document, 1)?;
+    let world = world_of(alloc, document)?;
+    Ok(run_world(alloc, world, lengths, numbers, digits, lines.as_slice())?)
 }
 
 #[test]
@@ -145,40 +172,65 @@ fn callbacks_of_a_reentrant_group_are_lanes(rt: HostRuntime) -> Result<(), Fail>
     Ok(())
 }
 
-// Runs the second of two lanes alone: tells whether its callback alone is gathered.
+// Runs the second of two lanes alone. Tells whether its callback alone is gathered.
 fn gathers_one(alloc: Global, world: &mut World) -> Result<bool, Memory> {
     let mut lanes = split_first(alloc, world)?;
     run_next(&mut lanes, 1, &Open)?;
     Ok(are_at(&gather(alloc, lanes, world)?, &[2]))
 }
 
+// The same of a world that is made elsewhere.
+fn gathers_one_of(alloc: Global, mut world: World) -> Result<bool, Memory> {
+    gathers_one(alloc, &mut world)
+}
+
 #[test]
 fn callbacks_that_ran_alone_are_gathered(rt: HostRuntime) -> Result<(), Fail> {
-    let alloc = rt.alloc();
-    assert!(rt; gathers_one(alloc, &mut world_of(alloc, REENTRANT)?)?);
+    let world = world_of(rt.alloc(), REENTRANT)?;
+    assert!(rt; gathers_one_of(rt.alloc(), world)?);
     Ok(())
+}
+
+// Runs the next callback of the first lane twice. Tells how many ran, unless one did behind another that was refused memory.
+fn run_two(lanes: &mut Vec<LaneBox>) -> Option<usize> {
+    let first = run_next(lanes, 0, &Open);
+    let second = run_next(lanes, 0, &Open);
+    match (first, second) {
+        (Ok(()), Ok(())) => Some(2),
+        (Ok(()), Err(Memory)) => Some(1),
+        (Err(Memory), Err(Memory)) => Some(0),
+        (Err(Memory), Ok(())) => None,
+    }
+}
+
+// Whether lanes are refused memory, or so many callbacks are gathered.
+fn gather_some(alloc: Global, lanes: Vec<LaneBox>, world: &mut World, count: usize) -> bool {
+    match gather(alloc, lanes, world) {
+        Ok(all) => all.len() == count,
+        Err(Memory) => true,
+    }
+}
+
+// Whether a lane that is refused memory runs nothing from then on, and what it ran before is gathered.
+fn stays_failed(alloc: Global, mut lanes: Vec<LaneBox>, world: &mut World) -> bool {
+    match run_two(&mut lanes) {
+        Some(ran) => have_run(&lanes, ran) && gather_some(alloc, lanes, world, ran),
+        None => false,
+    }
+}
+
+// The same of the first round of a world, which has failed where it is refused its lanes.
+fn fails_for_good(alloc: Global, world: &mut World) -> bool {
+    match split_first(alloc, world) {
+        Ok(lanes) => stays_failed(alloc, lanes, world),
+        Err(Memory) => world.is_failed(),
+    }
 }
 
 // Run with each allocation refused in turn, too: a lane that was refused one runs nothing from then on.
 #[test]
 fn a_lane_that_has_failed_stays_so(rt: HostRuntime) {
-    let alloc = rt.alloc();
-    let Ok(mut world) = world_of(alloc, EXCLUSIVE) else {
-        return;
-    };
-    let Ok(mut lanes) = split_first(alloc, &mut world) else {
-        assert!(rt; world.is_failed());
-        return;
-    };
-    let first = run_next(&mut lanes, 0, &Open);
-    let second = run_next(&mut lanes, 0, &Open);
-    let ran = match (first, second) {
-        (Ok(()), Ok(())) => 2,
-        (Ok(()), Err(Memory)) => 1,
-        (Err(Memory), _) => 0,
-    };
-    assert!(rt; first.is_ok() || second.is_err());
-    assert!(rt; lanes.iter().all(|lane| lane.done() == ran));
-    let gathered = gather(alloc, lanes, &mut world);
-    assert!(rt; gathered.is_err() || gathered.is_ok_and(|all| all.len() == ran));
+    if let Ok(mut world) = world_of(rt.alloc(), EXCLUSIVE) {
+        assert!(rt; fails_for_good(rt.alloc(), &mut world));
+    }
 }

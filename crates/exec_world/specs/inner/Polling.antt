@@ -3,6 +3,7 @@ use Rattle.std.specs.Prelude.{List, [], ◌∷◌, if◌then◌else◌, Option, 
 use Rattle.std.specs.List.{find}
 use Rattle.std.specs.Option.{option_and_then, option_map}
 use Rattle.exec_goal.specs.Table.{GoalRecord}
+use Rattle.exec_graph.specs.Entity.{EntityNo}
 use Rattle.exec_msg.specs.Lists.{change_first}
 use Rattle.exec_script.specs.Script.{listed}
 use Rattle.exec_script.specs.declared.effects.Effect.{Effect}
@@ -11,8 +12,11 @@ use Rattle.exec_task.specs.declared.wait.Turn.{Turn}
 use Rattle.exec_world.specs.Callback.{Outcome, poll}
 use Rattle.exec_world.specs.Item.{GoalId}
 use Rattle.exec_world.specs.Ready.{is_goal_awake, ready_for, woken}
-use Rattle.exec_world.specs.World.{GoalWork, HeldGoal, Moment, ServerEntry, Variables, is_for}
+use Rattle.exec_world.specs.World.{GoalWork, HeldGoal, Moment, ServerEntry, Variables, is_for, is_server_at}
+use Rattle.exec_world.specs.declared.ready.Cause.{Cause}
+use Rattle.exec_world.specs.declared.ready.Cause.TheVariants as cause
 use Rattle.exec_world.specs.declared.ready.Ready.{Ready}
+use Rattle.exec_world.specs.inner.Servers.{work_in}
 
 -- what is kept of a goal, with this work, or with none where its task is out
 abbrev pub doing : Option GoalWork → HeldGoal → HeldGoal
@@ -26,6 +30,16 @@ server_with_work id work entry = record entry { held = change_first (is_for id) 
 abbrev pub server_polled : GoalId → Option TaskState → ServerEntry → ServerEntry
 server_polled id None entry = entry
 server_polled id (Some task) entry = record entry { held = change_first (is_for id) (λ held. record held { work = option_map (λ (work : GoalWork). record work { task = task }) held.work }) entry.held }
+
+-- the work that a callback of a server polls, if it polls a goal
+abbrev pub work_by : EntityNo → Cause → List ServerEntry → Option GoalWork
+work_by server (cause.Woke id value canceling) servers = work_in server id servers
+work_by server _ servers = None
+
+-- the servers where the callback left its task so, if it polled one
+abbrev pub polled_by : EntityNo → Cause → Option TaskState → List ServerEntry → List ServerEntry
+polled_by server (cause.Woke id value canceling) task servers = change_first (is_server_at server) (server_polled id task) servers
+polled_by server _ task servers = servers
 
 -- a poll of this work, if there is any, with its effects listed
 abbrev pub poll_listed : Turn → Option GoalWork → Variables → Outcome (List Effect)

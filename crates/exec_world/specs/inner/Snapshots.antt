@@ -2,17 +2,10 @@
 use Rattle.std.specs.Prelude.{ℕ, List, [], slice_get}
 use Rattle.std.specs.List.{flat_map, fold}
 use Rattle.std.specs.Option.{option_map_or}
-use Rattle.exec_world.specs.Ready.{candidates_for, item_ready, ready_for, reply_taken, script_to_take}
-use Rattle.exec_world.specs.World.{ClientEntry, Handler, Moment, Queue, ServerEntry}
-use Rattle.exec_world.specs.declared.item.Item.{Item}
-use Rattle.exec_world.specs.declared.ready.Cause.TheVariants as cause
+use Rattle.exec_world.specs.Ready.{item_ready, reply_taken}
+use Rattle.exec_world.specs.World.{ClientEntry, Moment, Queue, ServerEntry}
 use Rattle.exec_world.specs.declared.ready.Ready.{Ready}
 use Rattle.exec_world.specs.inner.Servers.{goals_in}
-
--- the callback that takes an item, where these are the servers
-abbrev pub taking : Moment → List ServerEntry → Handler → Item → Ready
-taking moment servers handler taken = ready_for moment handler (cause.Took taken)
-    (candidates_for taken (goals_in handler.entity servers)) (script_to_take taken (goals_in handler.entity servers) handler.script)
 
 -- the callback that takes from a queue where that has an item
 abbrev pub front_of : Moment → List ServerEntry → Queue → List Ready

@@ -6,10 +6,12 @@ ghost use Rattle.exec_world.specs.Transcript.{pending_by};
 use super::State;
 use crate::by_number::Numbered;
 use crate::client::Client;
+use crate::homes::Homes;
 use crate::item::Item;
 use crate::mail::Mail;
 use crate::ready::Ready;
 use crate::ready_list::ReadyList;
+use crate::timer::bring_scripts_home;
 use exec_goal::CancelRequest;
 use exec_graph::{Fed, Feed};
 use exec_msg::{Line, Lines, Memory, Moment};
@@ -22,6 +24,7 @@ impl<L: Lines> State<L> {
     ghost use Rattle.exec_world.specs.Ready.{ready_list, take_inputs};
     ghost use Rattle.exec_world.specs.Transcript.{closing_lines, expire, feed, feed_one, finish, run_all, snapshot_and_run};
     ghost use Rattle.exec_world.specs.World.{add_line};
+    ghost use Rattle.exec_world.specs.inner.Homes.{AreHomes, queue_handlers, timer_handlers};
 
     // Begins the round of a number at a moment, and takes each input. The list then has the callbacks that are ready, and these
     // alone.
@@ -31,12 +34,15 @@ impl<L: Lines> State<L> {
         moment: Moment,
         fed: &[Feed],
         list: &mut ReadyList,
+        homes: &mut Homes,
     ) -> Result<(), Memory>
         ensures list { OnOk result (list.new ≡ ready_list moment (feed fed.now (expire moment (add_line (line.Round number moment) self.old)))) }
         ensures taken { OnOk result (self.new ≡ take_inputs moment (feed fed.now (expire moment (add_line (line.Round number moment) self.old)))) }
+        ensures timers { OnOk result (AreHomes (timer_handlers self.new) list.new homes.new.timers.items) }
+        ensures queues { OnOk result (AreHomes (queue_handlers self.new) list.new homes.new.queues.items) }
     {
         self.open_round(number, moment, fed)?;
-        self.snapshot(moment, list)?;
+        self.snapshot(moment, list, homes)?;
         Ok(())
     }
 
@@ -48,14 +54,26 @@ impl<L: Lines> State<L> {
         moment: Moment,
         fed: &[Feed],
         list: &mut ReadyList,
+        homes: &mut Homes,
         effects: &mut EffectList,
         cx: &mut Context<'_>,
     ) -> Result<(), Memory>
         ensures { OnOk result (self.new ≡ snapshot_and_run moment (feed fed.now (expire moment (add_line (line.Round number moment) self.old)))) }
     {
-        self.begin_round(number, moment, fed, list)?;
+        self.begin_round(number, moment, fed, list, homes)?;
         self.run_all(list.as_slice(), effects, cx)?;
+        self.bring_scripts_home(list, homes);
         Ok(())
+    }
+
+    // Brings home the scripts of callbacks that ran.
+    fn bring_scripts_home(&mut self, list: &mut ReadyList, homes: &Homes)
+        requires timers { AreHomes (timer_handlers self.old) list.old homes.now.timers.items }
+        requires queues { AreHomes (queue_handlers self.old) list.old homes.now.queues.items }
+        ensures { self.new ≡ self.old }
+    {
+        bring_scripts_home(&mut self.timers, list, &homes.timers);
+        self.mail.bring_scripts_home(list, &homes.queues);
     }
 
     // Begins the round of a number at a moment: its line, expiry, and what is fed in it.

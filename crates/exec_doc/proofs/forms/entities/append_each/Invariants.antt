@@ -1,8 +1,7 @@
 use Rattle.std.proofs.Common.{◌≡◌, ◌++◌, map, drop, Some}
 use Rattle.serde_json.specs.View.{view}
 use Rattle.exec_graph.specs.Options.{◌>>=◌, each}
-use Rattle.exec_doc.specs.Forms.{entity}
-use Rattle.exec_doc.specs.inner.Kinds.{form_of}
+use Rattle.exec_doc.specs.Forms.{entity, form_of}
 use Rattle.exec_doc.proofs.forms.entities.append_each.Given as goal
 
 -- the entities so far, and then those of what is left, are those before and those of all

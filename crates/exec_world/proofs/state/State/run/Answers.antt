@@ -5,5 +5,5 @@ use Rattle.exec_world.proofs.state.State.run.Goals as goal
 pub returns : goal.returns
 returns g c =
     c.in_ok-commit.ensures
-    ∙ committed c.args.one.now c.args.self.now c.run_apart.new.self c.as_slice.result.now c.in_ok-close.close
-    (c.as_slice.ensures ∙ c.in_ok-close.ensures.effects) c.in_ok-close.ensures.close c.in_ok-close.ensures.home
+    ∙ committed c.args.one.now c.args.self.now c.run_apart.new.self c.as_slice.result.now c.run_apart.new.close
+    (c.as_slice.ensures ∙ c.in_ok-run_apart.ensures.effects) c.in_ok-run_apart.ensures.close c.in_ok-run_apart.ensures.home

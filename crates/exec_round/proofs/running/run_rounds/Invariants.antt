@@ -1,8 +1,0 @@
-use Rattle.std.proofs.Common.{◌≡◌}
-use Rattle.std.specs.Arc.{arc_value}
-use Rattle.exec_world.specs.Calls.{world_after}
-use Rattle.exec_round.proofs.running.run_rounds.Given as goal
-
--- so many rounds are done
-abbrev pub invariant-loop-done : goal.invariant-loop-done
-invariant-loop-done g l = l.world ≡ world_after l.done (arc_value l.fn.plan)

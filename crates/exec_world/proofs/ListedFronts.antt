@@ -1,0 +1,60 @@
+-- The callback that takes from a queue, with its script taken apart.
+use Rattle.std.proofs.Common.{◌≡◌, Bool, true, false, List, [], ◌∷◌, Option, Some, None, slice_get, if◌then◌else◌, sym, ap, ◌∙◌}
+use Rattle.std.proofs.lemmas.Option.{none-some, same_Some}
+use Rattle.std.specs.Option.{option_and_then, option_map, option_map_or}
+use Rattle.exec_goal.specs.Table.{GoalRecord}
+use Rattle.exec_graph.specs.Entity.{EntityNo, Script}
+use Rattle.exec_world.specs.Ready.{candidates_for, item_ready, ready_for, script_to_take}
+use Rattle.exec_world.specs.World.{Handler, Moment, Queue, ServerEntry, has_room_for}
+use Rattle.exec_world.specs.declared.item.Item.{Item}
+use Rattle.exec_world.specs.declared.item.Item.TheVariants as item
+use Rattle.exec_world.specs.declared.ready.Cause.TheVariants as cause
+use Rattle.exec_world.specs.declared.ready.Ready.{Ready}
+use Rattle.exec_world.specs.inner.Homes.{HasScriptOf}
+use Rattle.exec_world.specs.inner.Servers.{goals_in}
+use Rattle.exec_world.specs.inner.Snapshots.{front_of}
+
+first_ready : (moment : Moment) (handler : Handler) (goals : List GoalRecord) (one : Item) (items : List Item) → Some one ≡ slice_get items 0 →
+    ready_for moment handler (cause.Took one) (candidates_for one goals) (script_to_take one goals handler.script) ∷ [] ≡ item_ready moment handler goals items
+first_ready moment handler goals one [] first = absurd (none-some one (sym first))
+first_ready moment handler goals one (other ∷ items) first =
+    ap (λ (it : Item). ready_for moment handler (cause.Took it) (candidates_for it goals) (script_to_take it goals handler.script) ∷ []) (same_Some one other first)
+
+-- what was read of the queue at a place makes the callback that takes from it
+pub front_listed : (moment : Moment) (servers : List ServerEntry) (found : Option Queue) (one : Item) (entity : EntityNo) (handler : Handler) (goals : List GoalRecord) (script : Option Script) (ready : Ready) →
+    Some one ≡ option_map_or (λ queue. slice_get queue.items 0) found None → Some entity ≡ option_map (λ queue. queue.handler.entity) found → goals ≡ goals_in entity servers →
+    script ≡ option_and_then (λ queue. script_to_take one goals queue.handler.script) found → Some handler ≡ option_map (λ queue. queue.handler) found →
+    ready ≡ ready_for moment handler (cause.Took one) (candidates_for one goals) script → ready ∷ [] ≡ option_map_or (front_of moment servers) found []
+front_listed moment servers None one entity handler goals script ready first whose held run by is = absurd (none-some one (sym first))
+front_listed moment servers (Some queue) one entity handler goals script ready first whose held run by is =
+    let own : handler ≡ queue.handler = same_Some handler queue.handler by in
+    let its : goals ≡ goals_in queue.handler.entity servers = held ∙ ap (λ (number : EntityNo). goals_in number servers) (same_Some entity queue.handler.entity whose) in
+    ap (λ (it : Ready). it ∷ []) is
+    ∙ ap (λ (it : Handler). ready_for moment it (cause.Took one) (candidates_for one goals) script ∷ []) own
+    ∙ ap (λ (it : Option Script). ready_for moment queue.handler (cause.Took one) (candidates_for one goals) it ∷ []) run
+    ∙ ap (λ (it : List GoalRecord). ready_for moment queue.handler (cause.Took one) (candidates_for one it) (script_to_take one it queue.handler.script) ∷ []) its
+    ∙ first_ready moment queue.handler (goals_in queue.handler.entity servers) one queue.items first
+
+-- the script that runs for an item is that of the callback
+script_taken : (one : Item) (goals : List GoalRecord) (own taken : Script) → script_to_take one goals own ≡ Some taken → taken ≡ own
+script_taken (item.Message value) goals own taken is = sym (same_Some own taken is)
+script_taken (item.Request client number value) goals own taken is = sym (same_Some own taken is)
+script_taken (item.Reply number value) goals own taken is = sym (same_Some own taken is)
+script_taken (item.Goal id client value) goals own taken is = by (has_room_for id goals) is
+  where
+    by : (b : Bool) → (if b then Some own else None) ≡ Some taken → taken ≡ own
+    by true e = sym (same_Some own taken e)
+    by false e = absurd (none-some taken e)
+script_taken (item.Cancel request client) goals own taken is = sym (same_Some own taken is)
+script_taken (item.Ask id client) goals own taken is = absurd (none-some taken is)
+script_taken (item.Response id accepted) goals own taken is = sym (same_Some own taken is)
+script_taken (item.Code returned moved) goals own taken is = sym (same_Some own taken is)
+script_taken (item.Feedback id value) goals own taken is = sym (same_Some own taken is)
+script_taken (item.Result id status value) goals own taken is = sym (same_Some own taken is)
+
+-- a callback that takes from a queue has its script, or none
+pub front_home : (found : Option Queue) (one : Item) (goals : List GoalRecord) (script : Option Script) (ready : Ready) →
+    script ≡ option_and_then (λ queue. script_to_take one goals queue.handler.script) found → ready.script ≡ script → HasScriptOf (option_map (λ queue. queue.handler) found) ready
+front_home None one goals script ready run is taken handler has there = absurd (none-some handler there)
+front_home (Some queue) one goals script ready run is taken handler has there =
+    script_taken one goals queue.handler.script taken (sym run ∙ sym is ∙ has) ∙ ap (λ (it : Handler). it.script) (same_Some queue.handler handler there)

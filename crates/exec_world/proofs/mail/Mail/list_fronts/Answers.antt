@@ -1,0 +1,10 @@
+use Rattle.std.proofs.Common.{subst}
+use Rattle.std.specs.Result.{OnOk}
+use Rattle.exec_world.specs.inner.Homes.{AreHomes, handlers_of}
+use Rattle.exec_world.specs.inner.Mail.{MailState}
+use Rattle.exec_world.proofs.mail.Mail.list_fronts.Goals as goal
+
+pub returns-clause-homes : goal.returns-clause-homes
+returns-clause-homes g c =
+    subst (λ (mail : MailState). OnOk c.list_fronts.result (AreHomes (handlers_of mail.queues) c.args.list.now c.args.homes.now.items → AreHomes (handlers_of mail.queues) c.list_fronts.new.list c.list_fronts.new.homes.items))
+    c.self.view_is c.list_fronts.ensures.homes

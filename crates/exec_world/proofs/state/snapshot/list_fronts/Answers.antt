@@ -1,0 +1,17 @@
+use Rattle.std.proofs.Common.{List, slice_index_or, ap, subst, ◌∙◌}
+use Rattle.exec_world.proofs.Listing.{listed_next}
+use Rattle.exec_world.specs.World.{Queue}
+use Rattle.exec_world.specs.inner.Homes.{AreHomes, handlers_of}
+use Rattle.exec_world.specs.inner.Listing.{listed_behind}
+use Rattle.exec_world.specs.inner.Snapshots.{front_at}
+use Rattle.exec_world.proofs.state.snapshot.list_fronts.Goals as goal
+
+pub loop-place-preserved : goal.loop-place-preserved
+loop-place-preserved c =
+    let same = c.loop-place.invariant.0 in (
+      c.in_ok-list_front.ensures.same ∙ same,
+      listed_next (front_at c.args.moment c.args.servers.now c.args.queues.now) c.args.places.now c.loop-place.place-index 0 c.loop-place.list _ _ c.loop-place-test.true
+          (c.in_ok-list_front.ensures.list ∙ ap (λ (queues : List Queue). listed_behind c.loop-place.list (front_at c.args.moment c.args.servers.now queues (slice_index_or c.args.places.now c.loop-place.place-index 0))) same) c.loop-place.invariant.1,
+      λ are. subst (λ (queues : List Queue). AreHomes (handlers_of queues) c.loop-place.list c.loop-place.homes.items → AreHomes (handlers_of queues) c.list_front.new.list c.list_front.new.homes.items) same
+          c.in_ok-list_front.ensures.homes (c.loop-place.invariant.2 are),
+    )
