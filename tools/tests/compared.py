@@ -1,8 +1,10 @@
 """What differ and holds tell, and that what flow follows is what each callback takes."""
 import io
 import json
+import os
 import random
 import sys
+import tempfile
 import xml.etree.ElementTree as tree
 
 from virraupez import difference, flow, picture, rules, scene, transcript
@@ -73,7 +75,12 @@ WRONG = (
     ("never", "a pattern is missing"),
     ("never pub x 1 2", "fewer words"),
     ("every log s then log t within x rounds", "a number of rounds or of ticks"),
+    ("every log s then log t within ² rounds", "a number of rounds or of ticks"),
+    ("every log s then log t within " + "1" * 5000 + " rounds", "a number of rounds or of ticks"),
     ("count log s", "is N, at least N or at most N"),
+    ("count log s is ²", "is N, at least N or at most N"),
+    ("count log s is " + "1" * 5000, "more digits than a number of a transcript"),
+    ("never log s >-" + "1" * 5000, "more digits than a number of a transcript"),
 )
 
 
@@ -132,11 +139,30 @@ def of_words():
     yield "differ of what is no transcript", tool.run("differ", timer, tool.TOP / "README.md")[0], 2
     yield "differ with a document that is refused", tool.run("differ", timer, timer, "--document", tool.TESTS / "mistakes/another_version.json")[0], 2
     yield "holds of standard input", tool.run("holds", "examples/robot.rules", "-", given=b"end 0\n")[0], 1
+    yield from of_unread(timer)
+
+
+def of_unread(timer):
+    """What can't be read is told in a line, and by a status of its own."""
+    for given in (b"round \xb2 5\n", b"round 1 \xb2\n", b"\xff\n", b"round 1 5", b"round 1 " + b"5" * 21 + b"\n", b"x" * 5000):
+        yield f"holds of {given[:40]}", tool.unread("holds", "examples/robot.rules", "-", given=given), (2, True, 1)
+        yield f"differ of {given[:40]}", tool.unread("differ", timer, "/dev/stdin", given=given), (2, True, 1)
+    for rule in (b"never log s \xff", b"never log s >" + b"9" * 5000, "every log s then log t within ² rounds".encode()):
+        yield f"holds by the rule {rule[:40]}", tool.unread("holds", "/dev/stdin", timer, given=rule), (2, True, 1)
+    for words in (("holds", "nowhere", timer), ("holds", tool.TOP, timer), ("differ", timer, "nowhere"), ("differ", timer, tool.TOP)):
+        yield f"what {' '.join(map(str, words))} tells", tool.unread(*words), (2, True, 1)
+    with tempfile.TemporaryDirectory() as folder:
+        # The name of a file may be no text, and is told with what differs.
+        name = os.fsdecode(os.fsencode(folder) + b"/\xff")
+        with open(name, "w") as other:
+            other.write("end 0\n")
+        status, told = tool.run("differ", timer, name)
+        yield "differ of a name that is no text", (status, told.count("udcff: end 0\n")), (1, 1)
 
 
 # ---- transcripts that are none
 
-SIGNS = "0123456789 abcdefghijklmnopqrstuvwxyz-_\n\x1b\xff"
+SIGNS = "0123456789 abcdefghijklmnopqrstuvwxyz-_\n\x1b\xb2\xff"
 
 
 def spoiled(chance, text):
@@ -179,6 +205,9 @@ def of_spoiled():
         other = spoiled(random.Random(seed), text)
         told = told_of(document, text, other)
         yield f"what is told of the transcript {seed} of those changed by chance: {told}", told == "the same", other == text
+    for wrong in ("round ² 4", "round 1 ²", "round 1 " + "4" * 21):
+        other = text.replace("round 1 4", wrong, 1)
+        yield f"two transcripts with {wrong!r}", (other != text, told_of(document, other, other)), (True, "no transcript")
     yield "a transcript that is itself", told_of(document, text, text), "the same"
 
 

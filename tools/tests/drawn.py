@@ -72,4 +72,6 @@ def of_words():
     for words in ((), ("examples/empty.json", "examples/empty.txt"), ("examples/timer.json", "nowhere"), ("examples/timer.json", "README.md")):
         yield f"picture {words}", tool.run("picture", *words)[0], 2
     yield "rounds that are none", drawn("timer", "--rounds", "9-12")[0], 2
-    yield "rounds that are no numbers", drawn("timer", "--rounds", "x")[0], 2
+    for rounds in ("x", "²", "1-²", "-2", "1" * 5000):
+        status, text = drawn("timer", f"--rounds={rounds}")
+        yield f"the rounds {rounds[:40]}, that are no numbers", (status, "rounds are A-B" in text), (2, True)

@@ -16,6 +16,12 @@ def run(tool, *words, given=None):
     return ran.returncode, ran.stdout.decode() + ran.stderr.decode()
 
 
+def unread(tool, *words, given=None):
+    """What a tool must say that can't read what it is given: its status, whether it tells itself, and how many lines it says."""
+    status, told = run(tool, *words, given=given)
+    return status, told.startswith(f"{tool}: "), told.count("\n")
+
+
 def difference(found, should):
     """The first line that differs of two texts, where they differ."""
     pairs = zip(found.split("\n") + [None], should.split("\n") + [None])

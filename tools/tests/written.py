@@ -55,6 +55,8 @@ WRONG = (
     ("cancel k none", "a cancel is"),
     ("r0 = r1 / 2", "no operand"),
     ("r0 = 1.5", "'1.5' is no operand"),
+    ("r0 = ²", "'²' is no operand"),
+    ("log " + "1" * 5000, "1' is no operand"),
 )
 
 
@@ -76,6 +78,10 @@ def answers(_program):
         yield f"the wrong script {text!r}: {told}", part in told, True
     yield "write --script", tool.run("write", "--script", "-", given=b"log 1\nlog 2"), (0, '[["log",1],\n ["log",2]]\n')
     yield "write --help", tool.run("write", "--help")[0], 0
+    yield "write --script of a script that is wrong", tool.run("write", "--script", "-", given=b"log")[0], 1
+    yield "write --script of what is no text", tool.unread("write", "--script", "-", given=b"log 1\nlog \xff"), (2, True, 1)
+    for words in (("--script", "nowhere"), ("--script", tool.TOP), ("nowhere.py",)):
+        yield f"write of no file {words}", tool.unread("write", *words), (2, True, 1)
     yield from of_moments()
     yield from refused()
     for words, name in (((), "document.schema.json"), (("--strict",), "document.strict.schema.json")):

@@ -106,11 +106,11 @@ def named(number, word, items):
 
 
 def operand(number, text):
-    if NUMBER.fullmatch(text):
+    if NUMBER.fullmatch(text) and grammar.is_number(text.lstrip("-")):
         return int(text)
     if text in grammar.OPERANDS:
         return text
-    raise ScriptError(number, f"{text!r} is no operand: a value, r0 to r7, g0 to g7, in, aux or now")
+    raise ScriptError(number, f"{text[:60]!r} is no operand: a value, r0 to r7, g0 to g7, in, aux or now")
 
 
 def assignment(number, to, text):

@@ -32,6 +32,12 @@ def is_text(value):
     return isinstance(value, str)
 
 
+def is_number(text):
+    """Whether a text is a number in decimal digits, of no more than 64 bits need. isdigit alone takes ² too, which int doesn't
+    read, and int reads no text of thousands of digits."""
+    return text.isascii() and text.isdigit() and len(text) <= 20
+
+
 def is_kind(value):
     return value in ("exclusive", "reentrant") if is_text(value) else False
 

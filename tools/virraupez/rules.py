@@ -5,7 +5,7 @@ word of capitals for a word that is the same wherever it stands in the rule; `=I
 import collections
 import re
 
-from . import hints, transcript
+from . import grammar, hints, transcript
 
 NUMBER = re.compile("-?[0-9]+")
 COMPARED = {">": lambda one, other: one > other, ">=": lambda one, other: one >= other, "<": lambda one, other: one < other, "<=": lambda one, other: one <= other}
@@ -73,11 +73,18 @@ def test_of(word):
         return None
     bound = BOUND.fullmatch(word)
     if bound:
-        compare, number = COMPARED[bound[1]], int(bound[2])
+        compare, number = COMPARED[bound[1]], number_of(bound[2])
         return lambda it: bool(NUMBER.fullmatch(it)) and compare(int(it), number)
     if word.startswith("="):
         return lambda it: it == word[1:]
     return frozenset(word.split("|")).__contains__
+
+
+def number_of(text):
+    """A number of a rule."""
+    if not grammar.is_number(text.lstrip("-")):
+        raise RuleError(f"{text[:30]!r} has more digits than a number of a transcript")
+    return int(text)
 
 
 class Failure:
@@ -206,7 +213,7 @@ def then_of(number, text, rest):
     at = rest.index("then")
     first, second, within, unit = rest[:at], rest[at + 1 :], None, 0
     if len(second) >= 3 and second[-3] == "within":
-        if not second[-2].isdigit() or second[-1].rstrip("s") not in ("round", "tick"):
+        if not grammar.is_number(second[-2]) or second[-1].rstrip("s") not in ("round", "tick"):
             raise RuleError("within takes a number of rounds or of ticks")
         within, unit, second = int(second[-2]), 0 if second[-1].startswith("round") else 1, second[:-3]
     return Then(number, text, [Pattern(first), Pattern(second)], within, unit)
@@ -216,7 +223,7 @@ def count_of(number, text, rest):
     found = re.fullmatch("(.*) (is|at least|at most) ([0-9]+)", " ".join(rest))
     if not found:
         raise RuleError("a count ends with is N, at least N or at most N")
-    count = int(found[3])
+    count = number_of(found[3])
     return Count(number, text, [Pattern(found[1].split())], 0 if found[2] == "at most" else count, None if found[2] == "at least" else count)
 
 

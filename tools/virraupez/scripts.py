@@ -85,7 +85,7 @@ def is_item(form, item):
 def operand_hint(form, item):
     if form == "D" and item in ("in", "aux", "now"):
         return f"{item} can only be read"
-    if form == "A" and g.is_text(item) and item.lstrip("-").isdigit():
+    if form == "A" and g.is_text(item) and g.is_number(item[item.startswith("-") :]):
         return f"write {item} without quotes"
     if form == "n" and item in g.OPERANDS:
         return "the length of a skip is written, and can't be computed"

@@ -1,5 +1,7 @@
 """Transcripts as streams of lines: each with its number and its words, one at a time, whatever their length."""
 
+from . import grammar
+
 # How many words the lines of each first word have.
 WORDS = {
     "round": (3,),
@@ -33,8 +35,9 @@ class TranscriptError(ValueError):
     """A line that no transcript has."""
 
 
-def open_transcript(name):
-    return open(name, encoding="latin-1", newline="\n")
+def open_transcript(file):
+    """The stream of a file, by its name or its number."""
+    return open(file, encoding="latin-1", newline="\n")
 
 
 def lines(stream, name="the transcript"):
@@ -59,7 +62,7 @@ def words_of(line, number, name="the transcript"):
 
 
 def is_round(words):
-    return all(number.isdigit() and len(number) <= 20 for number in words[1:])
+    return all(map(grammar.is_number, words[1:]))
 
 
 def is_run(words):
