@@ -99,6 +99,8 @@ class Document:
 
     def every(self, ticks, until, begin=0):
         """Rounds every so many ticks, from begin to until."""
+        if ticks < 1:
+            raise DocumentError(f"every takes at least 1 tick and not {ticks}")
         self.computed.append(lambda: range(begin, until + 1, ticks))
 
     def when_due(self, until):
@@ -106,7 +108,9 @@ class Document:
         self.computed.append(lambda: [at for period in self.periods() for at in range(period, until + 1, period)])
 
     def periods(self):
-        return {timer["period"] for node in self.nodes for timer in node.fields.get("timers", [])}
+        """The periods of all timers, but for those that no timer may have: of these explain tells."""
+        periods = [timer.get("period") for node in self.nodes for timer in node.fields.get("timers", [])]
+        return {period for period in periods if grammar.is_count(period) and period >= 1}
 
     def all_moments(self):
         """All moments in order: those that were computed once each, where they weren't written."""
