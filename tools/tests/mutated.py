@@ -5,7 +5,6 @@ import itertools
 import json
 import os
 import random
-import subprocess
 import sys
 
 from virraupez import report
@@ -14,6 +13,7 @@ from . import tool
 
 sys.path.insert(0, str(tool.TOP / "cases"))
 import generate
+from program import answer, code, said
 
 COUNT, AT_ONCE = 20000, 400
 # Signs and words that are put into documents.
@@ -85,9 +85,10 @@ def mutated(seed):
 
 
 def code_of(program, given):
-    """The program's code, or 0 where it runs the document."""
-    ran = subprocess.run([program, "1", "1"], input=given, stdout=subprocess.DEVNULL, stderr=subprocess.PIPE)
-    return int(ran.stderr[len(b"refused ") :]) if ran.returncode else 0
+    """The program's code, or 0 where it runs the document; what its answer is where it is neither."""
+    found = answer(program, ("1", "1"), given)
+    told = code(found)
+    return said(found) if told is None else told
 
 
 def documents():
