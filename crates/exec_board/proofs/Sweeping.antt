@@ -37,18 +37,6 @@ left-less (l ∷ lanes) (n ∷ seen) (suc lane) end within long less = let rest 
 
 -- ---- sweeps
 
-pub swept_none : (quantum : ℕ) (view : SeatView) → view.holds ≡ [] → IsSwept quantum view view
-swept_none quantum view free = record {
-  opening = refl;
-  passes = refl;
-  start = refl;
-  stop = refl;
-  holds = free;
-  sized = refl;
-  ran = ([], sym (append-nil view.segments), All-nil (IsShort quantum));
-  asked = ([], sym (append-nil view.busy), All-nil IsBusy);
-}
-
 pub swept_on : (quantum : ℕ) (a b c : SeatView) → IsSwept quantum a b → IsSwept quantum b c → IsSwept quantum a c
 swept_on quantum a b c first then = record {
   opening = then.opening ∙ first.opening;
@@ -142,16 +130,6 @@ module _ (lane quantum : ℕ) (before held_ : SeatView) (claim : ClaimView) (aft
       }
 
 -- ---- a turn
-
-pub turning_none : (quantum : ℕ) (view : SeatView) → view.holds ≡ [] → Turning 0 quantum false view view
-turning_none quantum view free = record {
-  swept = swept_none quantum view free;
-  less = omega arith;
-  gone_on = λ on. absurd (true≢false (sym on));
-  refused_all = λ _. ([], sym (append-nil view.busy), refl);
-  seen_all = λ _ last lane under. absurd (omega (arith, under));
-  got_on = ([], sym (append-nil view.segments), All-nil HasSome);
-}
 
 refused_less : (lane : ℕ) (a b : SeatView) → lane < length a.opening → length a.seen ≡ length a.opening → WasRefused lane a b → left_for b ≤ left_for a
 refused_less lane a b within long was =
@@ -260,12 +238,6 @@ pub sized_before : (board : TableId) (quantum : ℕ) (a b : SeatView) → IsSwep
 sized_before board quantum a b swept sized = record {
   opening = ap length (sym swept.opening) ∙ sized.opening;
   seen = sym swept.sized ∙ sized.seen;
-}
-
-pub sized_after : (board : TableId) (quantum : ℕ) (a b : SeatView) → IsSwept quantum a b → IsSized board a → IsSized board b
-sized_after board quantum a b swept sized = record {
-  opening = ap length swept.opening ∙ sized.opening;
-  seen = swept.sized ∙ sized.seen;
 }
 
 pub turning_next : (board : TableId) (lane quantum : ℕ) (claimed did : Bool) (a b c : SeatView) → lane < board.words → IsSized board b → Turning lane quantum claimed a b → Visited lane quantum b c (Ok did) → Turning (lane + 1) quantum (claimed || did) a c

@@ -1,27 +1,25 @@
 -- What lanes bring home and what their callbacks did is what one thread brings home and does.
-use Rattle.std.proofs.Common.{◌≡◌, ℕ, ◌+◌, suc, ◌<◌, ◌≤◌, Bool, true, false, ◌&&◌, ◌==◌, if◌then◌else◌, List, [], ◌∷◌, ◌++◌, length, map, slice_index_or, take, Option, None, Some, refl, sym, ap, subst, ◌∙◌, true≢false, arith}
+use Rattle.std.proofs.Common.{◌≡◌, ℕ, ◌+◌, ◌<◌, Bool, true, false, ◌&&◌, ◌==◌, if◌then◌else◌, List, [], ◌∷◌, ◌++◌, length, map, slice_index_or, Option, None, Some, refl, sym, ap, subst, ◌∙◌, true≢false, arith}
 use Rattle.std.specs.Prelude.{IsPermutation}
-use Rattle.std.specs.List.{AllByRecursion, IsDistinct, flat_map, fold, list_any}
+use Rattle.std.specs.List.{AllByRecursion, flat_map, fold, list_any}
 use Rattle.std.specs.Option.{option_map}
 use Rattle.std.proofs.lemmas.Bool.{and_parts, eqb-true, eq-eqb}
 use Rattle.std.proofs.lemmas.List.{append_assoc, length-set, length_push, map-append}
 use Rattle.std.proofs.lemmas.List.Concat.{flat_map-append}
-use Rattle.std.proofs.lemmas.List.Sorted.{IsPermutation-append_comm, IsPermutation-append_left, IsPermutation-append_right, IsPermutation-refl, IsPermutation-trans}
+use Rattle.std.proofs.lemmas.List.Sorted.{IsPermutation-append_comm, IsPermutation-append_right, IsPermutation-refl}
 use Rattle.std.proofs.lemmas.List.Sums.{fold-append}
 use Rattle.exec_graph.specs.Entity.{EntityNo}
-use Rattle.exec_lane.proofs.Putting.{polled_home, put_past, task_put, variables_left, variables_put, variables_turned, variables_twice, work_twice}
-use Rattle.exec_lane.specs.Gather.{all_ran, ran_each, ran_in}
-use Rattle.exec_lane.specs.Lane.{AreFinished, Done, Entry, IsFinished, Lane, LaneState, done_by, entry_in, goes_into, is_beside, lane_at, lane_home, lanes_home, lanes_of, opened, run_entry, state_of, task_home, tasks_home, tasks_out, variables_at, variables_home, with_callback, without_task}
+use Rattle.exec_lane.proofs.Putting.{put_past, task_put, variables_left, variables_put, variables_turned, variables_twice}
+use Rattle.exec_lane.specs.Gather.{ran_each}
+use Rattle.exec_lane.specs.Lane.{Done, Entry, LaneState, done_by, entry_in, goes_into, is_beside, opened, run_entry, task_home, tasks_home, variables_at, variables_home, with_callback}
 use Rattle.exec_lane.specs.declared.gathering.Ran.{Ran}
 use Rattle.exec_msg.specs.Lists.{change_first}
 use Rattle.exec_script.specs.declared.effects.Effect.{Effect}
 use Rattle.exec_script.specs.Zeros.{zeros}
-use Rattle.exec_task.specs.Task.{TaskState}
 use Rattle.exec_world.specs.Callback.{Outcome}
-use Rattle.exec_world.specs.Calls.{IsHomeFor, polls_same, polls_same_of, wakes}
-use Rattle.exec_world.specs.Item.{GoalId}
-use Rattle.exec_world.specs.Run.{all_apart, all_home, apart, apart_with, brought_home, effects_of, variables_for, with_polled, with_variables_for, work_after, work_for}
-use Rattle.exec_world.specs.World.{GoalWork, Variables, WorldState, with_variables, with_work, work_at}
+use Rattle.exec_world.specs.Calls.{polls_same}
+use Rattle.exec_world.specs.Run.{apart, apart_with, effects_of, variables_for, with_variables_for, work_after, work_for}
+use Rattle.exec_world.specs.World.{GoalWork, Variables, WorldState, with_variables, with_work}
 use Rattle.exec_world.specs.declared.ready.Cause.{Cause}
 use Rattle.exec_world.specs.declared.ready.Cause.TheVariants as cause
 use Rattle.exec_world.specs.declared.ready.Ready.{Ready}
@@ -182,10 +180,6 @@ ran_more [] [] entry did same = refl
 ran_more [] (one ∷ done) entry did same = absurd (omega (arith, same))
 ran_more (one ∷ entries) [] entry did same = absurd (omega (arith, same))
 ran_more (one ∷ entries) (other ∷ done) entry did same = ap (λ (all : List Ran). record { ready = one.ready; effects = other.effects } ∷ all) (ran_more entries done entry did (omega (arith, same)))
-
-entries_as_many : (first : WorldState) (lane : List Ready) → length (map (entry_in first) lane) ≡ length lane
-entries_as_many first [] = refl
-entries_as_many first (one ∷ lane) = ap suc (entries_as_many first lane)
 
 -- what a callback does whose goal has its work of a first world, with these variables
 abbrev pub did_with : WorldState → Ready → Variables → Outcome (List Effect)

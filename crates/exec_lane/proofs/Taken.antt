@@ -1,7 +1,7 @@
 -- Callbacks are cut into lanes while the tasks of their goals leave the world.
-use Rattle.std.proofs.Common.{◌≡◌, ℕ, ◌&&◌, ◌||◌, ◌==◌, Bool, true, false, if◌then◌else◌, List, [], ◌∷◌, ◌++◌, Option, None, map, slice_index_or, reverse, refl, sym, ap, subst, ◌∙◌, true≢false}
+use Rattle.std.proofs.Common.{◌≡◌, ◌&&◌, ◌||◌, ◌==◌, Bool, true, false, if◌then◌else◌, List, [], ◌∷◌, ◌++◌, None, map, slice_index_or, reverse, refl, sym, ap, subst, ◌∙◌, true≢false}
 use Rattle.std.specs.List.{AllByRecursion, IsDistinct, fold, list_any}
-use Rattle.std.proofs.lemmas.List.{append_assoc, reverse-append, reverse-reverse}
+use Rattle.std.proofs.lemmas.List.{reverse-append, reverse-reverse}
 use Rattle.exec_graph.specs.Entity.{EntityNo}
 use Rattle.exec_lane.proofs.Putting.{apart_work, left_by_put, out_is}
 use Rattle.exec_lane.specs.Lane.{Lane, entry_in, goes_into, lanes_of, opened, opened_lanes, tasks_out, variables_at, with_callback, without_task}
@@ -165,15 +165,6 @@ cuts_next lanes after all front one slot world next list first is on held more o
       here.1,
       home_behind one (reverse front) world.state here.2,
     )
-
--- what is opened and what is still to be opened are all
-pub opens_next : {A B : Type 0} (f : A → B) (opened after : List B) (all front : List A) (one : A) (made : B) (whole : List B) → all ≡ front ++ one ∷ [] →
-    opened ++ map f (reverse all) ≡ whole → made ≡ f one → after ≡ opened ++ made ∷ [] → after ++ map f (reverse front) ≡ whole
-opens_next f opened after all front one made whole is on so more =
-    ap (λ some. some ++ map f (reverse front)) (more ∙ ap (λ last. opened ++ last ∷ []) so)
-    ∙ append_assoc opened (f one ∷ []) (map f (reverse front))
-    ∙ ap (λ rest. opened ++ map f rest) (sym (last_first all front one is))
-    ∙ on
 
 pub opens_first : {A B C : Type 0} (h : A → B) (f : B → C) (opened : List C) (lanes reversed : List A) → opened ≡ [] → reversed ≡ reverse lanes → opened ++ map (λ x. f (h x)) (reverse reversed) ≡ map f (map h lanes)
 opens_first {A} {B} {C} h f opened lanes reversed none is = ap (λ some. some ++ map (λ x. f (h x)) (reverse reversed)) none ∙ ap (map (λ x. f (h x))) (ap reverse is ∙ reverse-reverse lanes) ∙ twice lanes

@@ -24,6 +24,9 @@ pub struct Ran {
     pub effects: Effects,
 }
 
+/// The callbacks of a round that ran, in ready order.
+pub type Gathered = Vec<Ran>;
+
 /// Brings home what [`split`](crate::split) took: the variables of each lane's group, and the tasks of its goals. Gives the
 /// callbacks that ran, each with what it did, in ready order, so that each may be committed.
 ///
@@ -33,7 +36,7 @@ pub fn gather<L: Lines>(
     alloc: Global,
     lanes: Vec<LaneBox>,
     world: &mut World<L>,
-) -> Result<Vec<Ran>, Memory>
+) -> Result<Gathered, Memory>
     ensures gathered { IfOk result (λ all. AreGathered (flat_map ran_in lanes.items) all.items) }
     ensures home { OnOk result (world.new ≡ record world.old { state = lanes_home lanes.items world.old.state }) }
     ensures failed { OnErr result (world.new.failed ≡ true) }
@@ -52,7 +55,7 @@ fn gather_all<L: Lines>(
     alloc: Global,
     lanes: Vec<LaneBox>,
     world: &mut World<L>,
-) -> Result<Vec<Ran>, Memory>
+) -> Result<Gathered, Memory>
     ensures gathered { IfOk result (λ all. AreGathered (flat_map ran_in lanes.items) all.items) }
     ensures home { OnOk result (world.new ≡ record world.old { state = lanes_home lanes.items world.old.state }) }
 {

@@ -10,6 +10,6 @@ pub mod laws;
 mod splitting;
 
 pub use gate::{Gate, Open};
-pub use gathering::{Ran, gather};
+pub use gathering::{Gathered, Ran, gather};
 pub use lane_box::LaneBox;
 pub use splitting::split;

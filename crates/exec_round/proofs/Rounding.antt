@@ -1,34 +1,20 @@
 -- Lanes that ran, gathered and committed, are a round.
-use Rattle.std.proofs.Common.{◌≡◌, ℕ, suc, ◌-◌, ◌<◌, ◌≤◌, ◌==◌, List, [], ◌∷◌, ◌++◌, length, map, reverse, refl, sym, ap, subst, ◌∙◌, arith, IsPermutation, false, true≢false}
+use Rattle.std.proofs.Common.{◌≡◌, ℕ, suc, ◌-◌, ◌<◌, ◌≤◌, ◌==◌, List, [], ◌∷◌, length, map, refl, sym, ap, subst, ◌∙◌, arith, IsPermutation, false, true≢false}
 use Rattle.std.specs.List.{flat_map}
 use Rattle.std.specs.Prelude.{Bool, if◌then◌else◌}
 use Rattle.std.proofs.lemmas.Bool.{ne_eqb}
-use Rattle.std.proofs.lemmas.List.{reverse-append}
 use Rattle.std.proofs.lemmas.List.Sorted.{IsPermutation-sym, IsPermutation-trans}
 use Rattle.exec_lane.specs.Gather.{AreGathered, all_ran, ran_in}
 use Rattle.exec_lane.specs.Lane.{Lane, lanes_home, tasks_out}
 use Rattle.exec_lane.specs.declared.gathering.Ran.{Ran}
 use Rattle.exec_round.proofs.InOrder.{RiseFrom, sorted_is}
 use Rattle.exec_round.specs.inner.Commits.{after_commits, committed}
-use Rattle.exec_world.specs.Calls.{WorldData, after_commit, after_round, after_snapshot, moment_of, ready_in, state_at, with_left}
+use Rattle.exec_world.specs.Calls.{WorldData, after_round, after_snapshot, moment_of, ready_in, state_at, with_left}
 use Rattle.exec_world.specs.Ready.{placed_from, take_inputs}
 use Rattle.exec_world.specs.Run.{all_apart, all_home, apart, brought_home, commit, commit_all, effects_of}
 use Rattle.exec_world.specs.Transcript.{run_all}
 use Rattle.exec_world.specs.World.{WorldState}
 use Rattle.exec_world.specs.declared.ready.Ready.{Ready}
-
--- ---- the loop
-
-last_first : {A : Type 0} (all front : List A) (one : A) → all ≡ front ++ one ∷ [] → reverse all ≡ one ∷ reverse front
-last_first all front one is = ap reverse is ∙ reverse-append front (one ∷ [])
-
--- one more is committed
-pub commits_next : (all front : List Ran) (one : Ran) (world next whole : WorldData) → all ≡ front ++ one ∷ [] → next ≡ after_commit one.ready one.effects world →
-    after_commits (reverse all) world ≡ whole → after_commits (reverse front) next ≡ whole
-commits_next all front one world next whole is more on =
-    ap (after_commits (reverse front)) more
-    ∙ ap (λ rest. after_commits rest world) (sym (last_first all front one is))
-    ∙ on
 
 -- ---- all of a round
 

@@ -1,4 +1,4 @@
-// How lanes are claimed by workers.
+//! How lanes are claimed by workers.
 ghost use Rattle.std.specs.Prelude.{◌≡◌, ◌<◌, [], IfOk};
 ghost use Rattle.exec_lane.specs.Lane.{AreFinished};
 ghost use Rattle.exec_round.specs.inner.Sharing.{IsSweptPass};

@@ -1,16 +1,16 @@
 //! Rounds by workers.
-ghost use Rattle.std.specs.Prelude.{◌≡◌, ◌<◌, ◌≤◌, false, length, vec_len, IfOk, OnOk};
+ghost use Rattle.std.specs.Prelude.{◌≡◌, ◌<◌, ◌≤◌, false, vec_len, IfOk, OnOk};
 ghost use Rattle.exec_lane.specs.Lane.{AreFinished};
 ghost use Rattle.exec_round.specs.inner.Commits.{after_commits};
 ghost use Rattle.exec_round.specs.inner.Sharing.{TakesSome};
-ghost use Rattle.exec_world.specs.Calls.{IsNext, after_all, after_commit, after_round};
+ghost use Rattle.exec_world.specs.Calls.{IsNext, after_commit, after_round};
 
 use crate::claiming::claim_lanes;
 use crate::weighing::workers_for;
 use crate::workers::run_lanes;
-use exec_lane::{Gate, LaneBox, Ran, gather, laws, split};
+use exec_lane::{Gate, Gathered, LaneBox, Ran, gather, laws, split};
 use exec_msg::{Lines, Memory};
-use exec_world::{Ready, World};
+use exec_world::World;
 use std::alloc::Global;
 use std::thread::Threads;
 
@@ -98,14 +98,12 @@ pub(crate) fn run_round<L: Lines, R: Threads + Sync, G: Gate>(
 {
     laws::lanes_come_home_as_one_thread_leaves_them();
     exec_world::laws::callbacks_may_be_committed_behind();
-    let Ok(list) = world.snapshot(round) else {
-        return Err(Memory);
-    };
+    let list = world.snapshot(round)?;
     if list.as_slice().is_empty() {
         return Ok(());
     }
     let Some(count) = workers_for(rt, list.as_slice(), workers, gate) else {
-        return run_ready(list.as_slice(), world);
+        return Ok(world.run_ready(list.as_slice())?);
     };
     let lanes = split(alloc, list, world)?;
     let ran = run_shared(rt, alloc, lanes, count, sharing, gate)?;
@@ -133,19 +131,8 @@ fn run_shared<R: Threads + Sync, G: Gate>(
     }
 }
 
-// Runs the callbacks of a snapshot where they stand.
-fn run_ready<L: Lines>(list: &[Ready], world: &mut World<L>) -> Result<(), Memory>
-    requires { (length list.now ≡ world.old.left) × (0 < world.old.left) }
-    ensures { OnOk result (world.new ≡ after_all list.now world.old) }
-{
-    if world.run_ready(list).is_err() {
-        return Err(Memory);
-    }
-    Ok(())
-}
-
 // Commits callbacks that ran, one after another.
-fn commit_each<L: Lines>(all: Vec<Ran>, world: &mut World<L>) -> Result<(), Memory>
+fn commit_each<L: Lines>(all: Gathered, world: &mut World<L>) -> Result<(), Memory>
     requires { vec_len all ≤ world.old.left }
     ensures { OnOk result (world.new ≡ after_commits all.items world.old) }
 {
@@ -162,8 +149,6 @@ fn commit<L: Lines>(one: Ran, world: &mut World<L>) -> Result<(), Memory>
     ensures { OnOk result (world.new ≡ after_commit one.ready one.effects world.old) }
 {
     let Ran { ready, effects } = one;
-    if world.commit(&ready, effects).is_err() {
-        return Err(Memory);
-    }
+    world.commit(&ready, effects)?;
     Ok(())
 }

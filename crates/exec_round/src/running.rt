@@ -22,7 +22,8 @@ use std::thread::Threads;
 /// callbacks a worker claims at a time at most; the text depends on neither.
 ///
 /// # Errors
-/// The least code that holds of the bytes, or [`Refused::Memory`] where a growth or the start of a worker was refused.
+/// The least code that holds of the bytes, or [`Refused::Memory`] where a growth was refused. Where a worker's thread can't be
+/// started, the calling thread does its work.
 pub fn run<R: Threads + Sync, G: Gate>(
     rt: &R,
     alloc: Global,
@@ -125,8 +126,6 @@ fn run_each<L: Lines, R: Threads + Sync, G: Gate>(
     for done in 0..rounds {
         run_round(rt, alloc, world, done + 1, workers, sharing, gate)?;
     }
-    if world.finish().is_err() {
-        return Err(Memory);
-    }
+    world.finish()?;
     Ok(())
 }

@@ -89,14 +89,6 @@ executed_by (Some goal) id goals is =
 pub executed-found : (found : Option GoalRecord) (id : ℕ) (goals left : List GoalRecord) → Some id ≡ option_map (λ goal. goal.id) found → left ≡ change_first (has_id id) (after_event event.Execute) goals → left ≡ executed found goals
 executed-found found id goals left is moved = moved ∙ sym (executed_by found id goals is)
 
-unexecuted_by : (found : Option GoalRecord) (goals : List GoalRecord) → None ≡ option_map (λ goal. goal.id) found → goals ≡ executed found goals
-unexecuted_by None goals is = refl
-unexecuted_by (Some goal) goals is = absurd cc
-
--- where none is found nothing is executed
-pub unexecuted : (found : Option GoalRecord) (goals : List GoalRecord) → None ≡ option_map (λ goal. goal.id) found → goals ≡ executed found goals
-unexecuted found goals is = unexecuted_by found goals is
-
 -- ---- goals that are forgotten
 
 not_among : (ids : List ℕ) (a b : ℕ) → is_among ids a ≡ true → is_among ids b ≡ false → (b == a) ≡ false

@@ -141,13 +141,6 @@ impl Queues {
         keep_filled(&mut self.filled, &self.cells);
     }
 
-    /// The number of queues.
-    pub(crate) fn len(&self) -> usize
-        ensures { result ≡ length self.now }
-    {
-        count(&self.cells)
-    }
-
     /// Whose callback takes from the queue at a place.
     pub(crate) fn handler(&self, place: usize) -> Option<&Handler>
         ensures { option_copied result ≡ option_map (λ queue. queue.handler) (slice_get self.now place) }

@@ -38,8 +38,15 @@ impl WorldFault {
     }
 }
 
+/// A world that answers a fault was refused memory, in that call or before.
+impl From<WorldFault> for Memory {
+    fn from(_fault: WorldFault) -> Memory {
+        Memory
+    }
+}
+
 /// What a plan's rounds change, and its transcript, whose lines go to `L`. A world that has failed answers
-/// [`WorldFault::Failed`] from then on, and never changes.
+/// [`WorldFault::Failed`] from then on where it is asked to go on, and changes nothing then.
 #[derive(Drop)]
 pub struct World<L: Lines = LineList> {
     alloc: Global,

@@ -2,7 +2,7 @@
 use super::fixture::have_run;
 use super::{first_lines, world_of};
 use exec_doc::Refused;
-use exec_lane::{Gate, LaneBox, Open, Ran, gather, split};
+use exec_lane::{Gate, Gathered, LaneBox, Open, Ran, gather, split};
 use exec_msg::{Line, Memory};
 use exec_world::World;
 use std::alloc::Global;
@@ -81,7 +81,7 @@ fn are_at(all: &[Ran], positions: &[usize]) -> bool {
 }
 
 // Commits callbacks that ran.
-fn commit(all: Vec<Ran>, world: &mut World) -> Result<(), Memory> {
+fn commit(all: Gathered, world: &mut World) -> Result<(), Memory> {
     for one in all {
         commit_one(one, world)?;
     }

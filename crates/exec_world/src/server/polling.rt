@@ -40,15 +40,6 @@ impl Server {
         self.goals.working()
     }
 
-    // Whether the goal at this place, from 0, in the order of acceptance, is awake at a moment.
-    pub(crate) fn is_awake_at(&self, index: usize, moment: Moment) -> bool
-        requires { index < length self.now.goals }
-        ensures { (d : GoalRecord) → result ≡ is_goal_awake moment self.now.held (slice_index_or self.now.goals index d) }
-    {
-        let goal = self.goal_at(index);
-        self.is_goal_awake(index, &goal, moment)
-    }
-
     // Whether the goal at this place, of which this is told, is awake at a moment.
     fn is_goal_awake(&self, index: usize, info: &GoalInfo, moment: Moment) -> bool
         requires { slice_get (map info_of self.now.goals) index ≡ Some info.now }

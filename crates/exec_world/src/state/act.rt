@@ -9,7 +9,6 @@ use super::State;
 use crate::callback::{call_in, take_item};
 use crate::ready::{Cause, Ready};
 use crate::server::Servers;
-use exec_graph::GroupNo;
 use exec_msg::{Lines, Memory};
 use exec_script::{Bank, Close, Effect, EffectList, Role};
 use exec_task::Turn;
@@ -71,7 +70,6 @@ impl<L: Lines> State<L> {
                 self.alloc,
                 &mut self.banks,
                 &mut self.servers,
-                one.group,
                 one,
                 effects,
                 close,
@@ -82,26 +80,25 @@ impl<L: Lines> State<L> {
     }
 }
 
-// Runs a ready callback with the variables of a group, where they stand: they are copied into the script's frame and out of it
+// Runs a ready callback with the variables of its group, where they stand: they are copied into the script's frame and out of it
 // alone. No group but the graph's has any.
 #[inline(always)]
 fn act_in(
     alloc: Global,
     banks: &mut Vec<Bank>,
     servers: &mut Servers,
-    group: GroupNo,
     one: &Ready,
     effects: &mut EffectList,
     close: &mut Close,
     cx: &mut Context<'_>,
 ) -> Result<(), Memory>
     requires { effects.old ≡ [] }
-    ensures variables { OnOk result (banks.new.items ≡ slice_set banks.old.items group (callback listed one.now (work_by one.now.entity one.now.cause servers.old) (slice_index_or banks.old.items group zeros) []).variables) }
-    ensures effects { OnOk result (effects.new ≡ (callback listed one.now (work_by one.now.entity one.now.cause servers.old) (slice_index_or banks.old.items group zeros) []).given) }
-    ensures close { OnOk result (close.new ≡ (callback listed one.now (work_by one.now.entity one.now.cause servers.old) (slice_index_or banks.old.items group zeros) []).close) }
-    ensures task { OnOk result (servers.new ≡ polled_by one.now.entity one.now.cause (callback listed one.now (work_by one.now.entity one.now.cause servers.old) (slice_index_or banks.old.items group zeros) []).task servers.old) }
+    ensures variables { OnOk result (banks.new.items ≡ slice_set banks.old.items one.now.group (callback listed one.now (work_by one.now.entity one.now.cause servers.old) (slice_index_or banks.old.items one.now.group zeros) []).variables) }
+    ensures effects { OnOk result (effects.new ≡ (callback listed one.now (work_by one.now.entity one.now.cause servers.old) (slice_index_or banks.old.items one.now.group zeros) []).given) }
+    ensures close { OnOk result (close.new ≡ (callback listed one.now (work_by one.now.entity one.now.cause servers.old) (slice_index_or banks.old.items one.now.group zeros) []).close) }
+    ensures task { OnOk result (servers.new ≡ polled_by one.now.entity one.now.cause (callback listed one.now (work_by one.now.entity one.now.cause servers.old) (slice_index_or banks.old.items one.now.group zeros) []).task servers.old) }
 {
-    match banks.get_mut(group.0 as usize) {
+    match banks.get_mut(one.group.0 as usize) {
         Some(bank) => act(alloc, servers, one, bank, effects, close, cx),
         None => act_for_nobody(alloc, servers, one, effects, close, cx),
     }

@@ -1,5 +1,5 @@
-use Rattle.std.proofs.Common.{◌≡◌, ℕ, ◌+◌, ◌<◌, length, ap, sym, ◌∙◌, arith, rules}
-use Rattle.exec_world.specs.Calls.{IsNext, WorldData, after_finish, after_round, world_after}
+use Rattle.std.proofs.Common.{◌≡◌, ◌+◌, ◌<◌, length, ap, sym, ◌∙◌, arith, rules}
+use Rattle.exec_world.specs.Calls.{IsNext, WorldData, after_round}
 use Rattle.exec_round.proofs.running.run_each.Goals as goal
 
 pub loop-done-init : goal.loop-done-init

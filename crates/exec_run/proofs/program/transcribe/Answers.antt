@@ -1,8 +1,7 @@
-use Rattle.std.proofs.Common.{◌≡◌, ◌≤◌, List, length, Result, Err, refl, ap, subst, ◌∙◌, arith, rules}
+use Rattle.std.proofs.Common.{◌≡◌, ◌≤◌, length, Err, refl, ap, ◌∙◌, arith, rules}
 use Rattle.std.proofs.lemmas.Result.{err_from_is_err_and}
 use Rattle.exec_msg.specs.declared.limits.TheConstants.{DOCUMENT}
-use Rattle.exec_doc.specs.Document.{document_of}
-use Rattle.exec_run.proofs.Runs.{HasRead, after_all, after_cut_off, after_refusal}
+use Rattle.exec_run.proofs.Runs.{after_all, after_cut_off, after_refusal}
 use Rattle.exec_run.specs.Program.{AreGoodWords}
 use Rattle.exec_run.specs.declared.program.Failure.TheVariants as failure
 use Rattle.exec_run.proofs.program.transcribe.Goals as goal
