@@ -4,6 +4,7 @@ use exec_msg::{Line, Memory};
 use exec_task::Poller;
 use exec_world::{Ready, World, WorldFault};
 use std::alloc::Global;
+use std::process::Abort;
 use std::sync::Arc;
 use std::test::Fail;
 
@@ -46,11 +47,18 @@ fn run_one(alloc: Global, world: &mut World, one: &Ready) -> Result<(), WorldFau
 
 #[test]
 fn a_plan_is_run_by_calls_of_its_world(rt: HostRuntime) -> Result<(), Fail> {
-    let alloc = rt.alloc();
-    let mut world = timer_world(alloc)?;
+    run_by_calls(&rt, rt.alloc(), timer_world(rt.alloc())?)
+}
+
+// A function that owns a world is proved over all that a world drops, once for each way out: so it lends the world, once.
+fn run_by_calls(rt: &impl Abort, alloc: Global, mut world: World) -> Result<(), Fail> {
+    run_each(rt, alloc, &mut world)
+}
+
+fn run_each(rt: &impl Abort, alloc: Global, world: &mut World) -> Result<(), Fail> {
     assert!(rt; world.rounds_done() == 0);
     for (round, ready) in [(1, 0), (2, 1), (3, 1), (4, 1)] {
-        assert!(rt; run_round(alloc, &mut world, round)? == ready);
+        assert!(rt; run_round(alloc, world, round)? == ready);
         assert!(rt; world.rounds_done() == round);
     }
     assert!(rt; !world.is_next(5));
@@ -62,14 +70,20 @@ fn a_plan_is_run_by_calls_of_its_world(rt: HostRuntime) -> Result<(), Fail> {
 
 #[test]
 fn a_round_is_done_with_its_last_commit(rt: HostRuntime) -> Result<(), Fail> {
-    let alloc = rt.alloc();
-    let mut world = timer_world(alloc)?;
-    run_round(alloc, &mut world, 1)?;
+    end_a_round(&rt, rt.alloc(), timer_world(rt.alloc())?)
+}
+
+fn end_a_round(rt: &impl Abort, alloc: Global, mut world: World) -> Result<(), Fail> {
+    commit_last(rt, alloc, &mut world)
+}
+
+fn commit_last(rt: &impl Abort, alloc: Global, world: &mut World) -> Result<(), Fail> {
+    run_round(alloc, world, 1)?;
     assert!(rt; world.is_next(2));
     let list = world.snapshot(2)?;
     assert!(rt; world.rounds_done() == 1 && world.left() == 1 && !world.is_next(3));
     for one in list.as_slice() {
-        run_one(alloc, &mut world, one)?;
+        run_one(alloc, world, one)?;
     }
     assert!(rt; world.rounds_done() == 2 && world.left() == 0 && world.is_next(3));
     Ok(())
@@ -78,9 +92,15 @@ fn a_round_is_done_with_its_last_commit(rt: HostRuntime) -> Result<(), Fail> {
 // It answers so whatever it is handed.
 #[test]
 fn a_failed_world_answers_that_it_failed(rt: HostRuntime) -> Result<(), Fail> {
-    let alloc = rt.alloc();
-    let mut world = timer_world(alloc)?;
-    run_round(alloc, &mut world, 1)?;
+    fail(&rt, rt.alloc(), timer_world(rt.alloc())?)
+}
+
+fn fail(rt: &impl Abort, alloc: Global, mut world: World) -> Result<(), Fail> {
+    fail_and_ask(rt, alloc, &mut world)
+}
+
+fn fail_and_ask(rt: &impl Abort, alloc: Global, world: &mut World) -> Result<(), Fail> {
+    run_round(alloc, world, 1)?;
     assert!(rt; world.is_next(2));
     let list = world.snapshot(2)?;
     world.fail();
@@ -91,7 +111,7 @@ fn a_failed_world_answers_that_it_failed(rt: HostRuntime) -> Result<(), Fail> {
             .is_err_and(|why| why == WorldFault::Failed)
     );
     for one in list.as_slice() {
-        assert!(rt; run_one(alloc, &mut world, one) == Err(WorldFault::Failed));
+        assert!(rt; run_one(alloc, world, one) == Err(WorldFault::Failed));
     }
     assert!(rt; world.finish() == Err(WorldFault::Failed));
     assert!(rt; world.rounds_done() == 1);
@@ -101,10 +121,16 @@ fn a_failed_world_answers_that_it_failed(rt: HostRuntime) -> Result<(), Fail> {
 // Run with each allocation refused in turn, too: a call that is refused memory marks the world.
 #[test]
 fn a_world_that_is_refused_memory_has_failed(rt: HostRuntime) {
-    let alloc = rt.alloc();
-    let Ok(mut world) = timer_world(alloc) else {
-        return;
-    };
+    if let Ok(world) = timer_world(rt.alloc()) {
+        refuse(&rt, world);
+    }
+}
+
+fn refuse(rt: &impl Abort, mut world: World) {
+    take_a_snapshot(rt, &mut world);
+}
+
+fn take_a_snapshot(rt: &impl Abort, world: &mut World) {
     if world.is_next(1) && world.snapshot(1).is_err() {
         assert!(rt; world.is_failed());
         assert!(rt; world.finish() == Err(WorldFault::Failed));
@@ -116,13 +142,14 @@ fn a_world_that_is_refused_memory_has_failed(rt: HostRuntime) {
 // Run with each allocation refused in turn, too: the world is given up then.
 #[test]
 fn a_round_is_run_whole(rt: HostRuntime) {
-    let alloc = rt.alloc();
-    let Ok(world) = timer_world(alloc) else {
-        return;
-    };
+    if let Ok(world) = timer_world(rt.alloc()) {
+        run_whole(&rt, world);
+    }
+}
+
+fn run_whole(rt: &impl Abort, world: World) {
     assert!(rt; !world.is_failed() && world.is_next(1));
-    let Ok(world) = world.round_alone(1) else {
-        return;
-    };
-    assert!(rt; world.rounds_done() == 1 && world.is_next(2));
+    if let Ok(world) = world.round_alone(1) {
+        assert!(rt; world.rounds_done() == 1 && world.is_next(2));
+    }
 }
