@@ -1,4 +1,3 @@
-pub mod Fields
 pub mod FirstPlaces
 pub mod Lengths
 pub mod Places
