@@ -242,7 +242,7 @@ fn forgets_in_order(rt: &impl Abort, goals: &mut Goals) {
     same(rt, goals.expire(moment(9), 0), None);
     same(rt, goals.expire(moment(20), 0), Some(id(1)));
     same(rt, goals.expire(moment(20), 0), Some(id(2)));
-    same(rt, goals.expire(moment(Moment::MAX), 0), None);
+    same(rt, goals.expire(moment(exec_msg::limits::TICKS), 0), None);
     same(rt, goals.state(id(1)), None);
     same(rt, goals.len(), 1);
 }

@@ -82,7 +82,7 @@ fn lists_are_given_back_and_scripts_are_shared(rt: HostRuntime) -> Result<(), Fa
     let alloc = rt.alloc();
     let mut numbers = Vec::new(alloc);
     numbers.push(7)?;
-    same(&rt, Items::of(numbers).into_vec().as_slice(), &[7]);
+    same(&rt, Items::of(numbers).as_slice(), &[7]);
     let mut words = Vec::new(alloc);
     words.push(Word::Number(7))?;
     let mut script = Vec::new(alloc);

@@ -63,13 +63,6 @@ impl<T> Items<T> {
     {
         self.items.as_slice()
     }
-
-    /// The vector of the elements. It takes no memory.
-    pub fn into_vec(self) -> Vec<T>
-        ensures { result.items ≡ self }
-    {
-        self.items
-    }
 }
 
 impl<T: Drop> Items<T> {

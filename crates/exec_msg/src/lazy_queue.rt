@@ -76,13 +76,6 @@ impl<T> LazyQueue<T> {
             Some(made) => made.len(),
         }
     }
-
-    /// How many items it holds at most.
-    pub fn depth(&self) -> usize
-        ensures { result ≡ self.now.depth }
-    {
-        self.depth
-    }
 }
 
 impl<T: Drop> LazyQueue<T> {

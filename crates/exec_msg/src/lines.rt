@@ -45,25 +45,11 @@ impl LineList {
         }
     }
 
-    /// The lines of a vector. It takes no memory.
-    pub fn of(items: Vec<Line>) -> LineList
-        ensures { result ≡ items.items }
-    {
-        LineList { items }
-    }
-
     /// The lines in their order.
     pub fn as_slice(&self) -> &[Line]
         ensures { result.now ≡ self.now }
     {
         self.items.as_slice()
-    }
-
-    /// The vector of the lines. It takes no memory.
-    pub fn into_vec(self) -> Vec<Line>
-        ensures { result.items ≡ self }
-    {
-        self.items
     }
 }
 

@@ -3,7 +3,7 @@ ghost use Rattle.std.specs.Prelude.{◌≡◌, ℕ, ◌≤◌, ◌^◌, SomeIff}
 use crate::limits::TICKS;
 use std::marker::Model;
 
-/// A point in time, in ticks from the executor's start, at most [`Moment::MAX`].
+/// A point in time, in ticks from the executor's start, at most [`TICKS`].
 #[derive(Clone, Copy, Debug, PartialEq, Eq, PartialOrd, Ord, Hash)]
 pub struct Moment(u64);
 
@@ -18,14 +18,11 @@ impl Model for Moment {
 }
 
 impl Moment {
-    /// The latest moment, 2^62 ticks.
-    pub const MAX: u64 = TICKS;
-
-    /// The moment at so many ticks, or `None` beyond [`Moment::MAX`].
+    /// The moment at so many ticks, or `None` beyond [`TICKS`].
     pub fn new(ticks: u64) -> Option<Moment>
         ensures { SomeIff result (ticks ≤ 2 ^ 62) ticks }
     {
-        if ticks <= Moment::MAX {
+        if ticks <= TICKS {
             Some(Moment(ticks))
         } else {
             None

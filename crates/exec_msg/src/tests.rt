@@ -1,5 +1,6 @@
 ghost use Rattle.std.specs.Prelude.{◌≡◌};
 
+use crate::limits::TICKS;
 use crate::{
     EntityNo, GoalId, GoalStatus, KeepLast, Kind, LazyQueue, Line, LineList, Lines, Memory, Moment,
     Named, Names, ReturnCode, Text, Timer, write_line,
@@ -82,7 +83,7 @@ fn added<K: Named>(alloc: Global, names: &Names, lines: &[Line]) -> Result<Vec<u
 }
 
 fn put_round(lines: &mut LineList) -> Result<(), Memory> {
-    if let Some(moment) = Moment::new(Moment::MAX) {
+    if let Some(moment) = Moment::new(TICKS) {
         lines.add(&Line::Round { number: 1, moment })?;
     }
     lines.add(&Line::Expire {
@@ -250,8 +251,6 @@ fn lists_lines(rt: HostRuntime) -> Result<(), Fail> {
         );
     }
     assert_eq!(rt; lines.as_slice().len(), 10);
-    let lines = LineList::of(lines.into_vec());
-    assert_eq!(rt; lines.as_slice().len(), 10);
     Ok(())
 }
 
@@ -295,7 +294,6 @@ fn keeps_the_last_items(rt: HostRuntime) -> Result<(), Fail> {
 #[test]
 fn makes_room_with_the_first_item(rt: HostRuntime) -> Result<(), Fail> {
     let mut queue = LazyQueue::new(rt.alloc(), 2);
-    assert_eq!(rt; queue.depth(), 2);
     assert_eq!(rt; queue.front(), None::<&i64>);
     assert_eq!(rt; queue.take(), None);
     if queue.send(1).is_err() {
@@ -336,7 +334,7 @@ fn calls_timers(rt: HostRuntime) -> Result<(), Fail> {
         (7, [7, 7, 100], 105),
         (1, [1, 2, 3], 4),
     ] {
-        assert!(rt; (1..=Timer::MAX_PERIOD).contains(&period));
+        assert!(rt; (1..=TICKS).contains(&period));
         let mut timer = Timer::new(period);
         for ticks in calls {
             let now = moment(ticks)?;
@@ -347,8 +345,8 @@ fn calls_timers(rt: HostRuntime) -> Result<(), Fail> {
         assert!(rt; !timer.due(moment(next - 1)?), "{timer:?}");
         assert!(rt; timer.due(moment(next)?), "{timer:?}");
     }
-    let mut timer = Timer::new(Timer::MAX_PERIOD);
-    let last = moment(Moment::MAX)?;
+    let mut timer = Timer::new(TICKS);
+    let last = moment(TICKS)?;
     assert!(rt; timer.due(last));
     timer.call(last);
     assert!(rt; !timer.due(last));
@@ -361,10 +359,10 @@ fn moment(ticks: u64) -> Result<Moment, Fail> {
 
 #[test]
 fn bounds_moments(rt: HostRuntime) {
-    assert!(rt; Moment::new(Moment::MAX + 1).is_none());
+    assert!(rt; Moment::new(TICKS + 1).is_none());
     assert_eq!(rt;
-        Moment::new(Moment::MAX).map(|moment| moment.ticks()),
-        Some(Moment::MAX)
+        Moment::new(TICKS).map(|moment| moment.ticks()),
+        Some(TICKS)
     );
 }
 

@@ -1,7 +1,6 @@
 ghost use Rattle.std.specs.Prelude.{◌≡◌, ◌≤◌, ◌^◌, IsTrue};
 ghost use Rattle.exec_msg.specs.Timer.{IsPeriod, is_due, next_call, after_call, IsNextCall};
 
-use crate::limits::TICKS;
 use crate::numbers::Moment;
 use std::marker::Model;
 
@@ -26,10 +25,8 @@ impl Model for Timer {
 }
 
 impl Timer {
-    /// The greatest period, 2^62 ticks.
-    pub const MAX_PERIOD: u64 = TICKS;
-
-    /// A timer that is made at moment 0: its first call comes after one period.
+    /// A timer that is made at moment 0: its first call comes after one period, which is of 1 to
+    /// [`TICKS`](crate::limits::TICKS) ticks.
     pub fn new(period: u64) -> Timer
         requires { IsPeriod period }
         ensures { result ≡ record { next = period; period = period } }
