@@ -1,12 +1,9 @@
 -- The laws of keep-last queues.
-use Rattle.std.proofs.Common.{◌≡◌, ℕ, ◌+◌, ◌-◌, ◌≤◌, List, [], ◌∷◌, ◌++◌, ◌∙◌, ap, sym, length, drop, arith, append_assoc, length-append, length-drop}
-use Rattle.std.proofs.lemmas.List.{append-nil, drop-append-le, drop-drop}
+use Rattle.std.proofs.Common.{◌≡◌, ℕ, ◌+◌, ◌-◌, ◌≤◌, List, [], ◌∷◌, ◌++◌, ◌∙◌, ap, sym, length, drop, arith, append_assoc, length-drop}
+use Rattle.std.proofs.lemmas.List.{append-nil, drop-append-le, drop-drop, length_push}
 use Rattle.std.proofs.Math.Seq.{drop-nil}
 use Rattle.std.specs.List.{fold}
 use Rattle.exec_msg.specs.KeepLast.{excess, sent}
-
-length-one_more : {A : Type 0} (items : List A) (item : A) → length (items ++ item ∷ []) ≡ length items + 1
-length-one_more items item = length-append items (item ∷ [])
 
 -- a queue that holds the last of a history holds the last of the longer history after a send
 last_of-sent : {A : Type 0} (depth : ℕ) (item : A) (history : List A) → sent depth item (drop (excess depth history) history) ≡ drop (excess depth (history ++ item ∷ [])) (history ++ item ∷ [])
@@ -14,7 +11,7 @@ last_of-sent depth item history =
     let held = drop (excess depth history) history in
     let fits : excess depth history ≤ length history = omega arith in
     let joined : held ++ item ∷ [] ≡ drop (excess depth history) (history ++ item ∷ []) = sym (drop-append-le (excess depth history) history (item ∷ []) fits) in
-    let whole : excess depth history + excess depth (held ++ item ∷ []) ≡ excess depth (history ++ item ∷ []) = omega (arith, length-one_more held item, length-drop (excess depth history) history, length-one_more history item) in
+    let whole : excess depth history + excess depth (held ++ item ∷ []) ≡ excess depth (history ++ item ∷ []) = omega (arith, length_push held item, length-drop (excess depth history) history, length_push history item) in
     ap (drop (excess depth (held ++ item ∷ []))) joined
     ∙ drop-drop (excess depth (held ++ item ∷ [])) (excess depth history) (history ++ item ∷ [])
     ∙ ap (λ (lost : ℕ). drop lost (history ++ item ∷ [])) whole

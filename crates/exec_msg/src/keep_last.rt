@@ -31,6 +31,9 @@ impl<T> Model for KeepLast<T> {
 impl<T> KeepLast<T> {
     /// An empty queue of a depth from 1 to [`DEPTH`](crate::limits::DEPTH) items. All the room that it will ever
     /// need is made here.
+    ///
+    /// # Errors
+    /// [`Memory`] where that room was refused.
     pub fn new(alloc: Global, depth: usize) -> Result<KeepLast<T>, Memory>
         requires { (1 ≤ depth) × (depth ≤ DEPTH) }
         ensures { IfOk result (λ queue. queue ≡ record { items = []; depth = depth }) }

@@ -1,4 +1,4 @@
-//! The limits of a document and of what runs it.
+//! The limits of a document, and of the queues and servers that it declares.
 
 /// Bytes of a document, at most: 16 MiB.
 pub const DOCUMENT: usize = 16_777_216;

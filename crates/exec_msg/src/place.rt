@@ -12,7 +12,7 @@ use std::simd::Simd;
 use uuid::Uuid;
 
 #[inline(always)]
-pub fn place(bytes: &mut [u8], at: usize, text: &str) -> usize
+pub(crate) fn place(bytes: &mut [u8], at: usize, text: &str) -> usize
     requires { at + length text.now ≤ length bytes.old }
     ensures text { take result bytes.new ≡ take at bytes.old ++ text.now }
     ensures end { result ≡ at + length text.now }
@@ -76,7 +76,7 @@ fn place_field(bytes: &mut [u8], at: usize, text: &str) -> usize
 
 // A line's word, and the name of what it speaks of.
 #[inline(always)]
-pub fn place_named(bytes: &mut [u8], at: usize, word: &str, name: &str) -> usize
+pub(crate) fn place_named(bytes: &mut [u8], at: usize, word: &str, name: &str) -> usize
     requires { at + length word.now + length name.now + 1 ≤ length bytes.old }
     ensures text { take result bytes.new ≡ take at bytes.old ++ joined (word.now ∷ name.now ∷ []) }
     ensures within { result ≤ at + length word.now + length name.now + 1 }
@@ -87,7 +87,13 @@ pub fn place_named(bytes: &mut [u8], at: usize, word: &str, name: &str) -> usize
 
 // A line's word, and the callback that it speaks of: its entity's name and its kind.
 #[inline(always)]
-pub fn place_callback(bytes: &mut [u8], at: usize, word: &str, name: &str, kind: Kind) -> usize
+pub(crate) fn place_callback(
+    bytes: &mut [u8],
+    at: usize,
+    word: &str,
+    name: &str,
+    kind: Kind,
+) -> usize
     requires { at + length word.now + length name.now + 17 ≤ length bytes.old }
     ensures text { take result bytes.new ≡ take at bytes.old ++ joined (word.now ∷ name.now ∷ word_of kind ∷ []) }
     ensures within { result ≤ at + length word.now + length name.now + 10 }
@@ -121,7 +127,7 @@ fn place_kind(bytes: &mut [u8], at: usize, kind: Kind) -> usize
 }
 
 // A line's word, and the goal that it speaks of: the name of its server or client and its identifier.
-pub fn place_goal(bytes: &mut [u8], at: usize, word: &str, name: &str, id: GoalId) -> usize
+pub(crate) fn place_goal(bytes: &mut [u8], at: usize, word: &str, name: &str, id: GoalId) -> usize
     requires { at + length word.now + length name.now + 38 ≤ length bytes.old }
     ensures text { take result bytes.new ≡ take at bytes.old ++ joined (word.now ∷ name.now ∷ id_text id ∷ []) }
     ensures within { result ≤ at + length word.now + length name.now + 38 }
@@ -132,7 +138,7 @@ pub fn place_goal(bytes: &mut [u8], at: usize, word: &str, name: &str, id: GoalI
 
 // A count with a space before it.
 #[inline(always)]
-pub fn place_count(bytes: &mut [u8], at: usize, count: u64) -> usize
+pub(crate) fn place_count(bytes: &mut [u8], at: usize, count: u64) -> usize
     requires { at + 21 ≤ length bytes.old }
     ensures text { take result bytes.new ≡ take at bytes.old ++ spaced (decimal count ∷ []) }
     ensures within { result ≤ at + 21 }
@@ -143,7 +149,7 @@ pub fn place_count(bytes: &mut [u8], at: usize, count: u64) -> usize
 
 // A value with a space before it.
 #[inline(always)]
-pub fn place_value(bytes: &mut [u8], at: usize, value: i64) -> usize
+pub(crate) fn place_value(bytes: &mut [u8], at: usize, value: i64) -> usize
     requires { at + 22 ≤ length bytes.old }
     ensures text { take result bytes.new ≡ take at bytes.old ++ spaced (signed_decimal value ∷ []) }
     ensures within { result ≤ at + 22 }
@@ -246,7 +252,7 @@ fn place_id(bytes: &mut [u8], at: usize, id: GoalId) -> usize
 
 // The identifier, where there is one.
 #[inline(always)]
-pub fn place_any_id(bytes: &mut [u8], at: usize, id: Option<GoalId>) -> usize
+pub(crate) fn place_any_id(bytes: &mut [u8], at: usize, id: Option<GoalId>) -> usize
     requires { at + 37 ≤ length bytes.old }
     ensures text { take result bytes.new ≡ take at bytes.old ++ spaced (id_field id) }
     ensures within { result ≤ at + 37 }
