@@ -37,7 +37,7 @@ impl Slot {
 
 // Eight integers, all 0 at first.
 #[derive(Clone, Copy, Debug, PartialEq, Eq)]
-struct Cells {
+pub(crate) struct Cells {
     values: [i64; 8],
 }
 
@@ -75,8 +75,15 @@ impl Cells {
         self.values[slot.index()] = value;
     }
 
+    pub(crate) fn as_array(&self) -> &[i64; 8]
+        ensures { result.now ≡ self.now }
+    {
+        &self.values
+    }
+
+    // Becomes these eight integers.
     #[inline(always)]
-    fn copy_from(&mut self, values: &[i64])
+    pub(crate) fn copy_from(&mut self, values: &[i64])
         requires { length values.now ≡ 8 }
         ensures { self.new ≡ values.now }
     {
@@ -86,7 +93,7 @@ impl Cells {
 
 /// The registers `r0` to `r7`, all 0 at first.
 #[derive(Clone, Copy, Debug, PartialEq, Eq)]
-pub struct Regs(Cells);
+pub struct Regs(pub(crate) Cells);
 
 impl Model for Regs {
     ghost use Rattle.std.specs.Prelude.{ℤ, List};
@@ -99,7 +106,7 @@ impl Model for Regs {
 }
 
 impl Regs {
-    ghost use Rattle.std.specs.Prelude.{◌≡◌, pos, length, slice_index_or, slice_set};
+    ghost use Rattle.std.specs.Prelude.{◌≡◌};
     ghost use Rattle.exec_script.specs.Zeros.{zeros};
 
     /// Eight zeros.
@@ -108,41 +115,11 @@ impl Regs {
     {
         Regs(Cells::new())
     }
-
-    // The array of the registers.
-    pub(crate) fn as_array(&self) -> &[i64; 8]
-        ensures { result.now ≡ self.now }
-    {
-        &self.0.values
-    }
-
-    // Becomes these eight integers.
-    #[inline(always)]
-    pub(crate) fn copy_from(&mut self, values: &[i64])
-        requires { length values.now ≡ 8 }
-        ensures { self.new ≡ values.now }
-    {
-        self.0.copy_from(values);
-    }
-
-    /// The integer at a slot.
-    pub fn get(&self, slot: Slot) -> i64
-        ensures { result ≡ slice_index_or self.now slot (pos 0) }
-    {
-        self.0.get(slot)
-    }
-
-    /// Writes the integer at a slot.
-    pub fn set(&mut self, slot: Slot, value: i64)
-        ensures { self.new ≡ slice_set self.old slot value }
-    {
-        self.0.set(slot, value);
-    }
 }
 
 /// The variables `g0` to `g7` of a mutually exclusive callback group, all 0 at first.
 #[derive(Clone, Copy, Debug, PartialEq, Eq)]
-pub struct Bank(Cells);
+pub struct Bank(pub(crate) Cells);
 
 impl Model for Bank {
     ghost use Rattle.std.specs.Prelude.{ℤ, List};
@@ -155,7 +132,7 @@ impl Model for Bank {
 }
 
 impl Bank {
-    ghost use Rattle.std.specs.Prelude.{◌≡◌, pos, length, slice_index_or, slice_set};
+    ghost use Rattle.std.specs.Prelude.{◌≡◌, pos, slice_index_or, slice_set};
     ghost use Rattle.exec_script.specs.Zeros.{zeros};
 
     /// Eight zeros.
@@ -163,22 +140,6 @@ impl Bank {
         ensures { result ≡ zeros }
     {
         Bank(Cells::new())
-    }
-
-    // The array of the variables.
-    pub(crate) fn as_array(&self) -> &[i64; 8]
-        ensures { result.now ≡ self.now }
-    {
-        &self.0.values
-    }
-
-    // Becomes these eight integers.
-    #[inline(always)]
-    pub(crate) fn copy_from(&mut self, values: &[i64])
-        requires { length values.now ≡ 8 }
-        ensures { self.new ≡ values.now }
-    {
-        self.0.copy_from(values);
     }
 
     /// The integer at a slot.

@@ -91,13 +91,6 @@ impl DecisionList {
     {
         self.items.as_slice()
     }
-
-    /// The vector of the decisions. It takes no memory.
-    pub fn into_vec(self) -> Vec<(GoalId, u8)>
-        ensures { result.items ≡ self }
-    {
-        self.items
-    }
 }
 
 /// Effects in the order in which they were given.
@@ -125,13 +118,6 @@ impl EffectList {
         EffectList {
             items: Vec::new(alloc),
         }
-    }
-
-    /// The effects of a vector. It takes no memory.
-    pub fn of(items: Vec<Effect>) -> EffectList
-        ensures { result ≡ items.items }
-    {
-        EffectList { items }
     }
 
     /// Adds an effect at the end. Where memory is refused, the list stays as it was.

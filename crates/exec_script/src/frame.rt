@@ -157,7 +157,7 @@ impl Frame {
         ensures { self.new ≡ record { registers = zeros; variables = bank.now; input = input.now } }
     {
         self.values = [0; 20];
-        self.values[8..16].copy_from_slice(bank.as_array());
+        self.values[8..16].copy_from_slice(bank.0.as_array());
         self.values[16] = input.first;
         self.values[17] = input.aux;
         self.values[18] = input.moment.ticks() as i64;
@@ -169,8 +169,8 @@ impl Frame {
         ensures { self.new ≡ record { registers = regs.now; variables = bank.now; input = input.now } }
     {
         self.values = [0; 20];
-        self.values[..8].copy_from_slice(regs.as_array());
-        self.values[8..16].copy_from_slice(bank.as_array());
+        self.values[..8].copy_from_slice(regs.0.as_array());
+        self.values[8..16].copy_from_slice(bank.0.as_array());
         self.values[16] = input.first;
         self.values[17] = input.aux;
         self.values[18] = input.moment.ticks() as i64;
@@ -181,7 +181,7 @@ impl Frame {
     pub fn put_regs(&self, regs: &mut Regs)
         ensures { regs.new ≡ self.now.registers }
     {
-        regs.copy_from(&self.values[..8]);
+        regs.0.copy_from(&self.values[..8]);
     }
 
     // Hands out the variables, at the end of a run.
@@ -189,7 +189,7 @@ impl Frame {
     pub fn put_bank(&self, bank: &mut Bank)
         ensures { bank.new ≡ self.now.variables }
     {
-        bank.copy_from(&self.values[8..16]);
+        bank.0.copy_from(&self.values[8..16]);
     }
 
     // The value of the operand that a source and a constant are.

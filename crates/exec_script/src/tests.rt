@@ -2,7 +2,7 @@ mod arithmetic;
 mod spellings;
 
 use crate::{
-    Bank, Close, DecisionList, Effect, EffectList, Effects, Input, Instr, Place, Regs, Role, Scope,
+    Bank, Close, DecisionList, EffectList, Effects, Input, Instr, Place, Regs, Role, Scope,
     ScriptFault, Slot, Stop, Word, WordText, check, decode, run_call, run_call_into, run_from,
 };
 use arithmetic::RESULTS;
@@ -366,23 +366,16 @@ fn adds_to_the_effects(rt: HostRuntime) -> Result<(), Fail> {
     Ok(())
 }
 
-// The lists that effects and closings hold are made of vectors, and give them back.
+// A list of decisions is made of a vector.
 #[test]
-fn makes_lists_of_vectors(rt: HostRuntime) -> Result<(), Fail> {
+fn makes_decisions_of_a_vector(rt: HostRuntime) -> Result<(), Fail> {
     for count in 0..5u8 {
-        let mut items = Vec::new(rt.alloc());
         let mut decided = Vec::new(rt.alloc());
         for i in 0..count {
-            items.push(Effect::Log(i64::from(i)))?;
             decided.push((GoalId::new(u128::from(i)), 2))?;
         }
-        let effects = EffectList::of(items);
-        let last = count.checked_sub(1).map(|i| Effect::Log(i64::from(i)));
-        assert_eq!(rt; effects.len(), usize::from(count));
-        assert_eq!(rt; effects.as_slice().last().copied(), last);
         let decisions = DecisionList::of(decided);
         assert_eq!(rt; decisions.as_slice().len(), usize::from(count));
-        assert_eq!(rt; decisions.into_vec().len(), usize::from(count));
     }
     Ok(())
 }

@@ -11,7 +11,7 @@ returns c =
     let first : SFits w64 c.input.inside.first = search rules in
     let aux : SFits w64 c.input.inside.aux = search rules in
     new_is c.copy_from_slice.new.self c.copy_from_slice-2.new.self c.input.inside.first c.input.inside.aux c.ticks.result c.input.inside.moment c.args.regs.now c.args.bank.now c.args.input.now p q first aux c.ticks.ensures.bound
-    (c.copy_from_slice.ensures.after ∙ c.as_array.ensures) (c.copy_from_slice-2.ensures.after ∙ c.as_array-2.ensures) c.ticks.ensures.value c.input.view_is
+    (c.copy_from_slice.ensures.after ∙ c.as_array.ensures ∙ c.regs.view_is) (c.copy_from_slice-2.ensures.after ∙ c.as_array-2.ensures ∙ c.bank.view_is) c.ticks.ensures.value c.input.view_is
 
 pub invariant_of-self : goal.invariant_of-self
 invariant_of-self c =
