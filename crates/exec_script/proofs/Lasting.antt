@@ -3,7 +3,7 @@ use Rattle.std.proofs.Common.{◌≡◌, ◌≢◌, ℕ, zero, suc, ◌+◌, ◌
 use Rattle.std.specs.List.{list_any, list_all, All, AllByRecursion, Any}
 use Rattle.std.proofs.lemmas.List.{get_or_default}
 use Rattle.std.proofs.lemmas.List.Elements.{All-nil, All-push, All-drop, recursion_from_All}
-use Rattle.std.proofs.lemmas.Bool.{and_parts}
+use Rattle.std.proofs.lemmas.Bool.{and_parts, or_parts}
 use Rattle.exec_script.specs.LawWords.{goes_on_at, ended_by, IsEnding, MayGive, state_with_variables, give_each, given_later}
 use Rattle.exec_script.specs.Legality.{skips_end_within, is_variable, goes_to_variable, names_variable, replies, decides, works, is_allowed, legality_of}
 use Rattle.exec_script.specs.Script.{ScriptState, CallInput, value_of, step_of, passed_by, after_step, follow, resumed, called, call_of, listed}
@@ -147,10 +147,6 @@ follow_keeps part test give input keeps (instruction ∷ rest) place zero state 
     let does = step_of instruction state.registers state.variables input in
     follow_keeps part test give input keeps rest (suc place) (passed_by does (length rest)) (after_step give (suc place) does state) both.1
     ∙ keeps instruction (suc place) state both.0
-
-or_parts : (x y : Bool) → (x || y) ≡ false → (x ≡ false) × (y ≡ false)
-or_parts false y h = (refl, h)
-or_parts true y h = absurd cc
 
 -- so what is left of a list passes
 all_left : {A : Type 0} (test : A → Bool) (count : ℕ) (xs : List A) → list_all test xs ≡ true → list_all test (drop count xs) ≡ true
