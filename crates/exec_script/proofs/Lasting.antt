@@ -32,7 +32,7 @@ step_goes_on P give place (step.Give effect) state here before = before
 step_goes_on P give place (step.Answer value) state here before = before
 step_goes_on P give place (step.Wait ticks) state here before = here
 step_goes_on P give place step.Yield state here before = here
-step_goes_on P give place (step.End event value) state here before = tt
+step_goes_on P give place (step.Ended event value) state here before = tt
 
 -- what holds of every place behind this one, up to the end, holds of the place at which the script goes on
 follow_goes_on : {S : Type 0} (P : ℕ → Type 0) (give : Effect → S → S) (input : CallInput) (script : List Instr) (place over : ℕ) (state : ScriptState S) → ((k : ℕ) → place < k → k ≤ place + length script → P k) → IfSome (goes_on_at state.stop) P → IfSome (goes_on_at (follow give input script place over state).stop) P
@@ -92,7 +92,7 @@ step_counts place (step.Give effect) state = omega (arith, length-append state.g
 step_counts place (step.Answer value) state = omega arith
 step_counts place (step.Wait ticks) state = omega arith
 step_counts place step.Yield state = omega arith
-step_counts place (step.End event value) state = omega arith
+step_counts place (step.Ended event value) state = omega arith
 
 follow_counts : (input : CallInput) (script : List Instr) (place over : ℕ) (state : ScriptState (List Effect)) → length (follow listed input script place over state).given ≤ length state.given + length script
 follow_counts input [] place over state = omega arith
@@ -116,7 +116,7 @@ step_gives Q place (step.Give effect) state each before = All-push Q state.given
 step_gives Q place (step.Answer value) state each before = before
 step_gives Q place (step.Wait ticks) state each before = before
 step_gives Q place step.Yield state each before = before
-step_gives Q place (step.End event value) state each before = before
+step_gives Q place (step.Ended event value) state each before = before
 
 abbrev OnlyGives : CallInput → (Effect → Type 0) → Instr → Type 0
 OnlyGives input Q instruction = (effect : Effect) → MayGive input effect instruction → Q effect
@@ -241,7 +241,7 @@ touches (step.Give effect) = false
 touches (step.Answer value) = false
 touches (step.Wait ticks) = false
 touches step.Yield = false
-touches (step.End event value) = false
+touches (step.Ended event value) = false
 
 step_untouched : (instruction : Instr) (registers variables : List ℤ) (input : CallInput) → names_variable instruction ≡ false → touches (step_of instruction registers variables input) ≡ false
 step_untouched (instr.Set d operation a b) registers variables input h =
@@ -271,7 +271,7 @@ after_untouched give place (step.Give effect) variables state h = refl
 after_untouched give place (step.Answer value) variables state h = refl
 after_untouched give place (step.Wait ticks) variables state h = refl
 after_untouched give place step.Yield variables state h = refl
-after_untouched give place (step.End event value) variables state h = refl
+after_untouched give place (step.Ended event value) variables state h = refl
 
 -- a script that names no group variable does the same for all of them, and leaves them
 follow_alone : {S : Type 0} (give : Effect → S → S) (input : CallInput) (script : List Instr) (place over : ℕ) (variables : List ℤ) (state : ScriptState S) → list_any names_variable script ≡ false → follow give input script place over (state_with_variables variables state) ≡ state_with_variables variables (follow give input script place over state)
@@ -340,7 +340,7 @@ step_later {S} give given place (step.Give effect) state =
 step_later give given place (step.Answer value) state = refl
 step_later give given place (step.Wait ticks) state = refl
 step_later give given place step.Yield state = refl
-step_later give given place (step.End event value) state = refl
+step_later give given place (step.Ended event value) state = refl
 
 -- effects that are given at once do what effects do that are given later
 pub follow_later : {S : Type 0} (give : Effect → S → S) (given : S) (input : CallInput) (script : List Instr) (place over : ℕ) (state : ScriptState (List Effect)) → follow give input script place over (given_later give given state) ≡ given_later give given (follow listed input script place over state)

@@ -53,7 +53,7 @@ PausesWithin bound (step.Give effect) = ⊤
 PausesWithin bound (step.Answer value) = ⊤
 PausesWithin bound (step.Wait ticks) = ticks < bound
 PausesWithin bound step.Yield = ⊤
-PausesWithin bound (step.End event value) = ⊤
+PausesWithin bound (step.Ended event value) = ⊤
 
 -- a script that stops to wait does so for fewer ticks than a bound
 abbrev pub WaitsWithin : ℕ → Stop → Type 0

@@ -79,9 +79,9 @@ step_of (instr.Decide value) registers variables input = step.Answer (value_of v
 step_of (instr.Feedback value) registers variables input = step.Give (effect.Feedback (value_of value registers variables input))
 step_of (instr.Wait ticks) registers variables input = step.Wait (at_least_0 (value_of ticks registers variables input))
 step_of instr.Yield registers variables input = step.Yield
-step_of (instr.Succeed value) registers variables input = step.End event.Succeed (value_of value registers variables input)
-step_of (instr.Abort value) registers variables input = step.End event.Abort (value_of value registers variables input)
-step_of (instr.Canceled value) registers variables input = step.End event.Canceled (value_of value registers variables input)
+step_of (instr.Succeed value) registers variables input = step.Ended event.Succeed (value_of value registers variables input)
+step_of (instr.Abort value) registers variables input = step.Ended event.Abort (value_of value registers variables input)
+step_of (instr.Canceled value) registers variables input = step.Ended event.Canceled (value_of value registers variables input)
 
 -- how many of the next instructions a step passes over, where so many are left: one that stops the script passes over all
 abbrev pub passed_by : Step → ℕ → ℕ
@@ -91,7 +91,7 @@ passed_by (step.Give effect) left = 0
 passed_by (step.Answer value) left = 0
 passed_by (step.Wait ticks) left = left
 passed_by step.Yield left = left
-passed_by (step.End event value) left = left
+passed_by (step.Ended event value) left = left
 
 -- the registers after a value went to its destination
 abbrev pub registers_after : Destination → ℤ → List ℤ → List ℤ
@@ -111,7 +111,7 @@ after_step give place (step.Give effect) state = record state { given = give eff
 after_step give place (step.Answer value) state = record state { answer = Some value }
 after_step give place (step.Wait ticks) state = record state { stop = stop.Wait ticks place }
 after_step give place step.Yield state = record state { stop = stop.Yield place }
-after_step give place (step.End event value) state = record state { stop = stop.Ended event value }
+after_step give place (step.Ended event value) state = record state { stop = stop.Ended event value }
 
 -- where a script stands after the instructions that are left, the first of which has this place, and of which the first
 -- `over` are passed over

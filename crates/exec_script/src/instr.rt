@@ -70,7 +70,7 @@ pub enum Operation {
 
 // What an instruction does.
 #[derive(Clone, Copy, Debug, PartialEq, Eq)]
-pub enum What {
+pub enum Opcode {
     Set,
     Skip,
     Pub,
@@ -101,7 +101,7 @@ pub struct Flat {
     pub left_source: Source,
     pub right_source: Source,
     pub operation: Operation,
-    pub what: What,
+    pub opcode: Opcode,
 }
 
 /// An instruction of a script, in 24 bytes.
@@ -135,8 +135,8 @@ const NO_ENTITY: EntityNo = EntityNo(0);
 
 const NO_OPERAND: Operand = Operand::Value(0);
 
-fn parts_of(what: What, entity: EntityNo, left: Operand, right: Operand) -> Flat
-    ensures { result ≡ parts_of what entity left right }
+fn parts_of(opcode: Opcode, entity: EntityNo, left: Operand, right: Operand) -> Flat
+    ensures { result ≡ parts_of opcode entity left right }
 {
     let left_source = Source::of(&left);
     let right_source = Source::of(&right);
@@ -148,7 +148,7 @@ fn parts_of(what: What, entity: EntityNo, left: Operand, right: Operand) -> Flat
         left_source,
         right_source,
         operation: Operation::Add,
-        what,
+        opcode,
     }
 }
 
@@ -170,7 +170,7 @@ impl Instr {
             flat: Flat {
                 target: Target::of(destination),
                 operation,
-                ..parts_of(What::Set, NO_ENTITY, left, right)
+                ..parts_of(Opcode::Set, NO_ENTITY, left, right)
             },
         }
     }
@@ -183,7 +183,7 @@ impl Instr {
     {
         Instr {
             flat: parts_of(
-                What::Skip,
+                Opcode::Skip,
                 NO_ENTITY,
                 condition,
                 Operand::Value(count as i64),
@@ -196,7 +196,7 @@ impl Instr {
         ensures { result ≡ Pub topic value }
     {
         Instr {
-            flat: parts_of(What::Pub, topic, value, NO_OPERAND),
+            flat: parts_of(Opcode::Pub, topic, value, NO_OPERAND),
         }
     }
 
@@ -205,7 +205,7 @@ impl Instr {
         ensures { result ≡ Call client value }
     {
         Instr {
-            flat: parts_of(What::Call, client, value, NO_OPERAND),
+            flat: parts_of(Opcode::Call, client, value, NO_OPERAND),
         }
     }
 
@@ -214,7 +214,7 @@ impl Instr {
         ensures { result ≡ Goal client value }
     {
         Instr {
-            flat: parts_of(What::Goal, client, value, NO_OPERAND),
+            flat: parts_of(Opcode::Goal, client, value, NO_OPERAND),
         }
     }
 
@@ -224,7 +224,7 @@ impl Instr {
         ensures { result ≡ CancelAll client stamp }
     {
         Instr {
-            flat: parts_of(What::CancelAll, client, stamp, NO_OPERAND),
+            flat: parts_of(Opcode::CancelAll, client, stamp, NO_OPERAND),
         }
     }
 
@@ -234,7 +234,7 @@ impl Instr {
         ensures { result ≡ CancelGoal client goal stamp }
     {
         Instr {
-            flat: parts_of(What::CancelGoal, client, goal, stamp),
+            flat: parts_of(Opcode::CancelGoal, client, goal, stamp),
         }
     }
 
@@ -243,7 +243,7 @@ impl Instr {
         ensures { result ≡ Execute server }
     {
         Instr {
-            flat: parts_of(What::Execute, server, NO_OPERAND, NO_OPERAND),
+            flat: parts_of(Opcode::Execute, server, NO_OPERAND, NO_OPERAND),
         }
     }
 
@@ -252,7 +252,7 @@ impl Instr {
         ensures { result ≡ Log value }
     {
         Instr {
-            flat: parts_of(What::Log, NO_ENTITY, value, NO_OPERAND),
+            flat: parts_of(Opcode::Log, NO_ENTITY, value, NO_OPERAND),
         }
     }
 
@@ -261,7 +261,7 @@ impl Instr {
         ensures { result ≡ Reply value }
     {
         Instr {
-            flat: parts_of(What::Reply, NO_ENTITY, value, NO_OPERAND),
+            flat: parts_of(Opcode::Reply, NO_ENTITY, value, NO_OPERAND),
         }
     }
 
@@ -270,7 +270,7 @@ impl Instr {
         ensures { result ≡ Decide value }
     {
         Instr {
-            flat: parts_of(What::Decide, NO_ENTITY, value, NO_OPERAND),
+            flat: parts_of(Opcode::Decide, NO_ENTITY, value, NO_OPERAND),
         }
     }
 
@@ -279,7 +279,7 @@ impl Instr {
         ensures { result ≡ Feedback value }
     {
         Instr {
-            flat: parts_of(What::Feedback, NO_ENTITY, value, NO_OPERAND),
+            flat: parts_of(Opcode::Feedback, NO_ENTITY, value, NO_OPERAND),
         }
     }
 
@@ -288,7 +288,7 @@ impl Instr {
         ensures { result ≡ Wait ticks }
     {
         Instr {
-            flat: parts_of(What::Wait, NO_ENTITY, ticks, NO_OPERAND),
+            flat: parts_of(Opcode::Wait, NO_ENTITY, ticks, NO_OPERAND),
         }
     }
 
@@ -297,7 +297,7 @@ impl Instr {
         ensures { result ≡ Yield }
     {
         Instr {
-            flat: parts_of(What::Yield, NO_ENTITY, NO_OPERAND, NO_OPERAND),
+            flat: parts_of(Opcode::Yield, NO_ENTITY, NO_OPERAND, NO_OPERAND),
         }
     }
 
@@ -306,7 +306,7 @@ impl Instr {
         ensures { result ≡ Succeed value }
     {
         Instr {
-            flat: parts_of(What::Succeed, NO_ENTITY, value, NO_OPERAND),
+            flat: parts_of(Opcode::Succeed, NO_ENTITY, value, NO_OPERAND),
         }
     }
 
@@ -315,7 +315,7 @@ impl Instr {
         ensures { result ≡ Abort value }
     {
         Instr {
-            flat: parts_of(What::Abort, NO_ENTITY, value, NO_OPERAND),
+            flat: parts_of(Opcode::Abort, NO_ENTITY, value, NO_OPERAND),
         }
     }
 
@@ -324,7 +324,7 @@ impl Instr {
         ensures { result ≡ Canceled value }
     {
         Instr {
-            flat: parts_of(What::Canceled, NO_ENTITY, value, NO_OPERAND),
+            flat: parts_of(Opcode::Canceled, NO_ENTITY, value, NO_OPERAND),
         }
     }
 }
@@ -337,8 +337,8 @@ impl Instr {
     pub(crate) fn reach(&self) -> u64
         ensures { result ≡ reach_of self.now }
     {
-        match self.flat.what {
-            What::Skip => self.flat.right as u64,
+        match self.flat.opcode {
+            Opcode::Skip => self.flat.right as u64,
             _ => 0,
         }
     }
@@ -356,24 +356,24 @@ impl Instr {
     pub(crate) fn is_allowed(&self, role: Role) -> bool
         ensures { result ≡ is_allowed role self.now }
     {
-        match self.flat.what {
-            What::Set
-            | What::Skip
-            | What::Pub
-            | What::Call
-            | What::Goal
-            | What::CancelAll
-            | What::CancelGoal
-            | What::Execute
-            | What::Log => true,
-            What::Reply => matches!(role, Role::Service),
-            What::Decide => matches!(role, Role::GoalHandler | Role::CancelHandler),
-            What::Feedback
-            | What::Wait
-            | What::Yield
-            | What::Succeed
-            | What::Abort
-            | What::Canceled => matches!(role, Role::Goal),
+        match self.flat.opcode {
+            Opcode::Set
+            | Opcode::Skip
+            | Opcode::Pub
+            | Opcode::Call
+            | Opcode::Goal
+            | Opcode::CancelAll
+            | Opcode::CancelGoal
+            | Opcode::Execute
+            | Opcode::Log => true,
+            Opcode::Reply => matches!(role, Role::Service),
+            Opcode::Decide => matches!(role, Role::GoalHandler | Role::CancelHandler),
+            Opcode::Feedback
+            | Opcode::Wait
+            | Opcode::Yield
+            | Opcode::Succeed
+            | Opcode::Abort
+            | Opcode::Canceled => matches!(role, Role::Goal),
         }
     }
 }
@@ -382,36 +382,36 @@ impl Instr {
 impl fmt::Debug for Instr {
     fn fmt<W: fmt::Write>(&self, f: &mut fmt::Formatter<W>) -> fmt::Result {
         let flat = &self.flat;
-        write!(f, "{:?}", flat.what)?;
-        match flat.what {
-            What::Set => {
+        write!(f, "{:?}", flat.opcode)?;
+        match flat.opcode {
+            Opcode::Set => {
                 write!(f, " {:?} {:?}", flat.target, flat.operation)?;
                 flat.left_source.show(flat.left, f)?;
                 flat.right_source.show(flat.right, f)
             }
-            What::Skip => {
+            Opcode::Skip => {
                 flat.left_source.show(flat.left, f)?;
                 flat.right_source.show(flat.right, f)
             }
-            What::Pub | What::Call | What::Goal | What::CancelAll => {
+            Opcode::Pub | Opcode::Call | Opcode::Goal | Opcode::CancelAll => {
                 write!(f, " {}", flat.entity.0)?;
                 flat.left_source.show(flat.left, f)
             }
-            What::CancelGoal => {
+            Opcode::CancelGoal => {
                 write!(f, " {}", flat.entity.0)?;
                 flat.left_source.show(flat.left, f)?;
                 flat.right_source.show(flat.right, f)
             }
-            What::Execute => write!(f, " {}", flat.entity.0),
-            What::Yield => Ok(()),
-            What::Log
-            | What::Reply
-            | What::Decide
-            | What::Feedback
-            | What::Wait
-            | What::Succeed
-            | What::Abort
-            | What::Canceled => flat.left_source.show(flat.left, f),
+            Opcode::Execute => write!(f, " {}", flat.entity.0),
+            Opcode::Yield => Ok(()),
+            Opcode::Log
+            | Opcode::Reply
+            | Opcode::Decide
+            | Opcode::Feedback
+            | Opcode::Wait
+            | Opcode::Succeed
+            | Opcode::Abort
+            | Opcode::Canceled => flat.left_source.show(flat.left, f),
         }
     }
 }

@@ -8,7 +8,7 @@ ghost use Rattle.exec_script.specs.inner.Flat.{operation_number};
 use crate::cells::{Bank, Regs};
 use crate::effects::{Close, Effect, EffectList, Effects};
 use crate::frame::Frame;
-use crate::instr::{Instr, Operation, What};
+use crate::instr::{Instr, Opcode, Operation};
 use crate::place::Role;
 use crate::step::{Step, Stop};
 use exec_msg::{Event, Memory, Moment};
@@ -147,7 +147,7 @@ fn follow(
             Step::Answer(value) => *answer = Some(value),
             Step::Wait(ticks) => return Stop::Wait(ticks, pc),
             Step::Yield => return Stop::Yield(pc),
-            Step::End(event, value) => return Stop::Ended(event, value),
+            Step::Ended(event, value) => return Stop::Ended(event, value),
         }
     }
 }
@@ -202,39 +202,39 @@ fn step_of(instr: &Instr, frame: &Frame) -> Step
     let left = frame.read(flat.left_source, flat.left);
     let right = frame.read(flat.right_source, flat.right);
     let entity = flat.entity;
-    match flat.what {
-        What::Set => Step::Store(flat.target, result_of(flat.operation, left, right)),
-        What::Skip => Step::Pass(if left == 0 { 0 } else { at_least_0(right) }),
-        What::Pub => Step::Give(Effect::Publish {
+    match flat.opcode {
+        Opcode::Set => Step::Store(flat.target, result_of(flat.operation, left, right)),
+        Opcode::Skip => Step::Pass(if left == 0 { 0 } else { at_least_0(right) }),
+        Opcode::Pub => Step::Give(Effect::Publish {
             topic: entity,
             value: left,
         }),
-        What::Call => Step::Give(Effect::Call {
+        Opcode::Call => Step::Give(Effect::Call {
             client: entity,
             value: left,
         }),
-        What::Goal => Step::Give(Effect::SendGoal {
+        Opcode::Goal => Step::Give(Effect::SendGoal {
             client: entity,
             value: left,
         }),
-        What::CancelAll => Step::Give(Effect::CancelAll {
+        Opcode::CancelAll => Step::Give(Effect::CancelAll {
             client: entity,
             stamp: at_least_0(left),
         }),
-        What::CancelGoal => Step::Give(Effect::CancelGoal {
+        Opcode::CancelGoal => Step::Give(Effect::CancelGoal {
             client: entity,
             goal: at_least_0(left),
             stamp: at_least_0(right),
         }),
-        What::Execute => Step::Give(Effect::Execute { server: entity }),
-        What::Log => Step::Give(Effect::Log(left)),
-        What::Reply | What::Decide => Step::Answer(left),
-        What::Feedback => Step::Give(Effect::Feedback(left)),
-        What::Wait => Step::Wait(at_least_0(left)),
-        What::Yield => Step::Yield,
-        What::Succeed => Step::End(Event::Succeed, left),
-        What::Abort => Step::End(Event::Abort, left),
-        What::Canceled => Step::End(Event::Canceled, left),
+        Opcode::Execute => Step::Give(Effect::Execute { server: entity }),
+        Opcode::Log => Step::Give(Effect::Log(left)),
+        Opcode::Reply | Opcode::Decide => Step::Answer(left),
+        Opcode::Feedback => Step::Give(Effect::Feedback(left)),
+        Opcode::Wait => Step::Wait(at_least_0(left)),
+        Opcode::Yield => Step::Yield,
+        Opcode::Succeed => Step::Ended(Event::Succeed, left),
+        Opcode::Abort => Step::Ended(Event::Abort, left),
+        Opcode::Canceled => Step::Ended(Event::Canceled, left),
     }
 }
 

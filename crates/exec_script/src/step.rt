@@ -18,7 +18,7 @@ pub enum Step {
     /// The goal pends until the next round.
     Yield,
     /// The goal ends by this event, which is one of the last three, with a value.
-    End(Event, i64),
+    Ended(Event, i64),
 }
 
 /// Where the script of a goal stops. A place is the number of an instruction, from 0.

@@ -146,7 +146,7 @@ step_keeps P put keeps place (step.Give one) state p = keeps one state.given p
 step_keeps P put keeps place (step.Answer value) state p = p
 step_keeps P put keeps place (step.Wait ticks) state p = p
 step_keeps P put keeps place step.Yield state p = p
-step_keeps P put keeps place (step.End by value) state p = p
+step_keeps P put keeps place (step.Ended by value) state p = p
 
 -- what each effect keeps, a script keeps
 follow_keeps : {S : Type 0} (P : S → Type 0) (put : Effect → S → S) → ((one : Effect) (given : S) → P given → P (put one given)) → (input : CallInput) (script : List Instr) (place over : ℕ) (state : ScriptState S) → P state.given → P (follow put input script place over state).given

@@ -1,6 +1,7 @@
 -- Instructions in their flat form.
-use Rattle.std.specs.Prelude.{ℕ, ℤ, pos, negsuc}
+use Rattle.std.specs.Prelude.{ℕ, pos}
 use Rattle.exec_script.specs.Instruction.{Instruction, Set, Skip, Pub, Call, Goal, CancelAll, CancelGoal, Execute, Log, Reply, Decide, Feedback, Wait, Yield, Succeed, Abort, Canceled}
+use Rattle.exec_script.specs.Script.{at_least_0}
 use Rattle.exec_script.specs.inner.Cells.{cell_operand, cell_of, constant_of}
 use Rattle.exec_script.specs.declared.instr.Destination.TheVariants as destination
 use Rattle.exec_script.specs.declared.instr.Flat.{Flat}
@@ -8,8 +9,8 @@ use Rattle.exec_script.specs.declared.instr.Operand.{Operand}
 use Rattle.exec_script.specs.declared.instr.Operand.TheVariants as operand
 use Rattle.exec_script.specs.declared.instr.Operation.{Operation}
 use Rattle.exec_script.specs.declared.instr.Operation.TheVariants as operation
-use Rattle.exec_script.specs.declared.instr.What.{What}
-use Rattle.exec_script.specs.declared.instr.What.TheVariants as what
+use Rattle.exec_script.specs.declared.instr.Opcode.{Opcode}
+use Rattle.exec_script.specs.declared.instr.Opcode.TheVariants as opcode
 
 -- the two operands of a flat instruction
 abbrev pub left_of : Flat → Operand
@@ -18,37 +19,32 @@ left_of flat = cell_operand flat.left_source flat.left
 abbrev pub right_of : Flat → Operand
 right_of flat = cell_operand flat.right_source flat.right
 
--- a count that stands in an operand's constant
-abbrev pub count_in : ℤ → ℕ
-count_in (pos n) = n
-count_in (negsuc n) = 0
-
 -- the instruction of this kind that a flat one is
-abbrev pub made : What → Flat → Instruction
-made what.Set flat = Set flat.target flat.operation (left_of flat) (right_of flat)
-made what.Skip flat = Skip (left_of flat) (count_in flat.right)
-made what.Pub flat = Pub flat.entity (left_of flat)
-made what.Call flat = Call flat.entity (left_of flat)
-made what.Goal flat = Goal flat.entity (left_of flat)
-made what.CancelAll flat = CancelAll flat.entity (left_of flat)
-made what.CancelGoal flat = CancelGoal flat.entity (left_of flat) (right_of flat)
-made what.Execute flat = Execute flat.entity
-made what.Log flat = Log (left_of flat)
-made what.Reply flat = Reply (left_of flat)
-made what.Decide flat = Decide (left_of flat)
-made what.Feedback flat = Feedback (left_of flat)
-made what.Wait flat = Wait (left_of flat)
-made what.Yield flat = Yield
-made what.Succeed flat = Succeed (left_of flat)
-made what.Abort flat = Abort (left_of flat)
-made what.Canceled flat = Canceled (left_of flat)
+abbrev pub made : Opcode → Flat → Instruction
+made opcode.Set flat = Set flat.target flat.operation (left_of flat) (right_of flat)
+made opcode.Skip flat = Skip (left_of flat) (at_least_0 flat.right)
+made opcode.Pub flat = Pub flat.entity (left_of flat)
+made opcode.Call flat = Call flat.entity (left_of flat)
+made opcode.Goal flat = Goal flat.entity (left_of flat)
+made opcode.CancelAll flat = CancelAll flat.entity (left_of flat)
+made opcode.CancelGoal flat = CancelGoal flat.entity (left_of flat) (right_of flat)
+made opcode.Execute flat = Execute flat.entity
+made opcode.Log flat = Log (left_of flat)
+made opcode.Reply flat = Reply (left_of flat)
+made opcode.Decide flat = Decide (left_of flat)
+made opcode.Feedback flat = Feedback (left_of flat)
+made opcode.Wait flat = Wait (left_of flat)
+made opcode.Yield flat = Yield
+made opcode.Succeed flat = Succeed (left_of flat)
+made opcode.Abort flat = Abort (left_of flat)
+made opcode.Canceled flat = Canceled (left_of flat)
 
 -- the instruction that a flat one is
 abbrev pub as_instruction : Flat → Instruction
-as_instruction flat = made flat.what flat
+as_instruction flat = made flat.opcode flat
 
 -- a flat instruction of one entity and two operands, with the first destination and operation
-abbrev pub parts_of : What → ℕ → Operand → Operand → Flat
+abbrev pub parts_of : Opcode → ℕ → Operand → Operand → Flat
 parts_of kind entity left right = record {
   left = constant_of left;
   right = constant_of right;
@@ -57,7 +53,7 @@ parts_of kind entity left right = record {
   left_source = cell_of left;
   right_source = cell_of right;
   operation = operation.Add;
-  what = kind;
+  opcode = kind;
 }
 
 -- the place of an operation among all
@@ -76,20 +72,20 @@ no_operand = operand.Value (pos 0)
 
 -- the flat form of an instruction
 abbrev pub flat_of : Instruction → Flat
-flat_of (Set target does left right) = record (parts_of what.Set 0 left right) { target = target; operation = does }
-flat_of (Skip condition count) = parts_of what.Skip 0 condition (operand.Value (pos count))
-flat_of (Pub topic value) = parts_of what.Pub topic value no_operand
-flat_of (Call client value) = parts_of what.Call client value no_operand
-flat_of (Goal client value) = parts_of what.Goal client value no_operand
-flat_of (CancelAll client stamp) = parts_of what.CancelAll client stamp no_operand
-flat_of (CancelGoal client goal stamp) = parts_of what.CancelGoal client goal stamp
-flat_of (Execute server) = parts_of what.Execute server no_operand no_operand
-flat_of (Log value) = parts_of what.Log 0 value no_operand
-flat_of (Reply value) = parts_of what.Reply 0 value no_operand
-flat_of (Decide value) = parts_of what.Decide 0 value no_operand
-flat_of (Feedback value) = parts_of what.Feedback 0 value no_operand
-flat_of (Wait ticks) = parts_of what.Wait 0 ticks no_operand
-flat_of Yield = parts_of what.Yield 0 no_operand no_operand
-flat_of (Succeed value) = parts_of what.Succeed 0 value no_operand
-flat_of (Abort value) = parts_of what.Abort 0 value no_operand
-flat_of (Canceled value) = parts_of what.Canceled 0 value no_operand
+flat_of (Set target does left right) = record (parts_of opcode.Set 0 left right) { target = target; operation = does }
+flat_of (Skip condition count) = parts_of opcode.Skip 0 condition (operand.Value (pos count))
+flat_of (Pub topic value) = parts_of opcode.Pub topic value no_operand
+flat_of (Call client value) = parts_of opcode.Call client value no_operand
+flat_of (Goal client value) = parts_of opcode.Goal client value no_operand
+flat_of (CancelAll client stamp) = parts_of opcode.CancelAll client stamp no_operand
+flat_of (CancelGoal client goal stamp) = parts_of opcode.CancelGoal client goal stamp
+flat_of (Execute server) = parts_of opcode.Execute server no_operand no_operand
+flat_of (Log value) = parts_of opcode.Log 0 value no_operand
+flat_of (Reply value) = parts_of opcode.Reply 0 value no_operand
+flat_of (Decide value) = parts_of opcode.Decide 0 value no_operand
+flat_of (Feedback value) = parts_of opcode.Feedback 0 value no_operand
+flat_of (Wait ticks) = parts_of opcode.Wait 0 ticks no_operand
+flat_of Yield = parts_of opcode.Yield 0 no_operand no_operand
+flat_of (Succeed value) = parts_of opcode.Succeed 0 value no_operand
+flat_of (Abort value) = parts_of opcode.Abort 0 value no_operand
+flat_of (Canceled value) = parts_of opcode.Canceled 0 value no_operand

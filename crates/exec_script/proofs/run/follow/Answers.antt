@@ -35,12 +35,12 @@ returns-in-Yield-clause-ends c =
     ∙ c.follow_sets-pc.ensures.same_end c.loop-instr.answer c.loop-instr.effects.items
     ∙ c.loop-instr.invariant.same_end
 
-pub returns-in-End-clause-ends : goal.returns-in-End-clause-ends
-returns-in-End-clause-ends c =
-    let fits : SFits w64 c.in-End.value = search rules in
-    rw (to_z-of_z w64 c.in-End.value fits)
-    (sym (follow_stop listed c.follow_sets-pc.new.frame.input c.args.script.now c.follow_sets-pc.result c.in-Some.instr.now (step.End c.in-End.event c.in-End.value)
+pub returns-in-Ended-clause-ends : goal.returns-in-Ended-clause-ends
+returns-in-Ended-clause-ends c =
+    let fits : SFits w64 c.in-Ended.value = search rules in
+    rw (to_z-of_z w64 c.in-Ended.value fits)
+    (sym (follow_stop listed c.follow_sets-pc.new.frame.input c.args.script.now c.follow_sets-pc.result c.in-Some.instr.now (step.Ended c.in-Ended.event c.in-Ended.value)
     (record { registers = c.follow_sets-pc.new.frame.registers; variables = c.follow_sets-pc.new.frame.variables; answer = c.loop-instr.answer; given = c.loop-instr.effects.items; stop = stop.End })
-    (search rules) (c.in-Some.ensures.lookup.1) (c.in-End.ensures.does) (λ left. refl))
+    (search rules) (c.in-Some.ensures.lookup.1) (c.in-Ended.ensures.does) (λ left. refl))
     ∙ c.follow_sets-pc.ensures.same_end c.loop-instr.answer c.loop-instr.effects.items
     ∙ c.loop-instr.invariant.same_end)
