@@ -1,12 +1,11 @@
 -- Words for the laws of scripts.
-use Rattle.std.specs.Prelude.{◌≡◌, ◌⊎◌, ℕ, ◌<◌, ℤ, List, Option, None, Some, ⊤}
+use Rattle.std.specs.Prelude.{◌≡◌, ◌⊎◌, ℕ, ℤ, List, Option, None, Some}
 use Rattle.std.specs.List.{fold}
 use Rattle.exec_msg.specs.declared.goal.Event.{Event}
 use Rattle.exec_msg.specs.declared.goal.Event.TheVariants as event
 use Rattle.exec_script.specs.Script.{ScriptState, CallInput, step_of}
 use Rattle.exec_script.specs.declared.effects.Effect.{Effect}
 use Rattle.exec_script.specs.Instruction.{Instruction}
-use Rattle.exec_script.specs.declared.step.Step.{Step}
 use Rattle.exec_script.specs.declared.step.Step.TheVariants as step
 use Rattle.exec_script.specs.declared.step.Stop.{Stop}
 use Rattle.exec_script.specs.declared.step.Stop.TheVariants as stop
@@ -44,20 +43,3 @@ give_each give effects given = fold (λ given effect. give effect given) given e
 -- where a script stands that listed its effects, once these are given
 abbrev pub given_later : {S : Type 0} → (Effect → S → S) → S → ScriptState (List Effect) → ScriptState S
 given_later give given state = record { registers = state.registers; variables = state.variables; answer = state.answer; given = give_each give state.given given; stop = state.stop }
-
--- a step that waits does so for fewer ticks than a bound
-abbrev pub PausesWithin : ℕ → Step → Type 0
-PausesWithin bound (step.Store destination value) = ⊤
-PausesWithin bound (step.Pass count) = ⊤
-PausesWithin bound (step.Give effect) = ⊤
-PausesWithin bound (step.Answer value) = ⊤
-PausesWithin bound (step.Wait ticks) = ticks < bound
-PausesWithin bound step.Yield = ⊤
-PausesWithin bound (step.Ended event value) = ⊤
-
--- a script that stops to wait does so for fewer ticks than a bound
-abbrev pub WaitsWithin : ℕ → Stop → Type 0
-WaitsWithin bound (stop.Wait ticks place) = ticks < bound
-WaitsWithin bound (stop.Yield place) = ⊤
-WaitsWithin bound (stop.Ended event value) = ⊤
-WaitsWithin bound stop.End = ⊤

@@ -1,5 +1,5 @@
 -- What a script does, by recursion on the instructions that are left of it.
-use Rattle.std.specs.Prelude.{ℕ, zero, suc, ℤ, pos, negsuc, List, [], ◌∷◌, ◌++◌, length, drop, int_lt, nat_le, ◌&&◌, if◌then◌else◌, slice_index_or, slice_set, Option, None, Some}
+use Rattle.std.specs.Prelude.{◌≡◌, ℕ, zero, suc, ◌<◌, ℤ, pos, negsuc, List, [], ◌∷◌, ◌++◌, length, drop, int_lt, nat_le, ◌&&◌, if◌then◌else◌, slice_index_or, slice_set, Option, None, Some, ⊤}
 use Rattle.std.specs.Int.{w64, int_wrapping_add, int_wrapping_sub, int_wrapping_mul, int_min, int_max}
 use Rattle.std.specs.Option.{unwrap_or}
 use Rattle.std.specs.Ordering.{int_eq}
@@ -83,6 +83,23 @@ step_of (instr.Succeed value) registers variables input = step.Ended event.Succe
 step_of (instr.Abort value) registers variables input = step.Ended event.Abort (value_of value registers variables input)
 step_of (instr.Canceled value) registers variables input = step.Ended event.Canceled (value_of value registers variables input)
 
+-- a step that waits does so for fewer ticks than a bound
+abbrev pub PausesWithin : ℕ → Step → Type 0
+PausesWithin bound (step.Store destination value) = ⊤
+PausesWithin bound (step.Pass count) = ⊤
+PausesWithin bound (step.Give effect) = ⊤
+PausesWithin bound (step.Answer value) = ⊤
+PausesWithin bound (step.Wait ticks) = ticks < bound
+PausesWithin bound step.Yield = ⊤
+PausesWithin bound (step.Ended event value) = ⊤
+
+-- a script that stops to wait does so for fewer ticks than a bound
+abbrev pub WaitsWithin : ℕ → Stop → Type 0
+WaitsWithin bound (stop.Wait ticks place) = ticks < bound
+WaitsWithin bound (stop.Yield place) = ⊤
+WaitsWithin bound (stop.Ended event value) = ⊤
+WaitsWithin bound stop.End = ⊤
+
 -- how many of the next instructions a step passes over, where so many are left: one that stops the script passes over all
 abbrev pub passed_by : Step → ℕ → ℕ
 passed_by (step.Store destination value) left = 0
@@ -152,3 +169,10 @@ close_of role.Service answer = close.Reply (unwrap_or answer (pos 0))
 close_of role.GoalHandler answer = close.Decide (decision_within 3 (unwrap_or answer (pos 1)))
 close_of role.CancelHandler answer = close.Decide (decision_within 2 (unwrap_or answer (pos 1)))
 close_of role.Goal answer = close.Nothing
+
+-- what a call of a script leaves in a role: the group's variables, its effects behind those that were listed before, and what
+-- closes it
+pub record HasCalled (script : List Instruction) (role : Role) (input : CallInput) (before after : List ℤ) (front given : List Effect) (closes : Close) : Type 0 where
+  pub variables : after ≡ (call_of script before input).variables
+  pub effects : given ≡ front ++ (call_of script before input).given
+  pub close : closes ≡ close_of role (call_of script before input).answer

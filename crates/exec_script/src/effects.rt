@@ -20,13 +20,13 @@ pub enum Effect {
         client: EntityNo,
         value: i64,
     },
-    /// An action client sends a cancel request with no identifier; a stamp of 0 is none.
+    /// An action client sends a cancel request with no identifier; its stamp is in ticks, and 0 is none.
     CancelAll {
         client: EntityNo,
         stamp: u64,
     },
     /// An action client sends a cancel request for its goal of this number; 0 is no goal of
-    /// it, and a stamp of 0 is none.
+    /// it. Its stamp is in ticks, and 0 is none.
     CancelGoal {
         client: EntityNo,
         goal: u64,

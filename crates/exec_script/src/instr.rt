@@ -219,7 +219,7 @@ impl Instr {
     }
 
     /// `["cancel", C, "all"]` and `["cancel", C, "before", S]`: action client C sends a cancel request
-    /// with no identifier and the stamp S, which for `"all"` is 0.
+    /// with no identifier and the stamp S in ticks, which for `"all"` is 0.
     pub fn cancel_all(client: EntityNo, stamp: Operand) -> Instr
         ensures { result ≡ CancelAll client stamp }
     {
@@ -229,7 +229,7 @@ impl Instr {
     }
 
     /// `["cancel", C, "goal", K]` and `["cancel", C, "goal-before", K, S]`: action client C sends a cancel
-    /// request for its goal K with the stamp S, which for `"goal"` is 0.
+    /// request for its goal K with the stamp S in ticks, which for `"goal"` is 0.
     pub fn cancel_goal(client: EntityNo, goal: Operand, stamp: Operand) -> Instr
         ensures { result ≡ CancelGoal client goal stamp }
     {

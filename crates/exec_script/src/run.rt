@@ -1,6 +1,5 @@
-ghost use Rattle.std.specs.Prelude.{◌≡◌, ◌+◌, ◌-◌, ◌<◌, ◌≤◌, ◌^◌, ◌++◌, ℤ, List, Option, None, length, vec_len, vec_capacity, OnOk, OnErr, IfOk};
-ghost use Rattle.exec_script.specs.LawWords.{PausesWithin, WaitsWithin};
-ghost use Rattle.exec_script.specs.Script.{result_of, at_least_0, step_of, listed, resumed, call_of, decision_within, close_of};
+ghost use Rattle.std.specs.Prelude.{◌≡◌, ◌+◌, ◌-◌, ◌<◌, ◌≤◌, ◌^◌, ℤ, List, [], Option, None, length, vec_len, vec_capacity, OnOk, OnErr, IfOk};
+ghost use Rattle.exec_script.specs.Script.{result_of, at_least_0, step_of, PausesWithin, WaitsWithin, listed, resumed, decision_within, close_of, HasCalled};
 ghost use Rattle.exec_script.specs.declared.effects.Effect.{Effect};
 ghost use Rattle.exec_script.specs.declared.instr.Operation.TheVariants as operation;
 ghost use Rattle.exec_script.specs.inner.Flat.{operation_number};
@@ -45,9 +44,7 @@ pub fn run_call(
     bank: &mut Bank,
     input: &Input,
 ) -> Result<Effects, Memory>
-    ensures variables { OnOk result (bank.new ≡ (call_of script.now bank.old input.now).variables) }
-    ensures effects { IfOk result (λ effects. effects.list ≡ (call_of script.now bank.old input.now).given) }
-    ensures close { IfOk result (λ effects. effects.close ≡ close_of role (call_of script.now bank.old input.now).answer) }
+    ensures called { IfOk result (λ effects. HasCalled script.now role input.now bank.old bank.new [] effects.list effects.close) }
     ensures err { OnErr result (bank.new ≡ bank.old) }
 {
     let mut list = EffectList::new(alloc);
@@ -65,9 +62,7 @@ pub fn run_call_into(
     input: &Input,
     effects: &mut EffectList,
 ) -> Result<Close, Memory>
-    ensures variables { OnOk result (bank.new ≡ (call_of script.now bank.old input.now).variables) }
-    ensures effects { OnOk result (effects.new ≡ effects.old ++ (call_of script.now bank.old input.now).given) }
-    ensures close { IfOk result (λ close. close ≡ close_of role (call_of script.now bank.old input.now).answer) }
+    ensures called { IfOk result (λ close. HasCalled script.now role input.now bank.old bank.new effects.old effects.new close) }
     ensures err_variables { OnErr result (bank.new ≡ bank.old) }
     ensures err_effects { OnErr result (effects.new ≡ effects.old) }
 {

@@ -1,5 +1,5 @@
 ghost use Rattle.std.specs.Prelude.{◌≡◌, ◌||◌, ◌^◌, [], OnOk, OnErr};
-ghost use Rattle.exec_script.specs.LawWords.{WaitsWithin};
+ghost use Rattle.exec_script.specs.Script.{WaitsWithin};
 ghost use Rattle.exec_script.specs.Script.{listed};
 ghost use Rattle.exec_task.specs.Goal.{meaning_of};
 ghost use Rattle.exec_task.specs.Task.{new_task, has_ended, is_reached, is_awake, after_stop, ran, run_of, task_answer, ending_event};

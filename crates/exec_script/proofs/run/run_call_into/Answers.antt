@@ -9,9 +9,11 @@ pub returns : goal.returns
 returns c =
     let ends = call_ends c.args.script.now zeros c.args.bank.now c.args.input.now c.begin.new.self c.args.effects.now c.reserve.new.self.items _ refl c.begin.ensures (c.reserve.ensures.items ∙ c.effects.view_is) c.follow.ensures.ends in
     record {
-      variables = c.put_bank.ensures ∙ ap (λ (state : ScriptState (List Effect)). state.variables) ends;
-      effects = ap (λ (state : ScriptState (List Effect)). state.given) ends;
-      close = c.close_of-2.ensures ∙ ap (λ (state : ScriptState (List Effect)). close_of c.args.role state.answer) ends;
+      called = record {
+        variables = c.put_bank.ensures ∙ ap (λ (state : ScriptState (List Effect)). state.variables) ends;
+        effects = ap (λ (state : ScriptState (List Effect)). state.given) ends;
+        close = c.close_of-2.ensures ∙ ap (λ (state : ScriptState (List Effect)). close_of c.args.role state.answer) ends;
+      };
       err_variables = search rules;
       err_effects = search rules;
     }
