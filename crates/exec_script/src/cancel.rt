@@ -8,7 +8,7 @@ use crate::scope::Scope;
 use crate::word::Word;
 
 /// The `cancel` of these items, in one of its four forms.
-pub fn cancel<S: Scope>(items: &[Word], scope: &S) -> Result<Instr, ScriptFault>
+pub(crate) fn cancel<S: Scope>(items: &[Word], scope: &S) -> Result<Instr, ScriptFault>
     ensures { result ≡ cancel_of (S.names scope.now) items.now }
 {
     let [client, form, items @ ..] = items else {

@@ -6,7 +6,7 @@ use std::marker::Model;
 
 // What an operand reads of a frame.
 #[derive(Clone, Copy, PartialEq, Eq)]
-pub struct Source(u8);
+pub(crate) struct Source(u8);
 
 impl Model for Source {
     ghost use Rattle.std.specs.Prelude.{◌<◌};
@@ -29,7 +29,7 @@ impl Source {
     ghost use Rattle.std.specs.Prelude.{◌≡◌};
     ghost use Rattle.exec_script.specs.inner.Cells.{cell_of, reads_variable};
 
-    pub fn of(operand: &Operand) -> Source
+    pub(crate) fn of(operand: &Operand) -> Source
         ensures { result ≡ cell_of operand.now }
     {
         match *operand {
@@ -42,14 +42,18 @@ impl Source {
         }
     }
 
-    pub fn is_variable(self) -> bool
+    pub(crate) fn is_variable(self) -> bool
         ensures { result ≡ reads_variable self }
     {
         8 <= self.0 && self.0 < 16
     }
 
     // Shows the operand that it and a constant are, with a space before it.
-    pub fn show<W: fmt::Write>(self, constant: i64, f: &mut fmt::Formatter<W>) -> fmt::Result {
+    pub(crate) fn show<W: fmt::Write>(
+        self,
+        constant: i64,
+        f: &mut fmt::Formatter<W>,
+    ) -> fmt::Result {
         match self.0 {
             0..8 => write!(f, " r{}", self.0),
             8..16 => write!(f, " g{}", self.0 - 8),
@@ -63,7 +67,7 @@ impl Source {
 
 // Where a destination stands in a frame.
 #[derive(Clone, Copy, PartialEq, Eq)]
-pub struct Target(u8);
+pub(crate) struct Target(u8);
 
 impl Model for Target {
     ghost use Rattle.std.specs.Prelude.{◌<◌};
@@ -89,13 +93,13 @@ impl Target {
     ghost use Rattle.exec_script.specs.Legality.{goes_to_variable};
 
     // `r0`.
-    pub fn first() -> Target
+    pub(crate) fn first() -> Target
         ensures { result ≡ destination.Register 0 }
     {
         Target(0)
     }
 
-    pub fn of(destination: Destination) -> Target
+    pub(crate) fn of(destination: Destination) -> Target
         ensures { result ≡ destination }
     {
         match destination {
@@ -104,7 +108,7 @@ impl Target {
         }
     }
 
-    pub fn is_variable(self) -> bool
+    pub(crate) fn is_variable(self) -> bool
         ensures { result ≡ goes_to_variable self }
     {
         8 <= self.0
@@ -124,7 +128,7 @@ impl fmt::Debug for Target {
 // All that a script reads and writes while it runs, in one array: registers, group variables, `in`, `aux`, `now`, and
 // one integer that is always 0.
 #[derive(Drop)]
-pub struct Frame {
+pub(crate) struct Frame {
     values: [i64; 20],
 }
 
@@ -147,13 +151,13 @@ impl Frame {
     // All are 0. A frame is filled where it stands: one that is handed on is copied as a whole just after it was filled, for
     // which a processor waits.
     #[inline(always)]
-    pub fn new() -> Frame {
+    pub(crate) fn new() -> Frame {
         Frame { values: [0; 20] }
     }
 
     // Fills it with what a script's run from its top begins with.
     #[inline(always)]
-    pub fn begin(&mut self, bank: &Bank, input: &Input)
+    pub(crate) fn begin(&mut self, bank: &Bank, input: &Input)
         ensures { self.new ≡ record { registers = zeros; variables = bank.now; input = input.now } }
     {
         self.values = [0; 20];
@@ -165,7 +169,7 @@ impl Frame {
 
     // Fills it with what a run goes on with.
     #[inline(always)]
-    pub fn fill(&mut self, regs: &Regs, bank: &Bank, input: &Input)
+    pub(crate) fn fill(&mut self, regs: &Regs, bank: &Bank, input: &Input)
         ensures { self.new ≡ record { registers = regs.now; variables = bank.now; input = input.now } }
     {
         self.values = [0; 20];
@@ -178,7 +182,7 @@ impl Frame {
 
     // Hands out the registers, at the end of a run.
     #[inline(always)]
-    pub fn put_regs(&self, regs: &mut Regs)
+    pub(crate) fn put_regs(&self, regs: &mut Regs)
         ensures { regs.new ≡ self.now.registers }
     {
         regs.0.copy_from(&self.values[..8]);
@@ -186,7 +190,7 @@ impl Frame {
 
     // Hands out the variables, at the end of a run.
     #[inline(always)]
-    pub fn put_bank(&self, bank: &mut Bank)
+    pub(crate) fn put_bank(&self, bank: &mut Bank)
         ensures { bank.new ≡ self.now.variables }
     {
         bank.0.copy_from(&self.values[8..16]);
@@ -194,7 +198,7 @@ impl Frame {
 
     // The value of the operand that a source and a constant are.
     #[inline(always)]
-    pub fn read(&self, source: Source, constant: i64) -> i64
+    pub(crate) fn read(&self, source: Source, constant: i64) -> i64
         requires { constant_of (cell_operand source constant) ≡ constant }
         ensures { result ≡ value_of (cell_operand source constant) self.now.registers self.now.variables self.now.input }
     {
@@ -203,7 +207,7 @@ impl Frame {
     }
 
     #[inline(always)]
-    pub fn write(&mut self, target: Target, value: i64)
+    pub(crate) fn write(&mut self, target: Target, value: i64)
         ensures { self.new ≡ record {
           registers = registers_after target value self.old.registers;
           variables = variables_after target value self.old.variables;

@@ -70,7 +70,7 @@ pub enum Operation {
 
 // What an instruction does.
 #[derive(Clone, Copy, Debug, PartialEq, Eq)]
-pub enum Opcode {
+pub(crate) enum Opcode {
     Set,
     Skip,
     Pub,
@@ -93,15 +93,15 @@ pub enum Opcode {
 // The parts of an instruction, side by side. An operand is what its source reads and its constant together, one of
 // which is 0. What an instruction doesn't use is 0; a skip's count is its second constant.
 #[derive(Clone, Copy, PartialEq, Eq)]
-pub struct Flat {
-    pub left: i64,
-    pub right: i64,
-    pub entity: EntityNo,
-    pub target: Target,
-    pub left_source: Source,
-    pub right_source: Source,
-    pub operation: Operation,
-    pub opcode: Opcode,
+pub(crate) struct Flat {
+    pub(crate) left: i64,
+    pub(crate) right: i64,
+    pub(crate) entity: EntityNo,
+    pub(crate) target: Target,
+    pub(crate) left_source: Source,
+    pub(crate) right_source: Source,
+    pub(crate) operation: Operation,
+    pub(crate) opcode: Opcode,
 }
 
 /// An instruction of a script, in 24 bytes.

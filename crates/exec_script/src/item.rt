@@ -7,7 +7,7 @@ use crate::instr::{Destination, Operand, Operation};
 use crate::word::Word;
 
 /// The operand that a word spells.
-pub fn operand_of(word: &Word) -> Option<Operand>
+pub(crate) fn operand_of(word: &Word) -> Option<Operand>
     ensures { result ≡ operand_of word.now }
 {
     match word {
@@ -25,7 +25,7 @@ pub fn operand_of(word: &Word) -> Option<Operand>
 }
 
 /// The destination that a word spells.
-pub fn destination_of(word: &Word) -> Option<Destination>
+pub(crate) fn destination_of(word: &Word) -> Option<Destination>
     ensures { result ≡ destination_of word.now }
 {
     match word {
@@ -49,7 +49,7 @@ fn cell_named(text: &str) -> Option<Destination>
 }
 
 /// The operation that a word spells.
-pub fn operation_of(word: &Word) -> Option<Operation>
+pub(crate) fn operation_of(word: &Word) -> Option<Operation>
     ensures { result ≡ operation_of word.now }
 {
     let Word::Text(text) = word else {
@@ -68,7 +68,7 @@ pub fn operation_of(word: &Word) -> Option<Operation>
 }
 
 /// The number of instructions to pass over that a word spells.
-pub fn count_of(word: &Word) -> Option<u64>
+pub(crate) fn count_of(word: &Word) -> Option<u64>
     ensures value { result ≡ count_of word.now }
     ensures bound { IfSome result (λ count. count < 2 ^ 63) }
 {
@@ -79,7 +79,7 @@ pub fn count_of(word: &Word) -> Option<u64>
 }
 
 /// The text of a word, where it is one.
-pub fn text_in(word: &Word) -> Option<&str>
+pub(crate) fn text_in(word: &Word) -> Option<&str>
     ensures { option_copied result ≡ text_in word.now }
 {
     match word {
