@@ -4,7 +4,7 @@ use exec_msg::Event;
 
 /// What one instruction does.
 #[derive(Clone, Copy, Debug, PartialEq, Eq)]
-pub(crate) enum Step {
+pub enum Step {
     /// A value is stored.
     Store(Target, i64),
     /// So many of the next instructions are passed over.
