@@ -262,20 +262,7 @@ fn number(kind: Kind) -> usize
     ensures value { result ≡ ready_number kind }
     ensures bound { result ≤ 12 }
 {
-    match kind {
-        Kind::Timer => 1,
-        Kind::Message => 2,
-        Kind::Request => 3,
-        Kind::Reply => 4,
-        Kind::Goal => 5,
-        Kind::Cancel => 6,
-        Kind::Ask => 7,
-        Kind::Poll => 8,
-        Kind::Response => 9,
-        Kind::Code => 10,
-        Kind::Feedback => 11,
-        Kind::Result => 12,
-    }
+    kind as usize + 1
 }
 
 fn count(cells: &[Cell]) -> usize
