@@ -7,7 +7,8 @@ ghost use Rattle.exec_graph.specs.inner.Directory.{fault_at, faults_at, faults_o
 ghost use Rattle.exec_graph.specs.Entity.{scripts_of};
 ghost use Rattle.exec_graph.specs.Faults.{is_of_variable};
 
-use crate::entity::{CallbackGroup, Declared, GraphEntity, GroupNo, RoleScript};
+use crate::entity::parts::RoleScript;
+use crate::entity::{CallbackGroup, Declared, GraphEntity, GroupNo};
 use crate::script::Script;
 use exec_msg::Memory;
 use exec_script::{Place, ScriptFault, check};
