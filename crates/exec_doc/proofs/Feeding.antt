@@ -2,6 +2,8 @@
 use Rattle.std.proofs.Common.{◌≡◌, ℕ, Bool, true, false, ◌&&◌, nat_le, length, map, List, [], ◌∷◌, Option, None, Some, is_some, refl, ap, ap₂, sym, ◌∙◌, subst}
 use Rattle.std.specs.List.{list_all}
 use Rattle.std.specs.Option.{option_map_or}
+use Rattle.std.proofs.lemmas.Bool.{and_from}
+use Rattle.std.proofs.lemmas.Option.{same_Some}
 use Rattle.exec_doc.specs.Document.{resolved_fed, resolved_entry}
 use Rattle.exec_doc.specs.declared.draft.FedDraft.{FedDraft}
 use Rattle.exec_doc.specs.declared.draft.EntryDraft.{EntryDraft}
@@ -17,13 +19,12 @@ use Rattle.exec_graph.specs.Schedule.{schedule_fits, greatest, stamp_of, is_in_o
 use Rattle.exec_graph.specs.declared.plan.Fed.{Fed}
 use Rattle.exec_graph.specs.declared.plan.Fed.TheVariants.{Message, Goal, Cancel}
 use Rattle.exec_graph.specs.declared.plan.Feed.{Feed}
-use Rattle.exec_graph.proofs.Bools.{both_true}
-use Rattle.exec_graph.proofs.Reading.{then_read, AreRead, as_many, seen_alike, some_is}
+use Rattle.exec_graph.proofs.Reading.{then_read, AreRead, as_many, seen_alike}
 use Rattle.exec_doc.proofs.Kept.{IsKept}
 
 not_zero : (read : Option ℕ) (id : ℕ) → read ≡ Some id → option_map_or (λ id. nat_le 1 id) read false ≡ nat_le 1 id
 not_zero None id is = absurd cc
-not_zero (Some n) id is = ap (nat_le 1) (some_is n id is)
+not_zero (Some n) id is = ap (nat_le 1) (same_Some n id is)
 
 -- what is fed, read of its draft: its stamp and whether it is identified are the draft's, and it goes where its draft's name is
 -- declared
@@ -57,7 +58,7 @@ pub all_read : {A B : Type 0} (f : A → Option B) (test : B → Bool) (xs : Lis
 all_read f test [] [] passes reads = refl
 all_read f test [] (y ∷ ys) passes reads = absurd reads
 all_read f test (x ∷ xs) [] passes reads = absurd reads
-all_read f test (x ∷ xs) (y ∷ ys) passes reads = both_true (test y) (list_all test ys) (passes x y reads.0) (all_read f test xs ys passes reads.1)
+all_read f test (x ∷ xs) (y ∷ ys) passes reads = and_from (test y) (list_all test ys) (passes x y reads.0) (all_read f test xs ys passes reads.1)
 
 module _ (source : GraphDraft) (made : GraphData)
     (topic_there : (name : List ℕ) (number : ℕ) → topic_named source name ≡ Some number → is_at is_topic made number ≡ true)
@@ -65,23 +66,23 @@ module _ (source : GraphDraft) (made : GraphData)
   fed_of : (drafted : FedDraft) (fed : Fed) → resolved_fed source drafted ≡ Some fed → IsFed made drafted fed
   fed_of (draft.Message name value) fed e =
       then_read _ (topic_named source name) _ fed e (λ topic found e1.
-      subst (IsFed made (draft.Message name value)) (some_is (Message topic value) fed e1)
+      subst (IsFed made (draft.Message name value)) (same_Some (Message topic value) fed e1)
       (record { stamp = refl; identified = refl; goes = topic_there name topic found }))
   fed_of (draft.Goal name said value) fed e =
       then_read _ (server_named source name) _ fed e (λ server found e1.
       then_read _ said _ fed e1 (λ id read e2.
-      subst (IsFed made (draft.Goal name said value)) (some_is (Goal server id value) fed e2)
+      subst (IsFed made (draft.Goal name said value)) (same_Some (Goal server id value) fed e2)
       (record { stamp = refl; identified = sym (not_zero said id read); goes = server_there name server found })))
   fed_of (draft.Cancel name said stamp) fed e =
       then_read _ (server_named source name) _ fed e (λ server found e1.
       then_read _ said _ fed e1 (λ id read e2.
-      subst (IsFed made (draft.Cancel name said stamp)) (some_is (Cancel server id stamp) fed e2)
+      subst (IsFed made (draft.Cancel name said stamp)) (same_Some (Cancel server id stamp) fed e2)
       (record { stamp = refl; identified = sym (ap is_some read); goes = server_there name server found })))
 
   entry_of : (drafted : EntryDraft) (entry : Feed) → resolved_entry source drafted ≡ Some entry → IsEntry made drafted entry
   entry_of drafted entry e =
       then_read _ (resolved_fed source drafted.fed) _ entry e (λ fed read e1.
-      subst (IsEntry made drafted) (some_is (record { round = drafted.round; fed = fed }) entry e1) (record { round = refl; fed = fed_of drafted.fed fed read }))
+      subst (IsEntry made drafted) (same_Some (record { round = drafted.round; fed = fed }) entry e1) (record { round = refl; fed = fed_of drafted.fed fed read }))
 
   -- what is read of a feed has the schedule of its draft, and goes to what is there
   pub feed_of : (drafted : List EntryDraft) (feed : List Feed) → AreRead (resolved_entry source) drafted feed → IsFeed made drafted feed

@@ -2,11 +2,10 @@
 use Rattle.std.proofs.Common.{◌≡◌, ℕ, zero, suc, ◌+◌, ◌-◌, ◌*◌, ◌<◌, ◌≤◌, ◌^◌, Bool, true, false, ◌&&◌, ◌||◌, ◌==◌, nat_le, if◌then◌else◌, length, List, [], ◌∷◌, take, drop, Option, None, Some, option_map, slice_index, refl, sym, subst, arith, ◌⊎◌, inl, inr, true≢false}
 use Rattle.std.specs.Int.{from_be_bytes, w128}
 use Rattle.std.specs.List.{list_all}
-use Rattle.std.proofs.lemmas.Bool.{leb-true, or_cases}
+use Rattle.std.proofs.lemmas.Bool.{leb-true, or_cases, and_parts}
+use Rattle.std.proofs.lemmas.Option.{same_Some}
 use Rattle.uuid.specs.Text.{by_index, is_hex_digit, value_of, byte_of_digits, parsed_simple, parsed_hyphenated, parsed_braced, parsed_urn, parsed, digits_of}
 use Rattle.exec_doc.specs.Forms.{id_in_text}
-use Rattle.exec_graph.proofs.Bools.{and_left, and_right}
-use Rattle.exec_graph.proofs.Reading.{some_is}
 
 -- ---- digits
 
@@ -14,18 +13,18 @@ use Rattle.exec_graph.proofs.Reading.{some_is}
 letter_below : (c : ℕ) (b : Bool) → nat_le 97 c ≡ b → (((nat_le 48 c && false) || (b && nat_le c 102)) ≡ true) ⊎ ((nat_le 65 c && nat_le c 70) ≡ true) → (if b then c - 87 else c - 55) < 16
 letter_below c true high (inl small) = by (or_cases (nat_le 48 c && false) (nat_le c 102) small) where
   by : ((nat_le 48 c && false) ≡ true) ⊎ (nat_le c 102 ≡ true) → c - 87 < 16
-  by (inl digit) = absurd (true≢false (sym (and_right (nat_le 48 c) false digit)))
+  by (inl digit) = absurd (true≢false (sym (and_parts (nat_le 48 c) false digit).1))
   by (inr low) = let most = leb-true c 102 low in omega (arith, most)
 letter_below c true high (inr capital) =
     let least = leb-true 97 c high in
-    let most = leb-true c 70 (and_right (nat_le 65 c) (nat_le c 70) capital) in
+    let most = leb-true c 70 (and_parts (nat_le 65 c) (nat_le c 70) capital).1 in
     omega (arith, least, most)
 letter_below c false high (inl small) = by (or_cases (nat_le 48 c && false) false small) where
   by : ((nat_le 48 c && false) ≡ true) ⊎ (false ≡ true) → c - 55 < 16
-  by (inl digit) = absurd (true≢false (sym (and_right (nat_le 48 c) false digit)))
+  by (inl digit) = absurd (true≢false (sym (and_parts (nat_le 48 c) false digit).1))
   by (inr never) = absurd (true≢false (sym never))
 letter_below c false high (inr capital) =
-    let most = leb-true c 70 (and_right (nat_le 65 c) (nat_le c 70) capital) in
+    let most = leb-true c 70 (and_parts (nat_le 65 c) (nat_le c 70) capital).1 in
     omega (arith, most)
 
 -- the value of a digit of sixteen
@@ -37,8 +36,8 @@ value_below c is = by (nat_le c 57) refl is where
 
 digit_below : (hex : List ℕ) (k : ℕ) → list_all is_hex_digit hex ≡ true → value_of (slice_index hex k) < 16
 digit_below [] k all = omega arith
-digit_below (c ∷ hex) zero all = value_below c (and_left (is_hex_digit c) (list_all is_hex_digit hex) all)
-digit_below (c ∷ hex) (suc k) all = digit_below hex k (and_right (is_hex_digit c) (list_all is_hex_digit hex) all)
+digit_below (c ∷ hex) zero all = value_below c (and_parts (is_hex_digit c) (list_all is_hex_digit hex) all).0
+digit_below (c ∷ hex) (suc k) all = digit_below hex k (and_parts (is_hex_digit c) (list_all is_hex_digit hex) all).1
 
 byte_below : (hex : List ℕ) → list_all is_hex_digit hex ≡ true → (j : ℕ) → byte_of_digits hex j < 256
 byte_below hex all j =
@@ -69,7 +68,7 @@ either false x y bytes e first second = second e
 simple_below : (hex bytes : List ℕ) → parsed_simple hex ≡ Some bytes → IsBelow bytes
 simple_below hex bytes e =
     either ((length hex == 32) && list_all is_hex_digit hex) (Some (by_index 16 (byte_of_digits hex))) None bytes e
-    (λ is found. subst IsBelow (some_is (by_index 16 (byte_of_digits hex)) bytes found) (sixteen_below (byte_of_digits hex) (byte_below hex (and_right (length hex == 32) (list_all is_hex_digit hex) is))))
+    (λ is found. subst IsBelow (same_Some (by_index 16 (byte_of_digits hex)) bytes found) (sixteen_below (byte_of_digits hex) (byte_below hex (and_parts (length hex == 32) (list_all is_hex_digit hex) is).1)))
     (λ none. absurd cc)
 
 hyphenated_below : (s bytes : List ℕ) → parsed_hyphenated s ≡ Some bytes → IsBelow bytes
@@ -84,7 +83,7 @@ parsed_below s bytes e =
 
 mapped_below : (read : Option (List ℕ)) (id : ℕ) → ((bytes : List ℕ) → read ≡ Some bytes → IsBelow bytes) → option_map (from_be_bytes w128) read ≡ Some id → id ≤ 2 ^ 128 - 1
 mapped_below None id below e = absurd cc
-mapped_below (Some bytes) id below e = subst (λ n. n ≤ 2 ^ 128 - 1) (some_is (from_be_bytes w128 bytes) id e) (below bytes refl)
+mapped_below (Some bytes) id below e = subst (λ n. n ≤ 2 ^ 128 - 1) (same_Some (from_be_bytes w128 bytes) id e) (below bytes refl)
 
 -- an identifier has 128 bits
 pub id_below : (text : List ℕ) (id : ℕ) → id_in_text text ≡ Some id → id ≤ 2 ^ 128 - 1

@@ -1,16 +1,15 @@
 -- What a document keeps that no code refuses.
-use Rattle.std.proofs.Common.{◌≡◌, Bool, true, false, not, ◌&&◌, ◌||◌, ◌==◌, is_none, Option, None, Some, find, refl}
+use Rattle.std.proofs.Common.{◌≡◌, Bool, true, false, not, ◌&&◌, ◌||◌, ◌==◌, is_none, Option, None, Some, find}
 use Rattle.std.specs.List.{list_all}
 use Rattle.std.specs.Option.{option_map_or}
+use Rattle.std.proofs.lemmas.Bool.{and_parts, or_parts, not-false}
 use Rattle.exec_doc.specs.Draft.{DocumentDraft}
 use Rattle.exec_doc.specs.Refusals.{feeds, is_identified, has_small_schedule, has_declared_names, is_clocked, has_fault, codes_in_order}
 use Rattle.exec_doc.specs.declared.refused.Refused.{Refused}
 use Rattle.exec_doc.specs.declared.refused.Refused.TheVariants as refused
-use Rattle.exec_graph.specs.declared.draft.GraphDraft.{GraphDraft}
 use Rattle.exec_graph.specs.Faults.{has_faulty_script, shares_variables, is_well_named, is_small}
 use Rattle.exec_graph.specs.Refusals.{fault_in}
-use Rattle.exec_graph.proofs.Bools.{and_left, and_right, or_left, or_right, not_false}
-use Rattle.exec_graph.proofs.Kept.{none_passes}
+use Rattle.exec_graph.proofs.Kept.{none_passes, without_fault}
 
 -- what each code leaves of a document that it doesn't refuse
 pub record IsKept (document : DocumentDraft) : Type 0 where
@@ -19,10 +18,6 @@ pub record IsKept (document : DocumentDraft) : Type 0 where
   pub within : has_small_schedule document ≡ true
   pub clock : is_clocked document ≡ true
   pub identified : list_all (λ entry. is_identified entry.fed) document.feed ≡ true
-
--- a graph that keeps what each of its faults asks has none
-pub without_fault : (source : GraphDraft) → is_well_named source ≡ true → is_small source ≡ true → has_faulty_script source ≡ false → shares_variables source ≡ false → fault_in source ≡ None
-without_fault source named small scripts variables = rw named (rw small (rw scripts (rw variables refl)))
 
 -- the test of codes on what may be a draft
 abbrev pub holds_of : Option DocumentDraft → Refused → Bool
@@ -42,19 +37,19 @@ kept document found =
     let fifth = has_faulty_script document.graph || sixth in
     let fourth = not limits || fifth in
     let third = not (has_declared_names document) || fourth in
-    let past_version = or_right (not (document.version == 1)) third (none_passes (holds_of (Some document)) codes_in_order found) in
-    let past_names = or_right (not (has_declared_names document)) fourth past_version in
-    let past_limits = or_right (not limits) fifth past_names in
-    let past_scripts = or_right (has_faulty_script document.graph) sixth past_limits in
-    let past_variables = or_right (shares_variables document.graph) seventh past_scripts in
-    let past_clock = or_right (not (is_clocked document)) last past_variables in
-    let named = not_false (has_declared_names document) (or_left (not (has_declared_names document)) fourth past_version) in
-    let limited = not_false limits (or_left (not limits) fifth past_names) in
+    let past_version = (or_parts (not (document.version == 1)) third (none_passes (holds_of (Some document)) codes_in_order found)).1 in
+    let past_names = (or_parts (not (has_declared_names document)) fourth past_version).1 in
+    let past_limits = (or_parts (not limits) fifth past_names).1 in
+    let past_scripts = (or_parts (has_faulty_script document.graph) sixth past_limits).1 in
+    let past_variables = (or_parts (shares_variables document.graph) seventh past_scripts).1 in
+    let past_clock = (or_parts (not (is_clocked document)) last past_variables).1 in
+    let named = not-false (has_declared_names document) (or_parts (not (has_declared_names document)) fourth past_version).0 in
+    let limited = not-false limits (or_parts (not limits) fifth past_names).0 in
     record {
-      graph = without_fault document.graph (and_left (is_well_named document.graph) feeding named) (and_left (is_small document.graph) (has_small_schedule document) limited)
-          (or_left (has_faulty_script document.graph) sixth past_limits) (or_left (shares_variables document.graph) seventh past_scripts);
-      feeding = and_right (is_well_named document.graph) feeding named;
-      within = and_right (is_small document.graph) (has_small_schedule document) limited;
-      clock = not_false (is_clocked document) (or_left (not (is_clocked document)) last past_variables);
-      identified = not_false ids (or_left (not ids) false past_clock);
+      graph = without_fault document.graph (and_parts (is_well_named document.graph) feeding named).0 (and_parts (is_small document.graph) (has_small_schedule document) limited).0
+          (or_parts (has_faulty_script document.graph) sixth past_limits).0 (or_parts (shares_variables document.graph) seventh past_scripts).0;
+      feeding = (and_parts (is_well_named document.graph) feeding named).1;
+      within = (and_parts (is_small document.graph) (has_small_schedule document) limited).1;
+      clock = not-false (is_clocked document) (or_parts (not (is_clocked document)) last past_variables).0;
+      identified = not-false ids (or_parts (not ids) false past_clock).0;
     }

@@ -1,5 +1,6 @@
 -- The plan of a document is lawful.
 use Rattle.std.proofs.Common.{◌≡◌, ℕ, true, find, List, Option, None, Some, refl, subst}
+use Rattle.std.proofs.lemmas.Option.{same_Some}
 use Rattle.std.specs.List.{list_all}
 use Rattle.serde_json.specs.Data.{Data}
 use Rattle.exec_doc.specs.Document.{resolved_entry, plan_of, unless_refused, plan_in}
@@ -18,7 +19,7 @@ use Rattle.exec_graph.specs.Refusals.{fault_in}
 use Rattle.exec_graph.specs.Resolved.{graph_in}
 use Rattle.exec_graph.specs.Schedule.{plan_fault_in}
 use Rattle.exec_graph.specs.declared.plan.Feed.{Feed}
-use Rattle.exec_graph.proofs.Reading.{then_read, are_read, some_is}
+use Rattle.exec_graph.proofs.Reading.{then_read, are_read}
 use Rattle.exec_doc.proofs.Bits.{has_bits, draft_small, feed_small}
 use Rattle.exec_doc.proofs.Feeding.{feed_of, feed_without_fault}
 use Rattle.exec_doc.proofs.Kept.{IsKept, holds_of, kept}
@@ -38,7 +39,7 @@ module _ (laws : Laws) where
       let read = feed_of document.graph made (λ name number found. laws.topic document.graph made name number is found) (λ name number found. laws.server document.graph made name number is found)
       document.feed feed (are_read (resolved_entry document.graph) document.feed feed fed) in
       let bits = feed_small document.graph document.feed feed small (are_read (resolved_entry document.graph) document.feed feed fed) in
-      subst IsLawfulPlan (some_is (record { graph = made; moments = document.moments; feed = feed }) plan e2)
+      subst IsLawfulPlan (same_Some (record { graph = made; moments = document.moments; feed = feed }) plan e2)
       (laws.plan made document.moments feed (laws.graph document.graph made keeps.graph is) read.goes bits (feed_without_fault made document feed read keeps))))
 
   drafted_lawful : (drafted : Option DocumentDraft) (plan : PlanData) → ((document : DocumentDraft) → drafted ≡ Some document → list_all (λ entry. has_bits entry.fed) document.feed ≡ true) → find (holds_of drafted) codes_in_order ≡ None → (drafted >>= plan_of) ≡ Some plan → IsLawfulPlan plan

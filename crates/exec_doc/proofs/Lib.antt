@@ -1,6 +1,5 @@
 pub mod Bits
 pub mod Bytes
-pub mod Each
 pub mod Feeding
 pub mod Identifiers
 pub mod Kept

@@ -13,7 +13,8 @@ use Rattle.serde_json.proofs.Views.{Entry}
 use Rattle.serde_json.specs.Data.{Data, object}
 use Rattle.serde_json.specs.Find.{get_member}
 use Rattle.serde_json.specs.View.{view, members_view}
-use Rattle.exec_doc.specs.inner.Picking.{Fields, fields_of, if_named, noted}
+use Rattle.exec_doc.specs.Forms.{Fields, fields_of}
+use Rattle.exec_doc.specs.inner.Picking.{if_named, noted}
 
 -- the fields with each of these members in turn
 abbrev pub picked : Fields → List Entry → Fields

@@ -1,18 +1,19 @@
 -- What a graph is fed by a draft.
-use Rattle.std.proofs.Common.{◌≡◌, ℕ, true, false, length, map, IsTrue, List, [], ◌∷◌, Option, None, Some, All, is_some, option_map, unwrap_or, nat_le, bytes_eq, refl, ap, sym, ◌∙◌, subst}
+use Rattle.std.proofs.Common.{◌≡◌, ℕ, true, false, length, map, IsTrue, List, [], ◌∷◌, Option, None, Some, All, is_some, unwrap_or, nat_le, bytes_eq, refl, ap, sym, ◌∙◌, subst}
 use Rattle.std.specs.List.{list_all}
 use Rattle.std.specs.Option.{option_map_or}
+use Rattle.std.proofs.lemmas.Bool.{and_parts, and_from}
 use Rattle.std.proofs.lemmas.List.Elements.{All-nil, All-cons}
 use Rattle.exec_doc.specs.Document.{resolved_fed, resolved_entry}
 use Rattle.exec_doc.specs.declared.draft.FedDraft.{FedDraft}
 use Rattle.exec_doc.specs.declared.draft.FedDraft.TheVariants as draft
 use Rattle.exec_doc.specs.declared.draft.EntryDraft.{EntryDraft}
-use Rattle.exec_doc.specs.inner.Placing.{topic_at, server_at, fed_by, entry_by}
+use Rattle.exec_doc.specs.inner.Placing.{fed_by, entry_by}
 use Rattle.exec_doc.specs.Refusals as refusals
 use Rattle.exec_doc.specs.Refusals.{feeds}
 use Rattle.exec_graph.specs.declared.draft.GraphDraft.{GraphDraft}
 use Rattle.exec_graph.specs.Feeding.{goes_somewhere}
-use Rattle.exec_graph.specs.Graph.{GraphData, is_topic, is_server}
+use Rattle.exec_graph.specs.Graph.{GraphData, is_topic, is_server, topic_at, server_at}
 use Rattle.exec_graph.specs.Lawful.{is_at}
 use Rattle.exec_graph.specs.Numbers.{topic_named, server_named}
 use Rattle.exec_graph.specs.Options.{each}
@@ -21,9 +22,8 @@ use Rattle.exec_graph.specs.Schedule.{stamp_of, is_identified}
 use Rattle.exec_graph.specs.declared.plan.Fed.{Fed}
 use Rattle.exec_graph.specs.declared.plan.Fed.TheVariants.{Goal, Cancel}
 use Rattle.exec_graph.specs.declared.plan.Feed.{Feed}
-use Rattle.exec_graph.proofs.Bools.{and_left, and_right, both_true}
 use Rattle.exec_graph.proofs.Found.{found_there, Finds, finds}
-use Rattle.exec_graph.proofs.Reading.{AreRead, are_read, as_many, seen_alike, each_some}
+use Rattle.exec_graph.proofs.Reading.{AreRead, are_read, as_many, seen_alike, each_some, mapped_read, some_mapped}
 
 -- ---- what is found in a graph
 
@@ -32,11 +32,6 @@ topic_there made name number found = found_there (λ entity. is_topic entity.is)
 
 server_there : (made : GraphData) (name : List ℕ) (number : ℕ) → server_at made name ≡ Some number → is_at is_server made number ≡ true
 server_there made name number found = found_there (λ entity. is_server entity.is) (λ entity. bytes_eq entity.name name) made.entities number found
-
--- what is made of something that is there
-then_made : {A B : Type 0} (K : Type 0) (f : A → B) (o : Option A) (b : B) → option_map f o ≡ Some b → ((a : A) → o ≡ Some a → f a ≡ b → K) → K
-then_made K f None b e next = absurd cc
-then_made K f (Some a) b e next = next a refl cc
 
 -- ---- what is fed to a graph
 
@@ -47,13 +42,13 @@ record IsPlaced (made : GraphData) (drafted : FedDraft) (fed : Fed) : Type 0 whe
 
 fed_placed : (made : GraphData) (drafted : FedDraft) (fed : Fed) → fed_by made drafted ≡ Some fed → IsPlaced made drafted fed
 fed_placed made (draft.Message name value) fed e =
-    then_made _ _ (topic_at made name) fed e (λ topic found is.
+    mapped_read _ (topic_at made name) _ fed e (λ topic found is.
     subst (IsPlaced made (draft.Message name value)) is (record { stamp = refl; goes = topic_there made name topic found }))
 fed_placed made (draft.Goal name id value) fed e =
-    then_made _ _ (server_at made name) fed e (λ server found is.
+    mapped_read _ (server_at made name) _ fed e (λ server found is.
     subst (IsPlaced made (draft.Goal name id value)) is (record { stamp = refl; goes = server_there made name server found }))
 fed_placed made (draft.Cancel name id stamp) fed e =
-    then_made _ _ (server_at made name) fed e (λ server found is.
+    mapped_read _ (server_at made name) _ fed e (λ server found is.
     subst (IsPlaced made (draft.Cancel name id stamp)) is (record { stamp = refl; goes = server_there made name server found }))
 
 -- an entry has its draft's round
@@ -63,7 +58,7 @@ record IsEntry (made : GraphData) (drafted : EntryDraft) (entry : Feed) : Type 0
 
 entry_placed : (made : GraphData) (drafted : EntryDraft) (entry : Feed) → entry_by made drafted ≡ Some entry → IsEntry made drafted entry
 entry_placed made drafted entry e =
-    then_made _ _ (fed_by made drafted.fed) entry e (λ fed found is.
+    mapped_read _ (fed_by made drafted.fed) _ entry e (λ fed found is.
     subst (IsEntry made drafted) is (record { round = refl; fed = found }))
 
 -- all that is fed goes to what is there
@@ -84,7 +79,7 @@ goes_tested made [] [] reads = refl
 goes_tested made [] (entry ∷ feed) reads = absurd reads
 goes_tested made (d ∷ drafted) [] reads = absurd reads
 goes_tested made (d ∷ drafted) (entry ∷ feed) reads =
-    both_true (goes_somewhere made entry.fed) (list_all (λ entry. goes_somewhere made entry.fed) feed)
+    and_from (goes_somewhere made entry.fed) (list_all (λ entry. goes_somewhere made entry.fed) feed)
     (fed_placed made d.fed entry.fed (entry_placed made d entry reads.0).fed).goes
     (goes_tested made drafted feed reads.1)
 
@@ -109,21 +104,17 @@ has_schedule made drafted feed e =
 
 -- ---- the feed of the draft
 
-made_there : {A B : Type 0} (f : A → B) (o : Option A) → is_some o ≡ true → is_some (option_map f o) ≡ true
-made_there f None e = e
-made_there f (Some a) e = refl
-
 fed_there : (source : GraphDraft) (made : GraphData) → Finds source made → (drafted : FedDraft) → feeds source drafted ≡ true → is_some (fed_by made drafted) ≡ true
-fed_there source made find (draft.Message name value) e = made_there _ (topic_at made name) (ap is_some (find.topic name) ∙ e)
-fed_there source made find (draft.Goal name id value) e = made_there _ (server_at made name) (ap is_some (find.server name) ∙ e)
-fed_there source made find (draft.Cancel name id stamp) e = made_there _ (server_at made name) (ap is_some (find.server name) ∙ e)
+fed_there source made find (draft.Message name value) e = some_mapped _ (topic_at made name) (ap is_some (find.topic name) ∙ e)
+fed_there source made find (draft.Goal name id value) e = some_mapped _ (server_at made name) (ap is_some (find.server name) ∙ e)
+fed_there source made find (draft.Cancel name id stamp) e = some_mapped _ (server_at made name) (ap is_some (find.server name) ∙ e)
 
 entries_there : (source : GraphDraft) (made : GraphData) → Finds source made → (drafted : List EntryDraft) → list_all (λ entry. feeds source entry.fed) drafted ≡ true → list_all (λ entry. is_some (entry_by made entry)) drafted ≡ true
 entries_there source made find [] e = refl
 entries_there source made find (d ∷ drafted) e =
-    both_true (is_some (entry_by made d)) (list_all (λ entry. is_some (entry_by made entry)) drafted)
-    (made_there _ (fed_by made d.fed) (fed_there source made find d.fed (and_left (feeds source d.fed) (list_all (λ entry. feeds source entry.fed) drafted) e)))
-    (entries_there source made find drafted (and_right (feeds source d.fed) (list_all (λ entry. feeds source entry.fed) drafted) e))
+    and_from (is_some (entry_by made d)) (list_all (λ entry. is_some (entry_by made entry)) drafted)
+    (some_mapped _ (fed_by made d.fed) (fed_there source made find d.fed (and_parts (feeds source d.fed) (list_all (λ entry. feeds source entry.fed) drafted) e).0))
+    (entries_there source made find drafted (and_parts (feeds source d.fed) (list_all (λ entry. feeds source entry.fed) drafted) e).1)
 
 -- what is declared is there
 pub feed_there : (source : GraphDraft) (made : GraphData) (drafted : List EntryDraft) → graph_in source ≡ Some made → list_all (λ entry. feeds source entry.fed) drafted ≡ true → each (entry_by made) drafted ≡ None → ⊥
@@ -134,16 +125,16 @@ feed_there source made drafted e fed none =
 
 -- what is fed is declared
 fed_feeds : (source : GraphDraft) (made : GraphData) → Finds source made → (drafted : FedDraft) (fed : Fed) → fed_by made drafted ≡ Some fed → feeds source drafted ≡ true
-fed_feeds source made find (draft.Message name value) fed e = then_made _ _ (topic_at made name) fed e (λ topic found is. ap is_some (sym (find.topic name) ∙ found))
-fed_feeds source made find (draft.Goal name id value) fed e = then_made _ _ (server_at made name) fed e (λ server found is. ap is_some (sym (find.server name) ∙ found))
-fed_feeds source made find (draft.Cancel name id stamp) fed e = then_made _ _ (server_at made name) fed e (λ server found is. ap is_some (sym (find.server name) ∙ found))
+fed_feeds source made find (draft.Message name value) fed e = mapped_read _ (topic_at made name) _ fed e (λ topic found is. ap is_some (sym (find.topic name) ∙ found))
+fed_feeds source made find (draft.Goal name id value) fed e = mapped_read _ (server_at made name) _ fed e (λ server found is. ap is_some (sym (find.server name) ∙ found))
+fed_feeds source made find (draft.Cancel name id stamp) fed e = mapped_read _ (server_at made name) _ fed e (λ server found is. ap is_some (sym (find.server name) ∙ found))
 
 each_feeds : (source : GraphDraft) (made : GraphData) → Finds source made → (drafted : List EntryDraft) (feed : List Feed) → AreRead (entry_by made) drafted feed → list_all (λ entry. feeds source entry.fed) drafted ≡ true
 each_feeds source made find [] [] reads = refl
 each_feeds source made find [] (entry ∷ feed) reads = absurd reads
 each_feeds source made find (d ∷ drafted) [] reads = absurd reads
 each_feeds source made find (d ∷ drafted) (entry ∷ feed) reads =
-    both_true (feeds source d.fed) (list_all (λ entry. feeds source entry.fed) drafted)
+    and_from (feeds source d.fed) (list_all (λ entry. feeds source entry.fed) drafted)
     (fed_feeds source made find d.fed entry.fed (entry_placed made d entry reads.0).fed)
     (each_feeds source made find drafted feed reads.1)
 
@@ -157,18 +148,18 @@ record IsSaid (source : GraphDraft) (drafted : FedDraft) (fed : Fed) : Type 0 wh
 
 fed_said : (source : GraphDraft) (made : GraphData) → Finds source made → (drafted : FedDraft) (fed : Fed) → fed_by made drafted ≡ Some fed → refusals.is_identified drafted ≡ true → IsSaid source drafted fed
 fed_said source made find (draft.Message name value) fed e identified =
-    then_made _ _ (topic_at made name) fed e (λ topic found is.
+    mapped_read _ (topic_at made name) _ fed e (λ topic found is.
     let named : topic_named source name ≡ Some topic = sym (find.topic name) ∙ found in
     subst (IsSaid source (draft.Message name value)) is (record { said = rw named refl; identified = refl }))
 fed_said source made find (draft.Goal name said value) fed e identified =
-    then_made _ _ (server_at made name) fed e (λ server found is.
+    mapped_read _ (server_at made name) _ fed e (λ server found is.
     let named : server_named source name ≡ Some server = sym (find.server name) ∙ found in
     subst (IsSaid source (draft.Goal name said value)) is (goal server named said refl identified)) where
       goal : (server : ℕ) → server_named source name ≡ Some server → (id : Option ℕ) → said ≡ id → option_map_or (λ n. nat_le 1 n) id false ≡ true → IsSaid source (draft.Goal name said value) (Goal server (unwrap_or said 0) value)
       goal server named None is e = absurd cc
       goal server named (Some id) is e = record { said = rw (named, is) refl; identified = rw is e }
 fed_said source made find (draft.Cancel name said stamp) fed e identified =
-    then_made _ _ (server_at made name) fed e (λ server found is.
+    mapped_read _ (server_at made name) _ fed e (λ server found is.
     let named : server_named source name ≡ Some server = sym (find.server name) ∙ found in
     subst (IsSaid source (draft.Cancel name said stamp)) is (cancel server named said refl identified)) where
       cancel : (server : ℕ) → server_named source name ≡ Some server → (id : Option ℕ) → said ≡ id → is_some id ≡ true → IsSaid source (draft.Cancel name said stamp) (Cancel server (unwrap_or said 0) stamp)
@@ -189,11 +180,11 @@ each_said source made find [] (entry ∷ feed) reads e = absurd reads
 each_said source made find (d ∷ drafted) [] reads e = absurd reads
 each_said source made find (d ∷ drafted) (entry ∷ feed) reads e =
     let at = entry_placed made d entry reads.0 in
-    let here = fed_said source made find d.fed entry.fed at.fed (and_left (refusals.is_identified d.fed) (list_all (λ entry. refusals.is_identified entry.fed) drafted) e) in
-    let others = each_said source made find drafted feed reads.1 (and_right (refusals.is_identified d.fed) (list_all (λ entry. refusals.is_identified entry.fed) drafted) e) in
+    let here = fed_said source made find d.fed entry.fed at.fed (and_parts (refusals.is_identified d.fed) (list_all (λ entry. refusals.is_identified entry.fed) drafted) e).0 in
+    let others = each_said source made find drafted feed reads.1 (and_parts (refusals.is_identified d.fed) (list_all (λ entry. refusals.is_identified entry.fed) drafted) e).1 in
     record {
       said = rw (entry_said source d entry at.round here.said, others.said) refl;
-      identified = both_true (is_identified entry.fed) (list_all (λ entry. is_identified entry.fed) feed) here.identified others.identified;
+      identified = and_from (is_identified entry.fed) (list_all (λ entry. is_identified entry.fed) feed) here.identified others.identified;
     }
 
 pub are_said : (source : GraphDraft) (made : GraphData) (drafted : List EntryDraft) (feed : List Feed) → graph_in source ≡ Some made → each (entry_by made) drafted ≡ Some feed → list_all (λ entry. refusals.is_identified entry.fed) drafted ≡ true → AreSaid source drafted feed

@@ -2,6 +2,7 @@
 use Rattle.std.proofs.Common.{◌≡◌, ℕ, Bool, true, false, is_some, List, [], ◌∷◌, Option, None, Some, find, refl}
 use Rattle.std.specs.List.{list_all}
 use Rattle.std.specs.Option.{option_map_or}
+use Rattle.std.proofs.lemmas.Bool.{and_parts, and_from}
 use Rattle.serde_json.specs.Data.{Data}
 use Rattle.exec_doc.specs.Document.{resolved_fed, resolved_entry, plan_of, unless_refused, plan_in}
 use Rattle.exec_doc.specs.declared.draft.FedDraft.{FedDraft}
@@ -16,8 +17,7 @@ use Rattle.exec_graph.specs.Numbers.{topic_named, server_named}
 use Rattle.exec_graph.specs.Options.{◌>>=◌, each}
 use Rattle.exec_graph.specs.Refusals.{fault_in}
 use Rattle.exec_graph.specs.Resolved.{graph_in}
-use Rattle.exec_graph.proofs.Bools.{and_left, and_right, both_true}
-use Rattle.exec_graph.proofs.Reading.{then_some, each_some}
+use Rattle.exec_graph.proofs.Reading.{goes_on, each_some}
 use Rattle.exec_doc.proofs.Kept.{IsKept, holds_of, kept}
 
 -- ---- the feed
@@ -27,20 +27,20 @@ identified None test e = e
 identified (Some id) test e = refl
 
 is_fed : (source : GraphDraft) (fed : FedDraft) → feeds source fed ≡ true → is_identified fed ≡ true → is_some (resolved_fed source fed) ≡ true
-is_fed source (Message name value) feeding has_id = then_some (topic_named source name) _ feeding (λ topic. refl)
+is_fed source (Message name value) feeding has_id = goes_on (topic_named source name) _ feeding (λ topic. refl)
 is_fed source (Goal name id value) feeding has_id =
-    then_some (server_named source name) _ feeding (λ server. then_some id _ (identified id _ has_id) (λ id. refl))
+    goes_on (server_named source name) _ feeding (λ server. goes_on id _ (identified id _ has_id) (λ id. refl))
 is_fed source (Cancel name id stamp) feeding has_id =
-    then_some (server_named source name) _ feeding (λ server. then_some id _ has_id (λ id. refl))
+    goes_on (server_named source name) _ feeding (λ server. goes_on id _ has_id (λ id. refl))
 
 are_fed : (source : GraphDraft) (feed : List EntryDraft) → list_all (λ entry. feeds source entry.fed) feed ≡ true → list_all (λ entry. is_identified entry.fed) feed ≡ true → list_all (λ entry. is_some (resolved_entry source entry)) feed ≡ true
 are_fed source [] feeding has_ids = refl
 are_fed source (entry ∷ others) feeding has_ids =
-    both_true (is_some (resolved_entry source entry)) (list_all (λ entry. is_some (resolved_entry source entry)) others)
-    (then_some (resolved_fed source entry.fed) _
-    (is_fed source entry.fed (and_left (feeds source entry.fed) (list_all (λ entry. feeds source entry.fed) others) feeding) (and_left (is_identified entry.fed) (list_all (λ entry. is_identified entry.fed) others) has_ids))
+    and_from (is_some (resolved_entry source entry)) (list_all (λ entry. is_some (resolved_entry source entry)) others)
+    (goes_on (resolved_fed source entry.fed) _
+    (is_fed source entry.fed (and_parts (feeds source entry.fed) (list_all (λ entry. feeds source entry.fed) others) feeding).0 (and_parts (is_identified entry.fed) (list_all (λ entry. is_identified entry.fed) others) has_ids).0)
     (λ fed. refl))
-    (are_fed source others (and_right (feeds source entry.fed) (list_all (λ entry. feeds source entry.fed) others) feeding) (and_right (is_identified entry.fed) (list_all (λ entry. is_identified entry.fed) others) has_ids))
+    (are_fed source others (and_parts (feeds source entry.fed) (list_all (λ entry. feeds source entry.fed) others) feeding).1 (and_parts (is_identified entry.fed) (list_all (λ entry. is_identified entry.fed) others) has_ids).1)
 
 -- ---- the plan
 
@@ -52,8 +52,8 @@ module _ (has_graph : (source : GraphDraft) → fault_in source ≡ None → is_
   -- a document that keeps what each code asks has a plan
   has_plan : (document : DocumentDraft) → IsKept document → is_some (plan_of document) ≡ true
   has_plan document kept =
-      then_some (graph_in document.graph) _ (has_graph document.graph kept.graph)
-      (λ made. then_some (each (resolved_entry document.graph) document.feed) _
+      goes_on (graph_in document.graph) _ (has_graph document.graph kept.graph)
+      (λ made. goes_on (each (resolved_entry document.graph) document.feed) _
       (each_some (resolved_entry document.graph) document.feed (are_fed document.graph document.feed kept.feeding kept.identified))
       (λ feed. refl))
 

@@ -1,7 +1,9 @@
 -- The refusal of a document by what was found of it so far.
 use Rattle.std.proofs.Common.{◌≡◌, Bool, true, false, cond, not, ◌&&◌, ◌==◌, Option, None, Some, is_some, option_map, refl, ap, subst}
+use Rattle.std.proofs.lemmas.Option.{same_Some}
+use Rattle.std.specs.Bool.{then_some}
 use Rattle.std.specs.List.{list_all}
-use Rattle.exec_doc.specs.inner.Answering.{draft_refusal, graph_refusal, only_if, plan_refusal}
+use Rattle.exec_doc.specs.inner.Answering.{draft_refusal, graph_refusal, plan_refusal}
 use Rattle.exec_doc.specs.Draft.{DocumentDraft}
 use Rattle.exec_doc.specs.Refusals.{feeds, is_identified, has_small_schedule, is_clocked}
 use Rattle.exec_doc.specs.declared.refused.Refused.{Refused}
@@ -65,17 +67,6 @@ undeclared document version missing = names_by
     (document.version == 1) (is_well_named document.graph) (list_all (λ entry. feeds document.graph entry.fed) document.feed) (is_small document.graph) (has_small_schedule document) (has_faulty_script document.graph) (shares_variables document.graph) (is_clocked document) (list_all (λ entry. is_identified entry.fed) document.feed)
     (version_1 document version) missing
 
-misnamed_by : (v w f s h c g o i : Bool) → v ≡ true → w ≡ false → by_tests v w f s h c g o i ≡ Some refused.Name
-misnamed_by true true f s h c g o i version misnamed = absurd cc
-misnamed_by true false f s h c g o i version misnamed = refl
-misnamed_by false w f s h c g o i version misnamed = absurd cc
-
--- the graph isn't well named
-pub misnamed : (document : DocumentDraft) → document.version ≡ 1 → is_well_named document.graph ≡ false → draft_refusal document ≡ Some refused.Name
-misnamed document version wrong = misnamed_by
-    (document.version == 1) (is_well_named document.graph) (list_all (λ entry. feeds document.graph entry.fed) document.feed) (is_small document.graph) (has_small_schedule document) (has_faulty_script document.graph) (shares_variables document.graph) (is_clocked document) (list_all (λ entry. is_identified entry.fed) document.feed)
-    (version_1 document version) wrong
-
 -- ---- the graph
 
 graph_tests : (v w f s h c g o i : Bool) (code : Refused) → v ≡ true → f ≡ true → graph_by w s h c g ≡ Some code → by_tests v w f s h c g o i ≡ Some code
@@ -122,17 +113,11 @@ by_schedule document version fed none = schedule_tests
 
 -- a plan's fault is the refusal, where its goals are identified where the document's are
 pub plan_tests : (fits ordered these identified : Bool) (fault : PlanFault) → (identified ≡ true → these ≡ true) → plan_by fits ordered these ≡ Some fault → scheduled fits ordered identified ≡ Some (plan_refusal fault)
-plan_tests false ordered these identified fault same found = subst (λ (f : PlanFault). Some refused.Limit ≡ Some (plan_refusal f)) (the plan_fault.Limit fault found) refl where
-  the : (a b : PlanFault) → Some a ≡ Some b → a ≡ b
-  the a b e = cc
-plan_tests true false these identified fault same found = subst (λ (f : PlanFault). Some refused.Clock ≡ Some (plan_refusal f)) (the plan_fault.Clock fault found) refl where
-  the : (a b : PlanFault) → Some a ≡ Some b → a ≡ b
-  the a b e = cc
+plan_tests false ordered these identified fault same found = subst (λ (f : PlanFault). Some refused.Limit ≡ Some (plan_refusal f)) (same_Some plan_fault.Limit fault found) refl
+plan_tests true false these identified fault same found = subst (λ (f : PlanFault). Some refused.Clock ≡ Some (plan_refusal f)) (same_Some plan_fault.Clock fault found) refl
 plan_tests true true true identified fault same found = absurd cc
 plan_tests true true false true fault same found = let e = same refl in absurd cc
-plan_tests true true false false fault same found = subst (λ (f : PlanFault). Some refused.Id ≡ Some (plan_refusal f)) (the plan_fault.Id fault found) refl where
-  the : (a b : PlanFault) → Some a ≡ Some b → a ≡ b
-  the a b e = cc
+plan_tests true true false false fault same found = subst (λ (f : PlanFault). Some refused.Id ≡ Some (plan_refusal f)) (same_Some plan_fault.Id fault found) refl
 
 -- without such a fault it fits, and all is in order
 pub record IsScheduled (within clocked : Bool) : Type 0 where
@@ -147,14 +132,14 @@ is_scheduled false ordered these none = absurd cc
 -- ---- the moments
 
 -- moments are there where the schedule fits
-pub there_where : {A : Type 0} {B : Type 0} (view : A → B) (found : Option A) (fits : Bool) (said : B) → option_map view found ≡ only_if fits said → is_some found ≡ fits
+pub there_where : {A : Type 0} {B : Type 0} (view : A → B) (found : Option A) (fits : Bool) (said : B) → option_map view found ≡ then_some fits said → is_some found ≡ fits
 there_where view None true said e = absurd cc
 there_where view None false said e = refl
 there_where view (Some a) true said e = refl
 there_where view (Some a) false said e = absurd cc
 
 -- moments that are there are those that were said
-pub only_there : {A : Type 0} {B : Type 0} (view : A → B) (found : Option A) (a : A) (fits : Bool) (said : B) → option_map view found ≡ only_if fits said → found ≡ Some a → said ≡ view a
+pub only_there : {A : Type 0} {B : Type 0} (view : A → B) (found : Option A) (a : A) (fits : Bool) (said : B) → option_map view found ≡ then_some fits said → found ≡ Some a → said ≡ view a
 only_there view None a fits said e is = absurd cc
 only_there view (Some x) a true said e is = cc
 only_there view (Some x) a false said e is = absurd cc

@@ -1,18 +1,18 @@
 -- What is known of a schedule that was read.
 use Rattle.std.proofs.Common.{◌≡◌, ℕ, ◌&&◌, Bool, true, false, List, [], ◌∷◌, Option, Some, refl, ap, sym, ◌∙◌, ◌+◌, ◌<◌, ◌≤◌, arith, length, get_or, drop, map, max}
+use Rattle.std.specs.Bool.{then_some}
 use Rattle.std.specs.List.{list_all}
 use Rattle.std.proofs.Math.Nat.{max-zero}
 use Rattle.std.proofs.lemmas.List.{drop_all}
-use Rattle.exec_doc.proofs.Each.{at_place}
+use Rattle.exec_graph.proofs.NameLists.{at_place}
 use Rattle.exec_graph.specs.Schedule.{greatest}
 use Rattle.exec_graph.specs.Options.{◌>>=◌, each}
-use Rattle.exec_doc.specs.inner.Answering.{only_if}
 
 -- each passes a test where all do
-pub each_only : {A : Type 0} (test : A → Bool) (xs : List A) → each (λ x. only_if (test x) x) xs ≡ only_if (list_all test xs) xs
+pub each_only : {A : Type 0} (test : A → Bool) (xs : List A) → each (λ x. then_some (test x) x) xs ≡ then_some (list_all test xs) xs
 each_only test [] = refl
-each_only {A} test (x ∷ xs) = both (test x) (list_all test xs) (each (λ x. only_if (test x) x) xs) (each_only test xs) where
-  both : (b c : Bool) (rest : Option (List A)) → rest ≡ only_if c xs → (only_if b x >>= (λ y. rest >>= (λ ys. Some (y ∷ ys)))) ≡ only_if (b && c) (x ∷ xs)
+each_only {A} test (x ∷ xs) = both (test x) (list_all test xs) (each (λ x. then_some (test x) x) xs) (each_only test xs) where
+  both : (b c : Bool) (rest : Option (List A)) → rest ≡ then_some c xs → (then_some b x >>= (λ y. rest >>= (λ ys. Some (y ∷ ys)))) ≡ then_some (b && c) (x ∷ xs)
   both true true rest e = rw e refl
   both true false rest e = rw e refl
   both false c rest e = refl

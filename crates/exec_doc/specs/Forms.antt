@@ -57,9 +57,17 @@ list_of form value = as_array value >>= (λ items. each form (values_of items))
 
 -- ---- fields
 
+-- what a form says of a field that is needed
+abbrev pub needed : {A : Type 0} → (Data → Option A) → Option Data → Option A
+needed form field = field >>= form
+
+-- what a form says of a field with what stands for it where it is missing
+abbrev pub or_default : {A : Type 0} → (Data → Option A) → A → Option Data → Option A
+or_default form default field = option_map (λ found. unwrap_or found default) (if_there form field)
+
 -- a required field
 abbrev pub required : {A : Type 0} → (Data → Option A) → List ℕ → Data → Option A
-required form name holder = get name holder >>= form
+required form name holder = needed form (get name holder)
 
 -- an optional field
 abbrev pub optional : {A : Type 0} → (Data → Option A) → List ℕ → Data → Option (Option A)
@@ -67,7 +75,7 @@ optional form name holder = if_there form (get name holder)
 
 -- an optional field with what stands for it where it is missing
 abbrev pub defaulted : {A : Type 0} → (Data → Option A) → A → List ℕ → Data → Option A
-defaulted form default name holder = option_map (λ found. unwrap_or found default) (optional form name holder)
+defaulted form default name holder = or_default form default (get name holder)
 
 -- a list, which is empty where it is missing
 abbrev pub list : {A : Type 0} → (Data → Option A) → List ℕ → Data → Option (List A)
@@ -174,50 +182,72 @@ node value = do
 
 -- ---- the feed
 
+-- the values of the fields that an entry may have
+pub record Fields : Type 0 where
+  pub round : Option Data
+  pub topic : Option Data
+  pub goal : Option Data
+  pub cancel : Option Data
+  pub action : Option Data
+  pub value : Option Data
+  pub stamp : Option Data
+
+-- those of a value
+abbrev pub fields_of : Data → Fields
+fields_of holder = record {
+  round = get (codes "round") holder;
+  topic = get (codes "topic") holder;
+  goal = get (codes "goal") holder;
+  cancel = get (codes "cancel") holder;
+  action = get (codes "action") holder;
+  value = get (codes "value") holder;
+  stamp = get (codes "stamp") holder;
+}
+
 -- a message to a topic
-abbrev pub message_form : Data → Option FedDraft
-message_form value = do
-  topic ← required text (codes "topic") value
-  sent ← required integer (codes "value") value
+abbrev pub message_in : Fields → Option FedDraft
+message_in fields = do
+  topic ← needed text fields.topic
+  sent ← needed integer fields.value
   Some (Message topic sent)
 
 -- a goal request
-abbrev pub goal_form : Data → Option FedDraft
-goal_form value = do
-  action ← required text (codes "action") value
-  id ← required identifier (codes "goal") value
-  sent ← required integer (codes "value") value
+abbrev pub goal_in : Fields → Option FedDraft
+goal_in fields = do
+  action ← needed text fields.action
+  id ← needed identifier fields.goal
+  sent ← needed integer fields.value
   Some (Goal action id sent)
 
 -- a cancel request; a stamp of 0 is none
-abbrev pub cancel_form : Data → Option FedDraft
-cancel_form value = do
-  action ← required text (codes "action") value
-  id ← required identifier (codes "cancel") value
-  stamp ← defaulted count 0 (codes "stamp") value
+abbrev pub cancel_in : Fields → Option FedDraft
+cancel_in fields = do
+  action ← needed text fields.action
+  id ← needed identifier fields.cancel
+  stamp ← or_default count 0 fields.stamp
   Some (Cancel action id stamp)
 
--- the form of an entry that has the field `topic`, `goal` or `cancel`, and has no other of them
-abbrev pub form_by : Bool → Bool → Bool → Data → Option FedDraft
-form_by true false false = message_form
-form_by false true false = goal_form
-form_by false false true = cancel_form
-form_by _ _ _ = λ value. None
-
--- whether a field is there, whatever it holds
-abbrev pub has : List ℕ → Data → Bool
-has name holder = is_some (get name holder)
+-- the form of an entry that has the field `topic`, `goal` or `cancel`, whatever it holds, and has no other of them
+abbrev pub form_in : Bool → Bool → Bool → Fields → Option FedDraft
+form_in true false false = message_in
+form_in false true false = goal_in
+form_in false false true = cancel_in
+form_in _ _ _ = λ fields. None
 
 -- what an entry feeds
-abbrev pub fed : Data → Option FedDraft
-fed value = form_by (has (codes "topic") value) (has (codes "goal") value) (has (codes "cancel") value) value
+abbrev pub fed_in : Fields → Option FedDraft
+fed_in fields = form_in (is_some fields.topic) (is_some fields.goal) (is_some fields.cancel) fields
+
+-- what an entry with these fields says
+abbrev pub entry_in : Fields → Option EntryDraft
+entry_in fields = do
+  round ← needed count fields.round
+  is ← fed_in fields
+  Some (record { round = round; fed = is })
 
 -- an entry of the feed
 abbrev pub entry : Data → Option EntryDraft
-entry value = do
-  round ← required count (codes "round") value
-  is ← fed value
-  Some (record { round = round; fed = is })
+entry value = entry_in (fields_of value)
 
 -- ---- the document
 

@@ -36,7 +36,7 @@ pub enum FedDraft {
 /// An entry of a feed.
 #[derive(Debug, Drop)]
 pub struct EntryDraft {
-    /// The number of its round.
+    /// The number of its round; the rounds of a document are numbered from 1.
     pub round: u64,
     /// What it feeds.
     pub fed: FedDraft,

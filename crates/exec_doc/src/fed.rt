@@ -2,7 +2,8 @@ ghost use Rattle.std.specs.Prelude.{◌≡◌, ◌⊎◌, IsTrue, IfOk, IfErr, N
 ghost use Rattle.std.specs.List.{All, list_all};
 ghost use Rattle.std.specs.Option.{option_map};
 ghost use Rattle.exec_graph.specs.Feeding.{goes_somewhere};
-ghost use Rattle.exec_doc.specs.inner.Placing.{topic_at, server_at, id_or_0, fed_by, entry_by};
+ghost use Rattle.exec_graph.specs.Graph.{topic_at, server_at};
+ghost use Rattle.exec_doc.specs.inner.Placing.{id_or_0, fed_by, entry_by};
 ghost use Rattle.exec_doc.specs.Refusals.{feeds, is_identified};
 ghost use Rattle.exec_graph.specs.Options.{each};
 ghost use Rattle.exec_graph.specs.declared.plan.Fed.TheVariants.{Message, Goal, Cancel};

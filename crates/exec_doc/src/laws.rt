@@ -1,5 +1,5 @@
 //! Laws of documents: each function's contract says one, and its body is empty or calls the laws that it rests on.
-ghost use Rattle.std.specs.Prelude.{◌≡◌, ℕ, ◌<◌, List, Option, Some, None, is_some, true, false};
+ghost use Rattle.std.specs.Prelude.{◌≡◌, ℕ, ◌<◌, List, Some, None, is_some, true, false};
 ghost use Rattle.exec_doc.specs.Document.{document_of};
 ghost use Rattle.exec_doc.specs.Refusals.{value_read, number_of, holds, refusal_of};
 ghost use Rattle.exec_doc.specs.declared.refused.Refused.{Refused};

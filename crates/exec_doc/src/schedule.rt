@@ -1,7 +1,7 @@
+ghost use Rattle.std.specs.Bool.{then_some};
 ghost use Rattle.std.specs.Prelude.{◌≡◌, length, map, nat_le, IfOk, OnErr};
 ghost use Rattle.std.specs.List.{list_all};
 ghost use Rattle.std.specs.Option.{option_map};
-ghost use Rattle.exec_doc.specs.inner.Answering.{only_if};
 ghost use Rattle.exec_doc.specs.Refusals.{stamp_of};
 ghost use Rattle.exec_graph.specs.Schedule.{schedule_fits, greatest};
 ghost use Rattle.exec_msg.specs.declared.limits.TheConstants.{TICKS};
@@ -22,7 +22,7 @@ pub fn moments_within(
     feed: &[EntryDraft],
 ) -> Result<Option<Vec<Moment>>, Refused>
     ensures moments { IfOk result (λ found. option_map (λ moments. moments.items) found
-        ≡ only_if (schedule_fits ticks.now (length feed.now) (greatest (map (λ entry. stamp_of entry.fed) feed.now))) ticks.now) }
+        ≡ then_some (schedule_fits ticks.now (length feed.now) (greatest (map (λ entry. stamp_of entry.fed) feed.now))) ticks.now) }
     ensures memory { OnErr result (result ≡ Err Refused.Memory) }
 {
     let Some(moments) = moments_of(alloc, ticks)? else {
@@ -41,7 +41,7 @@ pub fn moments_within(
 /// [`Refused::Memory`] alone.
 pub fn moments_of(alloc: Global, ticks: &[u64]) -> Result<Option<Vec<Moment>>, Refused>
     ensures moments { IfOk result (λ found. option_map (λ moments. moments.items) found
-        ≡ only_if (list_all (λ moment. nat_le moment TICKS) ticks.now) ticks.now) }
+        ≡ then_some (list_all (λ moment. nat_le moment TICKS) ticks.now) ticks.now) }
     ensures memory { OnErr result (result ≡ Err Refused.Memory) }
 {
     let mut moments = Vec::with_capacity(alloc, ticks.len())?;

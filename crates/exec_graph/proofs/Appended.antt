@@ -1,8 +1,9 @@
 -- Entries that are added one after another, each of a new name.
-use Rattle.std.proofs.Common.{◌≡◌, ℕ, zero, suc, ◌+◌, ◌<◌, Bool, true, false, not, ◌||◌, if◌then◌else◌, List, [], ◌∷◌, ◌++◌, length, map, drop, get_or, Option, None, Some, option_and_then, String, Global, string_bytes, refl, sym, ap, ◌∙◌, append_assoc, append-nil}
+use Rattle.std.proofs.Common.{◌≡◌, ℕ, ◌+◌, ◌<◌, Bool, true, false, not, if◌then◌else◌, List, [], ◌∷◌, ◌++◌, length, map, drop, get_or, Option, None, Some, option_and_then, String, Global, string_bytes, refl, sym, ap, ◌∙◌, append_assoc, append-nil}
 use Rattle.std.specs.List.{list_any}
 use Rattle.std.specs.Option.{option_map}
 use Rattle.std.specs.Str.{bytes_eq}
+use Rattle.std.proofs.lemmas.Bool.{and_parts, or_parts, not-true, and_from, or_from}
 use Rattle.std.proofs.lemmas.List.{map-append}
 use Rattle.std.proofs.lemmas.List.Folds.{list_any-append}
 use Rattle.indexmap.specs.IndexMap.{insert_entry}
@@ -17,9 +18,8 @@ use Rattle.exec_graph.specs.Numbers.{Placed, entities_of}
 use Rattle.exec_graph.specs.Options.{each}
 use Rattle.exec_graph.specs.Resolved.{entity_in, topic_in}
 use Rattle.exec_graph.specs.declared.entity.Declared.{Declared}
-use Rattle.exec_graph.proofs.Bools.{and_left, and_right, or_left, or_right, not_true, both_true}
 use Rattle.exec_graph.proofs.NameLists.{from_place}
-use Rattle.exec_graph.proofs.SameTexts.{bytes_sym}
+use Rattle.exec_graph.proofs.SameTexts.{bytes_sym, is_text}
 
 -- the name of what is declared, and of what is placed
 abbrev pub title : EntityData → List ℕ
@@ -32,10 +32,6 @@ name_of placed = placed.entity.name
 abbrev pub entity : List ℕ → Declared → EntityData
 entity name is = record { name = name; is = is }
 
--- whether a text is this name
-abbrev is_name : List ℕ → List ℕ → Bool
-is_name name other = bytes_eq other name
-
 -- ---- one entry
 
 abbrev keys_eq : String Global → String Global → Bool
@@ -47,46 +43,42 @@ put true entry entries set is last none others = absurd cc
 put false entry entries set is last none others = ap (λ (es : List EntityData). entity_of entry ∷ es) others
 
 -- an entry of a new name goes last
-new_entry : (entries : List (String Global × Declared)) (key : String Global) (is : Declared) → list_any (is_name (string_bytes key)) (map title (entries_of entries)) ≡ false →
+new_entry : (entries : List (String Global × Declared)) (key : String Global) (is : Declared) → list_any (is_text (string_bytes key)) (map title (entries_of entries)) ≡ false →
     entries_of (insert_entry keys_eq entries key is) ≡ entries_of entries ++ entity (string_bytes key) is ∷ []
 new_entry [] key is none = refl
 new_entry (entry ∷ entries) key is none =
     put (keys_eq key entry.0) entry entries (insert_entry keys_eq entries key is) is (entries_of entries ++ entity (string_bytes key) is ∷ [])
-    (bytes_sym (string_bytes key) (string_bytes entry.0) ∙ or_left (bytes_eq (string_bytes entry.0) (string_bytes key)) (list_any (is_name (string_bytes key)) (map title (entries_of entries))) none)
-    (new_entry entries key is (or_right (bytes_eq (string_bytes entry.0) (string_bytes key)) (list_any (is_name (string_bytes key)) (map title (entries_of entries))) none))
+    (bytes_sym (string_bytes key) (string_bytes entry.0) ∙ (or_parts (bytes_eq (string_bytes entry.0) (string_bytes key)) (list_any (is_text (string_bytes key)) (map title (entries_of entries))) none).0)
+    (new_entry entries key is (or_parts (bytes_eq (string_bytes entry.0) (string_bytes key)) (list_any (is_text (string_bytes key)) (map title (entries_of entries))) none).1)
 
 -- the same where the text is known
 pub appended : (name : List ℕ) (old new : List (String Global × Declared)) (key : String Global) (is : Declared) → string_bytes key ≡ name → new ≡ insert_entry keys_eq old key is →
-    list_any (is_name name) (map title (entries_of old)) ≡ false → entries_of new ≡ entries_of old ++ entity name is ∷ []
+    list_any (is_text name) (map title (entries_of old)) ≡ false → entries_of new ≡ entries_of old ++ entity name is ∷ []
 appended name old new key is text inserted none =
     ap entries_of inserted
-    ∙ new_entry old key is (ap (λ (name : List ℕ). list_any (is_name name) (map title (entries_of old))) text ∙ none)
+    ∙ new_entry old key is (ap (λ (name : List ℕ). list_any (is_text name) (map title (entries_of old))) text ∙ none)
     ∙ ap (λ (name : List ℕ). entries_of old ++ entity name is ∷ []) text
 
 -- ---- names that differ
 
-or_false : (a b : Bool) → a ≡ false → b ≡ false → (a || b) ≡ false
-or_false true b e f = e
-or_false false b e f = f
-
 -- a text among others, which all differ, isn't one of those in front
-not_in_front : (front : List (List ℕ)) (text : List ℕ) (rest : List (List ℕ)) → are_distinct (front ++ text ∷ rest) ≡ true → list_any (is_name text) front ≡ false
+not_in_front : (front : List (List ℕ)) (text : List ℕ) (rest : List (List ℕ)) → are_distinct (front ++ text ∷ rest) ≡ true → list_any (is_text text) front ≡ false
 not_in_front [] text rest distinct = refl
 not_in_front (other ∷ front) text rest distinct =
-    let apart : list_any (is_name other) (front ++ text ∷ rest) ≡ false = not_true (list_any (is_name other) (front ++ text ∷ rest)) (and_left (not (list_any (is_name other) (front ++ text ∷ rest))) (are_distinct (front ++ text ∷ rest)) distinct) in
-    let behind : list_any (is_name other) (text ∷ rest) ≡ false = or_right (list_any (is_name other) front) (list_any (is_name other) (text ∷ rest)) (sym (list_any-append (is_name other) front (text ∷ rest)) ∙ apart) in
-    or_false (bytes_eq other text) (list_any (is_name text) front)
-    (bytes_sym other text ∙ or_left (bytes_eq text other) (list_any (is_name other) rest) behind)
-    (not_in_front front text rest (and_right (not (list_any (is_name other) (front ++ text ∷ rest))) (are_distinct (front ++ text ∷ rest)) distinct))
+    let apart : list_any (is_text other) (front ++ text ∷ rest) ≡ false = not-true (list_any (is_text other) (front ++ text ∷ rest)) (and_parts (not (list_any (is_text other) (front ++ text ∷ rest))) (are_distinct (front ++ text ∷ rest)) distinct).0 in
+    let behind : list_any (is_text other) (text ∷ rest) ≡ false = (or_parts (list_any (is_text other) front) (list_any (is_text other) (text ∷ rest)) (sym (list_any-append (is_text other) front (text ∷ rest)) ∙ apart)).1 in
+    or_from (bytes_eq other text) (list_any (is_text text) front)
+    (bytes_sym other text ∙ (or_parts (bytes_eq text other) (list_any (is_text other) rest) behind).0)
+    (not_in_front front text rest (and_parts (not (list_any (is_text other) (front ++ text ∷ rest))) (are_distinct (front ++ text ∷ rest)) distinct).1)
 
 -- those in front differ where all do
 front_distinct : (front rest : List (List ℕ)) → are_distinct (front ++ rest) ≡ true → are_distinct front ≡ true
 front_distinct [] rest distinct = refl
 front_distinct (text ∷ front) rest distinct =
-    let apart : list_any (is_name text) (front ++ rest) ≡ false = not_true (list_any (is_name text) (front ++ rest)) (and_left (not (list_any (is_name text) (front ++ rest))) (are_distinct (front ++ rest)) distinct) in
-    both_true (not (list_any (is_name text) front)) (are_distinct front)
-    (ap not (or_left (list_any (is_name text) front) (list_any (is_name text) rest) (sym (list_any-append (is_name text) front rest) ∙ apart)))
-    (front_distinct front rest (and_right (not (list_any (is_name text) (front ++ rest))) (are_distinct (front ++ rest)) distinct))
+    let apart : list_any (is_text text) (front ++ rest) ≡ false = not-true (list_any (is_text text) (front ++ rest)) (and_parts (not (list_any (is_text text) (front ++ rest))) (are_distinct (front ++ rest)) distinct).0 in
+    and_from (not (list_any (is_text text) front)) (are_distinct front)
+    (ap not (or_parts (list_any (is_text text) front) (list_any (is_text text) rest) (sym (list_any-append (is_text text) front rest) ∙ apart)).0)
+    (front_distinct front rest (and_parts (not (list_any (is_text text) (front ++ rest))) (are_distinct (front ++ rest)) distinct).1)
 
 -- ---- topics
 
@@ -95,15 +87,15 @@ topic_names [] = refl
 topic_names (text ∷ texts) = ap (λ (ts : List (List ℕ)). text ∷ ts) (topic_names texts)
 
 one_more : (all front after rest : List EntityData) (next : EntityData) → are_distinct (map title all) ≡ true → front ++ next ∷ rest ≡ all →
-    (list_any (is_name next.name) (map title front) ≡ false → after ≡ front ++ next ∷ []) → after ++ rest ≡ all
+    (list_any (is_text next.name) (map title front) ≡ false → after ≡ front ++ next ∷ []) → after ++ rest ≡ all
 one_more all front after rest next distinct are appends =
     let split : map title front ++ next.name ∷ map title rest ≡ map title all = sym (map-append title front (next ∷ rest)) ∙ ap (map title) are in
-    let none : list_any (is_name next.name) (map title front) ≡ false = not_in_front (map title front) next.name (map title rest) (ap are_distinct split ∙ distinct) in
+    let none : list_any (is_text next.name) (map title front) ≡ false = not_in_front (map title front) next.name (map title rest) (ap are_distinct split ∙ distinct) in
     ap (λ (es : List EntityData). es ++ rest) (appends none) ∙ append_assoc front (next ∷ []) rest ∙ are
 
 -- the topics so far gain the next
 pub next_topic : (topics : List (List ℕ)) (i : ℕ) (topic : List ℕ) (front after : List EntityData) (text : List ℕ) → i < length topics → topic ≡ get_or topics i topic → text ≡ topic →
-    (list_any (is_name text) (map title front) ≡ false → after ≡ front ++ topic_in text ∷ []) →
+    (list_any (is_text text) (map title front) ≡ false → after ≡ front ++ topic_in text ∷ []) →
     (are_distinct topics ≡ true → front ++ map topic_in (drop i topics) ≡ map topic_in topics) →
     are_distinct topics ≡ true → after ++ map topic_in (drop (i + 1) topics) ≡ map topic_in topics
 next_topic topics i topic front after text within there same appends holds distinct =
@@ -139,7 +131,7 @@ read_one front next (Some others) = ap (λ (es : List EntityData). Some es) (app
 -- what stands gains the next
 pub next_stands : (topics : List (List ℕ)) (directory : DirectoryData) (left rest : List Placed) (placed : Placed) (front after : List EntityData) (text : List ℕ) (is : Declared) → left ≡ placed ∷ rest → text ≡ name_of placed →
     ((source : GraphDraft) → are_distinct (drafted_names source) ≡ true → directory ≡ directory_of source → entity_in source placed ≡ Some (entity (name_of placed) is)) →
-    (list_any (is_name text) (map title front) ≡ false → after ≡ front ++ entity text is ∷ []) →
+    (list_any (is_text text) (map title front) ≡ false → after ≡ front ++ entity text is ∷ []) →
     Stands topics directory left front → Stands topics directory rest after
 next_stands topics directory left rest placed front after text is here same gives appends holds = λ source distinct named from.
     let before = holds source distinct named from in
@@ -166,23 +158,3 @@ all_stand topics directory left front none holds source distinct named from =
     sym (holds source distinct named from).1
     ∙ ap (λ (ps : List Placed). option_map (λ others. front ++ others) (each (entity_in source) ps)) none
     ∙ ap (λ (es : List EntityData). Some es) (append-nil front)
-
--- ---- what is nothing
-
-then_none : {B : Type 0} (o : Option B) (rest : Option (List B)) → rest ≡ None → option_and_then (λ y. option_and_then (λ ys. Some (y ∷ ys)) rest) o ≡ None
-then_none {B} None rest none = refl
-then_none {B} (Some y) rest none = ap (λ (r : Option (List B)). option_and_then (λ ys. Some (y ∷ ys)) r) none
-
-none_behind : {A B : Type 0} (f : A → Option B) (i : ℕ) (xs : List A) → each f (drop i xs) ≡ None → each f xs ≡ None
-none_behind f zero xs none = none
-none_behind f (suc i) [] none = none
-none_behind f (suc i) (x ∷ xs) none = then_none (f x) (each f xs) (none_behind f i xs none)
-
-here_none : {A B : Type 0} (f : A → Option B) (x : A) (xs : List A) → f x ≡ None → each f (x ∷ xs) ≡ None
-here_none {A} {B} f x xs none = ap (λ (o : Option B). option_and_then (λ y. option_and_then (λ ys. Some (y ∷ ys)) (each f xs)) o) none
-
--- where one is nothing, there is nothing at all
-none_at : (source : GraphDraft) (placeds : List Placed) (i : ℕ) (placed : Placed) → i < length placeds → placed ≡ get_or placeds i placed → placeds ≡ entities_of source → entity_in source placed ≡ None → each (entity_in source) (entities_of source) ≡ None
-none_at source placeds i placed within there those none =
-    ap (each (entity_in source)) (sym those)
-    ∙ none_behind (entity_in source) i placeds (ap (each (entity_in source)) (from_place placeds i placed within there) ∙ here_none (entity_in source) placed (drop (i + 1) placeds) none)

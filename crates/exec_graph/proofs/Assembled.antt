@@ -1,12 +1,14 @@
 -- What is known of a draft when its graph is made: its names, its limits, its scripts, and then the graph.
 use Rattle.std.proofs.Common.{◌≡◌, ℕ, suc, ◌+◌, ◌≤◌, Bool, true, false, not, ◌||◌, ◌==◌, length, map, flat_map, filter_map, sum_by, List, [], ◌∷◌, ◌++◌, Option, None, Some, is_some, option_map, String, Global, refl, sym, ap, subst, ◌∙◌, arith, length-append}
+use Rattle.std.specs.Bool.{then_some}
 use Rattle.std.specs.List.{list_all, list_any}
 use Rattle.std.specs.Map.{values_of}
 use Rattle.std.specs.Option.{option_map_or}
-use Rattle.std.proofs.lemmas.Bool.{leb-true, eqb-true}
+use Rattle.std.proofs.lemmas.Bool.{leb-true, eqb-true, and_parts}
 use Rattle.std.proofs.lemmas.List.Sums.{sum_by-cons}
-use Rattle.std.proofs.lemmas.List.{length-map}
-use Rattle.exec_graph.specs.inner.Directory.{DirectoryData, directory_of, where_so, is_reentrant_at, fault_at, faults_of}
+use Rattle.std.proofs.lemmas.List.{length-map, nil_from_length}
+use Rattle.std.proofs.lemmas.Option.{same_Some}
+use Rattle.exec_graph.specs.inner.Directory.{DirectoryData, directory_of, is_reentrant_at, fault_at, faults_of}
 use Rattle.exec_graph.specs.declared.draft.GraphDraft.{GraphDraft}
 use Rattle.exec_graph.specs.Entity.{scripts_of}
 use Rattle.exec_graph.specs.inner.Entries.{entities_in as entries_of}
@@ -26,12 +28,11 @@ use Rattle.exec_graph.specs.declared.entity.Declared.{Declared}
 use Rattle.exec_graph.specs.declared.fault.GraphFault.TheVariants as graph_fault
 use Rattle.exec_msg.specs.declared.limits.TheConstants.{NODES, NAMED_GROUPS, TOPICS, ENTITIES}
 use Rattle.exec_script.specs.declared.fault.ScriptFault.{ScriptFault}
-use Rattle.exec_graph.proofs.Bools.{and_right}
 use Rattle.exec_graph.proofs.Complete.{has_entities}
 use Rattle.exec_graph.proofs.Faultless.{scripts_same}
-use Rattle.exec_graph.proofs.Kept.{names_kept, small_kept}
+use Rattle.exec_graph.proofs.Kept.{names_kept, small_kept, without_fault}
 use Rattle.exec_graph.proofs.Lawful as lawful
-use Rattle.exec_graph.proofs.Reading.{then_read, AreRead, are_read, some_is}
+use Rattle.exec_graph.proofs.Reading.{then_read, AreRead, are_read, mapped_read}
 use Rattle.exec_graph.proofs.Resolving.{graph_of, IsBuilt, built, has_group}
 
 -- ---- the faults of scripts
@@ -61,27 +62,23 @@ values_same : {B : Type 0} (f : Declared → List B) (entries : List (String Glo
 values_same f [] = refl
 values_same {B} f (entry ∷ entries) = ap (λ (rest : List B). f entry.1 ++ rest) (values_same f entries)
 
-mapped_some : {A B : Type 0} (K : Type 0) (f : A → B) (o : Option A) (b : B) → option_map f o ≡ Some b → ((a : A) → o ≡ Some a → f a ≡ b → K) → K
-mapped_some K f None b e next = absurd cc
-mapped_some K f (Some a) b e next = next a refl (some_is (f a) b e)
-
 -- the faults of a graph's scripts are those of its draft
 faults_same : (draft : GraphDraft) (entries : List (String Global × Declared)) → option_map (λ others. map topic_in draft.topics ++ others) (each (entity_in draft) (entities_of draft)) ≡ Some (entries_of entries) → flat_map (faults_of (groups_of draft)) (values_of entries) ≡ script_faults draft
 faults_same draft entries is =
     values_same (faults_of (groups_of draft)) entries
-    ∙ mapped_some _ _ (each (entity_in draft) (entities_of draft)) (entries_of entries) is (λ entities read e.
+    ∙ mapped_read _ (each (entity_in draft) (entities_of draft)) _ (entries_of entries) is (λ entities read e.
     ap (flat_map (λ entity. faults_of (groups_of draft) entity.is)) (sym e)
     ∙ topics_have_none (groups_of draft) draft.topics entities
     ∙ entities_same draft (entities_of draft) entities (are_read (entity_in draft) (entities_of draft) entities read))
 
 -- ---- what is found
 
-so : {A : Type 0} (b : Bool) (a said : A) → Some a ≡ where_so b said → b ≡ true
+so : {A : Type 0} (b : Bool) (a said : A) → Some a ≡ then_some b said → b ≡ true
 so true a said is = refl
 so false a said is = absurd cc
 
-so_same : {A : Type 0} (b : Bool) (a said : A) → Some a ≡ where_so b said → a ≡ said
-so_same true a said is = some_is a said is
+so_same : {A : Type 0} (b : Bool) (a said : A) → Some a ≡ then_some b said → a ≡ said
+so_same true a said is = same_Some a said is
 so_same false a said is = absurd cc
 
 -- how many groups nodes have
@@ -100,18 +97,10 @@ script_by draft named small scripts = rw named (rw small (rw scripts refl))
 variable_by : (draft : GraphDraft) → is_well_named draft ≡ true → is_small draft ≡ true → has_faulty_script draft ≡ false → shares_variables draft ≡ true → fault_in draft ≡ Some graph_fault.GroupVariable
 variable_by draft named small scripts variables = rw named (rw small (rw scripts (rw variables refl)))
 
--- none
-none_by : (draft : GraphDraft) → is_well_named draft ≡ true → is_small draft ≡ true → has_faulty_script draft ≡ false → shares_variables draft ≡ false → fault_in draft ≡ None
-none_by draft named small scripts variables = rw named (rw small (rw scripts (rw variables refl)))
-
 -- faults of which none is another than that of a variable have one of a variable, unless there are none
 first_shares : (b : Bool) (rest : Bool) → (not b || rest) ≡ false → b ≡ true
 first_shares true rest others = refl
 first_shares false rest others = absurd cc
-
-nothing : {A : Type 0} (xs : List A) → length xs ≡ 0 → xs ≡ []
-nothing [] none = refl
-nothing (x ∷ xs) none = absurd (omega (arith, none))
 
 all_shared : (faults : List ScriptFault) → (length faults == 0) ≡ false → list_any (λ fault. not (is_of_variable fault)) faults ≡ false → list_any is_of_variable faults ≡ true
 all_shared [] some others = absurd cc
@@ -123,11 +112,6 @@ unmapped : {A B : Type 0} (f : A → B) (o : Option A) → option_map f o ≡ No
 unmapped f None none = refl
 unmapped f (Some a) none = absurd cc
 
--- what is neither something is nothing
-pub nothing_else : {A : Type 0} (o : Option A) → ((a : A) → o ≡ Some a → ⊥) → o ≡ None
-nothing_else None other = refl
-nothing_else (Some a) other = absurd (other a refl)
-
 -- what is seen of something, and of nothing
 pub mapped_is : {A B : Type 0} (said : Option B) (f : A → B) (o : Option A) (a : A) → said ≡ option_map f o → o ≡ Some a → said ≡ Some (f a)
 mapped_is said f o a is there = is ∙ ap (option_map f) there
@@ -137,7 +121,7 @@ mapped_none said f o is there = is ∙ ap (option_map f) there
 
 -- ---- from what is read
 
-module _ (draft : GraphDraft) (found : DirectoryData) (there : Some found ≡ where_so (is_well_named draft) (directory_of draft)) where
+module _ (draft : GraphDraft) (found : DirectoryData) (there : Some found ≡ then_some (is_well_named draft) (directory_of draft)) where
   pub named : is_well_named draft ≡ true
   named = so (is_well_named draft) found (directory_of draft) there
 
@@ -145,7 +129,7 @@ module _ (draft : GraphDraft) (found : DirectoryData) (there : Some found ≡ wh
   directory_is = so_same (is_well_named draft) found (directory_of draft) there
 
   pub distinct : are_distinct (drafted_names draft) ≡ true
-  distinct = and_right (list_all is_name (drafted_names draft)) (are_distinct (drafted_names draft)) (names_kept draft named).names
+  distinct = (and_parts (list_all is_name (drafted_names draft)) (are_distinct (drafted_names draft)) (names_kept draft named).names).1
 
   module _ (small : is_small draft ≡ true) where
     names_few : length (drafted_names draft) ≤ 65536
@@ -210,7 +194,7 @@ module _ (draft : GraphDraft) (found : DirectoryData) (there : Some found ≡ wh
 
       -- no fault is left
       pub of_none : false ≡ list_any (λ fault. not (is_of_variable fault)) faults → (length faults == 0) ≡ true → fault_in draft ≡ None
-      of_none faulty none = none_by draft named small (unfaulty faulty) (ap (list_any is_of_variable) (sym faults_are) ∙ ap (list_any is_of_variable) (nothing faults (eqb-true (length faults) 0 none)))
+      of_none faulty none = without_fault draft named small (unfaulty faulty) (ap (list_any is_of_variable) (sym faults_are) ∙ ap (list_any is_of_variable) (nil_from_length faults (eqb-true (length faults) 0 none)))
 
 -- ---- the graph
 
@@ -218,7 +202,7 @@ module _ (draft : GraphDraft) (found : DirectoryData) (there : Some found ≡ wh
 graph_names : (draft : GraphDraft) (made : GraphData) → graph_in draft ≡ Some made → graph.names_of made ≡ drafted_names draft
 graph_names draft made is =
     then_read _ (each (entity_in draft) (entities_of draft)) _ made is (λ entities read e.
-    ap graph.names_of (sym (some_is (graph_of draft entities) made e)) ∙ lawful.names_kept draft entities (are_read (entity_in draft) (entities_of draft) entities read))
+    ap graph.names_of (sym (same_Some (graph_of draft entities) made e)) ∙ lawful.names_kept draft entities (are_read (entity_in draft) (entities_of draft) entities read))
 
 -- a graph of these parts
 abbrev pub graph_with : List (List ℕ) → List CallbackGroup → List EntityData → GraphData
@@ -228,7 +212,7 @@ made_by : (nodes : List (List ℕ)) (groups : List CallbackGroup) (topics all : 
     o >>= (λ entities. Some (graph_with nodes groups (topics ++ entities))) ≡ Some (graph_with nodes groups all)
 made_by nodes groups topics all None is = absurd cc
 made_by nodes groups topics all (Some others) is =
-    let same = some_is (topics ++ others) all is in
+    let same = same_Some (topics ++ others) all is in
     λ i. Some (graph_with nodes groups (same i))
 
 module _ (draft : GraphDraft) (made : GraphData) (nodes : made.nodes ≡ map (λ node. node.name) draft.nodes) (grouped : made.groups ≡ groups_of draft)

@@ -1,14 +1,13 @@
 -- Topics and entities stand in the order of their kinds.
 use Rattle.std.proofs.Common.{◌≡◌, ℕ, ◌≤◌, Bool, true, false, cond, nat_le, map, List, [], ◌∷◌, ◌++◌, refl, ap, sym, ◌∙◌, arith}
 use Rattle.std.specs.List.{filter, flat_map}
-use Rattle.std.proofs.lemmas.Bool.{leb-true, le-leb, eqb-true}
+use Rattle.std.proofs.lemmas.Bool.{leb-true, le-leb, eqb-true, and_parts, and_from}
 use Rattle.std.proofs.lemmas.List.{map-append}
 use Rattle.exec_graph.specs.Entity.{entity_kinds, rank_of, kind_of_entity, is_of}
 use Rattle.exec_graph.specs.Lawful.{is_ascending_from}
 use Rattle.exec_graph.specs.Numbers.{Placed, entities_from, numbered}
 use Rattle.exec_graph.specs.declared.draft.NodeDraft.{NodeDraft}
 use Rattle.exec_graph.specs.declared.entity.EntityKind.{EntityKind}
-use Rattle.exec_graph.proofs.Bools.{and_left, and_right, both_true}
 
 -- each number is this one
 abbrev pub AreAll : ℕ → List ℕ → Type 0
@@ -18,15 +17,15 @@ AreAll block (n ∷ ns) = (n ≡ block) × AreAll block ns
 pub lower_start : (least block : ℕ) (ns : List ℕ) → least ≤ block → is_ascending_from block ns ≡ true → is_ascending_from least ns ≡ true
 lower_start least block [] below ascends = refl
 lower_start least block (n ∷ ns) below ascends =
-    let above = leb-true block n (and_left (nat_le block n) (is_ascending_from n ns) ascends) in
-    both_true (nat_le least n) (is_ascending_from n ns) (le-leb least n (omega (arith, above, below))) (and_right (nat_le block n) (is_ascending_from n ns) ascends)
+    let above = leb-true block n (and_parts (nat_le block n) (is_ascending_from n ns) ascends).0 in
+    and_from (nat_le least n) (is_ascending_from n ns) (le-leb least n (omega (arith, above, below))) (and_parts (nat_le block n) (is_ascending_from n ns) ascends).1
 
 -- a block before what ascends from it
 pub block_before : (least block : ℕ) (ns others : List ℕ) → least ≤ block → AreAll block ns → is_ascending_from block others ≡ true → is_ascending_from least (ns ++ others) ≡ true
 block_before least block [] others below all ascends = lower_start least block others below ascends
 block_before least block (n ∷ ns) others below all ascends =
     let at = all.0 in
-    both_true (nat_le least n) (is_ascending_from n (ns ++ others)) (le-leb least n (omega (arith, at, below))) (block_before n block ns others (omega (arith, at)) all.1 ascends)
+    and_from (nat_le least n) (is_ascending_from n (ns ++ others)) (le-leb least n (omega (arith, at, below))) (block_before n block ns others (omega (arith, at)) all.1 ascends)
 
 pub all_mapped : {A : Type 0} (f : A → ℕ) (block : ℕ) (xs : List A) → ((x : A) → f x ≡ block) → AreAll block (map f xs)
 all_mapped f block [] same = tt
@@ -55,9 +54,9 @@ kinds_ascend (kind ∷ entity_kinds) least placed ascends =
     let later = is_ascending_from (rank_of kind) (map rank_of entity_kinds) in
     ap (is_ascending_from least) (map-append rank_at (of_kind placed kind) (flat_map (of_kind placed) entity_kinds))
     ∙ block_before least (rank_of kind) (map rank_at (of_kind placed kind)) (map rank_at (flat_map (of_kind placed) entity_kinds))
-    (leb-true least (rank_of kind) (and_left (nat_le least (rank_of kind)) later ascends))
+    (leb-true least (rank_of kind) (and_parts (nat_le least (rank_of kind)) later ascends).0)
     (all_of kind placed)
-    (kinds_ascend entity_kinds (rank_of kind) placed (and_right (nat_le least (rank_of kind)) later ascends))
+    (kinds_ascend entity_kinds (rank_of kind) placed (and_parts (nat_le least (rank_of kind)) later ascends).1)
 
 -- entities ascend in the order of their kinds
 pub entities_ascend : (nodes : List NodeDraft) → is_ascending_from 1 (map rank_at (numbered nodes)) ≡ true

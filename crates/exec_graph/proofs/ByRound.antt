@@ -1,14 +1,13 @@
 -- The entries of each round.
 use Rattle.std.proofs.Common.{◌≡◌, ap₂, drop, drop-cons, set, if◌then◌else◌, ℕ, zero, suc, ◌+◌, ◌-◌, ◌<◌, ◌≤◌, ◌==◌, Bool, true, false, nat_le, length, map, List, [], ◌∷◌, ◌++◌, get_or, refl, ap, sym, ◌∙◌, arith, Vec}
 use Rattle.std.specs.declared.alloc.Global.{Global}
-use Rattle.std.proofs.lemmas.Bool.{leb-true, eqb-true, eq-eqb}
+use Rattle.std.proofs.lemmas.Bool.{leb-true, eqb-true, eq-eqb, and_parts}
 use Rattle.std.proofs.lemmas.List.{get_or-map, length-map, append-nil, append_assoc}
 use Rattle.std.proofs.lemmas.List.Elements.{filter-append}
 use Rattle.exec_graph.specs.Feeding.{fed_in, feeds_from, feeds_by_round}
 use Rattle.exec_graph.specs.Entity.{is_from_1}
 use Rattle.exec_graph.specs.Plan.{PlanData}
 use Rattle.exec_graph.specs.declared.plan.Feed.{Feed}
-use Rattle.exec_graph.proofs.Bools.{and_left, and_right}
 
 -- there are as many as moments
 pub as_many_rounds : (round : ℕ) (moments : List ℕ) (feed : List Feed) → length (feeds_from round moments feed) ≡ length moments
@@ -30,8 +29,8 @@ pub record IsRound (most round : ℕ) : Type 0 where
 
 pub is_round : (most round : ℕ) → is_from_1 most round ≡ true → IsRound most round
 is_round most round is = record {
-  first = leb-true 1 round (and_left (nat_le 1 round) (nat_le round most) is);
-  last = leb-true round most (and_right (nat_le 1 round) (nat_le round most) is);
+  first = leb-true 1 round (and_parts (nat_le 1 round) (nat_le round most) is).0;
+  last = leb-true round most (and_parts (nat_le 1 round) (nat_le round most) is).1;
 }
 
 -- the place of a round among the vectors of rounds

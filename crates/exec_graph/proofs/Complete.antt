@@ -1,6 +1,7 @@
 -- A draft without a fault has a graph.
 use Rattle.std.proofs.Common.{◌≡◌, true, false, ◌||◌, is_some, List, [], ◌∷◌, None, flat_map, refl, ap, sym, ◌∙◌}
 use Rattle.std.specs.List.{list_all, list_any}
+use Rattle.std.proofs.lemmas.Bool.{and_parts, or_parts, and_from}
 use Rattle.std.proofs.lemmas.List.Folds.{list_any-append}
 use Rattle.exec_graph.specs.declared.draft.GraphDraft.{GraphDraft}
 use Rattle.exec_graph.specs.Entity.{refers, scripts_of, read_by}
@@ -10,11 +11,10 @@ use Rattle.exec_graph.specs.Options.{each}
 use Rattle.exec_graph.specs.Refusals.{fault_in}
 use Rattle.exec_graph.specs.Resolved.{script_in, entity_in, graph_in}
 use Rattle.exec_graph.specs.Scripts.{is_reentrant, entity_faults}
-use Rattle.exec_graph.proofs.Bools.{and_left, and_right, or_left, or_right, both_true}
 use Rattle.exec_graph.proofs.EntityReading.{readable}
 use Rattle.exec_graph.proofs.Faultless.{is_another, all_spelt}
 use Rattle.exec_graph.proofs.Kept.{kept}
-use Rattle.exec_graph.proofs.Reading.{then_some, each_some}
+use Rattle.exec_graph.proofs.Reading.{goes_on, each_some}
 
 -- ---- entities
 
@@ -23,9 +23,9 @@ is_entity source placed resolved spelt =
     let grouped = is_some (group_named source placed.node placed.entity.group) in
     let referring = refers (λ to name. is_some (named source to name)) placed.entity.is in
     let scope = scope_of source placed.node in
-    then_some (group_named source placed.node placed.entity.group) _ (and_left grouped referring resolved) (λ group.
-    then_some (read_by (named source) (script_in scope) placed.entity.is) _
-    (readable (named source) (script_in scope) placed.entity.is (and_right grouped referring resolved) (all_spelt scope (is_reentrant source placed) (scripts_of placed.entity.is) spelt))
+    goes_on (group_named source placed.node placed.entity.group) _ (and_parts grouped referring resolved).0 (λ group.
+    goes_on (read_by (named source) (script_in scope) placed.entity.is) _
+    (readable (named source) (script_in scope) placed.entity.is (and_parts grouped referring resolved).1 (all_spelt scope (is_reentrant source placed) (scripts_of placed.entity.is) spelt))
     (λ is. refl))
 
 are_entities : (source : GraphDraft) (placed : List Placed) → list_all (is_resolved source) placed ≡ true → list_any is_another (flat_map (entity_faults source) placed) ≡ false → list_all (λ placed. is_some (entity_in source placed)) placed ≡ true
@@ -34,9 +34,9 @@ are_entities source (placed ∷ others) resolved spelt =
     let here = list_any is_another (entity_faults source placed) in
     let behind = list_any is_another (flat_map (entity_faults source) others) in
     let split : (here || behind) ≡ false = sym (list_any-append is_another (entity_faults source placed) (flat_map (entity_faults source) others)) ∙ spelt in
-    both_true (is_some (entity_in source placed)) (list_all (λ placed. is_some (entity_in source placed)) others)
-    (is_entity source placed (and_left (is_resolved source placed) (list_all (is_resolved source) others) resolved) (or_left here behind split))
-    (are_entities source others (and_right (is_resolved source placed) (list_all (is_resolved source) others) resolved) (or_right here behind split))
+    and_from (is_some (entity_in source placed)) (list_all (λ placed. is_some (entity_in source placed)) others)
+    (is_entity source placed (and_parts (is_resolved source placed) (list_all (is_resolved source) others) resolved).0 (or_parts here behind split).0)
+    (are_entities source others (and_parts (is_resolved source placed) (list_all (is_resolved source) others) resolved).1 (or_parts here behind split).1)
 
 -- what is declared is there, where no script is faulty otherwise than by a variable
 pub has_entities : (source : GraphDraft) → list_all (is_resolved source) (entities_of source) ≡ true → has_faulty_script source ≡ false → is_some (each (entity_in source) (entities_of source)) ≡ true
@@ -47,4 +47,4 @@ has_entities source resolved spelt = each_some (entity_in source) (entities_of s
 pub has_graph : (source : GraphDraft) → fault_in source ≡ None → is_some (graph_in source) ≡ true
 has_graph source faultless =
     let keeps = kept source faultless in
-    then_some (each (entity_in source) (entities_of source)) _ (has_entities source keeps.resolved (ap (list_any is_another) keeps.faultless)) (λ entities. refl)
+    goes_on (each (entity_in source) (entities_of source)) _ (has_entities source keeps.named.resolved (ap (list_any is_another) keeps.faultless)) (λ entities. refl)

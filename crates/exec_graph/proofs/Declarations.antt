@@ -12,18 +12,9 @@ use Rattle.exec_graph.specs.declared.entity.EntityKind.TheVariants as kind
 use Rattle.exec_graph.specs.declared.entity.EntityOf.TheVariants.{Timer, Subscription, Service, Client, Server, ActionClient}
 use Rattle.exec_graph.proofs.Positions.{found_any}
 
--- a test of what is seen of elements
-pub any_seen : {A B : Type 0} (test : B → Bool) (see : A → B) (xs : List A) → list_any (λ x. test (see x)) xs ≡ list_any test (map see xs)
-any_seen test see [] = refl
-any_seen test see (x ∷ xs) = ap (λ (b : Bool). test (see x) || b) (any_seen test see xs)
-
 -- whether a placed entity is the action server of a name
 abbrev is_action : List ℕ → Placed → Bool
 is_action name placed = is_of kind.Server placed.entity.is && bytes_eq placed.entity.name name
-
-or_false : (b : Bool) → (b || false) ≡ b
-or_false true = refl
-or_false false = refl
 
 -- ---- tests of the entities of all kinds
 

@@ -1,8 +1,8 @@
 -- Each entity of a document that no code refuses is lawful.
-use Rattle.std.proofs.Common.{◌≡◌, true, not, ◌&&◌, length, map, nat_le, ◌++◌, List, [], ◌∷◌, Option, None, Some, Result, Ok, Err, All, flat_map, filter_map, option_map, refl, sym, ap, ◌∙◌, subst}
+use Rattle.std.proofs.Common.{◌≡◌, true, not, ◌&&◌, length, map, nat_le, ◌++◌, List, [], ◌∷◌, None, Some, Result, Ok, Err, All, flat_map, filter_map, refl, sym, ap, ◌∙◌, subst}
 use Rattle.std.specs.List.{list_all}
 use Rattle.std.specs.Result.{result_ok, result_err}
-use Rattle.std.proofs.lemmas.Bool.{leb-true}
+use Rattle.std.proofs.lemmas.Bool.{leb-true, and_parts}
 use Rattle.std.proofs.lemmas.List.Elements.{All-nil, All-cons, All-append, All-map}
 use Rattle.exec_graph.specs.declared.draft.GraphDraft.{GraphDraft}
 use Rattle.exec_graph.specs.Entity.{Spelled, Script, RoleScriptData, is_within, scripts_of}
@@ -19,12 +19,11 @@ use Rattle.exec_script.specs.Spelling.{ScopeNames, script_of, ◌>>=◌}
 use Rattle.exec_script.specs.declared.fault.ScriptFault.{ScriptFault}
 use Rattle.exec_script.specs.declared.instr.Instr.{Instr}
 use Rattle.exec_script.specs.declared.place.Place.{Place}
-use Rattle.exec_graph.proofs.Bools.{and_left, and_right}
 use Rattle.exec_graph.proofs.EntityReading.{roled_by}
 use Rattle.exec_graph.proofs.Faultless.{front_nothing, back_nothing, first_none, others_nothing}
 use Rattle.exec_graph.proofs.Known.{Knows, spelt_by}
 use Rattle.exec_graph.proofs.Resolving.{graph_of, AreEntities, built, has_group, named_there, knows}
-use Rattle.exec_graph.proofs.Reading.{AreRead, some_is}
+use Rattle.exec_graph.proofs.Reading.{AreRead, mapped_read}
 
 -- ---- scripts
 
@@ -38,10 +37,6 @@ legal_of read place script is faultless = no_fault (legality_of script place) (s
 ok_as : (read : Result (List Instr) ScriptFault) (script : List Instr) → result_ok read ≡ Some script → read ≡ Ok script
 ok_as (Ok found) script e = cc
 ok_as (Err fault) script e = absurd cc
-
-mapped_read : {A B : Type 0} (K : Type 0) (o : Option A) (f : A → B) (b : B) → option_map f o ≡ Some b → ((a : A) → o ≡ Some a → f a ≡ b → K) → K
-mapped_read K None f b e next = absurd cc
-mapped_read K (Some a) f b e next = next a refl (some_is (f a) b e)
 
 script_lawful : (shape : GraphData) (group : CallbackGroup) (scope : ScopeNames) (spelt : RoleScriptData Spelled) (roled : RoleScriptData Script) → Knows scope shape group.node → roled_by (script_in scope) spelt ≡ Some roled → fault_of scope (not group.exclusive) spelt ≡ None → nat_le (length spelt.script) INSTRUCTIONS ≡ true → IsLawfulScript shape group roled
 script_lawful shape group scope spelt roled knows read faultless short =
@@ -64,8 +59,8 @@ all_scripts shape group scope (s ∷ spelt) (r ∷ roled) knows reads faultless 
     let here = nat_le (length s.script) INSTRUCTIONS in
     let behind = list_all (λ script. nat_le (length script.script) INSTRUCTIONS) spelt in
     All-cons (IsLawfulScript shape group) r roled
-    (script_lawful shape group scope s r knows reads.0 (first_none (fault_of scope (not group.exclusive) s) others faultless) (and_left here behind short))
-    (all_scripts shape group scope spelt roled knows reads.1 (others_nothing (fault_of scope (not group.exclusive) s) others faultless) (and_right here behind short))
+    (script_lawful shape group scope s r knows reads.0 (first_none (fault_of scope (not group.exclusive) s) others faultless) (and_parts here behind short).0)
+    (all_scripts shape group scope spelt roled knows reads.1 (others_nothing (fault_of scope (not group.exclusive) s) others faultless) (and_parts here behind short).1)
 
 -- ---- entities
 
@@ -82,10 +77,10 @@ entity_lawful source entities placed entity reads read within faultless =
       group = has.group;
       grouped = has.there;
       referring = build.read.referring (is_declared (graph_of source entities)) (named_there source entities reads);
-      within = build.read.within ∙ and_left limits (has_short_scripts placed.entity.is) within;
+      within = build.read.within ∙ (and_parts limits (has_short_scripts placed.entity.is) within).0;
       scripts = all_scripts (graph_of source entities) has.group scope (scripts_of placed.entity.is) (scripts_of build.is)
           (subst (Knows scope (graph_of source entities)) (sym has.node) (knows source entities placed.node reads))
-          build.read.scripts fault_free (and_right limits (has_short_scripts placed.entity.is) within);
+          build.read.scripts fault_free (and_parts limits (has_short_scripts placed.entity.is) within).1;
     } in
     subst (IsLawfulDeclared (graph_of source entities)) (sym build.declared) lawful
 
@@ -97,8 +92,8 @@ each_lawful source entities (p ∷ placed) (e ∷ some) reads these within fault
     let here = is_within p.entity.is && has_short_scripts p.entity.is in
     let behind = list_all (λ placed. is_within placed.entity.is && has_short_scripts placed.entity.is) placed in
     All-cons (λ entity. IsLawfulDeclared (graph_of source entities) entity.is) e some
-    (entity_lawful source entities p e reads these.0 (and_left here behind within) (front_nothing (entity_faults source p) (flat_map (entity_faults source) placed) faultless))
-    (each_lawful source entities placed some reads these.1 (and_right here behind within) (back_nothing (entity_faults source p) (flat_map (entity_faults source) placed) faultless))
+    (entity_lawful source entities p e reads these.0 (and_parts here behind within).0 (front_nothing (entity_faults source p) (flat_map (entity_faults source) placed) faultless))
+    (each_lawful source entities placed some reads these.1 (and_parts here behind within).1 (back_nothing (entity_faults source p) (flat_map (entity_faults source) placed) faultless))
 
 -- topics and entities are lawful
 pub entities_lawful : (source : GraphDraft) (entities : List EntityData) → AreEntities source entities → list_all (λ placed. is_within placed.entity.is && has_short_scripts placed.entity.is) (entities_of source) ≡ true → flat_map (entity_faults source) (entities_of source) ≡ [] → All (λ entity. IsLawfulDeclared (graph_of source entities) entity.is) (map topic_in source.topics ++ entities)

@@ -1,5 +1,6 @@
 -- The entities of all kinds, one kind after another.
-use Rattle.std.proofs.Common.{◌≡◌, ℕ, suc, ◌+◌, ◌<◌, length, get_or, drop, add-one, List, [], ◌∷◌, ◌++◌, flat_map, filter_map, Bool, true, ◌&&◌, Option, None, Some, option_and_then, slice_get, refl, sym, ap, ◌∙◌, append_assoc}
+use Rattle.exec_graph.proofs.NameLists.{from_place}
+use Rattle.std.proofs.Common.{◌≡◌, ℕ, ◌+◌, ◌<◌, length, get_or, drop, add-one, List, [], ◌∷◌, ◌++◌, flat_map, filter_map, Bool, true, ◌&&◌, Option, None, Some, option_and_then, slice_get, refl, sym, ap, ◌∙◌, append_assoc}
 use Rattle.std.proofs.Math.Seq.{drop-cons}
 use Rattle.std.proofs.lemmas.Option.{get_or_from_slice_get, slice_get_within}
 use Rattle.std.specs.List.{cons_option, list_all}
@@ -11,9 +12,6 @@ pub next_gathered : {A B : Type 0} (f : A → List B) (xs : List A) (i : ℕ) (d
 next_gathered {A} {B} f xs i d front within =
     ap (λ (rest : List A). front ++ flat_map f rest) (drop-cons xs i d within ∙ ap (λ (n : ℕ). get_or xs i d ∷ drop n xs) (sym (add-one i)))
     ∙ sym (append_assoc front (f (get_or xs i d)) (flat_map f (drop (i + 1) xs)))
-
-from_place : {X : Type 0} (xs : List X) (i : ℕ) (x : X) → i < length xs → x ≡ get_or xs i x → drop i xs ≡ x ∷ drop (i + 1) xs
-from_place {X} xs i x within there = drop-cons xs i x within ∙ ap (λ (y : X). y ∷ drop (suc i) xs) (sym there) ∙ ap (λ (n : ℕ). x ∷ drop n xs) (sym (add-one i))
 
 -- the same where it is known what the next gives
 pub next_given : {A B : Type 0} (f : A → List B) (xs : List A) (i : ℕ) (x : A) (front more given : List B) → i < length xs → x ≡ get_or xs i x → more ≡ front ++ given → given ≡ f x →

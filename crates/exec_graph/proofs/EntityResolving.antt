@@ -1,5 +1,6 @@
 -- What an entity is that is linked, where its directory is that of a draft.
 use Rattle.std.proofs.Common.{◌≡◌, ℕ, true, Option, None, Some, option_and_then, sym, ap, subst, ◌∙◌}
+use Rattle.std.proofs.lemmas.Option.{same_Some}
 use Rattle.exec_graph.specs.inner.Directory.{DirectoryData, Linked, NodeData, directory_of, group_in, referred, linked_in, resolved_by, titled}
 use Rattle.exec_graph.specs.declared.draft.GraphDraft.{GraphDraft}
 use Rattle.exec_graph.specs.Entity.{Resolved, read_by}
@@ -9,7 +10,7 @@ use Rattle.exec_graph.specs.Names.{are_distinct}
 use Rattle.exec_graph.specs.Numbers.{Placed, named, group_named, scope_of}
 use Rattle.exec_graph.specs.Resolved.{script_in, entity_in}
 use Rattle.exec_graph.proofs.Lookups.{resolved_same}
-use Rattle.exec_graph.proofs.Reading.{then_read, some_is}
+use Rattle.exec_graph.proofs.Reading.{then_read}
 use Rattle.exec_graph.proofs.WellNamed.{group_same}
 
 -- an entity was linked: its group and what it refers to were found, and it is itself
@@ -22,7 +23,7 @@ pub has_links : (directory : DirectoryData) (placed : Placed) (linked : Linked) 
 has_links directory placed linked is =
     then_read _ (group_in directory placed.node placed.entity.group) _ linked is (λ group grouped e1.
     then_read _ (referred directory placed.entity.is) _ linked e1 (λ reference there e2.
-    let same : record { placed = placed; group = group; reference = reference } ≡ linked = some_is (record { placed = placed; group = group; reference = reference }) linked e2 in
+    let same : record { placed = placed; group = group; reference = reference } ≡ linked = same_Some (record { placed = placed; group = group; reference = reference }) linked e2 in
     record {
       group = grouped ∙ ap (λ (l : Linked). Some l.group) same;
       reference = there ∙ ap (λ (l : Linked). Some l.reference) same;

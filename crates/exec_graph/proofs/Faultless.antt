@@ -2,6 +2,8 @@
 use Rattle.std.proofs.Common.{◌≡◌, Bool, true, false, not, is_some, List, [], ◌∷◌, ◌++◌, Option, None, Some, Result, Ok, Err, filter_map, option_map, refl, ap, sym, ◌∙◌}
 use Rattle.std.specs.List.{cons_option, list_all, list_any}
 use Rattle.std.specs.Result.{result_ok, result_err}
+use Rattle.std.proofs.lemmas.Bool.{or_parts, and_from}
+use Rattle.std.proofs.lemmas.Option.{same_Some}
 use Rattle.exec_graph.specs.inner.Directory.{fault_at}
 use Rattle.exec_graph.specs.Entity.{Spelled, Script, RoleScriptData}
 use Rattle.exec_graph.specs.Faults.{is_of_variable}
@@ -12,10 +14,9 @@ use Rattle.exec_script.specs.Spelling.{ScopeNames, script_of, ◌>>=◌}
 use Rattle.exec_script.specs.declared.fault.ScriptFault.{ScriptFault}
 use Rattle.exec_script.specs.declared.instr.Instr.{Instr}
 use Rattle.exec_script.specs.declared.place.Role.{Role}
-use Rattle.exec_graph.proofs.Bools.{or_left, or_right, both_true}
 use Rattle.exec_graph.proofs.EntityReading.{roled, roled_by}
 use Rattle.exec_graph.proofs.Misspelt.{IsOther, script_other}
-use Rattle.exec_graph.proofs.Reading.{AreRead, some_is}
+use Rattle.exec_graph.proofs.Reading.{AreRead}
 
 -- ---- lists with nothing in them
 
@@ -44,26 +45,26 @@ is_another fault = not (is_of_variable fault)
 spelt_by : (read : Result (List Instr) ScriptFault) (legal : List Instr → Result (Unit {0}) ScriptFault) (others : List ScriptFault) → IsOther read → list_any is_another (cons_option (result_err (read >>= legal)) others) ≡ false → is_some (result_ok read) ≡ true
 spelt_by (Ok script) legal others other none = refl
 spelt_by (Err fault) legal others other none =
-    let contrary : true ≡ false = sym (ap not other) ∙ or_left (is_another fault) (list_any is_another others) none in
+    let contrary : true ≡ false = sym (ap not other) ∙ (or_parts (is_another fault) (list_any is_another others) none).0 in
     absurd cc
 
 others_none : (o : Option ScriptFault) (others : List ScriptFault) → list_any is_another (cons_option o others) ≡ false → list_any is_another others ≡ false
 others_none None others none = none
-others_none (Some fault) others none = or_right (is_another fault) (list_any is_another others) none
+others_none (Some fault) others none = (or_parts (is_another fault) (list_any is_another others) none).1
 
 -- scripts of which none has another fault than that of a variable are spelt well
 pub all_spelt : (scope : ScopeNames) (reentrant : Bool) (scripts : List (RoleScriptData Spelled)) → list_any is_another (filter_map (fault_of scope reentrant) scripts) ≡ false → list_all (λ roled. is_some (script_in scope roled.script)) scripts ≡ true
 all_spelt scope reentrant [] none = refl
 all_spelt scope reentrant (roled ∷ scripts) none =
     let others = filter_map (fault_of scope reentrant) scripts in
-    both_true (is_some (script_in scope roled.script)) (list_all (λ roled. is_some (script_in scope roled.script)) scripts)
+    and_from (is_some (script_in scope roled.script)) (list_all (λ roled. is_some (script_in scope roled.script)) scripts)
     (spelt_by (script_of scope roled.script) (λ script. legality_of script (record { reentrant = reentrant; role = roled.role })) others (script_other scope roled.script) none)
     (all_spelt scope reentrant scripts (others_none (fault_of scope reentrant roled) others none))
 
 -- ---- faults of scripts that were read
 
 fault_by : (reentrant : Bool) (runs : Role) (read : Result (List Instr) ScriptFault) (is : RoleScriptData Script) → option_map (roled runs) (result_ok read) ≡ Some is → fault_at reentrant is ≡ result_err (read >>= (λ script. legality_of script (record { reentrant = reentrant; role = runs })))
-fault_by reentrant runs (Ok script) is e = ap (fault_at reentrant) (sym (some_is (roled runs script) is e))
+fault_by reentrant runs (Ok script) is e = ap (fault_at reentrant) (sym (same_Some (roled runs script) is e))
 fault_by reentrant runs (Err fault) is e = absurd cc
 
 -- the faults of scripts that were read are those of their spelling

@@ -2,16 +2,17 @@
 use Rattle.std.proofs.Common.{◌≡◌, ℕ, ◌+◌, Bool, true, false, cond, ◌&&◌, length, map, List, [], ◌∷◌, ◌++◌, Option, None, Some, bytes_eq, slice_get, refl, ap, ap₂, ◌∙◌, subst, arith, zero-add}
 use Rattle.std.specs.List.{position_from}
 use Rattle.std.specs.Option.{option_map_or}
+use Rattle.std.proofs.lemmas.Bool.{and_parts}
+use Rattle.std.proofs.lemmas.Option.{same_Some}
 use Rattle.exec_graph.specs.declared.draft.GraphDraft.{GraphDraft}
-use Rattle.exec_graph.specs.Graph.{EntityData, GraphData, is_topic, is_server}
+use Rattle.exec_graph.specs.Graph.{EntityData, GraphData, is_topic, is_server, topic_at, server_at}
 use Rattle.exec_graph.specs.Entity.{is_of}
 use Rattle.exec_graph.specs.Numbers.{Placed, entities_of, topic_named, server_named}
 use Rattle.exec_graph.specs.Options.{each}
 use Rattle.exec_graph.specs.Resolved.{entity_in, topic_in, graph_in}
 use Rattle.exec_graph.specs.declared.entity.EntityKind.TheVariants as kind
-use Rattle.exec_graph.proofs.Bools.{and_left}
 use Rattle.exec_graph.proofs.Positions.{at_position}
-use Rattle.exec_graph.proofs.Reading.{then_read, AreRead, are_read, some_is}
+use Rattle.exec_graph.proofs.Reading.{then_read, AreRead, are_read}
 use Rattle.exec_graph.proofs.Resolving.{graph_of, AreEntities, built, no_topic, same_kind}
 
 -- the first that passes two tests passes the first of them, and stands there
@@ -20,7 +21,7 @@ found_there test also entities number found =
     let at = at_position (λ entity. test entity && also entity) 0 entities number found in
     let same : number ≡ at.place = omega (arith, at.counted) in
     let there : slice_get entities number ≡ Some at.element = ap (slice_get entities) same ∙ at.there in
-    rw there (and_left (test at.element) (also at.element) at.passes)
+    rw there (and_parts (test at.element) (also at.element) at.passes).0
 
 -- a test that no topic passes is asked behind the topics
 skip_topics : (test : EntityData → Bool) (topics : List (List ℕ)) (entities : List EntityData) (first : ℕ) → ((name : List ℕ) → test (topic_in name) ≡ false)
@@ -61,14 +62,14 @@ servers_alike source name (p ∷ placed) (entity ∷ entities) first reads =
 
 -- a graph finds the names of its draft at their numbers
 pub record Finds (source : GraphDraft) (made : GraphData) : Type 0 where
-  pub topic : (name : List ℕ) → position_from (λ entity. is_topic entity.is && bytes_eq entity.name name) 0 made.entities ≡ topic_named source name
-  pub server : (name : List ℕ) → position_from (λ entity. is_server entity.is && bytes_eq entity.name name) 0 made.entities ≡ server_named source name
+  pub topic : (name : List ℕ) → topic_at made name ≡ topic_named source name
+  pub server : (name : List ℕ) → server_at made name ≡ server_named source name
 
 pub finds : (source : GraphDraft) (made : GraphData) → graph_in source ≡ Some made → Finds source made
 finds source made e =
     then_read _ (each (entity_in source) (entities_of source)) _ made e (λ entities read is.
     let reads = are_read (entity_in source) (entities_of source) entities read in
-    subst (Finds source) (some_is (graph_of source entities) made is) (record {
+    subst (Finds source) (same_Some (graph_of source entities) made is) (record {
       topic = λ name. topics_first source name source.topics entities 0 reads;
       server = λ name. skip_topics (λ entity. is_server entity.is && bytes_eq entity.name name) source.topics entities 0 (λ topic. refl)
           ∙ ap (λ (n : ℕ). position_from (λ entity. is_server entity.is && bytes_eq entity.name name) n entities) (zero-add (length source.topics))

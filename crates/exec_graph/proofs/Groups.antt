@@ -1,7 +1,7 @@
 -- The callback groups of a document.
 use Rattle.std.proofs.Common.{◌≡◌, ℕ, suc, ◌+◌, ◌<◌, ◌≤◌, Bool, true, false, cond, ◌&&◌, ◌==◌, length, map, is_some, is_none, sum_by, List, [], ◌∷◌, ◌++◌, All, filter_map, refl, sym, ap, ◌∙◌, arith, length-append, eq-or-lt_of_le, ◌⊎◌, inl, inr, append-nil, subst}
 use Rattle.std.specs.List.{filter, list_all}
-use Rattle.std.proofs.lemmas.Bool.{eqb-true, eq-eqb}
+use Rattle.std.proofs.lemmas.Bool.{eq-eqb, and_parts, ne_eqb}
 use Rattle.std.proofs.lemmas.List.{length-map}
 use Rattle.std.proofs.lemmas.List.Elements.{All-nil, All-cons, All-append, All-map, filter-append}
 use Rattle.std.proofs.lemmas.List.Sums.{sum_by-cons}
@@ -9,7 +9,6 @@ use Rattle.exec_graph.specs.declared.draft.GroupDraft.{GroupDraft}
 use Rattle.exec_graph.specs.declared.draft.NodeDraft.{NodeDraft}
 use Rattle.exec_graph.specs.Numbers.{default_group, named_group, groups_from}
 use Rattle.exec_graph.specs.declared.entity.CallbackGroup.{CallbackGroup}
-use Rattle.exec_graph.proofs.Bools.{and_left, and_right}
 
 -- ---- filters
 
@@ -61,25 +60,11 @@ groups_within number (node ∷ nodes) bound within =
 
 -- ---- the groups of a node
 
-differs : (a b : ℕ) → a < b → a == b ≡ false
-differs a b below = by (a == b) refl
-  where
-    by : (t : Bool) → a == b ≡ t → a == b ≡ false
-    by true same = let is : a ≡ b = eqb-true a b same in absurd (omega (arith, is, below))
-    by false e = e
-
-differs_back : (a b : ℕ) → a < b → b == a ≡ false
-differs_back a b below = by (b == a) refl
-  where
-    by : (t : Bool) → b == a ≡ t → b == a ≡ false
-    by true same = let is : b ≡ a = eqb-true b a same in absurd (omega (arith, is, below))
-    by false e = e
-
 -- none of later nodes is of this one
 none_of : (node number : ℕ) (nodes : List NodeDraft) → node < number → filter (λ group. group.node == node) (groups_from number nodes) ≡ []
 none_of node number [] below = refl
 none_of node number (draft ∷ nodes) below =
-    let fails = differs_back node number below in
+    let fails = ne_eqb number node (omega (arith, below)) in
     rw fails
     (filter-append (λ (group : CallbackGroup). group.node == node) (map (named_group number) draft.groups) (groups_from (suc number) nodes)
     ∙ ap (λ (gs : List CallbackGroup). gs ++ filter (λ group. group.node == node) (groups_from (suc number) nodes)) (filter_none (λ (group : CallbackGroup). group.node == node) (named_group number) draft.groups (λ group. fails))
@@ -108,7 +93,7 @@ first_groups test number draft nodes passes =
 
 later_groups : (test : NodeDraft → Bool) (node number : ℕ) (draft : NodeDraft) (nodes : List NodeDraft) → number < node → HasGroups test node (suc number) nodes → HasGroups test node number (draft ∷ nodes)
 later_groups test node number draft nodes below later =
-    let fails = differs number node below in
+    let fails = ne_eqb number node (omega (arith, below)) in
     record {
       draft = later.draft;
       passes = later.passes;
@@ -125,8 +110,8 @@ at_node test node number draft nodes (inr below) passes later = later_groups tes
 pub has_groups : (test : NodeDraft → Bool) (node number : ℕ) (nodes : List NodeDraft) → list_all test nodes ≡ true → number ≤ node → node < number + length nodes → HasGroups test node number nodes
 has_groups test node number [] passes above below = absurd (omega (arith, above, below))
 has_groups test node number (draft ∷ nodes) passes above below =
-    at_node test node number draft nodes (eq-or-lt_of_le above) (and_left (test draft) (list_all test nodes) passes)
-    (λ next. has_groups test node (suc number) nodes (and_right (test draft) (list_all test nodes) passes) (omega (arith, next)) (omega (arith, below)))
+    at_node test node number draft nodes (eq-or-lt_of_le above) (and_parts (test draft) (list_all test nodes) passes).0
+    (λ next. has_groups test node (suc number) nodes (and_parts (test draft) (list_all test nodes) passes).1 (omega (arith, next)) (omega (arith, below)))
 
 -- the default group of a node
 pub one_default : (node : ℕ) (groups : List CallbackGroup) (named : List GroupDraft) → filter (λ group. group.node == node) groups ≡ default_group node ∷ map (named_group node) named → filter (λ group. is_none group.name && (group.node == node)) groups ≡ default_group node ∷ []

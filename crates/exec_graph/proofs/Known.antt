@@ -1,7 +1,7 @@
 -- A script that is spelt well names what its scope has.
 use Rattle.std.proofs.Common.{◌≡◌, ℕ, suc, true, length, pos, List, [], ◌∷◌, Option, None, Some, Result, Ok, Err, ok_or, refl, ap, subst}
 use Rattle.std.specs.List.{list_all}
-use Rattle.exec_graph.proofs.Bools.{both_true}
+use Rattle.std.proofs.lemmas.Bool.{and_from}
 use Rattle.exec_graph.proofs.Tables.{◌also◌, read_by_name}
 use Rattle.exec_graph.specs.Graph.{GraphData, is_topic, is_client, is_server, is_action_client}
 use Rattle.exec_graph.specs.Lawful.{is_at, is_at_node, is_known}
@@ -169,5 +169,5 @@ spelt_by graph node scope (words ∷ others) script knows e =
     as_read graph node (words ∷ others) (i ∷ rest) script
     (record {
       as_long = ap suc behind.as_long;
-      known = both_true (is_known graph node i) (list_all (is_known graph node) rest) (one_known graph node scope words knows i first) behind.known;
+      known = and_from (is_known graph node i) (list_all (is_known graph node) rest) (one_known graph node scope words knows i first) behind.known;
     }) e2))

@@ -1,9 +1,10 @@
 -- The graph of a draft without a fault is lawful.
 use Rattle.std.proofs.Common.{◌≡◌, ℕ, ◌+◌, ◌<◌, ◌≤◌, true, not, length, map, sum_by, List, [], ◌∷◌, ◌++◌, None, Some, refl, sym, ap, ◌∙◌, subst, arith, length-append}
 use Rattle.std.specs.List.{filter, list_all}
-use Rattle.std.proofs.lemmas.Bool.{leb-true}
+use Rattle.std.proofs.lemmas.Bool.{leb-true, and_parts}
 use Rattle.std.proofs.lemmas.List.{length-map, map-append}
 use Rattle.std.proofs.lemmas.List.Elements.{filter-append}
+use Rattle.std.proofs.lemmas.Option.{same_Some}
 use Rattle.exec_graph.specs.Resolved.{entity_in, topic_in, graph_in}
 use Rattle.exec_graph.specs.declared.draft.GraphDraft.{GraphDraft}
 use Rattle.exec_graph.specs.Numbers.{Placed, entities_of, groups_of}
@@ -17,12 +18,11 @@ use Rattle.exec_graph.specs.Lawful.{IsLawful, IsLawfulNode, block_of, is_ascendi
 use Rattle.exec_graph.specs.Names.{is_name, are_distinct}
 use Rattle.exec_msg.specs.declared.limits.TheConstants.{NODES, NAMED_GROUPS, TOPICS, ENTITIES}
 use Rattle.exec_graph.proofs.Blocks.{block_before, all_mapped, rank_at, entities_ascend, lower_start}
-use Rattle.exec_graph.proofs.Bools.{and_left, and_right}
 use Rattle.exec_graph.proofs.Entities.{entities_lawful}
 use Rattle.exec_graph.proofs.Groups.{filter_same, filter_none, named_groups, groups_within, has_groups, one_default, names_are}
 use Rattle.exec_graph.proofs.Kept.{IsKept, kept}
 use Rattle.exec_graph.proofs.Resolving.{graph_of, AreEntities, built, no_topic, same_block}
-use Rattle.exec_graph.proofs.Reading.{then_read, AreRead, are_read, as_many, seen_alike, some_is}
+use Rattle.exec_graph.proofs.Reading.{then_read, AreRead, are_read, as_many, seen_alike}
 
 -- ---- names
 
@@ -81,8 +81,8 @@ node_lawful source entities node named below =
     record {
       one_default = ap (λ (gs : List CallbackGroup). length gs) default;
       default_exclusive = ap (list_all (λ group. group.exclusive)) default;
-      well_named = ap (list_all is_name) names ∙ and_left (list_all is_name texts) (are_distinct texts) has.passes;
-      distinct = ap are_distinct names ∙ and_right (list_all is_name texts) (are_distinct texts) has.passes;
+      well_named = ap (list_all is_name) names ∙ (and_parts (list_all is_name texts) (are_distinct texts) has.passes).0;
+      distinct = ap are_distinct names ∙ (and_parts (list_all is_name texts) (are_distinct texts) has.passes).1;
     }
 
 topic_blocks : (topics : List (List ℕ)) → map (λ entity. block_of entity.is) (map topic_in topics) ≡ map (λ name. 0) topics
@@ -107,28 +107,28 @@ kept_lawful source entities keeps reads =
     let nodes = map (λ node. node.name) source.nodes in
     let many = length-map source.nodes (λ node. node.name) in
     let names = names_kept source entities reads in
-    let few_nodes = leb-true (length source.nodes) NODES keeps.few_nodes in
-    let few_groups = leb-true (sum_by (λ node. length node.groups) source.nodes) NAMED_GROUPS keeps.few_groups in
-    let few_topics = leb-true (length source.topics) TOPICS keeps.few_topics in
-    let few_entities = leb-true (length (entities_of source)) ENTITIES keeps.few_entities in
+    let few_nodes = leb-true (length source.nodes) NODES keeps.small.few_nodes in
+    let few_groups = leb-true (sum_by (λ node. length node.groups) source.nodes) NAMED_GROUPS keeps.small.few_groups in
+    let few_topics = leb-true (length source.topics) TOPICS keeps.small.few_topics in
+    let few_entities = leb-true (length (entities_of source)) ENTITIES keeps.small.few_entities in
     record {
       few_nodes = subst (λ n. n ≤ NODES) (sym many) few_nodes;
       few_groups = subst (λ n. n ≤ NAMED_GROUPS) (sym (named_groups 0 source.nodes)) few_groups;
       few_topics = subst (λ n. n ≤ TOPICS) (sym (topics_counted source entities reads)) few_topics;
       few_entities = subst (λ n. n ≤ ENTITIES) (sym (entities_counted source entities reads)) few_entities;
-      node_names = and_left (list_all is_name nodes) (are_distinct nodes) keeps.node_names;
-      distinct_nodes = and_right (list_all is_name nodes) (are_distinct nodes) keeps.node_names;
-      names = ap (list_all is_name) names ∙ and_left (list_all is_name (drafted_names source)) (are_distinct (drafted_names source)) keeps.names;
-      distinct_names = ap are_distinct names ∙ and_right (list_all is_name (drafted_names source)) (are_distinct (drafted_names source)) keeps.names;
+      node_names = (and_parts (list_all is_name nodes) (are_distinct nodes) keeps.named.node_names).0;
+      distinct_nodes = (and_parts (list_all is_name nodes) (are_distinct nodes) keeps.named.node_names).1;
+      names = ap (list_all is_name) names ∙ (and_parts (list_all is_name (drafted_names source)) (are_distinct (drafted_names source)) keeps.named.names).0;
+      distinct_names = ap are_distinct names ∙ (and_parts (list_all is_name (drafted_names source)) (are_distinct (drafted_names source)) keeps.named.names).1;
       groups = groups_within 0 source.nodes (length nodes) (omega (arith, many));
-      nodes = λ node below. node_lawful source entities node keeps.group_names (omega (arith, below, many));
+      nodes = λ node below. node_lawful source entities node keeps.named.group_names (omega (arith, below, many));
       blocks = blocks_kept source entities reads;
-      entities = entities_lawful source entities reads keeps.within keeps.faultless;
+      entities = entities_lawful source entities reads keeps.small.within keeps.faultless;
     }
 
 -- a draft without a fault has a lawful graph, if it has one
 pub graph_lawful : (source : GraphDraft) (made : GraphData) → fault_in source ≡ None → graph_in source ≡ Some made → IsLawful made
 graph_lawful source made faultless is =
     then_read _ (each (entity_in source) (entities_of source)) _ made is (λ entities read e.
-    subst IsLawful (some_is (graph_of source entities) made e)
+    subst IsLawful (same_Some (graph_of source entities) made e)
     (kept_lawful source entities (kept source faultless) (are_read (entity_in source) (entities_of source) entities read)))

@@ -1,7 +1,6 @@
 pub mod Appended
 pub mod Assembled
 pub mod Blocks
-pub mod Bools
 pub mod ByRound
 pub mod Complete
 pub mod Counting

@@ -1,6 +1,7 @@
 -- What the numbers of linked entities are.
 use Rattle.std.proofs.Common.{◌≡◌, ℕ, ◌<◌, ◌≤◌, length, map, List, [], ◌∷◌, Option, None, Some, IfSome, All, option_map, refl, sym, ap, ap₂, ◌∙◌, arith}
 use Rattle.std.proofs.lemmas.List.Elements.{All-nil, All-cons}
+use Rattle.std.proofs.lemmas.Option.{same_Some}
 use Rattle.exec_graph.specs.inner.Directory.{DirectoryData, Linked, IsLinked, directory_of, group_in, linked_in, referred, number_in}
 use Rattle.exec_graph.specs.declared.draft.GraphDraft.{GraphDraft}
 use Rattle.exec_graph.specs.Entity.{ReferenceData, Drafted, reference_of, if_there}
@@ -8,7 +9,7 @@ use Rattle.exec_graph.specs.Numbers.{Placed, groups_of, group_named, is_group}
 use Rattle.exec_graph.specs.Options.{each}
 use Rattle.exec_graph.proofs.EntityResolving.{has_links}
 use Rattle.exec_graph.proofs.Lookups.{number_below}
-use Rattle.exec_graph.proofs.Reading.{AreRead, are_read, some_is}
+use Rattle.exec_graph.proofs.Reading.{AreRead, are_read}
 use Rattle.exec_graph.proofs.TextPlaces.{found_within}
 use Rattle.exec_graph.proofs.WellNamed.{group_same}
 
@@ -18,7 +19,7 @@ reference_below : (directory : DirectoryData) (entity : Drafted) (number : ℕ) 
 reference_below directory entity number there = by (reference_of entity) there where
   of : (o : Option ℕ) → option_map (λ (n : ℕ). Some n) o ≡ Some (Some number) → o ≡ Some number
   of None e = absurd cc
-  of (Some n) e = some_is (Some n) (Some number) e
+  of (Some n) e = same_Some (Some n) (Some number) e
 
   by : (reference : Option (ReferenceData (List ℕ))) → if_there (λ reference. number_in directory reference.to reference.name) reference ≡ Some (Some number) → number < length directory.names
   by None e = absurd cc

@@ -3,15 +3,15 @@ use Rattle.std.proofs.Common.{◌≡◌, ℕ, zero, suc, ◌+◌, Bool, true, fa
 use Rattle.std.specs.Global.{Global}
 use Rattle.std.specs.List.{list_any, position, position_from}
 use Rattle.std.specs.Map.{keys_of, values_of}
-use Rattle.std.proofs.lemmas.Bool.Decides.{same_from_decides}
+use Rattle.std.proofs.lemmas.Bool.{and_parts, or_parts, not-true}
 use Rattle.std.proofs.lemmas.Iterator.Adapters.{position_from-zero}
 use Rattle.std.proofs.lemmas.Slice.Eq.{bytes_eq-Decides}
 use Rattle.exec_graph.specs.inner.Entries.{entity_of, entities_in}
 use Rattle.exec_graph.specs.Graph.{EntityData}
 use Rattle.exec_graph.specs.Names.{are_distinct}
 use Rattle.exec_graph.specs.declared.entity.Declared.{Declared}
-use Rattle.exec_graph.proofs.Bools.{and_left, and_right, or_left, or_right, not_true}
 use Rattle.exec_graph.proofs.Positions.{slice_get-map}
+use Rattle.exec_graph.proofs.SameTexts.{bytes_sym}
 
 -- ---- by number
 
@@ -23,10 +23,6 @@ declared_by (entry ∷ entries) zero declared default there = cc
 declared_by (entry ∷ entries) (suc number) declared default there = declared_by entries number declared default there
 
 -- ---- by name
-
-pub bytes_same : (one other : List ℕ) → bytes_eq one other ≡ bytes_eq other one
-bytes_same one other = same_from_decides (bytes_eq one other) (bytes_eq other one) (bytes_eq-Decides one other)
-    ((λ is. sym ((bytes_eq-Decides other one).0 is)), (λ is. (bytes_eq-Decides other one).1 (sym is)))
 
 pub same_bytes : (one other : List ℕ) → bytes_eq one other ≡ true → one ≡ other
 same_bytes one other is = (bytes_eq-Decides one other).0 is
@@ -50,8 +46,8 @@ module _ (kind : Declared → Bool) (name : List ℕ) where
   not_there first [] others = refl
   not_there first (entity ∷ entities) others =
       let rest = list_any (λ other. bytes_eq other name) (map (λ entity. entity.name) entities) in
-      rw (both_fail (kind entity.is) (bytes_eq entity.name name) (or_left (bytes_eq entity.name name) rest others))
-      (not_there (first + 1) entities (or_right (bytes_eq entity.name name) rest others))
+      rw (both_fail (kind entity.is) (bytes_eq entity.name name) (or_parts (bytes_eq entity.name name) rest others).0)
+      (not_there (first + 1) entities (or_parts (bytes_eq entity.name name) rest others).1)
 
   missing_by : (b : Bool) (first : ℕ) (entity : EntityData) (entities : List EntityData) → bytes_eq entity.name name ≡ b → cond b (Some first) (position_from (λ entity. bytes_eq name entity.name) (first + 1) entities) ≡ None →
       (position_from (λ entity. bytes_eq name entity.name) (first + 1) entities ≡ None → position_from (is_named kind name) (first + 1) entities ≡ None) → position_from (is_named kind name) first (entity ∷ entities) ≡ None
@@ -61,7 +57,7 @@ module _ (kind : Declared → Bool) (name : List ℕ) where
   pub missing : (first : ℕ) (entities : List EntityData) → position_from (λ entity. bytes_eq name entity.name) first entities ≡ None → position_from (is_named kind name) first entities ≡ None
   missing first [] none = refl
   missing first (entity ∷ entities) none =
-      missing_by (bytes_eq name entity.name) first entity entities (bytes_same entity.name name) none (missing (first + 1) entities)
+      missing_by (bytes_eq name entity.name) first entity entities (bytes_sym entity.name name) none (missing (first + 1) entities)
 
   -- the entity of a name that is found, at its place behind an offset, and whether it passes the test
   pub record IsPresent (first : ℕ) (entities : List EntityData) (number : ℕ) : Type 0 where
@@ -95,8 +91,8 @@ module _ (kind : Declared → Bool) (name : List ℕ) where
   present first (entity ∷ entities) number distinct at =
       let names = map (λ entity. entity.name) entities in
       let taken = list_any (λ other. bytes_eq other entity.name) names in
-      present_by (bytes_eq name entity.name) first entity entities number (bytes_same entity.name name) (not_true taken (and_left (not taken) (are_distinct names) distinct)) at
-      (present (first + 1) entities number (and_right (not taken) (are_distinct names) distinct))
+      present_by (bytes_eq name entity.name) first entity entities number (bytes_sym entity.name name) (not-true taken (and_parts (not taken) (are_distinct names) distinct).0) at
+      (present (first + 1) entities number (and_parts (not taken) (are_distinct names) distinct).1)
 
 -- ---- what a map's look-up says
 

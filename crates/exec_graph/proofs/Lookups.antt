@@ -1,13 +1,15 @@
 -- What a directory finds is what the draft of a graph declares.
 use Rattle.std.proofs.Common.{◌≡◌, ℕ, ◌+◌, ◌-◌, ◌<◌, ◌≤◌, Bool, true, false, not, ◌&&◌, ◌==◌, cond, if◌then◌else◌, nat_lt, length, map, List, [], ◌∷◌, ◌++◌, Option, None, Some, option_and_then, slice_get, refl, sym, ap, subst, ◌∙◌, append_assoc, zero-add, arith}
+use Rattle.std.specs.Bool.{then_some}
 use Rattle.std.specs.List.{list_any, position_from}
 use Rattle.std.specs.Option.{option_map}
 use Rattle.std.specs.Str.{bytes_eq}
-use Rattle.std.proofs.lemmas.Bool.{lt-ltb, le-ltb}
+use Rattle.std.proofs.lemmas.Bool.{lt-ltb, le-ltb, and_parts, or_parts, not-true}
 use Rattle.std.proofs.lemmas.List.{length-append}
 use Rattle.std.proofs.lemmas.List.Folds.{list_any-append}
+use Rattle.std.proofs.lemmas.Option.{same_Some}
 use Rattle.std.proofs.lemmas.Slice.Eq.{bytes_eq-Decides}
-use Rattle.exec_graph.specs.inner.Directory.{DirectoryData, where_so, position_of, placed_named, passing, topic_number, entity_number, number_in, scope_in, referred, resolved_by, directory_of}
+use Rattle.exec_graph.specs.inner.Directory.{DirectoryData, position_of, placed_named, passing, topic_number, entity_number, number_in, scope_in, referred, resolved_by, directory_of}
 use Rattle.exec_graph.specs.inner.Directory as Directory
 use Rattle.exec_graph.specs.declared.draft.GraphDraft.{GraphDraft}
 use Rattle.exec_graph.specs.Entity.{Drafted, is_of, reference_of, if_there, read_by}
@@ -18,27 +20,16 @@ use Rattle.exec_graph.specs.Names.{are_distinct}
 use Rattle.exec_graph.specs.Numbers.{Placed, entities_of, topic_named, entity_named, named, scope_of}
 use Rattle.exec_graph.specs.Resolved.{script_in}
 use Rattle.exec_graph.specs.declared.entity.EntityKind.TheVariants as entity_kind
-use Rattle.exec_graph.specs.declared.entity.Referent.{Referent}
-use Rattle.exec_graph.specs.declared.entity.Referent.TheVariants as referent
-use Rattle.exec_graph.proofs.Bools.{and_left, and_right, or_left, or_right}
-use Rattle.exec_graph.proofs.Reading.{then_read, some_is}
+use Rattle.exec_graph.specs.declared.entity.parts.Referent.{Referent}
+use Rattle.exec_graph.specs.declared.entity.parts.Referent.TheVariants as referent
+use Rattle.exec_graph.proofs.Appended.{name_of}
+use Rattle.exec_graph.proofs.Reading.{then_read}
+use Rattle.exec_graph.proofs.SameTexts.{is_text}
 use Rattle.exec_graph.proofs.TextPlaces.{found_within}
-
--- the name of an entity
-abbrev name_of : Placed → List ℕ
-name_of placed = placed.entity.name
-
--- whether a text is this name
-abbrev is_name : List ℕ → List ℕ → Bool
-is_name name other = bytes_eq other name
 
 -- whether an entity passes and has this name
 abbrev is_wanted : (Placed → Bool) → List ℕ → Placed → Bool
 is_wanted test name placed = test placed && bytes_eq placed.entity.name name
-
-not_true : (b : Bool) → not b ≡ true → b ≡ false
-not_true true is = absurd cc
-not_true false is = refl
 
 -- ---- names that stand once
 
@@ -48,19 +39,19 @@ unfound_by true false first rest is none = none
 unfound_by false b first rest is none = none
 
 -- entities of other names
-unfound : (test : Placed → Bool) (name : List ℕ) (first : ℕ) (entities : List Placed) → list_any (is_name name) (map name_of entities) ≡ false → position_from (is_wanted test name) first entities ≡ None
+unfound : (test : Placed → Bool) (name : List ℕ) (first : ℕ) (entities : List Placed) → list_any (is_text name) (map name_of entities) ≡ false → position_from (is_wanted test name) first entities ≡ None
 unfound test name first [] none = refl
 unfound test name first (placed ∷ entities) none =
     unfound_by (test placed) (bytes_eq (name_of placed) name) first (position_from (is_wanted test name) (first + 1) entities)
-    (or_left (bytes_eq (name_of placed) name) (list_any (is_name name) (map name_of entities)) none)
-    (unfound test name (first + 1) entities (or_right (bytes_eq (name_of placed) name) (list_any (is_name name) (map name_of entities)) none))
+    (or_parts (bytes_eq (name_of placed) name) (list_any (is_text name) (map name_of entities)) none).0
+    (unfound test name (first + 1) entities (or_parts (bytes_eq (name_of placed) name) (list_any (is_text name) (map name_of entities)) none).1)
 
 -- a name that stands before others, which all differ, isn't among them
-stands_once : (name text : List ℕ) (texts : List (List ℕ)) → bytes_eq text name ≡ true → are_distinct (text ∷ texts) ≡ true → list_any (is_name name) texts ≡ false
+stands_once : (name text : List ℕ) (texts : List (List ℕ)) → bytes_eq text name ≡ true → are_distinct (text ∷ texts) ≡ true → list_any (is_text name) texts ≡ false
 stands_once name text texts same distinct =
     let is : text ≡ name = (bytes_eq-Decides text name).0 same in
-    subst (λ (wanted : List ℕ). list_any (is_name wanted) texts ≡ false) is
-    (not_true (list_any (is_name text) texts) (and_left (not (list_any (is_name text) texts)) (are_distinct texts) distinct))
+    subst (λ (wanted : List ℕ). list_any (is_text wanted) texts ≡ false) is
+    (not-true (list_any (is_text text) texts) (and_parts (not (list_any (is_text text) texts)) (are_distinct texts) distinct).0)
 
 -- ---- entities
 
@@ -77,7 +68,7 @@ found_here topics front placed entities =
     let back : topics + length front - topics ≡ length front = omega arith in
     rw (le-ltb (topics + length front) topics (omega arith), back, at_end front placed entities) refl
 
-here_by : (t : Bool) (number : ℕ) (rest : Option ℕ) → rest ≡ None → where_so t number ≡ cond (t && true) (Some number) rest
+here_by : (t : Bool) (number : ℕ) (rest : Option ℕ) → rest ≡ None → then_some t number ≡ cond (t && true) (Some number) rest
 here_by true number rest none = refl
 here_by false number rest none = sym none
 
@@ -91,8 +82,8 @@ module _ (test : Placed → Bool) (name : List ℕ) (topics : ℕ) where
   found_among all number = option_and_then (passing test) (option_and_then (placed_at topics all) number)
 
   among_by : (b : Bool) (front : List Placed) (placed : Placed) (entities : List Placed) (first : ℕ) → first ≡ topics + length front → bytes_eq (name_of placed) name ≡ b → are_distinct (map name_of (placed ∷ entities)) ≡ true →
-      (found_among (front ++ placed ∷ entities) (position_from (is_name name) (first + 1) (map name_of entities)) ≡ position_from (is_wanted test name) (first + 1) entities) →
-      found_among (front ++ placed ∷ entities) (cond b (Some first) (position_from (is_name name) (first + 1) (map name_of entities)))
+      (found_among (front ++ placed ∷ entities) (position_from (is_text name) (first + 1) (map name_of entities)) ≡ position_from (is_wanted test name) (first + 1) entities) →
+      found_among (front ++ placed ∷ entities) (cond b (Some first) (position_from (is_text name) (first + 1) (map name_of entities)))
       ≡ cond (test placed && b) (Some first) (position_from (is_wanted test name) (first + 1) entities)
   among_by true front placed entities first is same distinct others =
       rw is (ap (option_and_then (passing test)) (found_here topics front placed entities)
@@ -102,35 +93,34 @@ module _ (test : Placed → Bool) (name : List ℕ) (topics : ℕ) where
       others ∙ later_by (test placed) first (position_from (is_wanted test name) (first + 1) entities)
 
   among : (front entities : List Placed) (first : ℕ) → first ≡ topics + length front → are_distinct (map name_of entities) ≡ true →
-      found_among (front ++ entities) (position_from (is_name name) first (map name_of entities)) ≡ position_from (is_wanted test name) first entities
+      found_among (front ++ entities) (position_from (is_text name) first (map name_of entities)) ≡ position_from (is_wanted test name) first entities
   among front [] first is distinct = refl
   among front (placed ∷ entities) first is distinct =
       let next : first + 1 ≡ topics + length (front ++ placed ∷ []) = omega (arith, is, length-append front (placed ∷ [])) in
-      ap (λ (b : Bool). found_among (front ++ placed ∷ entities) (cond b (Some first) (position_from (is_name name) (first + 1) (map name_of entities)))) refl
+      ap (λ (b : Bool). found_among (front ++ placed ∷ entities) (cond b (Some first) (position_from (is_text name) (first + 1) (map name_of entities)))) refl
       ∙ among_by (bytes_eq (name_of placed) name) front placed entities first is refl distinct
-      (ap (λ (all : List Placed). found_among all (position_from (is_name name) (first + 1) (map name_of entities))) (sym (append_assoc front (placed ∷ []) entities))
-      ∙ among (front ++ placed ∷ []) entities (first + 1) next (and_right (not (list_any (is_name (name_of placed)) (map name_of entities))) (are_distinct (map name_of entities)) distinct))
+      (ap (λ (all : List Placed). found_among all (position_from (is_text name) (first + 1) (map name_of entities))) (sym (append_assoc front (placed ∷ []) entities))
+      ∙ among (front ++ placed ∷ []) entities (first + 1) next (and_parts (not (list_any (is_text (name_of placed)) (map name_of entities))) (are_distinct (map name_of entities)) distinct).1)
 
   below : (first : ℕ) (entities : List Placed) → first < topics → option_and_then (passing test) (placed_at topics entities first) ≡ None
   below first entities less = rw (lt-ltb first topics less) refl
 
   behind_by : (b : Bool) (text : List ℕ) (texts : List (List ℕ)) (entities : List Placed) (first : ℕ) → first < topics → bytes_eq text name ≡ b → are_distinct (text ∷ texts ++ map name_of entities) ≡ true →
-      found_among entities (position_from (is_name name) (first + 1) (texts ++ map name_of entities)) ≡ position_from (is_wanted test name) topics entities →
-      found_among entities (cond b (Some first) (position_from (is_name name) (first + 1) (texts ++ map name_of entities))) ≡ position_from (is_wanted test name) topics entities
+      found_among entities (position_from (is_text name) (first + 1) (texts ++ map name_of entities)) ≡ position_from (is_wanted test name) topics entities →
+      found_among entities (cond b (Some first) (position_from (is_text name) (first + 1) (texts ++ map name_of entities))) ≡ position_from (is_wanted test name) topics entities
   behind_by true text texts entities first less same distinct others =
       below first entities less
-      ∙ sym (unfound test name topics entities (or_right (list_any (is_name name) texts) (list_any (is_name name) (map name_of entities))
-      (sym (list_any-append (is_name name) texts (map name_of entities)) ∙ stands_once name text (texts ++ map name_of entities) same distinct)))
+      ∙ sym (unfound test name topics entities (or_parts (list_any (is_text name) texts) (list_any (is_text name) (map name_of entities)) (sym (list_any-append (is_text name) texts (map name_of entities)) ∙ stands_once name text (texts ++ map name_of entities) same distinct)).1)
   behind_by false text texts entities first less same distinct others = others
 
   behind : (texts : List (List ℕ)) (entities : List Placed) (first : ℕ) → topics ≡ first + length texts → are_distinct (texts ++ map name_of entities) ≡ true →
-      found_among entities (position_from (is_name name) first (texts ++ map name_of entities)) ≡ position_from (is_wanted test name) topics entities
+      found_among entities (position_from (is_text name) first (texts ++ map name_of entities)) ≡ position_from (is_wanted test name) topics entities
   behind [] entities first is distinct =
       let same : first ≡ topics = omega (arith, is) in
       rw same (among [] entities topics (omega arith) distinct)
   behind (text ∷ texts) entities first is distinct =
       behind_by (bytes_eq text name) text texts entities first (omega (arith, is)) refl distinct
-      (behind texts entities (first + 1) (omega (arith, is)) (and_right (not (list_any (is_name text) (texts ++ map name_of entities))) (are_distinct (texts ++ map name_of entities)) distinct))
+      (behind texts entities (first + 1) (omega (arith, is)) (and_parts (not (list_any (is_text text) (texts ++ map name_of entities))) (are_distinct (texts ++ map name_of entities)) distinct).1)
 
 -- an entity is found by its name
 pub entity_found : (draft : GraphDraft) (test : Placed → Bool) (name : List ℕ) → are_distinct (drafted_names draft) ≡ true → entity_number (directory_of draft) test name ≡ entity_named draft test name
@@ -138,25 +128,25 @@ entity_found draft test name distinct = behind test name (length draft.topics) d
 
 -- ---- topics
 
-abbrev topic_at : ℕ → ℕ → Option ℕ
-topic_at topics number = where_so (nat_lt number topics) number
+abbrev topic_below : ℕ → ℕ → Option ℕ
+topic_below topics number = then_some (nat_lt number topics) number
 
-beyond_by : (topics : ℕ) (first : ℕ) (b : Bool) (rest : Option ℕ) → topics ≤ first → option_and_then (topic_at topics) rest ≡ None → option_and_then (topic_at topics) (cond b (Some first) rest) ≡ None
+beyond_by : (topics : ℕ) (first : ℕ) (b : Bool) (rest : Option ℕ) → topics ≤ first → option_and_then (topic_below topics) rest ≡ None → option_and_then (topic_below topics) (cond b (Some first) rest) ≡ None
 beyond_by topics first true rest above others = let e : topics + (first - topics) ≡ first = omega (arith, above) in rw (← e) (rw (le-ltb (topics + (first - topics)) topics (omega arith)) refl)
 beyond_by topics first false rest above others = others
 
-beyond : (name : List ℕ) (topics first : ℕ) (texts : List (List ℕ)) → topics ≤ first → option_and_then (topic_at topics) (position_from (is_name name) first texts) ≡ None
+beyond : (name : List ℕ) (topics first : ℕ) (texts : List (List ℕ)) → topics ≤ first → option_and_then (topic_below topics) (position_from (is_text name) first texts) ≡ None
 beyond name topics first [] above = refl
-beyond name topics first (text ∷ texts) above = beyond_by topics first (bytes_eq text name) (position_from (is_name name) (first + 1) texts) above (beyond name topics (first + 1) texts (omega (arith, above)))
+beyond name topics first (text ∷ texts) above = beyond_by topics first (bytes_eq text name) (position_from (is_text name) (first + 1) texts) above (beyond name topics (first + 1) texts (omega (arith, above)))
 
-topic_by : (b : Bool) (topics first : ℕ) (rest found : Option ℕ) → first < topics → option_and_then (topic_at topics) rest ≡ found → option_and_then (topic_at topics) (cond b (Some first) rest) ≡ cond b (Some first) found
+topic_by : (b : Bool) (topics first : ℕ) (rest found : Option ℕ) → first < topics → option_and_then (topic_below topics) rest ≡ found → option_and_then (topic_below topics) (cond b (Some first) rest) ≡ cond b (Some first) found
 topic_by true topics first rest found less others = rw (lt-ltb first topics less) refl
 topic_by false topics first rest found less others = others
 
-topic_among : (name : List ℕ) (topics first : ℕ) (texts others : List (List ℕ)) → topics ≡ first + length texts → option_and_then (topic_at topics) (position_from (is_name name) first (texts ++ others)) ≡ position_from (is_name name) first texts
+topic_among : (name : List ℕ) (topics first : ℕ) (texts others : List (List ℕ)) → topics ≡ first + length texts → option_and_then (topic_below topics) (position_from (is_text name) first (texts ++ others)) ≡ position_from (is_text name) first texts
 topic_among name topics first [] others is = beyond name topics first others (omega (arith, is))
 topic_among name topics first (text ∷ texts) others is =
-    topic_by (bytes_eq text name) topics first (position_from (is_name name) (first + 1) (texts ++ others)) (position_from (is_name name) (first + 1) texts) (omega (arith, is))
+    topic_by (bytes_eq text name) topics first (position_from (is_text name) (first + 1) (texts ++ others)) (position_from (is_text name) (first + 1) texts) (omega (arith, is))
     (topic_among name topics (first + 1) texts others (omega (arith, is)))
 
 -- a topic is found by its name
@@ -184,7 +174,7 @@ scope_same draft distinct node = λ i. record {
 -- something that is read where it is there
 read_as : {A : Type 0} (o found : Option A) → option_map (λ (a : A). Some a) o ≡ Some found → o ≡ found
 read_as None found e = absurd cc
-read_as (Some a) found e = some_is (Some a) found e
+read_as (Some a) found e = same_Some (Some a) found e
 
 -- what is read by the number of what an entity refers to
 module _ {S T : Type 0} (number : Referent → List ℕ → Option ℕ) (read : S → Option T) (reference : Option ℕ) where
@@ -206,10 +196,10 @@ resolved_same draft distinct node reference entity there =
 -- ---- bounds
 
 position_below : (name : List ℕ) (directory : DirectoryData) (number : ℕ) → position_of directory name ≡ Some number → number < length directory.names
-position_below name directory number found = subst (λ (bound : ℕ). number < bound) (zero-add (length directory.names)) (found_within (is_name name) 0 directory.names number found)
+position_below name directory number found = subst (λ (bound : ℕ). number < bound) (zero-add (length directory.names)) (found_within (is_text name) 0 directory.names number found)
 
-where_is : {A : Type 0} (b : Bool) (value found : A) → where_so b value ≡ Some found → value ≡ found
-where_is true value found e = some_is value found e
+where_is : {A : Type 0} (b : Bool) (value found : A) → then_some b value ≡ Some found → value ≡ found
+where_is true value found e = same_Some value found e
 where_is false value found e = absurd cc
 
 -- a number that is found is that of a name
@@ -224,7 +214,7 @@ number_below directory (referent.Entity kind) name number found =
   where
     mapped : (place : ℕ) (o : Option Placed) (pair : ℕ × Placed) → option_map (λ placed. (place, placed)) o ≡ Some pair → place ≡ pair.0
     mapped place None pair e = absurd cc
-    mapped place (Some placed) pair e = ap (λ (p : ℕ × Placed). p.0) (some_is (place, placed) pair e)
+    mapped place (Some placed) pair e = ap (λ (p : ℕ × Placed). p.0) (same_Some (place, placed) pair e)
 
     chosen : (b : Bool) (place : ℕ) (o : Option Placed) (pair : ℕ × Placed) → (if b then None else option_map (λ placed. (place, placed)) o) ≡ Some pair → place ≡ pair.0
     chosen true place o pair e = absurd cc

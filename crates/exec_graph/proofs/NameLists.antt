@@ -1,21 +1,24 @@
 -- Texts that are added to names one after another.
-use Rattle.std.proofs.Common.{◌≡◌, ℕ, suc, ◌+◌, ◌<◌, ◌≤◌, Bool, true, false, not, ◌&&◌, ◌||◌, if◌then◌else◌, length, get_or, drop, map, add-one, List, [], ◌∷◌, ◌++◌, Option, None, Some, refl, sym, ap, ◌∙◌, append-nil, append_assoc}
+use Rattle.std.proofs.Common.{◌≡◌, ℕ, ◌+◌, ◌<◌, ◌≤◌, Bool, true, false, not, ◌&&◌, ◌||◌, if◌then◌else◌, length, get_or, drop, map, List, [], ◌∷◌, ◌++◌, Option, None, Some, refl, sym, ap, ◌∙◌, append-nil, append_assoc}
+use Rattle.std.specs.Bool.{then_some}
 use Rattle.std.specs.List.{list_all, list_any}
 use Rattle.std.specs.Str.{bytes_eq}
-use Rattle.std.proofs.Math.Seq.{drop-cons}
-use Rattle.std.proofs.lemmas.List.{drop_all}
+use Rattle.std.proofs.lemmas.List.{drop_all, drop_more}
 use Rattle.std.proofs.lemmas.List.Folds.{list_any-append}
-use Rattle.exec_graph.specs.inner.Directory.{names_from, where_so}
+use Rattle.exec_graph.specs.inner.Directory.{names_from}
 use Rattle.exec_graph.specs.Faults.{are_names}
 use Rattle.exec_graph.specs.Names.{is_name, are_distinct}
 use Rattle.exec_graph.proofs.SameTexts.{bytes_sym}
 
 -- ---- steps
 
--- what is seen at a place, and behind it
+-- what stands at a place, and behind it
+pub from_place : {X : Type 0} (xs : List X) (i : ℕ) (x : X) → i < length xs → x ≡ get_or xs i x → drop i xs ≡ x ∷ drop (i + 1) xs
+from_place {X} xs i x within there = drop_more xs i x within ∙ ap (λ (y : X). y ∷ drop (i + 1) xs) (sym there)
+
+-- what is seen of it
 pub at_place : {X A : Type 0} (see : X → A) (xs : List X) (i : ℕ) (x : X) → i < length xs → x ≡ get_or xs i x → map see (drop i xs) ≡ see x ∷ map see (drop (i + 1) xs)
-at_place {X} see xs i x within there =
-    ap (map see) (drop-cons xs i x within ∙ ap (λ (y : X). y ∷ drop (suc i) xs) (sym there) ∙ ap (λ (n : ℕ). x ∷ drop n xs) (sym (add-one i)))
+at_place see xs i x within there = ap (map see) (from_place xs i x within there)
 
 -- whether a text is a name and none of these
 abbrev pub is_new : List (List ℕ) → List ℕ → Bool
@@ -86,17 +89,17 @@ tests_by true false true D true C = refl
 tests_by true false true false false C = refl
 tests_by true false true true false C = refl
 
-chosen_by : (b c : Bool) (all : List (List ℕ)) → (if b then where_so c all else None) ≡ where_so (b && c) all
+chosen_by : (b c : Bool) (all : List (List ℕ)) → (if b then then_some c all else None) ≡ then_some (b && c) all
 chosen_by true c all = refl
 chosen_by false c all = refl
 
 -- texts can be added to names where they are names, differ and aren't there yet
-added_to : (names texts : List (List ℕ)) → names_from names texts ≡ where_so (list_all is_name texts && (are_distinct texts && are_apart names texts)) (names ++ texts)
+added_to : (names texts : List (List ℕ)) → names_from names texts ≡ then_some (list_all is_name texts && (are_distinct texts && are_apart names texts)) (names ++ texts)
 added_to names [] = ap (λ (ns : List (List ℕ)). Some ns) (sym (append-nil names))
 added_to names (text ∷ texts) =
-    ap (λ (rest : Option (List (List ℕ))). if is_new names text then rest else None) (added_to (names ++ text ∷ []) texts ∙ (λ i. where_so (list_all is_name texts && (are_distinct texts && apart_more names text texts i)) (append_assoc names (text ∷ []) texts i)))
+    ap (λ (rest : Option (List (List ℕ))). if is_new names text then rest else None) (added_to (names ++ text ∷ []) texts ∙ (λ i. then_some (list_all is_name texts && (are_distinct texts && apart_more names text texts i)) (append_assoc names (text ∷ []) texts i)))
     ∙ chosen_by (is_new names text) (list_all is_name texts && (are_distinct texts && (not (list_any (λ other. bytes_eq other text) texts) && are_apart names texts))) (names ++ text ∷ texts)
-    ∙ ap (λ (b : Bool). where_so b (names ++ text ∷ texts)) (tests_by (is_name text) (list_any (λ other. bytes_eq other text) names) (list_all is_name texts) (are_distinct texts) (not (list_any (λ other. bytes_eq other text) texts)) (are_apart names texts))
+    ∙ ap (λ (b : Bool). then_some b (names ++ text ∷ texts)) (tests_by (is_name text) (list_any (λ other. bytes_eq other text) names) (list_all is_name texts) (are_distinct texts) (not (list_any (λ other. bytes_eq other text) texts)) (are_apart names texts))
 
 apart_from_none : (texts : List (List ℕ)) → are_apart [] texts ≡ true
 apart_from_none [] = refl
@@ -108,14 +111,14 @@ last_true true false a is = refl
 last_true true true a is = is
 
 -- texts can be added to no names where they are names and differ
-pub added_to_none : (texts : List (List ℕ)) → names_from [] texts ≡ where_so (are_names texts) texts
-added_to_none texts = added_to [] texts ∙ ap (λ (b : Bool). where_so b texts) (last_true (list_all is_name texts) (are_distinct texts) (are_apart [] texts) (apart_from_none texts))
+pub added_to_none : (texts : List (List ℕ)) → names_from [] texts ≡ then_some (are_names texts) texts
+added_to_none texts = added_to [] texts ∙ ap (λ (b : Bool). then_some b texts) (last_true (list_all is_name texts) (are_distinct texts) (are_apart [] texts) (apart_from_none texts))
 
-is_so : (b : Bool) (names texts : List (List ℕ)) → Some names ≡ where_so b texts → true ≡ b
+is_so : (b : Bool) (names texts : List (List ℕ)) → Some names ≡ then_some b texts → true ≡ b
 is_so true names texts is = refl
 is_so false names texts is = absurd cc
 
-is_not : (b : Bool) (texts : List (List ℕ)) → None ≡ where_so b texts → false ≡ b
+is_not : (b : Bool) (texts : List (List ℕ)) → None ≡ then_some b texts → false ≡ b
 is_not true texts is = absurd cc
 is_not false texts is = refl
 
@@ -124,8 +127,3 @@ are_so names texts is = is_so (are_names texts) names texts (is ∙ added_to_non
 
 pub are_not : (texts : List (List ℕ)) → None ≡ names_from [] texts → false ≡ are_names texts
 are_not texts is = is_not (are_names texts) texts (is ∙ added_to_none texts)
-
--- ---- lists of which each element passes a test
-
-pub from_place : {X : Type 0} (xs : List X) (i : ℕ) (x : X) → i < length xs → x ≡ get_or xs i x → drop i xs ≡ x ∷ drop (i + 1) xs
-from_place {X} xs i x within there = drop-cons xs i x within ∙ ap (λ (y : X). y ∷ drop (suc i) xs) (sym there) ∙ ap (λ (n : ℕ). x ∷ drop n xs) (sym (add-one i))

@@ -1,8 +1,9 @@
 -- What names find in the graph of a document.
 use Rattle.std.proofs.Common.{◌≡◌, ℕ, ◌+◌, Bool, true, false, not, ◌&&◌, ◌==◌, length, map, List, ◌++◌, Some, slice_get, bytes_eq, refl, ap, ◌∙◌, subst, arith}
 use Rattle.std.specs.Option.{option_map_or}
-use Rattle.std.proofs.lemmas.Bool.{eqb-true}
+use Rattle.std.proofs.lemmas.Bool.{eqb-true, and_parts, and_from}
 use Rattle.std.proofs.lemmas.List.{length-map}
+use Rattle.std.proofs.lemmas.Option.{same_Some}
 use Rattle.exec_graph.specs.declared.draft.GraphDraft.{GraphDraft}
 use Rattle.exec_graph.specs.Entity.{Resolved, kind_of_entity, rank_of, is_of, read_by}
 use Rattle.exec_graph.specs.Graph.{EntityData, GraphData, in_group, is_topic, is_a, is_server, group_of}
@@ -14,13 +15,12 @@ use Rattle.exec_graph.specs.Scripts.{is_reentrant}
 use Rattle.exec_graph.specs.declared.entity.CallbackGroup.{CallbackGroup}
 use Rattle.exec_graph.specs.declared.entity.EntityKind.{EntityKind}
 use Rattle.exec_graph.specs.declared.entity.EntityKind.TheVariants as entity_kind
-use Rattle.exec_graph.specs.declared.entity.Referent.{Referent}
-use Rattle.exec_graph.specs.declared.entity.Referent.TheVariants as referent
-use Rattle.exec_graph.proofs.Bools.{and_left, and_right, both_true}
+use Rattle.exec_graph.specs.declared.entity.parts.Referent.{Referent}
+use Rattle.exec_graph.specs.declared.entity.parts.Referent.TheVariants as referent
 use Rattle.exec_graph.proofs.EntityReading.{IsReadBy, read_has}
 use Rattle.exec_graph.proofs.Known.{Knows}
 use Rattle.exec_graph.proofs.Positions.{at_position, slice_get-map, slice_get-front, slice_get-behind}
-use Rattle.exec_graph.proofs.Reading.{then_read, AreRead, are_read, read_at, some_is}
+use Rattle.exec_graph.proofs.Reading.{then_read, AreRead, are_read, read_at}
 
 -- the graph of a document, whose entities are these
 abbrev pub graph_of : GraphDraft → List EntityData → GraphData
@@ -49,7 +49,7 @@ pub built : (source : GraphDraft) (placed : Placed) (entity : EntityData) → en
 built source placed entity e =
     then_read _ (group_named source placed.node placed.entity.group) _ entity e (λ number found e1.
     then_read _ (read_by (named source) (script_in (scope_of source placed.node)) placed.entity.is) _ entity e1 (λ is read e2.
-    subst (IsBuilt source placed) (some_is (record { name = placed.entity.name; is = in_group number is }) entity e2)
+    subst (IsBuilt source placed) (same_Some (record { name = placed.entity.name; is = in_group number is }) entity e2)
     (record { number = number; is = is; found = found; named_as = refl; declared = refl; read = read_has (named source) (script_in (scope_of source placed.node)) placed.entity.is is read })))
 
 module _ (source : GraphDraft) (placed : Placed) (entity : EntityData) (build : IsBuilt source placed entity) where
@@ -85,7 +85,7 @@ has_group source placed number found =
     record {
       group = at.element;
       there = ap (slice_get (groups_of source)) same ∙ at.there;
-      node = eqb-true at.element.node placed.node (and_left (at.element.node == placed.node) (same_name at.element.name placed.entity.group) at.passes);
+      node = eqb-true at.element.node placed.node (and_parts (at.element.node == placed.node) (same_name at.element.name placed.entity.group) at.passes).0;
       reentrant = rw at.found refl;
     }
 
@@ -117,7 +117,7 @@ entity_there source entities test name number reads found =
     record {
       placed = at.element;
       entity = read.element;
-      passes = and_left (test at.element) (bytes_eq at.element.entity.name name) at.passes;
+      passes = (and_parts (test at.element) (bytes_eq at.element.entity.name name) at.passes).0;
       read = read.is;
       there = ap (slice_get (map topic_in source.topics ++ entities)) same ∙ slice_get-behind (map topic_in source.topics) entities at.place ∙ read.there;
     }
@@ -146,10 +146,10 @@ in_node : (source : GraphDraft) (entities : List EntityData) (node : ℕ) (kind 
 in_node source entities node kind name number reads found =
     let at = entity_there source entities (λ placed. is_of kind placed.entity.is && (placed.node == node)) name number reads found in
     let build = built source at.placed at.entity at.read in
-    let is = same_kind source at.placed at.entity build kind ∙ and_left (is_of kind at.placed.entity.is) (at.placed.node == node) at.passes in
-    let here = of_node source entities node at.placed at.entity build (and_right (is_of kind at.placed.entity.is) (at.placed.node == node) at.passes) in
+    let is = same_kind source at.placed at.entity build kind ∙ (and_parts (is_of kind at.placed.entity.is) (at.placed.node == node) at.passes).0 in
+    let here = of_node source entities node at.placed at.entity build (and_parts (is_of kind at.placed.entity.is) (at.placed.node == node) at.passes).1 in
     found_at (λ entity. is_a kind entity.is && is_of_node (graph_of source entities) node (group_of entity.is)) (map topic_in source.topics ++ entities) number at.entity at.there
-    (both_true (is_a kind at.entity.is) (is_of_node (graph_of source entities) node (group_of at.entity.is)) is here)
+    (and_from (is_a kind at.entity.is) (is_of_node (graph_of source entities) node (group_of at.entity.is)) is here)
 
 pub knows : (source : GraphDraft) (entities : List EntityData) (node : ℕ) → AreEntities source entities → Knows (scope_of source node) (graph_of source entities) node
 knows source entities node reads = record {
@@ -164,10 +164,10 @@ knows source entities node reads = record {
 pub topic_found : (source : GraphDraft) (made : GraphData) (name : List ℕ) (number : ℕ) → graph_in source ≡ Some made → topic_named source name ≡ Some number → is_at is_topic made number ≡ true
 topic_found source made name number is found =
     then_read _ (each (entity_in source) (entities_of source)) _ made is (λ entities read e.
-    subst (λ (shape : GraphData). is_at is_topic shape number ≡ true) (some_is (graph_of source entities) made e) (topic_there source entities name number found))
+    subst (λ (shape : GraphData). is_at is_topic shape number ≡ true) (same_Some (graph_of source entities) made e) (topic_there source entities name number found))
 
 pub server_found : (source : GraphDraft) (made : GraphData) (name : List ℕ) (number : ℕ) → graph_in source ≡ Some made → server_named source name ≡ Some number → is_at is_server made number ≡ true
 server_found source made name number is found =
     then_read _ (each (entity_in source) (entities_of source)) _ made is (λ entities read e.
-    subst (λ (shape : GraphData). is_at is_server shape number ≡ true) (some_is (graph_of source entities) made e)
+    subst (λ (shape : GraphData). is_at is_server shape number ≡ true) (same_Some (graph_of source entities) made e)
     (kind_there source entities entity_kind.Server name number (are_read (entity_in source) (entities_of source) entities read) found))

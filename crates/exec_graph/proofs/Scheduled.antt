@@ -1,8 +1,8 @@
 -- What moments and a feed keep that have no fault.
-use Rattle.std.proofs.Common.{◌≡◌, ℕ, ◌≤◌, ◌-◌, ◌^◌, Bool, true, false, not, ◌&&◌, ◌||◌, length, map, nat_le, max, IsTrue, List, [], ◌∷◌, Option, None, Some, All, refl, ap, ◌∙◌, arith}
+use Rattle.std.proofs.Common.{◌≡◌, ℕ, ◌≤◌, ◌-◌, ◌^◌, Bool, true, false, not, ◌&&◌, ◌||◌, length, map, nat_le, max, IsTrue, List, [], ◌∷◌, None, All, refl, ap, ◌∙◌, arith}
 use Rattle.std.specs.List.{list_all}
 use Rattle.std.proofs.Math.Nat.{le-max_left, le-max_right}
-use Rattle.std.proofs.lemmas.Bool.{leb-true, le-leb}
+use Rattle.std.proofs.lemmas.Bool.{leb-true, le-leb, and_parts, or_parts, not-false, and_from}
 use Rattle.std.proofs.lemmas.List.Elements.{All-nil, All-cons}
 use Rattle.exec_graph.specs.Feeding.{goes_somewhere, has_128_bits}
 use Rattle.exec_graph.specs.Graph.{GraphData, is_server}
@@ -13,7 +13,6 @@ use Rattle.exec_graph.specs.declared.plan.Fed.{Fed}
 use Rattle.exec_graph.specs.declared.plan.Fed.TheVariants.{Message, Goal, Cancel}
 use Rattle.exec_graph.specs.declared.plan.Feed.{Feed}
 use Rattle.exec_msg.specs.declared.limits.TheConstants.{MOMENTS, FEED, TICKS}
-use Rattle.exec_graph.proofs.Bools.{and_left, and_right, or_left, or_right, not_false, both_true}
 use Rattle.exec_graph.proofs.Kept.{none_passes}
 
 -- where the greatest is within a limit, each is
@@ -23,7 +22,7 @@ all_within f most (x ∷ xs) within =
     let below = leb-true (max (f x) (greatest (map f xs))) most within in
     let here = le-max_left (f x) (greatest (map f xs)) in
     let others = le-max_right (f x) (greatest (map f xs)) in
-    both_true (nat_le (f x) most) (list_all (λ x. nat_le (f x) most) xs)
+    and_from (nat_le (f x) most) (list_all (λ x. nat_le (f x) most) xs)
     (le-leb (f x) most (omega (arith, below, here)))
     (all_within f most xs (le-leb (greatest (map f xs)) most (omega (arith, below, others))))
 
@@ -31,8 +30,8 @@ all_within f most (x ∷ xs) within =
 pub at_most : (most : ℕ) (ns : List ℕ) → list_all (λ n. nat_le n most) ns ≡ true → All (λ n. n ≤ most) ns
 at_most most [] within = All-nil (λ n. n ≤ most)
 at_most most (n ∷ ns) within =
-    All-cons (λ n. n ≤ most) n ns (leb-true n most (and_left (nat_le n most) (list_all (λ n. nat_le n most) ns) within))
-    (at_most most ns (and_right (nat_le n most) (list_all (λ n. nat_le n most) ns) within))
+    All-cons (λ n. n ≤ most) n ns (leb-true n most (and_parts (nat_le n most) (list_all (λ n. nat_le n most) ns) within).0)
+    (at_most most ns (and_parts (nat_le n most) (list_all (λ n. nat_le n most) ns) within).1)
 
 -- what the limits of a schedule keep
 pub record IsFitting (times : List ℕ) (entries most : ℕ) : Type 0 where
@@ -46,13 +45,13 @@ fitting moments entries stamp fits =
     let limits_1 = nat_le (length moments) MOMENTS in
     let limits_2 = limits_1 && list_all (λ moment. nat_le moment TICKS) moments in
     let limits_3 = limits_2 && nat_le entries FEED in
-    let kept_3 = and_left limits_3 (nat_le stamp TICKS) fits in
-    let kept_2 = and_left limits_2 (nat_le entries FEED) kept_3 in
+    let kept_3 = (and_parts limits_3 (nat_le stamp TICKS) fits).0 in
+    let kept_2 = (and_parts limits_2 (nat_le entries FEED) kept_3).0 in
     record {
-      few_moments = and_left limits_1 (list_all (λ moment. nat_le moment TICKS) moments) kept_2;
-      moments = and_right limits_1 (list_all (λ moment. nat_le moment TICKS) moments) kept_2;
-      short_feed = and_right limits_2 (nat_le entries FEED) kept_3;
-      stamp = and_right limits_3 (nat_le stamp TICKS) fits;
+      few_moments = (and_parts limits_1 (list_all (λ moment. nat_le moment TICKS) moments) kept_2).0;
+      moments = (and_parts limits_1 (list_all (λ moment. nat_le moment TICKS) moments) kept_2).1;
+      short_feed = (and_parts limits_2 (nat_le entries FEED) kept_3).1;
+      stamp = (and_parts limits_3 (nat_le stamp TICKS) fits).1;
     }
 
 -- what moments and a feed keep that have no fault
@@ -69,20 +68,20 @@ scheduled moments feed found =
     let last = not ids || false in
     let second = not ordered || last in
     let past_limits = none_passes (λ fault. has_plan_fault fault moments feed) plan_faults_in_order found in
-    let past_clock = or_right (not fits) second past_limits in
-    let past_ids = or_right (not ordered) last past_clock in
+    let past_clock = (or_parts (not fits) second past_limits).1 in
+    let past_ids = (or_parts (not ordered) last past_clock).1 in
     record {
-      fits = not_false fits (or_left (not fits) second past_limits);
-      order = not_false ordered (or_left (not ordered) last past_clock);
-      identified = not_false ids (or_left (not ids) false past_ids);
+      fits = not-false fits (or_parts (not fits) second past_limits).0;
+      order = not-false ordered (or_parts (not ordered) last past_clock).0;
+      identified = not-false ids (or_parts (not ids) false past_ids).0;
     }
 
 fed_well : (graph : GraphData) (fed : Fed) → goes_somewhere graph fed ≡ true → has_128_bits fed ≡ true → is_identified fed ≡ true → nat_le (stamp_of fed) TICKS ≡ true → is_fed_well graph fed ≡ true
 fed_well graph (Message number value) goes bits has within = goes
 fed_well graph (Goal number id value) goes bits has within =
-    both_true (is_at is_server graph number) (is_from_1 (2 ^ 128 - 1) id) goes (both_true (nat_le 1 id) (nat_le id (2 ^ 128 - 1)) has bits)
+    and_from (is_at is_server graph number) (is_from_1 (2 ^ 128 - 1) id) goes (and_from (nat_le 1 id) (nat_le id (2 ^ 128 - 1)) has bits)
 fed_well graph (Cancel number id stamp) goes bits has within =
-    both_true (is_at is_server graph number && nat_le id (2 ^ 128 - 1)) (nat_le stamp TICKS) (both_true (is_at is_server graph number) (nat_le id (2 ^ 128 - 1)) goes bits) within
+    and_from (is_at is_server graph number && nat_le id (2 ^ 128 - 1)) (nat_le stamp TICKS) (and_from (is_at is_server graph number) (nat_le id (2 ^ 128 - 1)) goes bits) within
 
 all_fed_well : (graph : GraphData) (feed : List Feed) → list_all (λ entry. goes_somewhere graph entry.fed) feed ≡ true → list_all (λ entry. has_128_bits entry.fed) feed ≡ true → list_all (λ entry. is_identified entry.fed) feed ≡ true → list_all (λ entry. nat_le (stamp_of entry.fed) TICKS) feed ≡ true → All (λ entry. IsTrue (is_fed_well graph entry.fed)) feed
 all_fed_well graph [] goes bits has within = All-nil (λ (entry : Feed). IsTrue (is_fed_well graph entry.fed))
@@ -92,17 +91,17 @@ all_fed_well graph (entry ∷ feed) goes bits has within =
     let others_have = list_all (λ entry. is_identified entry.fed) feed in
     let others_within = list_all (λ entry. nat_le (stamp_of entry.fed) TICKS) feed in
     All-cons (λ (entry : Feed). IsTrue (is_fed_well graph entry.fed)) entry feed
-    (fed_well graph entry.fed (and_left (goes_somewhere graph entry.fed) others_go goes) (and_left (has_128_bits entry.fed) others_bits bits)
-    (and_left (is_identified entry.fed) others_have has) (and_left (nat_le (stamp_of entry.fed) TICKS) others_within within))
-    (all_fed_well graph feed (and_right (goes_somewhere graph entry.fed) others_go goes) (and_right (has_128_bits entry.fed) others_bits bits)
-    (and_right (is_identified entry.fed) others_have has) (and_right (nat_le (stamp_of entry.fed) TICKS) others_within within))
+    (fed_well graph entry.fed (and_parts (goes_somewhere graph entry.fed) others_go goes).0 (and_parts (has_128_bits entry.fed) others_bits bits).0
+    (and_parts (is_identified entry.fed) others_have has).0 (and_parts (nat_le (stamp_of entry.fed) TICKS) others_within within).0)
+    (all_fed_well graph feed (and_parts (goes_somewhere graph entry.fed) others_go goes).1 (and_parts (has_128_bits entry.fed) others_bits bits).1
+    (and_parts (is_identified entry.fed) others_have has).1 (and_parts (nat_le (stamp_of entry.fed) TICKS) others_within within).1)
 
 all_rounds : (most : ℕ) (feed : List Feed) → list_all (is_from_1 most) (map (λ entry. entry.round) feed) ≡ true → All (λ entry. IsTrue (is_from_1 most entry.round)) feed
 all_rounds most [] within = All-nil (λ (entry : Feed). IsTrue (is_from_1 most entry.round))
 all_rounds most (entry ∷ feed) within =
     let others = list_all (is_from_1 most) (map (λ entry. entry.round) feed) in
     All-cons (λ (entry : Feed). IsTrue (is_from_1 most entry.round)) entry feed
-    (and_left (is_from_1 most entry.round) others within) (all_rounds most feed (and_right (is_from_1 most entry.round) others within))
+    (and_parts (is_from_1 most entry.round) others within).0 (all_rounds most feed (and_parts (is_from_1 most entry.round) others within).1)
 
 -- a test of rounds is one of entries
 rounds_among : (most : ℕ) (feed : List Feed) → list_all (λ entry. is_from_1 most entry.round) feed ≡ list_all (is_from_1 most) (map (λ entry. entry.round) feed)
@@ -112,11 +111,6 @@ rounds_among most (entry ∷ feed) = ap (λ (b : Bool). is_from_1 most entry.rou
 -- moments in order, and rounds that are theirs
 pub in_order : (moments : List ℕ) (feed : List Feed) (rounds : Bool) → is_ascending_from 0 moments ≡ true → rounds ≡ list_all (λ entry. is_from_1 (length moments) entry.round) feed → rounds ≡ is_in_order moments (map (λ entry. entry.round) feed)
 in_order moments feed rounds ascending are = rw ascending (are ∙ rounds_among (length moments) feed)
-
--- what isn't something is nothing
-pub nothing : {A : Type 0} (o : Option A) → ((x : A) → o ≡ Some x → ⊥) → o ≡ None
-nothing None isnt = refl
-nothing (Some x) isnt = absurd (isnt x refl)
 
 -- a lawful graph, moments and a feed without a fault are a lawful plan
 pub plan_lawful : (graph : GraphData) (moments : List ℕ) (feed : List Feed) → IsLawful graph → list_all (λ entry. goes_somewhere graph entry.fed) feed ≡ true → list_all (λ entry. has_128_bits entry.fed) feed ≡ true → plan_fault_in moments feed ≡ None →
@@ -130,8 +124,8 @@ plan_lawful graph moments feed lawful goes bits faultless =
       graph = lawful;
       few_moments = leb-true (length moments) MOMENTS fits.few_moments;
       moments = at_most TICKS moments fits.moments;
-      clock = and_left clock rounds keeps.order;
+      clock = (and_parts clock rounds keeps.order).0;
       short_feed = leb-true (length feed) FEED fits.short_feed;
-      rounds = all_rounds (length moments) feed (and_right clock rounds keeps.order);
+      rounds = all_rounds (length moments) feed (and_parts clock rounds keeps.order).1;
       fed = all_fed_well graph feed goes bits keeps.identified (all_within (λ entry. stamp_of entry.fed) TICKS feed fits.stamp);
     }

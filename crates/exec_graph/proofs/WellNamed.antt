@@ -1,11 +1,12 @@
 -- A draft is well named where its directory links all its entities.
 use Rattle.std.proofs.Common.{◌≡◌, ℕ, zero, suc, ◌+◌, ◌<◌, Bool, true, false, ◌&&◌, ◌==◌, cond, length, map, List, [], ◌∷◌, ◌++◌, Option, None, Some, option_and_then, option_map, is_some, slice_get, refl, sym, ap, ◌∙◌, zero-add, add-zero, arith}
+use Rattle.std.specs.Bool.{then_some}
 use Rattle.std.specs.List.{list_all, position_from}
 use Rattle.std.specs.Option.{option_map_or}
 use Rattle.std.specs.Str.{bytes_eq}
-use Rattle.std.proofs.lemmas.Bool.{eqb-true, eq-eqb}
+use Rattle.std.proofs.lemmas.Bool.{eq-eqb, and_parts, ne_eqb}
 use Rattle.std.proofs.lemmas.List.{length-map}
-use Rattle.exec_graph.specs.inner.Directory.{DirectoryData, Linked, where_so, names_of_groups, node_groups_from, number_among, number_in, group_in, referred, linked_in, directory_of}
+use Rattle.exec_graph.specs.inner.Directory.{DirectoryData, Linked, names_of_groups, node_groups_from, number_among, number_in, group_in, referred, linked_in, directory_of}
 use Rattle.exec_graph.specs.declared.draft.GraphDraft.{GraphDraft}
 use Rattle.exec_graph.specs.Entity.{ReferenceData, Drafted, reference_of, refers, if_there}
 use Rattle.exec_graph.specs.Faults.{are_names, has_named_groups, drafted_names, is_resolved, is_well_named}
@@ -15,24 +16,9 @@ use Rattle.exec_graph.specs.Options.{◌>>=◌, each}
 use Rattle.exec_graph.specs.declared.draft.GroupDraft.{GroupDraft}
 use Rattle.exec_graph.specs.declared.draft.NodeDraft.{NodeDraft}
 use Rattle.exec_graph.specs.declared.entity.CallbackGroup.{CallbackGroup}
-use Rattle.exec_graph.proofs.Bools.{and_right}
 use Rattle.exec_graph.proofs.Lookups.{number_same}
 
 -- ---- groups
-
-differs : (a b : ℕ) → b < a → a == b ≡ false
-differs a b below = by (a == b) refl
-  where
-    by : (t : Bool) → a == b ≡ t → a == b ≡ false
-    by true same = let is : a ≡ b = eqb-true a b same in absurd (omega (arith, is, below))
-    by false e = e
-
-differs_back : (a b : ℕ) → a < b → a == b ≡ false
-differs_back a b below = by (a == b) refl
-  where
-    by : (t : Bool) → a == b ≡ t → a == b ≡ false
-    by true same = let is : a ≡ b = eqb-true a b same in absurd (omega (arith, is, below))
-    by false e = e
 
 -- groups of another node are passed over
 passed : (node number : ℕ) (name : Option (List ℕ)) (first : ℕ) (groups : List GroupDraft) (rest : List CallbackGroup) → number == node ≡ false →
@@ -48,7 +34,7 @@ passed node number name first (group ∷ groups) rest apart =
 none_later : (node number : ℕ) (name : Option (List ℕ)) (first : ℕ) (nodes : List NodeDraft) → node < number → position_from (is_group node name) first (groups_from number nodes) ≡ None
 none_later node number name first [] below = refl
 none_later node number name first (draft ∷ nodes) below =
-    let apart = differs number node below in
+    let apart = ne_eqb number node (omega (arith, below)) in
     ap (λ (t : Bool). cond (t && same_name None name) (Some first) (position_from (is_group node name) (first + 1) (map (named_group number) draft.groups ++ groups_from (suc number) nodes))) apart
     ∙ passed node number name (first + 1) draft.groups (groups_from (suc number) nodes) apart
     ∙ none_later node (suc number) name (first + 1 + length draft.groups) nodes (omega (arith, below))
@@ -85,7 +71,7 @@ in_node : (k number : ℕ) (name : Option (List ℕ)) (first : ℕ) (nodes : Lis
 in_node k number name first [] = refl
 in_node zero number name first (draft ∷ nodes) = here (number + 0) number name first draft nodes (eq-eqb number (number + 0) (omega arith)) (omega arith)
 in_node (suc k) number name first (draft ∷ nodes) =
-    let apart = differs_back number (number + suc k) (omega arith) in
+    let apart = ne_eqb number (number + suc k) (omega arith) in
     let next : number + suc k ≡ suc number + k = omega arith in
     let behind : first + 1 + length draft.groups ≡ suc first + length (names_of_groups draft) = omega (arith, length-map draft.groups (λ (group : GroupDraft). group.name)) in
     ap (λ (t : Bool). cond (t && same_name None name) (Some first) (position_from (is_group (number + suc k) name) (first + 1) (map (named_group number) draft.groups ++ groups_from (suc number) nodes))) apart
@@ -144,10 +130,10 @@ all_linked link [] = refl
 all_linked link (one ∷ placed) = both_some (link one) (each link placed) ∙ ap (λ (t : Bool). is_some (link one) && t) (all_linked link placed)
 
 module _ (draft : GraphDraft) (found : DirectoryData) (nodes : true ≡ are_names (map (λ node. node.name) draft.nodes)) where
-  by : (h n : Bool) → list_all has_named_groups draft.nodes ≡ h → are_names (drafted_names draft) ≡ n → Some found ≡ where_so (h && n) (directory_of draft) → (found ≡ directory_of draft) × (is_some (each (linked_in found) found.entities) ≡ is_well_named draft)
+  by : (h n : Bool) → list_all has_named_groups draft.nodes ≡ h → are_names (drafted_names draft) ≡ n → Some found ≡ then_some (h && n) (directory_of draft) → (found ≡ directory_of draft) × (is_some (each (linked_in found) found.entities) ≡ is_well_named draft)
   by true true grouped named there =
       let same : found ≡ directory_of draft = cc in
-      let distinct : are_distinct (drafted_names draft) ≡ true = and_right (list_all is_name (drafted_names draft)) (are_distinct (drafted_names draft)) named in
+      let distinct : are_distinct (drafted_names draft) ≡ true = (and_parts (list_all is_name (drafted_names draft)) (are_distinct (drafted_names draft)) named).1 in
       let all : is_some (each (linked_in found) found.entities) ≡ list_all (is_resolved draft) (entities_of draft) =
       all_linked (linked_in found) found.entities
       ∙ ap (λ (directory : DirectoryData). list_all (λ placed. is_some (linked_in directory placed)) directory.entities) same
@@ -156,7 +142,7 @@ module _ (draft : GraphDraft) (found : DirectoryData) (nodes : true ≡ are_name
   by true false grouped named there = absurd cc
   by false n grouped named there = absurd cc
 
-  module _ (there : Some found ≡ where_so (list_all has_named_groups draft.nodes && are_names (drafted_names draft)) (directory_of draft)) where
+  module _ (there : Some found ≡ then_some (list_all has_named_groups draft.nodes && are_names (drafted_names draft)) (directory_of draft)) where
     both : (found ≡ directory_of draft) × (is_some (each (linked_in found) found.entities) ≡ is_well_named draft)
     both = by (list_all has_named_groups draft.nodes) (are_names (drafted_names draft)) refl refl there
 
@@ -169,5 +155,5 @@ module _ (draft : GraphDraft) (found : DirectoryData) (nodes : true ≡ are_name
     is_misnamed none = sym both.1 ∙ ap is_some none
 
     -- it is the directory of the draft then
-    pub directory_there : is_well_named draft ≡ true → Some found ≡ where_so (is_well_named draft) (directory_of draft)
-    directory_there named = ap (λ (directory : DirectoryData). Some directory) both.0 ∙ ap (λ (b : Bool). where_so b (directory_of draft)) (sym named)
+    pub directory_there : is_well_named draft ≡ true → Some found ≡ then_some (is_well_named draft) (directory_of draft)
+    directory_there named = ap (λ (directory : DirectoryData). Some directory) both.0 ∙ ap (λ (b : Bool). then_some b (directory_of draft)) (sym named)

@@ -8,8 +8,8 @@ use Rattle.exec_graph.specs.declared.entity.EntityKind.TheVariants as kind
 use Rattle.exec_graph.specs.declared.entity.TheConstants.EntityKind.{IN_ORDER}
 use Rattle.exec_graph.specs.declared.entity.EntityOf.{EntityOf}
 use Rattle.exec_graph.specs.declared.entity.EntityOf.TheVariants.{Timer, Subscription, Service, Client, Server, ActionClient}
-use Rattle.exec_graph.specs.declared.entity.Referent.{Referent}
-use Rattle.exec_graph.specs.declared.entity.Referent.TheVariants as referent
+use Rattle.exec_graph.specs.declared.entity.parts.Referent.{Referent}
+use Rattle.exec_graph.specs.declared.entity.parts.Referent.TheVariants as referent
 use Rattle.exec_msg.specs.declared.limits.TheConstants.{DEPTH, TICKS}
 use Rattle.exec_script.specs.declared.instr.Instr.{Instr}
 use Rattle.exec_script.specs.declared.place.Role.{Role}

@@ -1,7 +1,8 @@
 -- Graphs: nodes with their callback groups, topics, and the entities that the `rclcpp` documentation names.
-use Rattle.std.specs.Prelude.{ℕ, suc, List, [], ◌∷◌, map, Bool, true, false, is_some, Option, None, Some, slice_get, slice_index_or}
-use Rattle.std.specs.List.{flat_map}
+use Rattle.std.specs.Prelude.{ℕ, suc, List, [], ◌∷◌, map, Bool, true, false, ◌&&◌, is_some, Option, None, Some, slice_get, slice_index_or}
+use Rattle.std.specs.List.{flat_map, position_from}
 use Rattle.std.specs.Option.{option_map_or, unwrap_or}
+use Rattle.std.specs.Str.{bytes_eq}
 use Rattle.exec_msg.specs.declared.kind.Kind.{Kind}
 use Rattle.exec_msg.specs.declared.kind.Kind.TheVariants as kind
 use Rattle.exec_graph.specs.Entity.{EntityNo, Script, Resolved, is_of, queue_depth}
@@ -80,6 +81,16 @@ depth_of = of_entity 0 queue_depth
 -- whether a callback group is mutually exclusive; a reentrant one isn't, and no group but the graph's is
 abbrev pub is_exclusive : GraphData → GroupNo → Bool
 is_exclusive graph group = option_map_or (λ found. found.exclusive) (slice_get graph.groups group) false
+
+-- ---- by name
+
+-- the number of a graph's topic of a name
+abbrev pub topic_at : GraphData → List ℕ → Option ℕ
+topic_at graph name = position_from (λ entity. is_topic entity.is && bytes_eq entity.name name) 0 graph.entities
+
+-- the number of a graph's action server of a name
+abbrev pub server_at : GraphData → List ℕ → Option ℕ
+server_at graph name = position_from (λ entity. is_server entity.is && bytes_eq entity.name name) 0 graph.entities
 
 -- ---- callbacks
 

@@ -8,8 +8,8 @@ use Rattle.exec_graph.specs.declared.entity.CallbackGroup.{CallbackGroup}
 use Rattle.exec_graph.specs.declared.entity.Declared.{Declared}
 use Rattle.exec_graph.specs.declared.entity.Declared.TheVariants.{Topic, Entity}
 use Rattle.exec_graph.specs.declared.entity.GraphEntity.{GraphEntity}
-use Rattle.exec_graph.specs.declared.entity.Referent.{Referent}
-use Rattle.exec_graph.specs.declared.entity.Referent.TheVariants as referent
+use Rattle.exec_graph.specs.declared.entity.parts.Referent.{Referent}
+use Rattle.exec_graph.specs.declared.entity.parts.Referent.TheVariants as referent
 use Rattle.exec_graph.specs.Names.{is_name, are_distinct}
 use Rattle.exec_graph.specs.Plan.{PlanData}
 use Rattle.exec_graph.specs.declared.plan.Fed.{Fed}

@@ -10,8 +10,8 @@ use Rattle.exec_graph.specs.declared.draft.EntityDraft.{EntityDraft}
 use Rattle.exec_graph.specs.declared.entity.CallbackGroup.{CallbackGroup}
 use Rattle.exec_graph.specs.declared.entity.EntityKind.{EntityKind}
 use Rattle.exec_graph.specs.declared.entity.EntityKind.TheVariants as kind
-use Rattle.exec_graph.specs.declared.entity.Referent.{Referent}
-use Rattle.exec_graph.specs.declared.entity.Referent.TheVariants as referent
+use Rattle.exec_graph.specs.declared.entity.parts.Referent.{Referent}
+use Rattle.exec_graph.specs.declared.entity.parts.Referent.TheVariants as referent
 use Rattle.exec_script.specs.Spelling.{ScopeNames}
 
 -- ---- entities

@@ -31,10 +31,8 @@ impl Model for Graph {
 }
 
 impl Graph {
-    ghost use Rattle.std.specs.Prelude.{◌≡◌, ◌<◌, ◌≤◌, ◌&&◌, length, false, not, slice_get, IsTrue};
-    ghost use Rattle.std.specs.List.{position_from};
-    ghost use Rattle.std.specs.Str.{bytes_eq};
-    ghost use Rattle.exec_graph.specs.Graph.{names_of, declared_at, group_of, is_exclusive, is_topic, is_server};
+    ghost use Rattle.std.specs.Prelude.{◌≡◌, ◌<◌, ◌≤◌, length, not, IsTrue};
+    ghost use Rattle.exec_graph.specs.Graph.{names_of, declared_at, group_of, is_exclusive, is_topic, topic_at, server_at};
     ghost use Rattle.exec_graph.specs.Lawful.{IsLawful, is_at};
 
     /// The names of the nodes, at their numbers.
@@ -98,7 +96,7 @@ impl Graph {
 
     /// The topic of a name.
     pub fn topic_at(&self, name: &str) -> Option<EntityNo>
-        ensures { result ≡ position_from (λ entity. is_topic entity.is && bytes_eq entity.name name.now) 0 self.now.entities }
+        ensures { result ≡ topic_at self.now name.now }
     {
         let (place, _, declared) = self.entities.get_full(name)?;
         if declared.is_topic() {
@@ -110,7 +108,7 @@ impl Graph {
 
     /// The action server of a name.
     pub fn server_at(&self, name: &str) -> Option<EntityNo>
-        ensures { result ≡ position_from (λ entity. is_server entity.is && bytes_eq entity.name name.now) 0 self.now.entities }
+        ensures { result ≡ server_at self.now name.now }
     {
         let (place, _, declared) = self.entities.get_full(name)?;
         if declared.is_a(EntityKind::Server) {

@@ -1,12 +1,11 @@
 //! Laws of graphs: each function's contract says one, and its body is empty or calls the law that it rests on.
-ghost use Rattle.std.specs.Prelude.{◌≡◌, ℕ, ◌-◌, ◌<◌, ◌≤◌, ◌==◌, ℤ, List, [], ◌∷◌, length, slice_get, Bool, true, false, cond, Option, None, Some, is_some, IsTrue, ◌&&◌};
-ghost use Rattle.std.specs.List.{filter, list_all, position_from};
+ghost use Rattle.std.specs.Prelude.{◌≡◌, ℕ, ◌-◌, ◌<◌, ◌≤◌, ◌==◌, ℤ, List, [], ◌∷◌, length, slice_get, Bool, true, false, cond, Option, None, Some, is_some, IsTrue};
+ghost use Rattle.std.specs.List.{filter, list_all};
 ghost use Rattle.std.specs.Ordering.{nat_cmp};
-ghost use Rattle.std.specs.Str.{bytes_eq};
 ghost use Rattle.exec_graph.specs.declared.draft.GraphDraft.{GraphDraft};
 ghost use Rattle.exec_graph.specs.declared.entity.EntityKind.{EntityKind};
 ghost use Rattle.exec_graph.specs.Feeding.{goes_somewhere, has_128_bits};
-ghost use Rattle.exec_graph.specs.Graph.{GraphData, declared_at, entities_where, is_topic, is_server};
+ghost use Rattle.exec_graph.specs.Graph.{GraphData, declared_at, entities_where, is_topic, is_server, topic_at, server_at};
 ghost use Rattle.exec_graph.specs.declared.entity.CallbackGroup.{CallbackGroup};
 ghost use Rattle.exec_graph.specs.declared.entity.Declared.{Declared};
 ghost use Rattle.exec_graph.specs.Entity.{RoleScriptData, entity_kinds, rank_of};
@@ -67,16 +66,16 @@ pub fn names_find_what_they_are_declared_as()
 /// A graph finds the topics and servers of its draft at the numbers of their names.
 pub fn graphs_find_what_their_drafts_name()
     ensures topic { (draft : GraphDraft) (graph : GraphData) (name : List ℕ) → graph_in draft ≡ Some graph →
-        position_from (λ entity. is_topic entity.is && bytes_eq entity.name name) 0 graph.entities ≡ topic_named draft name }
+        topic_at graph name ≡ topic_named draft name }
     ensures server { (draft : GraphDraft) (graph : GraphData) (name : List ℕ) → graph_in draft ≡ Some graph →
-        position_from (λ entity. is_server entity.is && bytes_eq entity.name name) 0 graph.entities ≡ server_named draft name }
+        server_at graph name ≡ server_named draft name }
 {}
 
 /// What a graph finds by name stands at its number.
 pub fn what_is_found_stands_at_its_number()
-    ensures topic { (graph : GraphData) (name : List ℕ) (number : ℕ) → position_from (λ entity. is_topic entity.is && bytes_eq entity.name name) 0 graph.entities ≡ Some number →
+    ensures topic { (graph : GraphData) (name : List ℕ) (number : ℕ) → topic_at graph name ≡ Some number →
         IsTrue (is_at is_topic graph number) }
-    ensures server { (graph : GraphData) (name : List ℕ) (number : ℕ) → position_from (λ entity. is_server entity.is && bytes_eq entity.name name) 0 graph.entities ≡ Some number →
+    ensures server { (graph : GraphData) (name : List ℕ) (number : ℕ) → server_at graph name ≡ Some number →
         IsTrue (is_at is_server graph number) }
 {}
 

@@ -33,13 +33,6 @@ impl Spelled {
     {
         self.words.as_slice()
     }
-
-    /// The vector of the instructions. It takes no memory.
-    pub fn into_vec(self) -> Vec<Vec<Word>>
-        ensures { map (λ words. words.items) result.items ≡ self }
-    {
-        self.words
-    }
 }
 
 /// A script that is shared, seen by contracts as its instructions.

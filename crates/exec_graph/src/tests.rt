@@ -87,7 +87,7 @@ fn lists_are_given_back_and_scripts_are_shared(rt: HostRuntime) -> Result<(), Fa
     words.push(Word::Number(7))?;
     let mut script = Vec::new(alloc);
     script.push(words)?;
-    same(&rt, Spelled::of(script).into_vec().len(), 1);
+    same(&rt, Spelled::of(script).as_slice().len(), 1);
     let mut instructions = Vec::new(alloc);
     instructions.push(Instr::pend())?;
     let script = Script::of(Arc::new(alloc, instructions)?);

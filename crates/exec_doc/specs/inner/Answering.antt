@@ -1,5 +1,5 @@
 -- What a reader answers of drafts: a plan, or the refusal.
-use Rattle.std.specs.Prelude.{◌≡◌, ℕ, ◌⊎◌, List, Bool, false, not, ◌&&◌, if◌then◌else◌, Option, None, Some, find, Result, Ok, Err}
+use Rattle.std.specs.Prelude.{◌≡◌, ℕ, ◌⊎◌, List, Bool, false, not, ◌&&◌, Option, None, Some, find, Result, Ok, Err}
 use Rattle.exec_doc.specs.Draft.{DocumentDraft}
 use Rattle.exec_doc.specs.declared.draft.EntryDraft.{EntryDraft}
 use Rattle.exec_doc.specs.Refusals.{has_fault, codes_in_order}
@@ -18,10 +18,6 @@ use Rattle.exec_graph.specs.Faults.{has_faulty_script, shares_variables, is_smal
 -- the refusal of a draft: the first code that holds of it
 abbrev pub draft_refusal : DocumentDraft → Option Refused
 draft_refusal document = find (λ code. has_fault code document) codes_in_order
-
--- something where a test holds
-abbrev pub only_if : {A : Type 0} → Bool → A → Option A
-only_if holds found = if holds then Some found else None
 
 -- whether a code up to that of group variables holds of a graph with a schedule that is within its limits or isn't
 abbrev pub has_graph_fault : GraphDraft → Bool → Refused → Bool

@@ -1,23 +1,13 @@
 -- What a graph is fed by a draft whose names are those of the graph.
-use Rattle.std.specs.Prelude.{ℕ, List, ◌&&◌, Option}
-use Rattle.std.specs.List.{position_from}
+use Rattle.std.specs.Prelude.{ℕ, Option}
 use Rattle.std.specs.Option.{option_map, unwrap_or}
-use Rattle.std.specs.Str.{bytes_eq}
 use Rattle.exec_doc.specs.declared.draft.FedDraft.{FedDraft}
 use Rattle.exec_doc.specs.declared.draft.FedDraft.TheVariants as draft
 use Rattle.exec_doc.specs.declared.draft.EntryDraft.{EntryDraft}
-use Rattle.exec_graph.specs.Graph.{GraphData, is_topic, is_server}
+use Rattle.exec_graph.specs.Graph.{GraphData, topic_at, server_at}
 use Rattle.exec_graph.specs.declared.plan.Feed.{Feed}
 use Rattle.exec_graph.specs.declared.plan.Fed.{Fed}
 use Rattle.exec_graph.specs.declared.plan.Fed.TheVariants.{Message, Goal, Cancel}
-
--- the number of a graph's topic of a name
-abbrev pub topic_at : GraphData → List ℕ → Option ℕ
-topic_at graph name = position_from (λ entity. is_topic entity.is && bytes_eq entity.name name) 0 graph.entities
-
--- the number of a graph's action server of a name
-abbrev pub server_at : GraphData → List ℕ → Option ℕ
-server_at graph name = position_from (λ entity. is_server entity.is && bytes_eq entity.name name) 0 graph.entities
 
 -- an identifier, and 0 where there is none
 abbrev pub id_or_0 : Option ℕ → ℕ

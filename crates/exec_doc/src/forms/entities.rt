@@ -1,4 +1,4 @@
-ghost use Rattle.std.specs.Prelude.{◌≡◌, ◌++◌, OnOk, IfErr, map};
+ghost use Rattle.std.specs.Prelude.{OnOk, IfErr, map};
 ghost use Rattle.serde_json.specs.View.{view};
 ghost use Rattle.exec_doc.specs.Forms.{depth_field, form_of, entity, list};
 ghost use Rattle.exec_graph.specs.Options.{each};

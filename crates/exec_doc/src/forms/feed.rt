@@ -1,6 +1,6 @@
-ghost use Rattle.std.specs.Prelude.{◌≡◌, codes};
-ghost use Rattle.exec_doc.specs.Forms.{id_in_text, identifier, entry};
-ghost use Rattle.exec_doc.specs.inner.Picking.{seen, message_in, goal_in, cancel_in, fed_in, entry_in};
+ghost use Rattle.std.specs.Prelude.{◌≡◌};
+ghost use Rattle.exec_doc.specs.Forms.{id_in_text, identifier, message_in, goal_in, cancel_in, fed_in, entry_in, entry};
+ghost use Rattle.exec_doc.specs.inner.Picking.{seen};
 ghost use Rattle.exec_doc.specs.inner.Reading.{ReadingGives};
 
 use crate::draft::{EntryDraft, FedDraft};

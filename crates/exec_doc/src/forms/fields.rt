@@ -1,8 +1,8 @@
 ghost use Rattle.std.specs.Prelude.{Option, map};
 ghost use Rattle.serde_json.specs.Data.{Data};
 ghost use Rattle.serde_json.specs.View.{view};
-ghost use Rattle.exec_doc.specs.Forms.{text, count, integer, list_of, required, optional, defaulted, list};
-ghost use Rattle.exec_doc.specs.inner.Picking.{found, needed};
+ghost use Rattle.exec_doc.specs.Forms.{text, count, integer, list_of, needed, required, optional, list};
+ghost use Rattle.exec_doc.specs.inner.Picking.{found};
 ghost use Rattle.exec_doc.specs.inner.Reading.{ReadingGives};
 ghost use Rattle.exec_graph.specs.Entity.{if_there};
 ghost use Rattle.exec_graph.specs.Options.{each};

@@ -1,7 +1,8 @@
 //! The fields of an entry of a feed, found in one pass over what it holds.
 ghost use Rattle.std.specs.Prelude.{◌≡◌};
 ghost use Rattle.serde_json.specs.View.{view};
-ghost use Rattle.exec_doc.specs.inner.Picking.{fields_of, noted, seen};
+ghost use Rattle.exec_doc.specs.Forms.{fields_of};
+ghost use Rattle.exec_doc.specs.inner.Picking.{noted, seen};
 
 use serde_json::Value;
 

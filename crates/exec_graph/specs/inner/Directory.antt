@@ -1,5 +1,6 @@
 -- A directory of what a graph declares, which finds names.
-use Rattle.std.specs.Prelude.{◌≡◌, ℕ, suc, ◌+◌, ◌-◌, ◌<◌, List, [], ◌∷◌, ◌++◌, length, map, Bool, true, false, not, ◌&&◌, ◌==◌, nat_lt, if◌then◌else◌, Option, None, Some, IfSome, option_and_then, slice_get}
+use Rattle.std.specs.Bool.{then_some}
+use Rattle.std.specs.Prelude.{◌≡◌, ℕ, suc, ◌+◌, ◌-◌, ◌<◌, List, [], ◌∷◌, ◌++◌, length, map, Bool, false, not, ◌&&◌, ◌==◌, nat_lt, if◌then◌else◌, Option, None, Some, IfSome, option_and_then, slice_get}
 use Rattle.std.specs.List.{filter_map, list_any, position_from}
 use Rattle.std.specs.Option.{option_map, option_map_or}
 use Rattle.std.specs.Result.{result_err}
@@ -8,8 +9,8 @@ use Rattle.exec_graph.specs.declared.entity.Declared.{Declared}
 use Rattle.exec_graph.specs.declared.entity.Declared.TheVariants.{Topic, Entity}
 use Rattle.exec_graph.specs.declared.entity.GraphEntity.{GraphEntity}
 use Rattle.exec_graph.specs.declared.entity.EntityKind.TheVariants as kind
-use Rattle.exec_graph.specs.declared.entity.Referent.{Referent}
-use Rattle.exec_graph.specs.declared.entity.Referent.TheVariants as referent
+use Rattle.exec_graph.specs.declared.entity.parts.Referent.{Referent}
+use Rattle.exec_graph.specs.declared.entity.parts.Referent.TheVariants as referent
 use Rattle.exec_script.specs.declared.fault.ScriptFault.{ScriptFault}
 use Rattle.std.specs.Str.{bytes_eq}
 use Rattle.exec_graph.specs.declared.draft.GraphDraft.{GraphDraft}
@@ -25,11 +26,6 @@ use Rattle.exec_script.specs.Legality.{legality_of}
 use Rattle.exec_script.specs.Spelling.{ScopeNames}
 
 -- ---- names
-
--- a value where a test holds
-abbrev pub where_so : {A : Type 0} → Bool → A → Option A
-where_so true value = Some value
-where_so false value = None
 
 -- names in order, and then texts that are names and new one after another
 abbrev pub names_from : List (List ℕ) → List (List ℕ) → Option (List (List ℕ))
@@ -77,7 +73,7 @@ position_of directory name = position_from (λ other. bytes_eq other name) 0 dir
 
 -- a number that is a topic's
 abbrev pub topic_numbered : DirectoryData → ℕ → Option ℕ
-topic_numbered directory number = where_so (nat_lt number directory.topics) number
+topic_numbered directory number = then_some (nat_lt number directory.topics) number
 
 -- the number of the topic of a name
 abbrev pub topic_number : DirectoryData → List ℕ → Option ℕ
@@ -94,7 +90,7 @@ placed_named directory name = option_and_then (placed_at directory) (position_of
 
 -- the number of an entity that passes a test
 abbrev pub passing : (Placed → Bool) → ℕ × Placed → Option ℕ
-passing test found = where_so (test found.1) found.0
+passing test found = then_some (test found.1) found.0
 
 -- the number of the entity of a name that passes a test
 abbrev pub entity_number : DirectoryData → (Placed → Bool) → List ℕ → Option ℕ

@@ -1,9 +1,10 @@
 //! How a graph is made of what was declared.
+ghost use Rattle.std.specs.Bool.{then_some};
 ghost use Rattle.std.specs.Prelude.{◌≡◌, ◌⊎◌, ◌++◌, ◌<◌, ◌≤◌, length, map, string_bytes, ◌∷◌, [], None, Some, true, false, IfOk, IfErr, IfSome, OnOk};
 ghost use Rattle.std.specs.List.{All, list_any};
 ghost use Rattle.std.specs.Option.{option_map};
 ghost use Rattle.std.specs.Str.{bytes_eq};
-ghost use Rattle.exec_graph.specs.inner.Directory.{IsLinked, directory_of, linked_in, titled, where_so};
+ghost use Rattle.exec_graph.specs.inner.Directory.{IsLinked, directory_of, linked_in, titled};
 ghost use Rattle.exec_graph.specs.declared.draft.GraphDraft.{GraphDraft};
 ghost use Rattle.exec_graph.specs.inner.Entries.{entities_in as entries_of};
 ghost use Rattle.exec_graph.specs.Faults.{is_well_named};
@@ -39,7 +40,7 @@ pub(crate) fn graph_of(
     directory: &Directory<'_>,
     linked: &[LinkedEntity<'_>],
 ) -> Result<Graph, GraphFault>
-    requires named { Some directory.now ≡ where_so (is_well_named draft.now) (directory_of draft.now) }
+    requires named { Some directory.now ≡ then_some (is_well_named draft.now) (directory_of draft.now) }
     requires linked { each (linked_in directory.now) directory.now.entities ≡ Some linked.now }
     ensures graph { IfOk result (λ graph. (fault_in draft.now ≡ None)
         × (graph_in draft.now ≡ Some graph)) }
@@ -74,7 +75,7 @@ pub(crate) fn well_named<'a>(
     alloc: Global,
     draft: &'a GraphDraft,
 ) -> Result<Option<NamedGraph<'a>>, Memory>
-    ensures { IfOk result (λ found. found ≡ where_so (is_well_named draft.now) draft.now) }
+    ensures { IfOk result (λ found. found ≡ then_some (is_well_named draft.now) draft.now) }
 {
     if !has_node_names(alloc, draft.nodes.as_slice())? {
         return Ok(None);

@@ -1,8 +1,9 @@
 //! What a graph declares, by name.
+ghost use Rattle.std.specs.Bool.{then_some};
 ghost use Rattle.std.specs.Prelude.{◌≡◌, ◌&&◌, ◌==◌, length, map, if◌then◌else◌, Some, None, ◌<◌, IfOk, IfSome};
 ghost use Rattle.std.specs.List.{list_all};
 ghost use Rattle.std.specs.Option.{option_map};
-ghost use Rattle.exec_graph.specs.inner.Directory.{names_from, node_groups_from, where_so, topic_number, placed_named, entity_number, number_in, group_in, referred, linked_in, directory_of};
+ghost use Rattle.exec_graph.specs.inner.Directory.{names_from, node_groups_from, topic_number, placed_named, entity_number, number_in, group_in, referred, linked_in, directory_of};
 ghost use Rattle.exec_graph.specs.Entity.{is_of};
 ghost use Rattle.exec_graph.specs.Faults.{are_names, has_named_groups, drafted_names};
 ghost use Rattle.exec_graph.specs.Options.{each};
@@ -12,7 +13,8 @@ use crate::draft::naming::add_name;
 use crate::draft::numbers::{LinkedEntity, PlacedEntity, numbered};
 use crate::draft::texts::TextSet;
 use crate::draft::{Drafted, GraphDraft, GroupDraft, NodeDraft};
-use crate::entity::{EntityKind, Referent};
+use crate::entity::EntityKind;
+use crate::entity::parts::Referent;
 use exec_msg::Memory;
 use exec_script::WordText;
 use std::alloc::Global;
@@ -40,7 +42,7 @@ impl<'a> Directory<'a> {
     // What a draft declares, where the names of each node's groups, and those of topics and entities together,
     // are names and differ.
     pub(crate) fn of(alloc: Global, draft: &'a GraphDraft) -> Result<Option<Directory<'a>>, Memory>
-        ensures { IfOk result (λ found. found ≡ where_so
+        ensures { IfOk result (λ found. found ≡ then_some
             (list_all has_named_groups draft.now.nodes && are_names (drafted_names draft.now))
             (directory_of draft.now)) }
     {
@@ -193,7 +195,7 @@ fn node_groups<'a>(
     alloc: Global,
     nodes: &'a [NodeDraft],
 ) -> Result<Option<Vec<NodeGroups<'a>>>, Memory>
-    ensures { IfOk result (λ found. option_map (λ groups. groups.items) found ≡ where_so (list_all has_named_groups nodes.now) (node_groups_from 0 nodes.now)) }
+    ensures { IfOk result (λ found. option_map (λ groups. groups.items) found ≡ then_some (list_all has_named_groups nodes.now) (node_groups_from 0 nodes.now)) }
 {
     let mut groups = Vec::new(alloc);
     let mut first = 0;
@@ -212,7 +214,7 @@ fn names_of_groups<'a>(
     alloc: Global,
     groups: &'a [GroupDraft],
 ) -> Result<Option<TextSet<'a>>, Memory>
-    ensures { IfOk result (λ found. found ≡ where_so (are_names (map (λ group. group.name) groups.now)) (map (λ group. group.name) groups.now)) }
+    ensures { IfOk result (λ found. found ≡ then_some (are_names (map (λ group. group.name) groups.now)) (map (λ group. group.name) groups.now)) }
 {
     let mut names = TextSet::new(alloc);
     for group in groups {
@@ -224,7 +226,7 @@ fn names_of_groups<'a>(
 }
 
 fn add_topics<'a>(names: &mut TextSet<'a>, topics: &'a [WordText]) -> Result<bool, Memory>
-    ensures { IfOk result (λ added. names_from names.old topics.now ≡ where_so added names.new) }
+    ensures { IfOk result (λ added. names_from names.old topics.now ≡ then_some added names.new) }
 {
     for topic in topics {
         if !add_name(names, topic.as_str())? {
@@ -235,7 +237,7 @@ fn add_topics<'a>(names: &mut TextSet<'a>, topics: &'a [WordText]) -> Result<boo
 }
 
 fn add_entities<'a>(names: &mut TextSet<'a>, entities: &[PlacedEntity<'a>]) -> Result<bool, Memory>
-    ensures { IfOk result (λ added. names_from names.old (map (λ placed. placed.entity.name) entities.now) ≡ where_so added names.new) }
+    ensures { IfOk result (λ added. names_from names.old (map (λ placed. placed.entity.name) entities.now) ≡ then_some added names.new) }
 {
     for placed in entities {
         if !add_name(names, placed.entity.name.as_str())? {

@@ -1,13 +1,13 @@
 //! The faults of a graph's scripts, which are decoded, in their places.
 ghost use Rattle.std.specs.Option.{option_to_list};
-ghost use Rattle.std.specs.Prelude.{◌≡◌, [], ◌++◌, not, option_and_then, IfOk, OnOk};
-ghost use Rattle.std.specs.List.{filter_map, flat_map, list_any};
+ghost use Rattle.std.specs.Prelude.{◌≡◌, ◌++◌, not, option_and_then, IfOk, OnOk};
+ghost use Rattle.std.specs.List.{flat_map, list_any};
 ghost use Rattle.std.specs.Map.{values_of};
 ghost use Rattle.exec_graph.specs.inner.Directory.{fault_at, faults_at, faults_of, is_reentrant_at};
-ghost use Rattle.exec_graph.specs.Entity.{scripts_of};
 ghost use Rattle.exec_graph.specs.Faults.{is_of_variable};
 
-use crate::entity::{CallbackGroup, Declared, GraphEntity, GroupNo, RoleScript};
+use crate::entity::parts::RoleScript;
+use crate::entity::{CallbackGroup, Declared, GraphEntity, GroupNo};
 use crate::script::Script;
 use exec_msg::Memory;
 use exec_script::{Place, ScriptFault, check};

@@ -8,7 +8,7 @@ ghost use Rattle.exec_graph.specs.Numbers.{entities_of};
 
 use crate::draft::numbers::PlacedEntity;
 use crate::draft::{Drafted, GraphDraft, NodeDraft};
-use crate::entity::RoleScript;
+use crate::entity::parts::RoleScript;
 use crate::script::Spelled;
 use exec_msg::limits::{ENTITIES, INSTRUCTIONS, NAMED_GROUPS, NODES, TOPICS};
 use exec_script::WordText;

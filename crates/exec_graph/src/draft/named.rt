@@ -2,7 +2,8 @@ use crate::draft::GraphDraft;
 use crate::draft::assemble::graph_of;
 use crate::draft::directory::Directory;
 use crate::draft::numbers::LinkedEntity;
-use crate::entity::{EntityKind, Referent};
+use crate::entity::EntityKind;
+use crate::entity::parts::Referent;
 use crate::fault::GraphFault;
 use crate::graph::Graph;
 use std::alloc::Global;
@@ -19,8 +20,9 @@ pub struct NamedGraph<'a> {
 }
 
 impl<'a> Model for NamedGraph<'a> {
+    ghost use Rattle.std.specs.Bool.{then_some};
     ghost use Rattle.std.specs.Prelude.{◌≡◌, Some};
-    ghost use Rattle.exec_graph.specs.inner.Directory.{directory_of, linked_in, where_so};
+    ghost use Rattle.exec_graph.specs.inner.Directory.{directory_of, linked_in};
     ghost use Rattle.exec_graph.specs.declared.draft.GraphDraft.{GraphDraft};
     ghost use Rattle.exec_graph.specs.Faults.{is_well_named};
     ghost use Rattle.exec_graph.specs.Options.{each};
@@ -30,7 +32,7 @@ impl<'a> Model for NamedGraph<'a> {
     ghost view = { λ named. named.draft.now };
 
     ghost invariant = { λ named.
-        (Some named.directory ≡ where_so (is_well_named named.draft.now) (directory_of named.draft.now))
+        (Some named.directory ≡ then_some (is_well_named named.draft.now) (directory_of named.draft.now))
         × (each (linked_in named.directory) named.directory.entities ≡ Some named.linked.items) };
 }
 

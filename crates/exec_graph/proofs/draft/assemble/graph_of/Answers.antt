@@ -5,8 +5,9 @@ use Rattle.exec_graph.specs.inner.Entries.{entities_in as entries_of}
 use Rattle.exec_graph.specs.Faults.{is_small}
 use Rattle.exec_graph.specs.Graph.{GraphData}
 use Rattle.exec_graph.specs.Numbers.{Placed, groups_from}
-use Rattle.exec_graph.proofs.Assembled.{few_names, few_nodes, few_groups, few_texts, directory_is, distinct, of_unread, of_script, of_variable, of_none, graph_with, graph_is, is_lawful, names_are, nothing_else, mapped_none, mapped_is}
+use Rattle.exec_graph.proofs.Assembled.{few_names, few_nodes, few_groups, few_texts, directory_is, distinct, of_unread, of_script, of_variable, of_none, graph_with, graph_is, is_lawful, names_are, mapped_none, mapped_is}
 use Rattle.exec_graph.proofs.Linking.{are_linked, entities_linked}
+use Rattle.exec_graph.proofs.Reading.{nothing_else}
 use Rattle.exec_graph.proofs.draft.assemble.graph_of.Goals as goal
 
 pub entities_of-requires-clause-links : goal.entities_of-requires-clause-links

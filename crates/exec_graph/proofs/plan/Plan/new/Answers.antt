@@ -3,12 +3,13 @@ use Rattle.std.specs.List.{list_all}
 use Rattle.exec_graph.specs.Feeding.{has_128_bits}
 use Rattle.exec_graph.specs.Lawful.{IsLawful}
 use Rattle.exec_graph.specs.Schedule.{plan_fault_in}
-use Rattle.exec_graph.proofs.Scheduled.{nothing, plan_lawful}
+use Rattle.exec_graph.proofs.Reading.{nothing_else}
+use Rattle.exec_graph.proofs.Scheduled.{plan_lawful}
 use Rattle.exec_graph.proofs.plan.Plan.new.Goals as goal
 
 pub invariant_of-result : goal.invariant_of-result
 invariant_of-result c =
-    let none = nothing c.fault_of.result c.in_default.not-Some in
+    let none = nothing_else c.fault_of.result c.in_default.not-Some in
     let faultless : plan_fault_in c.args.moments.items c.args.feed.items ≡ None =
     sym (λ i. plan_fault_in (c.deref.ensures.value i) (c.deref-2.ensures.value i)) ∙ sym c.fault_of.ensures.fault ∙ none in
     let bits = sym (λ i. list_all (λ entry. has_128_bits entry.fed) (c.deref-2.ensures.value i)) ∙ c.fault_of.ensures.bits none in

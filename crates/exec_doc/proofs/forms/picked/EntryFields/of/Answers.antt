@@ -2,7 +2,8 @@ use Rattle.std.proofs.Common.{◌≡◌, sym, ap, ◌∙◌, rules}
 use Rattle.serde_json.proofs.Views.{view-Object}
 use Rattle.serde_json.specs.View.{view}
 use Rattle.serde_json.specs.declared.value.Value.{Value}
-use Rattle.exec_doc.specs.inner.Picking.{fields_of, seen}
+use Rattle.exec_doc.specs.Forms.{fields_of}
+use Rattle.exec_doc.specs.inner.Picking.{seen}
 use Rattle.exec_doc.proofs.Picks.{picked, none_yet, all_picked}
 use Rattle.exec_doc.proofs.forms.picked.EntryFields.of.Goals as goal
 

@@ -1,6 +1,7 @@
 use Rattle.std.proofs.Common.{◌∙◌, sym, ap, map, List}
+use Rattle.std.specs.Bool.{then_some}
 use Rattle.std.specs.List.{list_all}
-use Rattle.exec_graph.specs.inner.Directory.{names_from, node_groups_from, where_so}
+use Rattle.exec_graph.specs.inner.Directory.{names_from, node_groups_from}
 use Rattle.exec_graph.specs.Faults.{has_named_groups}
 use Rattle.exec_graph.specs.Numbers.{Placed, numbered}
 use Rattle.exec_graph.specs.declared.draft.NodeDraft.{NodeDraft}
@@ -29,5 +30,5 @@ returns c =
     _ c.add_entities.new.names c.in_ok-add_entities.field-0 c.if-not-branch.false
     (ap (λ (placed : List Placed). map (λ placed. placed.entity.name) placed) (c.deref.ensures.value ∙ c.in_ok-entities.ensures ∙ ap numbered c.as_slice-2.ensures)) c.in_ok-add_entities.ensures
     c.if-not-branch-2.false)
-    (rw c.in-Some.is at (c.in_ok-groups.ensures ∙ ap (λ (nodes : List NodeDraft). where_so (list_all has_named_groups nodes) (node_groups_from 0 nodes)) c.as_slice.ensures))
+    (rw c.in-Some.is at (c.in_ok-groups.ensures ∙ ap (λ (nodes : List NodeDraft). then_some (list_all has_named_groups nodes) (node_groups_from 0 nodes)) c.as_slice.ensures))
     (c.in_ok-entities.ensures ∙ ap numbered c.as_slice-2.ensures)
