@@ -23,8 +23,8 @@ use Rattle.exec_world.proofs.Channels.{Channel, replies, responses, codes, asks,
 use Rattle.exec_world.proofs.Identifiers.{or_false}
 use Rattle.exec_world.proofs.Keeping.{Moves, Tells, publish_kept, moves_kept, push_kept, feed_keeps, ids_changed, state_said, is_sent_well, Routes, canceled}
 use Rattle.exec_world.proofs.OfKinds.{IsOfItsKind, AreOfTheirKinds, kinds_kept, kinds_first, lost_of_kind}
-use Rattle.exec_world.proofs.Pairs.{all_append, all_filter, all_flat, all_flat_where, all_map, all_mapped, all_unmapped, all_weaker}
-use Rattle.exec_world.proofs.ReadyLists.{IsOf, due_of, poll_of, list_apart, one_at_most, all_placed}
+use Rattle.exec_world.proofs.Pairs.{all_filter, all_flat, all_flat_where, all_map, all_mapped, all_unmapped, all_weaker}
+use Rattle.exec_world.proofs.ReadyLists.{IsOf, due_of, poll_of, list_apart, one_at_most, all_ready}
 use Rattle.exec_world.proofs.Running.{Answers, ends_told, asks_told, run_keeps, KeptByRounds}
 use Rattle.exec_world.proofs.Shapes.{shape_kept}
 use Rattle.exec_world.proofs.Wiring.{wired}
@@ -356,17 +356,10 @@ module _ (routes : Routes) (moment : Moment) (world : WorldState) where
 
   list_well : AllByRecursion (IsAddressed routes) world.queues → AllByRecursion Well (ready_list moment world)
   list_well p =
-      let timers : List Ready = flat_map (due_ready moment) world.timers in
-      let before : List Ready = flat_map (queue_ready moment world) (filter (λ queue. is_before_polls queue.kind) world.queues) in
-      let polls : List Ready = flat_map (poll_ready moment) world.servers in
-      let behind : List Ready = flat_map (queue_ready moment world) (filter (λ queue. not (is_before_polls queue.kind)) world.queues) in
-      all_placed Well (λ position one q. q) 1 (timers ++ before ++ polls ++ behind)
-      (all_append Well (timers ++ before ++ polls) behind
-      (all_append Well (timers ++ before) polls
-      (all_append Well timers before (all_flat Well (due_ready moment) well_due world.timers)
-      (all_flat_where (IsAddressed routes) Well (queue_ready moment world) well_taken (filter (λ queue. is_before_polls queue.kind) world.queues) (all_filter (IsAddressed routes) (λ queue. is_before_polls queue.kind) world.queues p)))
-      (all_flat Well (poll_ready moment) (λ entry. all_map Well _ (λ goal. refl) _) world.servers))
-      (all_flat_where (IsAddressed routes) Well (queue_ready moment world) well_taken (filter (λ queue. not (is_before_polls queue.kind)) world.queues) (all_filter (IsAddressed routes) (λ queue. not (is_before_polls queue.kind)) world.queues p)))
+      all_ready Well (λ position one q. q) moment world
+      (all_flat Well (due_ready moment) well_due world.timers)
+      (λ test. all_flat_where (IsAddressed routes) Well (queue_ready moment world) well_taken (filter test world.queues) (all_filter (IsAddressed routes) test world.queues p))
+      (all_flat Well (poll_ready moment) (λ entry. all_map Well _ (λ goal. refl) _) world.servers)
 
 -- ---- rounds
 

@@ -1,7 +1,7 @@
 -- The goals of a server where some server is changed: no two of them have one identifier.
 use Rattle.std.proofs.Common.{◌≡◌, ◌⊎◌, inl, inr, ℕ, Bool, true, false, ◌||◌, not, ◌==◌, List, [], ◌∷◌, ◌++◌, map, Option, None, refl, sym, ap, subst, ◌∙◌, true≢false}
-use Rattle.std.specs.List.{AllByRecursion, IsDistinct, filter, find, list_any}
-use Rattle.std.specs.Option.{option_map, option_map_or}
+use Rattle.std.specs.List.{AllByRecursion, IsDistinct, filter, list_any}
+use Rattle.std.specs.Option.{option_map}
 use Rattle.std.proofs.lemmas.Bool.{eqb-true, eq-eqb}
 use Rattle.exec_goal.specs.Table.{GoalRecord, holds_id, has_id, is_full, is_expired, new_goal, unexpired}
 use Rattle.exec_graph.specs.Entity.{EntityNo}
@@ -14,7 +14,7 @@ use Rattle.exec_world.proofs.Running.{KeptByRounds, rounds_keep}
 use Rattle.exec_world.specs.Close.{GoalRequest, server_accepting, accept}
 use Rattle.exec_world.specs.Item.{GoalId}
 use Rattle.exec_world.specs.Transcript.{server_expired, first_world, new_server, rounds}
-use Rattle.exec_world.specs.World.{WorldState, GoalWork, Moment, ServerEntry, is_server_at, is_for, goals_of, has_room_for}
+use Rattle.exec_world.specs.World.{WorldState, GoalWork, Moment, ServerEntry, is_server_at, is_for, goals_in, goals_of, has_room_for}
 
 -- ---- lists of goals
 
@@ -64,9 +64,6 @@ pub room_without : (id : GoalId) (goals : List GoalRecord) → has_room_for id g
 room_without id goals room = (or_false (holds_id id goals) (is_full goals) (not_true (holds_id id goals || is_full goals) room)).0
 
 -- ---- the goals of a server, where some server is changed
-
-abbrev pub goals_in : EntityNo → List ServerEntry → List GoalRecord
-goals_in server servers = option_map_or (λ entry. entry.goals) (find (is_server_at server) servers) []
 
 -- they are as they were, or those of the server that is changed
 abbrev pub OldOrNew : EntityNo → EntityNo → (ServerEntry → ServerEntry) → (List GoalRecord → List GoalRecord) → List ServerEntry → Type 0
