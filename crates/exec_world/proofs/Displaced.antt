@@ -3,6 +3,7 @@ use Rattle.std.proofs.Common.{◌≡◌, ℕ, zero, suc, ◌+◌, ◌≤◌, Boo
 use Rattle.std.specs.List.{AllByRecursion, filter, find, flat_map, list_any}
 use Rattle.std.specs.Option.{option_map_or}
 use Rattle.std.proofs.lemmas.List.Elements.{recursion_from_All}
+use Rattle.std.proofs.lemmas.Bool.{or_parts}
 use Rattle.exec_goal.specs.Cancel.{moved}
 use Rattle.exec_goal.specs.Table.{GoalRecord, after_event, after_end, has_id, expired}
 use Rattle.exec_graph.specs.Entity.{EntityNo}
@@ -20,7 +21,6 @@ use Rattle.exec_msg.specs.declared.line.Line.{Line}
 use Rattle.exec_msg.specs.declared.line.Line.TheVariants as line
 use Rattle.exec_world.proofs.Addresses.{routes_of, client_knows, action_client_knows, IsAddressed, addressed_after, addressed_taken, addressed_first}
 use Rattle.exec_world.proofs.Channels.{Channel, replies, responses, codes, asks, takes, sends_to, weigh, total, count, none_taken, total_after, total_taken, none_lost, channel_of, its_channel, cause_sent, answers_send}
-use Rattle.exec_world.proofs.Identifiers.{or_false}
 use Rattle.exec_world.proofs.Keeping.{Moves, Tells, publish_kept, moves_kept, push_kept, feed_keeps, ids_changed, state_said, is_sent_well, Routes, canceled}
 use Rattle.exec_world.proofs.OfKinds.{IsOfItsKind, AreOfTheirKinds, kinds_kept, kinds_first, lost_of_kind}
 use Rattle.exec_world.proofs.Pairs.{all_filter, all_flat, all_flat_where, all_map, all_mapped, all_unmapped, all_weaker}
@@ -50,7 +50,7 @@ IsLossless lines = list_any is_loss lines ≡ false
 lossless_more : (lines more : List Line) → IsLossless lines → IsLossless more → IsLossless (lines ++ more)
 lossless_more [] more p q = q
 lossless_more (one ∷ lines) more p q =
-    let parts = or_false (is_loss one) (list_any is_loss lines) p in
+    let parts = or_parts (is_loss one) (list_any is_loss lines) p in
     rw parts.0 (lossless_more lines more parts.1 q)
 
 drops_lossless : (entity : EntityNo) (items : List Item) → AllByRecursion (λ one. is_answer (taker_of one) ≡ false) items → IsLossless (map (drop_line entity) items)

@@ -1,7 +1,7 @@
 -- What a ready list has: at most one callback of each kind but poll for each entity.
 use Rattle.std.proofs.Common.{◌≡◌, ◌≢◌, ℕ, suc, ◌≤◌, Bool, true, false, ◌==◌, List, [], ◌∷◌, ◌++◌, length, refl, sym, ap, ◌∙◌, true≢false, not, arith}
 use Rattle.std.specs.List.{AllByRecursion, filter, flat_map}
-use Rattle.std.proofs.lemmas.Bool.{eqb-true, eq-eqb, and_parts}
+use Rattle.std.proofs.lemmas.Bool.{eqb-true, eq-eqb, and_parts, not-true}
 use Rattle.std.proofs.lemmas.List.Elements.{recursion_from_All}
 use Rattle.exec_graph.specs.Entity.{EntityNo}
 use Rattle.exec_graph.specs.Graph.{GraphData, wait_set, entities_where, is_server}
@@ -10,7 +10,6 @@ use Rattle.exec_msg.specs.Kind.{ready_number}
 use Rattle.exec_msg.specs.Timer.{is_due}
 use Rattle.exec_msg.specs.declared.kind.Kind.{Kind}
 use Rattle.exec_msg.specs.declared.kind.Kind.TheVariants as kind
-use Rattle.exec_world.proofs.Identifiers.{not_true}
 use Rattle.exec_world.proofs.OfKinds.{IsOfItsKind, AreOfTheirKinds, kinds_kept, kinds_first, same_kind}
 use Rattle.exec_world.proofs.Pairs.{all_append, all_both, all_filter, all_flat, all_flat_where, all_map, all_passed, all_weaker, Pairs, pairs_all, pairs_append, pairs_filter, pairs_flat, pairs_with}
 use Rattle.exec_world.proofs.Running.{snapshot_keeps, rounds_keep}
@@ -182,7 +181,7 @@ list_apart of other graph moment world wires p =
     let are_polls : AllByRecursion (λ one. kind_of one.cause ≡ kind.Poll) polls = all_flat (λ one. kind_of one.cause ≡ kind.Poll) (poll_ready moment) (λ entry. all_weaker (IsOf entry.handler.entity kind.Poll) _ (λ one is. is.0) _ (poll_of moment entry)) world.servers in
     let in_polls : AllByRecursion (InPart 2) polls = all_weaker (λ one. kind_of one.cause ≡ kind.Poll) (InPart 2) (λ one is. ap (λ (k : Kind). part_of k) is) polls are_polls in
     let in_before : AllByRecursion (InPart 1) before = queues_in moment world 1 (λ queue. is_before_polls queue.kind) (λ queue taken passed same. part_before taken (ap (λ (k : Kind). is_before_polls k) same ∙ passed)) p in
-    let in_behind : AllByRecursion (InPart 3) behind = queues_in moment world 3 (λ queue. not (is_before_polls queue.kind)) (λ queue taken passed same. part_behind taken (ap (λ (k : Kind). is_before_polls k) same ∙ not_true (is_before_polls queue.kind) passed)) p in
+    let in_behind : AllByRecursion (InPart 3) behind = queues_in moment world 3 (λ queue. not (is_before_polls queue.kind)) (λ queue taken passed same. part_behind taken (ap (λ (k : Kind). is_before_polls k) same ∙ not-true (is_before_polls queue.kind) passed)) p in
     pairs_placed of 1 (timers ++ before ++ polls ++ behind)
     (pairs_append (Apart of) (timers ++ before ++ polls) behind
     (pairs_append (Apart of) (timers ++ before) polls

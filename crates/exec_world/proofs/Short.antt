@@ -2,7 +2,7 @@
 use Rattle.std.proofs.Common.{◌≡◌, ℕ, zero, suc, ◌≤◌, ◌||◌, nat_le, Bool, true, false, not, List, [], ◌∷◌, ◌++◌, length, Option, None, Some, length-append, slice_index_or, refl, sym, ap, ◌∙◌, arith}
 use Rattle.std.specs.List.{AllByRecursion, filter}
 use Rattle.std.specs.Option.{option_map, unwrap_or}
-use Rattle.std.proofs.lemmas.Bool.{leb-false}
+use Rattle.std.proofs.lemmas.Bool.{leb-false, or_parts, not-true}
 use Rattle.std.proofs.lemmas.List.{length-map}
 use Rattle.std.proofs.lemmas.List.Elements.{recursion_from_All}
 use Rattle.std.proofs.lemmas.List.Filters.{length-filter_both}
@@ -18,7 +18,6 @@ use Rattle.exec_msg.specs.Timer.{is_due}
 use Rattle.exec_msg.specs.declared.kind.Kind.{Kind}
 use Rattle.exec_msg.specs.declared.kind.Kind.TheVariants as kind
 use Rattle.exec_task.specs.Task.{TaskState}
-use Rattle.exec_world.proofs.Identifiers.{not_true, or_false}
 use Rattle.exec_world.proofs.Keeping.{ids}
 use Rattle.exec_world.proofs.Pairs.{all_append, all_filter, all_map, all_mapped, all_weaker}
 use Rattle.exec_world.proofs.Running.{KeptByRounds}
@@ -92,7 +91,7 @@ server_accepted server moment decision request (entry ∷ servers) room p = by (
         AllByRecursion IsSmallServer (change_first (is_server_at server) (server_accepting moment decision request) (entry ∷ servers))
     by true e rest =
         let here : has_room_for request.id entry.goals ≡ true = rw e at room in
-        let few : nat_le 64 (length entry.goals) ≡ false = (or_false (holds_id request.id entry.goals) (is_full entry.goals) (not_true (holds_id request.id entry.goals || is_full entry.goals) here)).1 in
+        let few : nat_le 64 (length entry.goals) ≡ false = (or_parts (holds_id request.id entry.goals) (is_full entry.goals) (not-true (holds_id request.id entry.goals || is_full entry.goals) here)).1 in
         let one_more : List GoalRecord = new_goal request.id request.value moment decision ∷ [] in
         let fits : length (entry.goals ++ one_more) ≤ 64 = omega (arith, leb-false 64 (length entry.goals) few, length-append entry.goals one_more) in
         let accepted : IsSmallServer (server_accepting moment decision request entry) = record {
