@@ -6,7 +6,8 @@ use Rattle.std.specs.List.Sorted.{IsNonDecreasingBy, IsPermutation, IsSortedByKe
 use Rattle.std.specs.Ordering.{nat_cmp}
 use Rattle.std.proofs.lemmas.Bool.{cases_lt}
 use Rattle.std.proofs.lemmas.List.{get_or-map, get_or_default, length-map}
-use Rattle.std.proofs.lemmas.List.Sorted.{All-permutation, IsNonDecreasingBy-drop, IsNonDecreasingBy-from_sort, IsPermutation-map, IsPermutation-refl, IsPermutation-sym, sum_by-IsPermutation, sum_by_pushed}
+use Rattle.std.proofs.lemmas.List.Sorted.{All-permutation, IsNonDecreasingBy-drop, IsNonDecreasingBy-from_sort, IsPermutation-map, IsPermutation-refl, IsPermutation-sym, sum_by-IsPermutation}
+use Rattle.std.proofs.lemmas.List.Sums.{sum_by-cons}
 
 -- the numbers rise by one from here
 abbrev pub RiseFrom : ℕ → List ℕ → Type 0
@@ -15,15 +16,12 @@ RiseFrom first (n ∷ ns) = (n ≡ first) × RiseFrom (suc first) ns
 
 -- ---- numbers
 
-sum_next : {X : Type 0} (f : X → ℕ) (x : X) (xs : List X) → sum_by f (x ∷ xs) ≡ f x + sum_by f xs
-sum_next f x xs = sum_by_pushed f x xs (x ∷ xs) (IsPermutation-refl (x ∷ xs))
-
 -- no number of such a list is below its first
 none_below : (m first : ℕ) (ns : List ℕ) → m ≤ first → RiseFrom first ns → sum_by (λ n. m - n) ns ≡ 0
 none_below m first [] low rise = refl
 none_below m first (n ∷ ns) low rise =
     let rest = none_below m (suc first) ns (omega (arith, low)) rise.1 in
-    let next = sum_next (λ (k : ℕ). m - k) n ns in
+    let next = sum_by-cons (λ (k : ℕ). m - k) n ns in
     omega (arith, rest, next, low, rise.0)
 
 -- nor of one whose numbers don't fall
@@ -31,7 +29,7 @@ none_under : (m : ℕ) (ns : List ℕ) → ((i : ℕ) → i < length ns → m �
 none_under m [] low = refl
 none_under m (n ∷ ns) low =
     let rest = none_under m ns (λ i within. low (suc i) (omega (arith, within))) in
-    let next = sum_next (λ (k : ℕ). m - k) n ns in
+    let next = sum_by-cons (λ (k : ℕ). m - k) n ns in
     let here : m ≤ n = low 0 (omega arith) in
     omega (arith, rest, next, here)
 
@@ -42,29 +40,29 @@ first_is_least n ns order i within = order 0 i 0 (omega arith) within
 same_numbers : (first : ℕ) (ns ms : List ℕ) → RiseFrom first ms → IsNonDecreasingBy (λ n. n) ns → ((f : ℕ → ℕ) → sum_by f ns ≡ sum_by f ms) → ns ≡ ms
 same_numbers first [] [] rise order weigh = refl
 same_numbers first [] (m ∷ ms) rise order weigh =
-    let one = sum_next (λ (k : ℕ). 1) m ms in
+    let one = sum_by-cons (λ (k : ℕ). 1) m ms in
     let both = weigh (λ k. 1) in
     absurd (omega (arith, one, both))
 same_numbers first (n ∷ ns) [] rise order weigh =
-    let one = sum_next (λ (k : ℕ). 1) n ns in
+    let one = sum_by-cons (λ (k : ℕ). 1) n ns in
     let both = weigh (λ k. 1) in
     absurd (omega (arith, one, both))
 same_numbers first (n ∷ ns) (m ∷ ms) rise order weigh =
     let low : first ≤ n =
-    (let left = sum_next (λ (k : ℕ). first - k) n ns in
+    (let left = sum_by-cons (λ (k : ℕ). first - k) n ns in
     let right = none_below first first (m ∷ ms) (omega arith) rise in
     let both = weigh (λ k. first - k) in
     omega (arith, left, right, both)) in
     let high : n ≤ first = by (cases_lt first n) in
     let same : n ≡ m = omega (arith, low, high, rise.0) in
     (λ i. same i ∷ same_numbers (suc first) ns ms rise.1 (IsNonDecreasingBy-drop (λ (k : ℕ). k) 1 (n ∷ ns) order)
-    (λ f. let left = sum_next f n ns in let right = sum_next f m ms in let both = weigh f in let here : f n ≡ f m = ap f same in omega (arith, left, right, both, here)) i)
+    (λ f. let left = sum_by-cons f n ns in let right = sum_by-cons f m ms in let both = weigh f in let here : f n ≡ f m = ap f same in omega (arith, left, right, both, here)) i)
   where
     by : (first < n) ⊎ (n ≤ first) → n ≤ first
     by (inr fits) = fits
     by (inl above) =
         let left = none_under (suc first) (n ∷ ns) (λ i within. let least = first_is_least n ns order i within in omega (arith, above, least)) in
-        let right = sum_next (λ (k : ℕ). suc first - k) m ms in
+        let right = sum_by-cons (λ (k : ℕ). suc first - k) m ms in
         let both = weigh (λ k. suc first - k) in
         absurd (omega (arith, left, right, both, rise.0))
 
@@ -98,7 +96,7 @@ keys_in_order key (x ∷ xs) order i j d below within =
 none : {X : Type 0} (xs : List X) → IsPermutation xs [] → xs ≡ []
 none [] moved = refl
 none {X} (x ∷ xs) moved =
-    let one = sum_next (λ (z : X). 1) x xs in
+    let one = sum_by-cons (λ (z : X). 1) x xs in
     let both = sum_by-IsPermutation (λ (z : X). 1) (x ∷ xs) [] moved in
     absurd (omega (arith, one, both))
 

@@ -1,17 +1,9 @@
 -- Lanes are those that were opened, whatever ran of them.
 use Rattle.std.proofs.Common.{◌≡◌, List, [], ◌∷◌, length, refl, sym, ap, ◌∙◌, arith, Bool, true, false, true≢false}
 use Rattle.std.specs.Prelude.{◌&&◌}
-use Rattle.std.proofs.lemmas.Bool.{eqb-true}
+use Rattle.std.proofs.lemmas.Bool.{eqb-true, and_parts}
 use Rattle.exec_lane.specs.Lane.{AreFinished, Lane}
 use Rattle.exec_round.specs.inner.Running.{are_done, is_done, openings_of}
-
-and_first : (a b : Bool) → (a && b) ≡ true → a ≡ true
-and_first true b both = refl
-and_first false b both = both
-
-and_second : (a b : Bool) → (a && b) ≡ true → b ≡ true
-and_second true b both = both
-and_second false b both = absurd (true≢false (sym both))
 
 -- lanes whose callbacks all ran
 pub are_finished : (openings lanes : List Lane) → openings_of lanes ≡ openings_of openings → are_done lanes ≡ true → AreFinished openings lanes
@@ -28,9 +20,9 @@ are_finished (opening ∷ openings) (lane ∷ lanes) same done = (
   record {
     variables = ap (λ all. (first all).variables) same;
     entries = entries;
-    done = eqb-true lane.done (length lane.entries) (and_first (is_done lane) (are_done lanes) done) ∙ ap length entries;
+    done = eqb-true lane.done (length lane.entries) (and_parts (is_done lane) (are_done lanes) done).0 ∙ ap length entries;
   },
-  are_finished openings lanes (ap rest same) (and_second (is_done lane) (are_done lanes) done),
+  are_finished openings lanes (ap rest same) (and_parts (is_done lane) (are_done lanes) done).1,
 )
   where
     first : List Lane → Lane

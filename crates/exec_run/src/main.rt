@@ -2,7 +2,6 @@
 #![tactic(auto)]
 
 mod examples;
-mod fault;
 mod program;
 #[cfg(test)]
 mod tests;

@@ -4,11 +4,10 @@ mod tests;
 mod words;
 
 ghost use Rattle.std.specs.Prelude.{◌≡◌, Result};
-ghost use Rattle.exec_run.specs.Program.{HasRun, IsTold, failure_line, failure_status, exit_number, failure_of_words, failure_of_read, outcome_status};
+ghost use Rattle.exec_run.specs.Program.{HasRun, IsTold, failure_line, failure_status, exit_number, failure_of_words, failure_of_read, outcome_status, refused_line};
 ghost use Rattle.exec_run.specs.declared.program.Failure.{Failure};
 ghost use Rattle.exec_run.specs.declared.program.Failure.TheVariants.{Refused, WriteFailed};
 
-use crate::fault::code_line;
 use exec_doc::Refused;
 use exec_lane::Open;
 use exec_round::run;
@@ -173,4 +172,22 @@ fn transcribe<H: Threads + Sync, R: Read, O: Write>(
     )?;
     write_text(output, &text)?;
     Ok(())
+}
+
+// The line that standard error gets of a refusal, with its line feed.
+fn code_line(code: Refused) -> &'static str
+    ensures { result.now ≡ refused_line code }
+{
+    match code {
+        Refused::NotJson => "refused 1\n",
+        Refused::Shape => "refused 2\n",
+        Refused::Version => "refused 3\n",
+        Refused::Name => "refused 4\n",
+        Refused::Limit => "refused 5\n",
+        Refused::Script => "refused 6\n",
+        Refused::GroupVariable => "refused 7\n",
+        Refused::Clock => "refused 8\n",
+        Refused::Id => "refused 9\n",
+        Refused::Memory => "refused 10\n",
+    }
 }

@@ -22,6 +22,7 @@ use Rattle.exec_script.specs.declared.effects.Effects.{Effects}
 use Rattle.exec_world.proofs.Apart.{StandsApart, effects_apart, held_apart, line_apart, push_any_apart, push_apart}
 use Rattle.exec_world.proofs.Keeping.{Kept}
 use Rattle.exec_world.proofs.Running.{KeptByAcceptance, commit_keeps, given_keeps}
+use Rattle.exec_world.proofs.Pairs.{any_before}
 use Rattle.exec_world.specs.Close.{GoalRequest, accept, accept_where, answer_ask, answer_cancel, answer_goal, ask, ask_where, cancel, close_callback, close_cause, close_item, close_poll, decide, decision_in, decisions_in, end, end_in, goal_at, held_goal, moved_lines, reply_in, reply_to, respond, server_accepting, tell, tell_askers, tell_end, with_ended}
 use Rattle.exec_world.specs.Give.{give_all}
 use Rattle.exec_world.specs.Item.{GoalId}
@@ -194,14 +195,6 @@ any_changed test other change left (x ∷ xs) = by (test x) refl (any_changed te
     by true e rest = rw (e, left x) refl
     by false e rest = rw e (ap (λ (b : Bool). other x || b) rest)
 
-any_more : {A : Type 0} (test : A → Bool) (xs ys : List A) → list_any test xs ≡ true → list_any test (xs ++ ys) ≡ true
-any_more test [] ys p = absurd (true≢false (sym p))
-any_more test (x ∷ xs) ys p = by (test x) refl (any_more test xs ys)
-  where
-    by : (b : Bool) → test x ≡ b → (list_any test xs ≡ true → list_any test (xs ++ ys) ≡ true) → list_any test ((x ∷ xs) ++ ys) ≡ true
-    by true e rest = rw e refl
-    by false e rest = let behind : list_any test xs ≡ true = rw e at p in rw e (rest behind)
-
 changed_front : {A : Type 0} (test : A → Bool) (change : A → A) (xs ys : List A) → list_any test xs ≡ true → change_first test change (xs ++ ys) ≡ change_first test change xs ++ ys
 changed_front test change [] ys p = absurd (true≢false (sym p))
 changed_front {A} test change (x ∷ xs) ys p = by (test x) refl (changed_front test change xs ys)
@@ -226,7 +219,7 @@ module _ (server : EntityNo) (id : GoalId) where
   held_accepts : KeptByAcceptance (IsHeld server id)
   held_accepts other moment decision request world room p =
       read_kept (keeps id) (is_server_at other) (is_server_at server) (server_accepting moment decision request) (λ entry. refl)
-      (λ entry q. any_more (is_for id) entry.held (held_goal entry.handler.script request ∷ []) q) world.servers p
+      (λ entry q. any_before (is_for id) entry.held (held_goal entry.handler.script request ∷ []) q) world.servers p
 
   module _ (change : HeldGoal → HeldGoal) (id_same : (held : HeldGoal) → (change held).id ≡ held.id) (client_same : (held : HeldGoal) → (change held).client ≡ held.client) where
     abbrev changed : ServerEntry → ServerEntry

@@ -16,14 +16,14 @@ use Rattle.exec_msg.specs.declared.goal.GoalStatus.{GoalStatus}
 use Rattle.exec_msg.specs.declared.line.Line.{Line}
 use Rattle.exec_msg.specs.declared.line.Line.TheVariants as line
 use Rattle.exec_world.proofs.Channels.{weigh}
-use Rattle.exec_world.proofs.Identifiers.{Distinct, HasDistinct, goals_in, Makes, OldOrNew, old_or_new, changing, tasking, distinct_kept, filter_all}
+use Rattle.exec_world.proofs.Identifiers.{Distinct, HasDistinct, Makes, OldOrNew, old_or_new, changing, tasking, distinct_kept, filter_all}
 use Rattle.exec_world.proofs.Keeping.{ids, Moves, publish_kept, moves_kept, anywhere, is_plain}
 use Rattle.exec_world.proofs.Pairs.{all_weaker}
 use Rattle.exec_world.proofs.Views.{turned}
 use Rattle.exec_world.specs.Close.{accepted_lines, moved_lines, tell}
 use Rattle.exec_world.specs.Exchanges.{is_ask_taken, is_result_told, waiting_for, waiting_in}
 use Rattle.exec_world.specs.Item.{GoalId}
-use Rattle.exec_world.specs.World.{WorldState, ServerEntry, is_server_at, add_line, add_lines, drop_line, lost_by, queued, push, goals_of, with_call}
+use Rattle.exec_world.specs.World.{WorldState, ServerEntry, is_server_at, add_line, add_lines, drop_line, lost_by, queued, push, goals_of, with_call, goals_in}
 use Rattle.exec_world.specs.declared.item.Item.{Item}
 use Rattle.exec_world.specs.declared.item.Item.TheVariants as item
 

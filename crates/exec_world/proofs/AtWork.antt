@@ -12,7 +12,7 @@ use Rattle.exec_msg.specs.Lists.{change_first}
 use Rattle.exec_msg.specs.declared.goal.Event.{Event}
 use Rattle.exec_msg.specs.declared.goal.Event.TheVariants as event
 use Rattle.exec_msg.specs.declared.line.Line.TheVariants as line
-use Rattle.exec_world.proofs.Identifiers.{HasDistinct, goals_in, Makes, OldOrNew, old_or_new, changing, tasking, accepting, distinct_kept}
+use Rattle.exec_world.proofs.Identifiers.{HasDistinct, Makes, OldOrNew, old_or_new, changing, tasking, accepting, distinct_kept}
 use Rattle.exec_world.proofs.Keeping.{Moves, Tells, publish_kept, moves_kept, tells_kept, state_said, anywhere}
 use Rattle.exec_world.proofs.Running.{ended, end_kept, ends_told, asks_told, run_keeps, unclosed_keeps}
 use Rattle.exec_world.proofs.Statuses.{state_left, state_of_other, state_moved}
@@ -21,7 +21,7 @@ use Rattle.exec_world.specs.Item.{GoalId}
 use Rattle.exec_world.specs.LawWords.{may_be_polled, unclosed}
 use Rattle.exec_world.specs.Run.{run}
 use Rattle.exec_world.specs.Transcript.{run_all}
-use Rattle.exec_world.specs.World.{WorldState, ServerEntry, is_server_at, add_line, goals_of}
+use Rattle.exec_world.specs.World.{WorldState, ServerEntry, is_server_at, add_line, goals_of, goals_in}
 use Rattle.exec_world.specs.declared.ready.Cause.TheVariants as cause
 use Rattle.exec_world.specs.declared.ready.Ready.{Ready}
 

@@ -3,7 +3,7 @@ use Rattle.std.proofs.Common.{◌≡◌, ℕ, suc, ◌+◌, ◌≤◌, Bool, tru
 use Rattle.std.specs.List.{AllByRecursion, find, flat_map, fold, filter}
 use Rattle.std.specs.List.Sorted.{IsPermutation}
 use Rattle.std.specs.Option.{option_map, option_map_or}
-use Rattle.std.proofs.lemmas.Bool.{eqb-true, eq-eqb}
+use Rattle.std.proofs.lemmas.Bool.{eqb-true, eq-eqb, not-true}
 use Rattle.std.proofs.lemmas.Grind.{flat_map-append}
 use Rattle.std.proofs.lemmas.List.{append-nil}
 use Rattle.std.proofs.lemmas.List.Elements.{recursion_from_All}
@@ -14,7 +14,6 @@ use Rattle.exec_msg.specs.Timer.{is_due}
 use Rattle.exec_world.proofs.Channels.{weigh}
 use Rattle.exec_world.proofs.Flying.{first_weight, firsts}
 use Rattle.exec_world.proofs.Handed.{flat_none, flat_twice}
-use Rattle.exec_world.proofs.Identifiers.{not_true}
 use Rattle.exec_world.proofs.OfKinds.{IsOfItsKind}
 use Rattle.exec_world.proofs.Pairs.{all_both, all_filter, all_flat, all_map, all_passed}
 use Rattle.exec_world.specs.Item.{taker_of}
@@ -233,7 +232,7 @@ module _ (client : EntityNo) where
       where
         by : (items : List Item) → AllByRecursion (λ one. taker_of one ≡ queue.kind) items → number_first queue.handler.entity items ≡ []
         by [] q = refl
-        by (first ∷ items) q = late_number first (ap (λ of. is_before_polls of) q.0 ∙ not_true (is_before_polls queue.kind) late) queue.handler.entity
+        by (first ∷ items) q = late_number first (ap (λ of. is_before_polls of) q.0 ∙ not-true (is_before_polls queue.kind) late) queue.handler.entity
 
     numbers_placed : (position : ℕ) (list : List Ready) → flat_map number_in (placed_from position list) ≡ flat_map number_in list
     numbers_placed position [] = refl

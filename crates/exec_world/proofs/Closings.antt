@@ -20,11 +20,11 @@ use Rattle.exec_msg.specs.Lists.{change_first}
 use Rattle.exec_world.proofs.FoundEntries.{found_number}
 use Rattle.exec_world.specs.Close.{ask_where, respond, moved_lines, answer_cancel, cancel, tell, tell_end, with_ended, end_in, end}
 use Rattle.exec_world.specs.Item.{GoalId}
-use Rattle.exec_world.specs.World.{WorldState, Moment, ServerEntry, ActionClientEntry, is_server_at, add_line, add_lines, push, push_any, goals_of, action_client_at}
+use Rattle.exec_world.specs.World.{WorldState, Moment, ServerEntry, ActionClientEntry, is_server_at, add_line, add_lines, push, push_any, goals_of, action_client_at, goals_in}
 use Rattle.exec_world.specs.declared.item.Item.TheVariants as item
 use Rattle.exec_world.specs.inner.Numbered.{FindsByNumber}
 use Rattle.exec_msg.specs.Places.{first_place}
-use Rattle.exec_world.specs.inner.Servers.{goals_in, with_goals}
+use Rattle.exec_world.specs.inner.Servers.{with_goals}
 
 -- ---- lists
 
@@ -71,15 +71,6 @@ line_more f lines xs i x within reads =
     append_assoc lines (map f (take i xs)) (f x ∷ [])
     ∙ ap (λ one. lines ++ (map f (take i xs) ++ f one ∷ [])) reads
     ∙ ap (λ all. lines ++ all) (sym (map_more f xs i x within))
-
--- what is left behind changed elements is as it was
-unmoved : {A : Type 0} (f : A → A) (xs : List A) (i : ℕ) (d : A) → i < length xs → get_or (map f (take i xs) ++ drop i xs) i d ≡ get_or xs i d
-unmoved f [] i d within = absurd (omega arith)
-unmoved f (x ∷ xs) zero d within = refl
-unmoved f (x ∷ xs) (suc i) d within = unmoved f xs i d (omega arith)
-
-pub reads_unmoved : {A : Type 0} (f : A → A) (xs changed : List A) (i : ℕ) (x : A) → i < length xs → changed ≡ map f (take i xs) ++ drop i xs → x ≡ get_or changed i x → x ≡ get_or xs i x
-reads_unmoved f xs changed i x within is reads = reads ∙ ap (λ all. get_or all i x) is ∙ unmoved f xs i x within
 
 -- an element that keeps what is read of it
 pub mapped_set : {A B : Type 0} (f : A → B) (xs : List A) (i : ℕ) (x after : A) → x ≡ get_or xs i x → f after ≡ f x → map f (slice_set xs i after) ≡ map f xs

@@ -3,6 +3,7 @@ use Rattle.std.proofs.Common.{◌≡◌, ℕ, zero, suc, ◌+◌, ◌≤◌, Boo
 use Rattle.std.specs.List.{AllByRecursion, filter, find, flat_map, list_any}
 use Rattle.std.specs.Option.{option_map_or}
 use Rattle.std.proofs.lemmas.List.Elements.{recursion_from_All}
+use Rattle.std.proofs.lemmas.Bool.{or_parts}
 use Rattle.exec_goal.specs.Cancel.{moved}
 use Rattle.exec_goal.specs.Table.{GoalRecord, after_event, after_end, has_id, expired}
 use Rattle.exec_graph.specs.Entity.{EntityNo}
@@ -20,11 +21,10 @@ use Rattle.exec_msg.specs.declared.line.Line.{Line}
 use Rattle.exec_msg.specs.declared.line.Line.TheVariants as line
 use Rattle.exec_world.proofs.Addresses.{routes_of, client_knows, action_client_knows, IsAddressed, addressed_after, addressed_taken, addressed_first}
 use Rattle.exec_world.proofs.Channels.{Channel, replies, responses, codes, asks, takes, sends_to, weigh, total, count, none_taken, total_after, total_taken, none_lost, channel_of, its_channel, cause_sent, answers_send}
-use Rattle.exec_world.proofs.Identifiers.{or_false}
 use Rattle.exec_world.proofs.Keeping.{Moves, Tells, publish_kept, moves_kept, push_kept, feed_keeps, ids_changed, state_said, is_sent_well, Routes, canceled}
 use Rattle.exec_world.proofs.OfKinds.{IsOfItsKind, AreOfTheirKinds, kinds_kept, kinds_first, lost_of_kind}
-use Rattle.exec_world.proofs.Pairs.{all_append, all_filter, all_flat, all_flat_where, all_map, all_mapped, all_unmapped, all_weaker}
-use Rattle.exec_world.proofs.ReadyLists.{IsOf, due_of, poll_of, list_apart, one_at_most, all_placed}
+use Rattle.exec_world.proofs.Pairs.{all_filter, all_flat, all_flat_where, all_map, all_mapped, all_unmapped, all_weaker}
+use Rattle.exec_world.proofs.ReadyLists.{IsOf, due_of, poll_of, list_apart, one_at_most, all_ready}
 use Rattle.exec_world.proofs.Running.{Answers, ends_told, asks_told, run_keeps, KeptByRounds}
 use Rattle.exec_world.proofs.Shapes.{shape_kept}
 use Rattle.exec_world.proofs.Wiring.{wired}
@@ -50,7 +50,7 @@ IsLossless lines = list_any is_loss lines ≡ false
 lossless_more : (lines more : List Line) → IsLossless lines → IsLossless more → IsLossless (lines ++ more)
 lossless_more [] more p q = q
 lossless_more (one ∷ lines) more p q =
-    let parts = or_false (is_loss one) (list_any is_loss lines) p in
+    let parts = or_parts (is_loss one) (list_any is_loss lines) p in
     rw parts.0 (lossless_more lines more parts.1 q)
 
 drops_lossless : (entity : EntityNo) (items : List Item) → AllByRecursion (λ one. is_answer (taker_of one) ≡ false) items → IsLossless (map (drop_line entity) items)
@@ -356,17 +356,10 @@ module _ (routes : Routes) (moment : Moment) (world : WorldState) where
 
   list_well : AllByRecursion (IsAddressed routes) world.queues → AllByRecursion Well (ready_list moment world)
   list_well p =
-      let timers : List Ready = flat_map (due_ready moment) world.timers in
-      let before : List Ready = flat_map (queue_ready moment world) (filter (λ queue. is_before_polls queue.kind) world.queues) in
-      let polls : List Ready = flat_map (poll_ready moment) world.servers in
-      let behind : List Ready = flat_map (queue_ready moment world) (filter (λ queue. not (is_before_polls queue.kind)) world.queues) in
-      all_placed Well (λ position one q. q) 1 (timers ++ before ++ polls ++ behind)
-      (all_append Well (timers ++ before ++ polls) behind
-      (all_append Well (timers ++ before) polls
-      (all_append Well timers before (all_flat Well (due_ready moment) well_due world.timers)
-      (all_flat_where (IsAddressed routes) Well (queue_ready moment world) well_taken (filter (λ queue. is_before_polls queue.kind) world.queues) (all_filter (IsAddressed routes) (λ queue. is_before_polls queue.kind) world.queues p)))
-      (all_flat Well (poll_ready moment) (λ entry. all_map Well _ (λ goal. refl) _) world.servers))
-      (all_flat_where (IsAddressed routes) Well (queue_ready moment world) well_taken (filter (λ queue. not (is_before_polls queue.kind)) world.queues) (all_filter (IsAddressed routes) (λ queue. not (is_before_polls queue.kind)) world.queues p)))
+      all_ready Well (λ position one q. q) moment world
+      (all_flat Well (due_ready moment) well_due world.timers)
+      (λ test. all_flat_where (IsAddressed routes) Well (queue_ready moment world) well_taken (filter test world.queues) (all_filter (IsAddressed routes) test world.queues p))
+      (all_flat Well (poll_ready moment) (λ entry. all_map Well _ (λ goal. refl) _) world.servers)
 
 -- ---- rounds
 

@@ -27,9 +27,9 @@ use Rattle.exec_world.proofs.Running.{snapshot_keeps, rounds_keep}
 use Rattle.exec_world.specs.Callback.{act, close_of_answer, poll, poll_where}
 use Rattle.exec_world.specs.Give.{give}
 use Rattle.exec_world.specs.Item.{GoalId}
-use Rattle.exec_world.specs.LawWords.{IsTurn, may_be_polled, outcome_in, unclosed}
+use Rattle.exec_world.specs.LawWords.{IsTurn, may_be_polled, unclosed}
 use Rattle.exec_world.specs.Ready.{take_inputs, turn_at, run_line}
-use Rattle.exec_world.specs.Run.{work_for, variables_for}
+use Rattle.exec_world.specs.Run.{work_for, variables_for, outcome_in}
 use Rattle.exec_world.specs.Transcript.{at_snapshot, first_world, rounds}
 use Rattle.exec_world.specs.World.{WorldState, Moment, GoalWork, Variables, add_line, goals_of}
 use Rattle.exec_world.specs.declared.ready.Cause.{Cause}

@@ -1,8 +1,8 @@
 -- A look-up by entity and kind gives the place of the first such queue, and places with items are covered.
-use Rattle.std.proofs.Common.{◌≡◌, ℕ, zero, suc, ◌+◌, ◌*◌, ◌-◌, ◌<◌, ◌≤◌, ◌&&◌, ◌==◌, ⊎_elim, Bool, true, false, not, length, List, [], ◌∷◌, ◌++◌, Option, Some, None, IfSome, slice_get, take, refl, sym, ap, subst, ◌∙◌, arith}
+use Rattle.std.proofs.Common.{◌≡◌, ℕ, zero, suc, ◌+◌, ◌*◌, ◌-◌, ◌<◌, ◌≤◌, ◌&&◌, ◌==◌, ⊎_elim, true, false, not, length, List, [], ◌∷◌, ◌++◌, Option, Some, None, IfSome, slice_get, take, refl, sym, ap, subst, ◌∙◌, arith}
 use Rattle.std.specs.List.{Contains}
 use Rattle.std.specs.Option.{option_map_or, option_to_list}
-use Rattle.std.proofs.lemmas.Bool.{eqb-true, eq-eqb, both_ways}
+use Rattle.std.proofs.lemmas.Bool.{eqb-true, eq-eqb, both_ways, and_parts}
 use Rattle.std.proofs.lemmas.List.{length_push}
 use Rattle.exec_msg.specs.KeepLast.{displaced}
 use Rattle.exec_msg.specs.Kind.{ready_number}
@@ -60,17 +60,8 @@ number_bound kind.Result = omega arith
 both_true : (a b m n : ℕ) → (a ≡ b) → (m ≡ n) → ((a == b) && (m == n)) ≡ true
 both_true a b m n first second = (λ i. (eq-eqb a b first i) && (eq-eqb m n second i))
 
-left_of : (p q : Bool) → (p && q) ≡ true → p ≡ true
-left_of true q is = refl
-left_of false q is = is
-
-right_of : (p q : Bool) → (p && q) ≡ true → q ≡ true
-right_of true q is = is
-right_of false true is = refl
-right_of false false is = is
-
 same_slot : (a b m n : ℕ) → ((a == b) && (m == n)) ≡ true → a * 13 + m ≡ b * 13 + n
-same_slot a b m n is = λ i. eqb-true a b (left_of (a == b) (m == n) is) i * 13 + eqb-true m n (right_of (a == b) (m == n) is) i
+same_slot a b m n is = λ i. eqb-true a b ((and_parts (a == b) (m == n) is).0) i * 13 + eqb-true m n ((and_parts (a == b) (m == n) is).1) i
 
 other_slot : (a b m n : ℕ) → m ≤ 12 → n ≤ 12 → ((a == b) && (m == n)) ≡ false → a * 13 + m ≡ b * 13 + n → ⊥
 other_slot a b m n low high is same =

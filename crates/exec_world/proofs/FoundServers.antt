@@ -10,11 +10,11 @@ use Rattle.exec_task.specs.Task.{TaskState}
 use Rattle.exec_msg.proofs.FirstPlaces.{set_same}
 use Rattle.exec_world.proofs.FoundByNumber.{unfound, found_at, changed_at}
 use Rattle.exec_world.specs.Item.{GoalId}
-use Rattle.exec_world.specs.World.{GoalWork, HeldGoal, ServerEntry, is_for, is_server_at}
+use Rattle.exec_world.specs.World.{GoalWork, HeldGoal, ServerEntry, is_for, is_server_at, goals_in, work_in}
 use Rattle.exec_world.specs.inner.Keeping.{executed}
 use Rattle.exec_world.specs.inner.Places.{place_in}
 use Rattle.exec_world.specs.inner.Polling.{server_polled}
-use Rattle.exec_world.specs.inner.Servers.{asked_in, executed_in, goals_in, with_goals, work_in}
+use Rattle.exec_world.specs.inner.Servers.{asked_in, executed_in, with_goals}
 
 -- the number by which a server is found
 abbrev pub number_of : ServerEntry → ℕ

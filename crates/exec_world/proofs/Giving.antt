@@ -1,5 +1,5 @@
 -- What the effects of a callback do, as the bodies do it: by the mail, and by what is found first.
-use Rattle.std.proofs.Common.{◌≡◌, ℕ, ◌+◌, ◌==◌, ℤ, Bool, true, false, cond, List, [], ◌∷◌, Option, Some, None, find, refl, ap, sym, subst, ◌∙◌}
+use Rattle.std.proofs.Common.{◌≡◌, ℕ, ◌+◌, ◌==◌, ℤ, true, List, [], ◌∷◌, Option, Some, None, find, refl, ap, sym, ◌∙◌}
 use Rattle.std.specs.List.{fold}
 use Rattle.std.specs.Option.{option_map, option_map_or}
 use Rattle.exec_goal.specs.State.{is_accepted, status_of}
@@ -10,6 +10,7 @@ use Rattle.exec_msg.specs.declared.goal.Event.TheVariants as event
 use Rattle.exec_msg.specs.declared.goal.GoalStatus.TheVariants as status
 use Rattle.exec_msg.specs.declared.line.Line.TheVariants as line
 use Rattle.exec_world.proofs.FoundEntries.{found_number}
+use Rattle.exec_world.proofs.Running.{found_test}
 use Rattle.exec_world.specs.Give.{call_by, cancel_all_by, cancel_goal_by, execute_goal, publish, send_goal_by}
 use Rattle.exec_world.specs.Item.{goal_id}
 use Rattle.exec_world.specs.World.{ActionClientEntry, ClientEntry, TopicEntry, WorldState, action_client_at, add_line, client_at, push, with_call, with_goal_sent}
@@ -79,18 +80,10 @@ executing state.Succeeded goal is accepted = absurd cc
 executing state.Aborted goal is accepted = absurd cc
 executing state.Canceled goal is accepted = absurd cc
 
-found_passes : {A : Type 0} (test : A → Bool) (xs : List A) (x : A) → find test xs ≡ Some x → test x ≡ true
-found_passes test [] x is = absurd cc
-found_passes {A} test (one ∷ xs) x is = by (test one) refl is (found_passes test xs x)
-  where
-    by : (b : Bool) → test one ≡ b → cond b (Some one) (find test xs) ≡ Some x → (find test xs ≡ Some x → test x ≡ true) → test x ≡ true
-    by true passed found later = let same : one ≡ x = cc in subst (λ (y : A). test y ≡ true) same passed
-    by false failed found later = later found
-
 pub executed_oldest : (server id : ℕ) (world : WorldState) (goals : List GoalRecord) (found : Option GoalRecord) → find (λ goal. is_accepted goal.state) goals ≡ found → option_map (λ goal. goal.id) found ≡ Some id →
     add_line (line.State server id status.Executing) (record world { servers = executed_in server found world.servers }) ≡ execute_goal server found world
 executed_oldest server id world goals None there is = absurd cc
 executed_oldest server id world goals (Some goal) there is =
     let named : goal.id ≡ id = cc in
-    let now : status_of (after_event event.Execute goal).state ≡ status.Executing = executing goal.state goal refl (found_passes (λ (one : GoalRecord). is_accepted one.state) goals goal there) in
+    let now : status_of (after_event event.Execute goal).state ≡ status.Executing = executing goal.state goal refl (found_test (λ (one : GoalRecord). is_accepted one.state) goals goal there) in
     (λ i. add_line (line.State server (sym named i) (sym now i)) (record world { servers = executed_in server (Some goal) world.servers }))

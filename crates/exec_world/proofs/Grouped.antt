@@ -1,5 +1,5 @@
 -- The callbacks of a snapshot have the variables of their groups.
-use Rattle.std.proofs.Common.{◌≡◌, ℕ, suc, ◌<◌, Bool, true, false, List, [], ◌∷◌, ◌++◌, length, slice_get, Option, None, Some, refl, sym, ap, subst, ◌∙◌, true≢false}
+use Rattle.std.proofs.Common.{◌≡◌, ℕ, ◌<◌, Bool, true, false, List, [], ◌∷◌, length, slice_get, Option, None, Some, refl, sym, ap, subst, ◌∙◌, true≢false}
 use Rattle.std.specs.List.{AllByRecursion, filter, flat_map}
 use Rattle.std.specs.Option.{option_map_or}
 use Rattle.std.proofs.lemmas.List.{length-replicate}
@@ -11,11 +11,12 @@ use Rattle.exec_msg.specs.Timer.{is_due}
 use Rattle.exec_msg.specs.declared.kind.Kind.{Kind}
 use Rattle.exec_msg.specs.declared.kind.Kind.TheVariants as kind
 use Rattle.exec_script.specs.Zeros.{zeros}
-use Rattle.exec_world.proofs.Pairs.{all_append, all_filter, all_flat_where, all_map, all_mapped, all_unmapped}
+use Rattle.exec_world.proofs.Pairs.{all_filter, all_flat_where, all_map, all_mapped, all_unmapped}
+use Rattle.exec_world.proofs.ReadyLists.{all_ready}
 use Rattle.exec_world.specs.Calls.{HaveVariables}
 use Rattle.exec_world.specs.LawWords.{queue_shape, server_shape, shape_of, timer_shape}
-use Rattle.exec_world.specs.Ready.{due_ready, is_goal_awake, item_ready, poll_ready, placed_from, queue_ready, queues_before_polls, queues_behind_polls, ready_list, take_inputs}
-use Rattle.exec_world.specs.Transcript.{first_world, handler_of, new_queue, new_server, new_timer, takes_from_queue}
+use Rattle.exec_world.specs.Ready.{due_ready, is_goal_awake, item_ready, poll_ready, queue_ready, ready_list, take_inputs}
+use Rattle.exec_world.specs.Transcript.{first_world, handler_for, new_queue, new_server, new_timer, takes_from_queue}
 use Rattle.exec_world.specs.World.{Handler, Moment, Queue, ServerEntry, TimerEntry, WorldState, goals_of}
 use Rattle.exec_world.specs.declared.item.Item.{Item}
 use Rattle.exec_world.specs.declared.ready.Ready.{Ready}
@@ -34,7 +35,7 @@ group_within graph group exclusive = by (slice_get graph.groups group) refl excl
 abbrev IsBelow : ℕ → Handler → Type 0
 IsBelow groups handler = handler.exclusive ≡ true → handler.group < groups
 
-handler_within : (graph : GraphData) (of : Kind) (number : EntityNo) → IsBelow (length graph.groups) (handler_of graph of number)
+handler_within : (graph : GraphData) (of : Kind) (number : EntityNo) → IsBelow (length graph.groups) (handler_for graph of number (declared_at graph number))
 handler_within graph of number exclusive = group_within graph (group_of (declared_at graph number)) exclusive
 
 -- ---- the callbacks of a world
@@ -91,25 +92,14 @@ taken_below groups moment world queue below = by queue.items
 polls_below : (groups : ℕ) (moment : Moment) (entry : ServerEntry) → IsBelow groups entry.handler → AllByRecursion (IsReadyBelow groups) (poll_ready moment entry)
 polls_below groups moment entry below = all_map (IsReadyBelow groups) _ (λ goal. below) (filter (is_goal_awake moment entry.held) entry.goals)
 
-placed_below : (groups position : ℕ) (list : List Ready) → AllByRecursion (IsReadyBelow groups) list → AllByRecursion (IsReadyBelow groups) (placed_from position list)
-placed_below groups position [] p = tt
-placed_below groups position (one ∷ list) p = (p.0, placed_below groups (suc position) list p.1)
-
 listed_below : (groups : ℕ) (moment : Moment) (world : WorldState) → AreBelow groups world → AllByRecursion (IsReadyBelow groups) (ready_list moment world)
 listed_below groups moment world below =
     let taken : (test : Queue → Bool) → AllByRecursion (IsReadyBelow groups) (flat_map (queue_ready moment world) (filter test world.queues)) =
     λ test. all_flat_where (λ queue. IsBelow groups queue.handler) (IsReadyBelow groups) (queue_ready moment world) (taken_below groups moment world) (filter test world.queues) (all_filter (λ queue. IsBelow groups queue.handler) test world.queues below.queues) in
-    let timers : List Ready = flat_map (due_ready moment) world.timers in
-    let before : List Ready = flat_map (queue_ready moment world) (queues_before_polls world) in
-    let polls : List Ready = flat_map (poll_ready moment) world.servers in
-    let behind : List Ready = flat_map (queue_ready moment world) (queues_behind_polls world) in
-    placed_below groups 1 (timers ++ before ++ polls ++ behind)
-    (all_append (IsReadyBelow groups) (timers ++ before ++ polls) behind
-    (all_append (IsReadyBelow groups) (timers ++ before) polls
-    (all_append (IsReadyBelow groups) timers before
-    (all_flat_where (λ entry. IsBelow groups entry.handler) (IsReadyBelow groups) (due_ready moment) (due_below groups moment) world.timers below.timers) (taken _))
-    (all_flat_where (λ entry. IsBelow groups entry.handler) (IsReadyBelow groups) (poll_ready moment) (polls_below groups moment) world.servers below.servers))
-    (taken _))
+    all_ready (IsReadyBelow groups) (λ place one q. q) moment world
+    (all_flat_where (λ entry. IsBelow groups entry.handler) (IsReadyBelow groups) (due_ready moment) (due_below groups moment) world.timers below.timers)
+    taken
+    (all_flat_where (λ entry. IsBelow groups entry.handler) (IsReadyBelow groups) (poll_ready moment) (polls_below groups moment) world.servers below.servers)
 
 -- the callbacks of a snapshot have the variables of their groups
 pub snapshot_variables : (graph : GraphData) (moment : Moment) (world : WorldState) → shape_of world ≡ shape_of (first_world graph) → HaveVariables (ready_list moment world) (take_inputs moment world)

@@ -2,7 +2,7 @@
 use Rattle.std.proofs.Common.{◌≡◌, ℕ, suc, ℤ, Bool, true, false, not, ◌&&◌, ◌==◌, if◌then◌else◌, List, [], ◌∷◌, ◌++◌, map, take, drop, Option, refl, sym, ap, ◌∙◌, true≢false}
 use Rattle.std.specs.List.{AllByRecursion, filter, find, flat_map}
 use Rattle.std.specs.Option.{option_map_or}
-use Rattle.std.proofs.lemmas.Bool.{eqb-true, and_parts}
+use Rattle.std.proofs.lemmas.Bool.{eqb-true, and_parts, not-true}
 use Rattle.std.proofs.lemmas.Grind.{flat_map-append}
 use Rattle.std.proofs.lemmas.List.{append-nil}
 use Rattle.std.proofs.lemmas.List.Elements.{recursion_from_All}
@@ -12,7 +12,6 @@ use Rattle.exec_msg.specs.Timer.{is_due}
 use Rattle.exec_msg.specs.declared.kind.Kind.{Kind}
 use Rattle.exec_msg.specs.declared.kind.Kind.TheVariants as kind
 use Rattle.exec_msg.specs.declared.line.Line.TheVariants as line
-use Rattle.exec_world.proofs.Identifiers.{not_true}
 use Rattle.exec_world.proofs.OfKinds.{IsOfItsKind, same_kind}
 use Rattle.exec_world.proofs.Pairs.{Pairs, all_both, all_filter, all_flat, all_map, all_passed}
 use Rattle.exec_world.proofs.Wiring.{QueuesApart}
@@ -144,7 +143,7 @@ module _ (subscription : EntityNo) where
     late_hands queue p = none_hands queue p.1 (no (is_queue subscription kind.Message queue) refl)
       where
         no : (b : Bool) → is_queue subscription kind.Message queue ≡ b → is_queue subscription kind.Message queue ≡ false
-        no true e = absurd (true≢false (sym (ap (λ (of : Kind). is_before_polls of) (early queue e)) ∙ not_true (is_before_polls queue.kind) p.0))
+        no true e = absurd (true≢false (sym (ap (λ (of : Kind). is_before_polls of) (early queue e)) ∙ not-true (is_before_polls queue.kind) p.0))
         no false e = e
 
     -- all of it together hands on the first message

@@ -1,8 +1,8 @@
 -- The goals of a server where some server is changed: no two of them have one identifier.
 use Rattle.std.proofs.Common.{◌≡◌, ◌⊎◌, inl, inr, ℕ, Bool, true, false, ◌||◌, not, ◌==◌, List, [], ◌∷◌, ◌++◌, map, Option, None, refl, sym, ap, subst, ◌∙◌, true≢false}
-use Rattle.std.specs.List.{AllByRecursion, IsDistinct, filter, find, list_any}
-use Rattle.std.specs.Option.{option_map, option_map_or}
-use Rattle.std.proofs.lemmas.Bool.{eqb-true, eq-eqb}
+use Rattle.std.specs.List.{AllByRecursion, IsDistinct, filter, list_any}
+use Rattle.std.specs.Option.{option_map}
+use Rattle.std.proofs.lemmas.Bool.{eqb-true, eq-eqb, or_parts, not-true}
 use Rattle.exec_goal.specs.Table.{GoalRecord, holds_id, has_id, is_full, is_expired, new_goal, unexpired}
 use Rattle.exec_graph.specs.Entity.{EntityNo}
 use Rattle.exec_graph.specs.Graph.{GraphData, entities_where, is_server}
@@ -14,7 +14,7 @@ use Rattle.exec_world.proofs.Running.{KeptByRounds, rounds_keep}
 use Rattle.exec_world.specs.Close.{GoalRequest, server_accepting, accept}
 use Rattle.exec_world.specs.Item.{GoalId}
 use Rattle.exec_world.specs.Transcript.{server_expired, first_world, new_server, rounds}
-use Rattle.exec_world.specs.World.{WorldState, GoalWork, Moment, ServerEntry, is_server_at, is_for, goals_of, has_room_for}
+use Rattle.exec_world.specs.World.{WorldState, GoalWork, Moment, ServerEntry, is_server_at, is_for, goals_in, goals_of, has_room_for}
 
 -- ---- lists of goals
 
@@ -26,16 +26,12 @@ all_more : (P : GoalId → Type 0) (goals : List GoalRecord) (new : GoalRecord) 
 all_more P [] new p q = (q, tt)
 all_more P (goal ∷ goals) new p q = (p.0, all_more P goals new p.1 q)
 
-pub or_false : (a b : Bool) → a || b ≡ false → (a ≡ false) × (b ≡ false)
-or_false true b e = absurd (true≢false e)
-or_false false b e = (refl, e)
-
 -- one more goal, whose identifier isn't held
 pub distinct_more : (goals : List GoalRecord) (new : GoalRecord) → Distinct (ids goals) → holds_id new.id goals ≡ false → Distinct (ids (goals ++ new ∷ []))
 unfolding IsDistinct
 distinct_more [] new p e = (tt, tt)
 distinct_more (goal ∷ goals) new p e =
-    let parts = or_false (has_id new.id goal) (holds_id new.id goals) e in
+    let parts = or_parts (has_id new.id goal) (holds_id new.id goals) e in
     (all_more (λ other. goal.id == other ≡ false) goals new p.0 parts.0, distinct_more goals new p.1 parts.1)
 
 pub filter_all : (P : GoalId → Type 0) (test : GoalRecord → Bool) (goals : List GoalRecord) → AllByRecursion P (ids goals) → AllByRecursion P (ids (filter test goals))
@@ -55,18 +51,11 @@ filter_distinct test (goal ∷ goals) p = by (test goal) refl (filter_distinct t
     by true e rest = rw e (filter_all (λ other. goal.id == other ≡ false) test goals p.0, rest)
     by false e rest = rw e rest
 
-pub not_true : (b : Bool) → not b ≡ true → b ≡ false
-not_true true e = absurd (true≢false (sym e))
-not_true false e = refl
-
 -- a server with room holds no goal of the identifier
 pub room_without : (id : GoalId) (goals : List GoalRecord) → has_room_for id goals ≡ true → holds_id id goals ≡ false
-room_without id goals room = (or_false (holds_id id goals) (is_full goals) (not_true (holds_id id goals || is_full goals) room)).0
+room_without id goals room = (or_parts (holds_id id goals) (is_full goals) (not-true (holds_id id goals || is_full goals) room)).0
 
 -- ---- the goals of a server, where some server is changed
-
-abbrev pub goals_in : EntityNo → List ServerEntry → List GoalRecord
-goals_in server servers = option_map_or (λ entry. entry.goals) (find (is_server_at server) servers) []
 
 -- they are as they were, or those of the server that is changed
 abbrev pub OldOrNew : EntityNo → EntityNo → (ServerEntry → ServerEntry) → (List GoalRecord → List GoalRecord) → List ServerEntry → Type 0

@@ -18,6 +18,7 @@ pub mod Displaced
 pub mod Ended
 pub mod Endings
 pub mod Expiring
+pub mod FewReady
 pub mod Filled
 pub mod Flying
 pub mod FoundByNumber
@@ -38,6 +39,7 @@ pub mod Listing
 mod ListedFronts
 pub mod Lives
 pub mod Noted
+pub mod Numbers
 pub mod OfKinds
 pub mod Pairs
 pub mod Pending
@@ -51,6 +53,7 @@ pub mod Results
 pub mod Running
 pub mod Serving
 pub mod Shapes
+pub mod Short
 pub mod Snapshots
 mod ScriptsHome
 pub mod Sound

@@ -20,7 +20,7 @@ use Rattle.exec_msg.specs.declared.goal.GoalStatus.{GoalStatus}
 use Rattle.exec_msg.specs.declared.goal.ReturnCode.{ReturnCode}
 use Rattle.exec_msg.specs.declared.line.Line.{Line}
 use Rattle.exec_msg.specs.declared.line.Line.TheVariants as line
-use Rattle.exec_world.proofs.Identifiers.{Distinct, goals_in, Makes, changing, tasking, accepting, goals_apart, goals_here, expired_goals, first_goals, room_without}
+use Rattle.exec_world.proofs.Identifiers.{Distinct, Makes, changing, tasking, accepting, goals_apart, goals_here, expired_goals, first_goals, room_without}
 use Rattle.exec_world.proofs.Keeping.{ids_changed, Moves, Tells, publish_kept, canceled, state_said, feed_keeps, anywhere}
 use Rattle.exec_world.proofs.ReadyLists.{IsListed, list_listed}
 use Rattle.exec_world.proofs.Running.{ended, ends_told, asks_told, run_keeps, snapshot_keeps, round_keeps}
@@ -36,7 +36,7 @@ use Rattle.exec_world.specs.LawWords.{AreLawful, shape_of, statuses_of}
 use Rattle.exec_world.specs.Ready.{kind_of, ready_list, run_line, take_inputs}
 use Rattle.exec_world.specs.Run.{run}
 use Rattle.exec_world.specs.Transcript.{takes_from_queue, first_world, server_expired, expire_lines, expire, at_snapshot, run_all, round, rounds, pending_by, closing_lines, lines_of}
-use Rattle.exec_world.specs.World.{WorldState, drop_line, lost_by, queued, push, Moment, ServerEntry, ClientEntry, is_server_at, add_line, add_lines, goals_of, change_goals, has_room_for, with_call}
+use Rattle.exec_world.specs.World.{WorldState, drop_line, lost_by, queued, push, Moment, ServerEntry, ClientEntry, is_server_at, add_line, add_lines, goals_of, change_goals, has_room_for, with_call, goals_in}
 use Rattle.exec_world.specs.declared.item.Item.{Item}
 use Rattle.exec_world.specs.declared.item.Item.TheVariants as item
 use Rattle.exec_world.specs.declared.ready.Cause.{Cause}

@@ -14,12 +14,12 @@ use Rattle.exec_msg.specs.declared.goal.Event.TheVariants as event
 use Rattle.exec_world.proofs.Asked.{executed_waits, canceled_waits}
 use Rattle.exec_world.proofs.Called.{among, among_append}
 use Rattle.exec_world.proofs.Channels.{weigh}
-use Rattle.exec_world.proofs.Identifiers.{goals_in, Makes}
+use Rattle.exec_world.proofs.Identifiers.{Makes}
 use Rattle.exec_world.proofs.Results.{ends_active}
 use Rattle.exec_world.specs.Exchanges.{waiting_for}
 use Rattle.exec_world.specs.Item.{GoalId}
 use Rattle.exec_world.specs.Transcript.{server_expired}
-use Rattle.exec_world.specs.World.{Moment, ServerEntry, is_server_at}
+use Rattle.exec_world.specs.World.{Moment, ServerEntry, is_server_at, goals_in}
 
 module _ (client : EntityNo) (id : GoalId) where
   -- how often the client waits for a goal, where that is of the identifier

@@ -1,7 +1,8 @@
 -- What holds of each element of a list, and of each two.
-use Rattle.std.proofs.Common.{◌≡◌, Bool, true, false, ◌&&◌, List, [], ◌∷◌, ◌++◌, map, refl}
-use Rattle.std.specs.List.{AllByRecursion, filter, flat_map, list_all}
+use Rattle.std.proofs.Common.{◌≡◌, Bool, true, false, ◌&&◌, ◌||◌, List, [], ◌∷◌, ◌++◌, map, refl, ap, ◌∙◌}
+use Rattle.std.specs.List.{AllByRecursion, filter, flat_map, list_all, list_any}
 use Rattle.std.proofs.lemmas.Bool.{and_parts}
+use Rattle.std.proofs.lemmas.List.Folds.{list_any-append}
 
 pub all_append : {A : Type 0} (P : A → Type 0) (some more : List A) → AllByRecursion P some → AllByRecursion P more → AllByRecursion P (some ++ more)
 all_append P [] more p q = q
@@ -124,3 +125,7 @@ all_unmapped P f (one ∷ all) p = (p.0, all_unmapped P f all p.1)
 pub pairs_unmapped : {A B : Type 0} (R : B → B → Type 0) (f : A → B) (all : List A) → Pairs R (map f all) → Pairs (λ one other. R (f one) (f other)) all
 pairs_unmapped R f [] p = tt
 pairs_unmapped R f (one ∷ all) p = (all_unmapped (R (f one)) f all p.0, pairs_unmapped R f all p.1)
+
+-- what passes a test is among more
+pub any_before : {A : Type 0} (test : A → Bool) (some more : List A) → list_any test some ≡ true → list_any test (some ++ more) ≡ true
+any_before test some more e = list_any-append test some more ∙ ap (λ (b : Bool). b || list_any test more) e

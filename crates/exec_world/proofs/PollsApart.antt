@@ -12,15 +12,15 @@ use Rattle.exec_graph.specs.Graph.{GraphData, is_server}
 use Rattle.exec_msg.specs.Timer.{is_due}
 use Rattle.exec_msg.specs.declared.kind.Kind.TheVariants as kind
 use Rattle.exec_world.proofs.AtWork.{AtWork}
-use Rattle.exec_world.proofs.Identifiers.{Distinct, HasDistinct, goals_in}
+use Rattle.exec_world.proofs.Identifiers.{Distinct, HasDistinct}
 use Rattle.exec_world.proofs.Keeping.{ids}
 use Rattle.exec_world.proofs.Pairs.{Pairs, all_append, all_both, all_filter, all_flat, all_flat_where, all_mapped, all_passed, all_weaker, pairs_all, pairs_append, pairs_filter, pairs_map, pairs_unmapped}
-use Rattle.exec_world.proofs.ReadyLists.{IsOf, poll_of, all_placed}
+use Rattle.exec_world.proofs.ReadyLists.{IsOf, poll_of, all_placed, all_ready}
 use Rattle.exec_world.proofs.Wiring.{NumbersApart, IsWired, numbers_apart}
 use Rattle.exec_world.specs.Item.{GoalId}
 use Rattle.exec_world.specs.LawWords.{may_be_polled}
 use Rattle.exec_world.specs.Ready.{due_ready, is_goal_awake, item_ready, placed_from, poll_ready, queue_ready, queues_before_polls, queues_behind_polls, ready_list}
-use Rattle.exec_world.specs.World.{WorldState, Moment, Queue, TimerEntry, ServerEntry, goals_of}
+use Rattle.exec_world.specs.World.{WorldState, Moment, Queue, TimerEntry, ServerEntry, goals_of, goals_in}
 use Rattle.exec_world.specs.declared.item.Item.{Item}
 use Rattle.exec_world.specs.declared.ready.Cause.TheVariants as cause
 use Rattle.exec_world.specs.declared.ready.Ready.{Ready}
@@ -210,15 +210,7 @@ module _ (graph : GraphData) (moment : Moment) (world : WorldState) (wires : IsW
 
   pub list_at_work : AllByRecursion PollsAtWork (ready_list moment world)
   list_at_work =
-      let timers : List Ready = flat_map (due_ready moment) world.timers in
-      let before : List Ready = flat_map (queue_ready moment world) (queues_before_polls world) in
-      let polls : List Ready = flat_map (poll_ready moment) world.servers in
-      let behind : List Ready = flat_map (queue_ready moment world) (queues_behind_polls world) in
-      all_placed PollsAtWork (λ place one q. q) 1 (timers ++ before ++ polls ++ behind)
-      (all_append PollsAtWork (timers ++ before ++ polls) behind
-      (all_append PollsAtWork (timers ++ before) polls
-      (all_append PollsAtWork timers before
-      (idle_at_work timers (all_flat NoPoll (due_ready moment) (none_due moment) world.timers))
-      (idle_at_work before (all_flat NoPoll (queue_ready moment world) (none_taken moment world) (queues_before_polls world))))
-      (all_flat_where IsOwn PollsAtWork (poll_ready moment) entry_at_work world.servers all_own))
-      (idle_at_work behind (all_flat NoPoll (queue_ready moment world) (none_taken moment world) (queues_behind_polls world))))
+      all_ready PollsAtWork (λ place one q. q) moment world
+      (idle_at_work (flat_map (due_ready moment) world.timers) (all_flat NoPoll (due_ready moment) (none_due moment) world.timers))
+      (λ test. idle_at_work (flat_map (queue_ready moment world) (filter test world.queues)) (all_flat NoPoll (queue_ready moment world) (none_taken moment world) (filter test world.queues)))
+      (all_flat_where IsOwn PollsAtWork (poll_ready moment) entry_at_work world.servers all_own)

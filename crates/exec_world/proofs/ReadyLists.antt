@@ -1,7 +1,7 @@
 -- What a ready list has: at most one callback of each kind but poll for each entity.
 use Rattle.std.proofs.Common.{◌≡◌, ◌≢◌, ℕ, suc, ◌≤◌, Bool, true, false, ◌==◌, List, [], ◌∷◌, ◌++◌, length, refl, sym, ap, ◌∙◌, true≢false, not, arith}
 use Rattle.std.specs.List.{AllByRecursion, filter, flat_map}
-use Rattle.std.proofs.lemmas.Bool.{eqb-true, eq-eqb, and_parts}
+use Rattle.std.proofs.lemmas.Bool.{eqb-true, eq-eqb, and_parts, not-true}
 use Rattle.std.proofs.lemmas.List.Elements.{recursion_from_All}
 use Rattle.exec_graph.specs.Entity.{EntityNo}
 use Rattle.exec_graph.specs.Graph.{GraphData, wait_set, entities_where, is_server}
@@ -10,7 +10,6 @@ use Rattle.exec_msg.specs.Kind.{ready_number}
 use Rattle.exec_msg.specs.Timer.{is_due}
 use Rattle.exec_msg.specs.declared.kind.Kind.{Kind}
 use Rattle.exec_msg.specs.declared.kind.Kind.TheVariants as kind
-use Rattle.exec_world.proofs.Identifiers.{not_true}
 use Rattle.exec_world.proofs.OfKinds.{IsOfItsKind, AreOfTheirKinds, kinds_kept, kinds_first, same_kind}
 use Rattle.exec_world.proofs.Pairs.{all_append, all_both, all_filter, all_flat, all_flat_where, all_map, all_passed, all_weaker, Pairs, pairs_all, pairs_append, pairs_filter, pairs_flat, pairs_with}
 use Rattle.exec_world.proofs.Running.{snapshot_keeps, rounds_keep}
@@ -18,7 +17,7 @@ use Rattle.exec_world.proofs.Shapes.{shape_kept}
 use Rattle.exec_world.proofs.Wiring.{NumbersApart, QueuesApart, TakesGoals, TakesListed, IsWired, is_listed, wired}
 use Rattle.exec_world.specs.Item.{taker_of}
 use Rattle.exec_world.specs.LawWords.{is_callback_of, shape_of}
-use Rattle.exec_world.specs.Ready.{kind_of, due_ready, item_ready, queue_ready, poll_ready, is_before_polls, placed_from, ready_list}
+use Rattle.exec_world.specs.Ready.{kind_of, due_ready, item_ready, queue_ready, poll_ready, is_before_polls, placed_from, queues_before_polls, queues_behind_polls, ready_list}
 use Rattle.exec_world.specs.Transcript.{takes_from_queue, first_world, at_snapshot, rounds}
 use Rattle.exec_world.specs.World.{WorldState, Moment, TimerEntry, Queue, ServerEntry, goals_of}
 use Rattle.exec_world.specs.declared.item.Item.{Item}
@@ -153,6 +152,20 @@ pub all_placed : (P : Ready → Type 0) → ((position : ℕ) (one : Ready) → 
 all_placed P moved position [] p = tt
 all_placed P moved position (one ∷ list) p = (moved position one p.0, all_placed P moved (suc position) list p.1)
 
+-- what holds of the callbacks of timers, of those that take from queues, and of polls, holds of all that are ready
+pub all_ready : (P : Ready → Type 0) → ((position : ℕ) (one : Ready) → P one → P (record one { position = position })) → (moment : Moment) (world : WorldState) →
+    AllByRecursion P (flat_map (due_ready moment) world.timers) → ((test : Queue → Bool) → AllByRecursion P (flat_map (queue_ready moment world) (filter test world.queues))) → AllByRecursion P (flat_map (poll_ready moment) world.servers) →
+    AllByRecursion P (ready_list moment world)
+all_ready P moved moment world due taken polls_too =
+    let timers : List Ready = flat_map (due_ready moment) world.timers in
+    let before : List Ready = flat_map (queue_ready moment world) (queues_before_polls world) in
+    let polls : List Ready = flat_map (poll_ready moment) world.servers in
+    let behind : List Ready = flat_map (queue_ready moment world) (queues_behind_polls world) in
+    all_placed P moved 1 (timers ++ before ++ polls ++ behind)
+    (all_append P (timers ++ before ++ polls) behind
+    (all_append P (timers ++ before) polls (all_append P timers before due (taken (λ queue. is_before_polls queue.kind))) polls_too)
+    (taken (λ queue. not (is_before_polls queue.kind))))
+
 pairs_placed : (of : Kind) (position : ℕ) (list : List Ready) → Pairs (Apart of) list → Pairs (Apart of) (placed_from position list)
 pairs_placed of position [] p = tt
 pairs_placed of position (one ∷ list) p = (all_placed (Apart of one) (λ place other q. q) (suc position) list p.0, pairs_placed of (suc position) list p.1)
@@ -168,7 +181,7 @@ list_apart of other graph moment world wires p =
     let are_polls : AllByRecursion (λ one. kind_of one.cause ≡ kind.Poll) polls = all_flat (λ one. kind_of one.cause ≡ kind.Poll) (poll_ready moment) (λ entry. all_weaker (IsOf entry.handler.entity kind.Poll) _ (λ one is. is.0) _ (poll_of moment entry)) world.servers in
     let in_polls : AllByRecursion (InPart 2) polls = all_weaker (λ one. kind_of one.cause ≡ kind.Poll) (InPart 2) (λ one is. ap (λ (k : Kind). part_of k) is) polls are_polls in
     let in_before : AllByRecursion (InPart 1) before = queues_in moment world 1 (λ queue. is_before_polls queue.kind) (λ queue taken passed same. part_before taken (ap (λ (k : Kind). is_before_polls k) same ∙ passed)) p in
-    let in_behind : AllByRecursion (InPart 3) behind = queues_in moment world 3 (λ queue. not (is_before_polls queue.kind)) (λ queue taken passed same. part_behind taken (ap (λ (k : Kind). is_before_polls k) same ∙ not_true (is_before_polls queue.kind) passed)) p in
+    let in_behind : AllByRecursion (InPart 3) behind = queues_in moment world 3 (λ queue. not (is_before_polls queue.kind)) (λ queue taken passed same. part_behind taken (ap (λ (k : Kind). is_before_polls k) same ∙ not-true (is_before_polls queue.kind) passed)) p in
     pairs_placed of 1 (timers ++ before ++ polls ++ behind)
     (pairs_append (Apart of) (timers ++ before ++ polls) behind
     (pairs_append (Apart of) (timers ++ before) polls
@@ -192,18 +205,10 @@ queues_listed graph moment world wires p test =
 
 pub list_listed : (graph : GraphData) (moment : Moment) (world : WorldState) → IsWired graph world → AreOfTheirKinds world → AllByRecursion (IsListed graph) (ready_list moment world)
 list_listed graph moment world wires p =
-    let timers : List Ready = flat_map (due_ready moment) world.timers in
-    let before : List Ready = flat_map (queue_ready moment world) (filter (λ queue. is_before_polls queue.kind) world.queues) in
-    let polls : List Ready = flat_map (poll_ready moment) world.servers in
-    let behind : List Ready = flat_map (queue_ready moment world) (filter (λ queue. not (is_before_polls queue.kind)) world.queues) in
-    all_placed (IsListed graph) (λ place one q. q) 1 (timers ++ before ++ polls ++ behind)
-    (all_append (IsListed graph) (timers ++ before ++ polls) behind
-    (all_append (IsListed graph) (timers ++ before) polls
-    (all_append (IsListed graph) timers before
+    all_ready (IsListed graph) (λ place one q. q) moment world
     (all_flat (IsListed graph) (due_ready moment) (λ entry. all_weaker (IsOf entry.handler.entity kind.Timer) (IsListed graph) (λ one is goal. absurd (not_goal_timer (sym is.0 ∙ goal))) _ (due_of moment entry)) world.timers)
-    (queues_listed graph moment world wires p (λ queue. is_before_polls queue.kind)))
-    (all_flat (IsListed graph) (poll_ready moment) (λ entry. all_weaker (IsOf entry.handler.entity kind.Poll) (IsListed graph) (λ one is goal. absurd (not_goal_poll (sym is.0 ∙ goal))) _ (poll_of moment entry)) world.servers))
-    (queues_listed graph moment world wires p (λ queue. not (is_before_polls queue.kind))))
+    (queues_listed graph moment world wires p)
+    (all_flat (IsListed graph) (poll_ready moment) (λ entry. all_weaker (IsOf entry.handler.entity kind.Poll) (IsListed graph) (λ one is goal. absurd (not_goal_poll (sym is.0 ∙ goal))) _ (poll_of moment entry)) world.servers)
   where
     not_goal_timer : kind.Timer ≡ kind.Goal → ⊥
     not_goal_timer e = absurd cc

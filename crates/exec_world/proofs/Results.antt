@@ -18,7 +18,7 @@ use Rattle.exec_msg.specs.declared.goal.GoalStatus.TheVariants as status
 use Rattle.exec_msg.specs.declared.line.Line.TheVariants as line
 use Rattle.exec_world.proofs.Asked.{many, many_more, one_line, IsOther, Balanced, Owes, lines_owe, push_owes, others_balanced, waiting_apart, accepted_waits, kept_waits, served, same_wait, accepted_other, owes_moves, concerns, told_owes, all_told, noted, comes_later}
 use Rattle.exec_world.proofs.Channels.{weigh}
-use Rattle.exec_world.proofs.Identifiers.{HasDistinct, goals_in, changing, accepting, distinct_kept, first_distinct, first_goals, expired_goals, goals_here, goals_apart}
+use Rattle.exec_world.proofs.Identifiers.{HasDistinct, changing, accepting, distinct_kept, first_distinct, first_goals, expired_goals, goals_here, goals_apart}
 use Rattle.exec_world.proofs.Keeping.{ids_changed, publish_kept, tells_kept, feed_keeps, fold_keeps, anywhere}
 use Rattle.exec_world.proofs.Pairs.{all_append, all_flat, all_map}
 use Rattle.exec_world.proofs.Running.{Answers, found_test, run_keeps, takes_ask}
@@ -29,7 +29,7 @@ use Rattle.exec_world.specs.Item.{GoalId}
 use Rattle.exec_world.specs.Ready.{ready_list, run_line, line_of, input_of, take_inputs}
 use Rattle.exec_world.specs.Run.{run}
 use Rattle.exec_world.specs.Transcript.{first_world, expire_lines, expire, at_snapshot, round, rounds, pending_by, closing_lines, lines_of, last_world}
-use Rattle.exec_world.specs.World.{WorldState, Moment, is_server_at, add_line, goals_of, has_room_for}
+use Rattle.exec_world.specs.World.{WorldState, Moment, is_server_at, add_line, goals_of, has_room_for, goals_in}
 use Rattle.exec_world.specs.declared.item.Item.{Item}
 use Rattle.exec_world.specs.declared.item.Item.TheVariants as item
 use Rattle.exec_world.specs.declared.ready.Cause.{Cause}

@@ -25,9 +25,9 @@ use Rattle.exec_world.specs.Callback.{Outcome}
 use Rattle.exec_world.specs.Close.{GoalRequest, reply_in, decision_in, decisions_in, accept, accept_where, decide, with_ended, goal_at, end_in, ask, close_item, close_cause, close_poll, cancel, ask_where, respond}
 use Rattle.exec_world.specs.Give.{give, give_all}
 use Rattle.exec_world.specs.Item.{GoalId, taker_of}
-use Rattle.exec_world.specs.LawWords.{outcome_in, unclosed}
+use Rattle.exec_world.specs.LawWords.{unclosed}
 use Rattle.exec_world.specs.Ready.{run_line, ready_list, take_inputs}
-use Rattle.exec_world.specs.Run.{work_for, with_polled, variables_for, with_variables_for, run, commit}
+use Rattle.exec_world.specs.Run.{work_for, with_polled, variables_for, with_variables_for, run, commit, outcome_in}
 use Rattle.exec_world.specs.Transcript.{expire, at_snapshot, run_all, round, rounds}
 use Rattle.exec_world.specs.World.{WorldState, Moment, GoalWork, Variables, add_line, goals_of, has_room_for, with_variables, action_client_at, ActionClientEntry, push, push_any, is_action_client_at}
 use Rattle.exec_world.specs.declared.item.Item.{Item}

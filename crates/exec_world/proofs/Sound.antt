@@ -17,6 +17,7 @@ use Rattle.exec_msg.specs.declared.line.Line.TheVariants as line
 use Rattle.exec_world.proofs.Identifiers.{HasDistinct, Makes, distinct_kept, first_distinct, ids_left}
 use Rattle.exec_world.proofs.Keeping.{Kept, feed_keeps, ids, moves_kept, publish_kept, push_kept}
 use Rattle.exec_world.proofs.Pairs.{Pairs, across, all_append, all_flat, all_mapped, all_weaker, all_passed, pairs_append, pairs_all, pairs_filter, pairs_map, pairs_unmapped}
+use Rattle.exec_world.proofs.ReadyLists.{all_ready}
 use Rattle.exec_world.proofs.Running.{KeptByRounds, run_all_keeps}
 use Rattle.exec_world.proofs.Shapes.{part_changed, shape_kept}
 use Rattle.exec_world.proofs.Wiring.{NumbersApart, numbers_apart, wired}
@@ -231,10 +232,6 @@ module _ (moment : Moment) (world : WorldState) where
 
 -- ---- the ready list
 
-placed_home : (world : WorldState) (position : ℕ) (list : List Ready) → AllByRecursion (λ one. IsHomeFor one.entity one.cause world) list → AllByRecursion (λ one. IsHomeFor one.entity one.cause world) (placed_from position list)
-placed_home world position [] p = tt
-placed_home world position (one ∷ list) p = (p.0, placed_home world (suc position) list p.1)
-
 placed_same : (server : EntityNo) (why : Cause) (position : ℕ) (other : Ready) → polls_same_of server why (record other { position = position }) ≡ polls_same_of server why other
 placed_same server cause.Due position other = refl
 placed_same server (cause.Took taken) position other = refl
@@ -288,8 +285,10 @@ snapshot_home graph moment world p =
     let pairs : (list : List Ready) → AllByRecursion PollsNone list → Pairs Apart list = λ list p. pairs_all PollsNone Apart (λ one other q r. none_with one other q) list p in
     record {
       home = all_weaker (HasHome moment world) (HasHome moment (take_inputs moment world)) (λ one home. home_taken moment world one.entity one.cause home) (ready_list moment world)
-          (placed_home world 1 (timers ++ before ++ polls ++ behind)
-          (all_append (HasHome moment world) (timers ++ before ++ polls) behind (all_append (HasHome moment world) (timers ++ before) polls (homes (timers ++ before) none) (all_home moment world world.servers found)) (homes behind none_behind)));
+          (all_ready (HasHome moment world) (λ place one q. q) moment world
+          (homes timers (all_flat PollsNone (due_ready moment) (due_none moment) world.timers))
+          (λ test. homes (flat_map (queue_ready moment world) (filter test world.queues)) (all_flat PollsNone (queue_ready moment world) (taken_none moment world) (filter test world.queues)))
+          (all_home moment world world.servers found));
       apart = distinct_of (ready_list moment world) (placed_apart 1 (timers ++ before ++ polls ++ behind)
           (pairs_append Apart (timers ++ before ++ polls) behind
           (pairs_append Apart (timers ++ before) polls (pairs (timers ++ before) none) (all_polls_apart moment world world.servers apart (goals_own moment world world.servers p.identifiers found)) (none_against (timers ++ before) polls none))

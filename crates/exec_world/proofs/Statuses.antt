@@ -2,7 +2,7 @@
 use Rattle.std.proofs.Common.{◌≡◌, inl, inr, Bool, true, false, ◌==◌, List, [], ◌∷◌, ◌++◌, Option, None, Some, is_some, refl, sym, ap, subst, ◌∙◌, true≢false}
 use Rattle.std.specs.List.{AllByRecursion, IsDistinct, find}
 use Rattle.std.specs.Option.{unwrap_or}
-use Rattle.std.proofs.lemmas.Bool.{eqb-true, eq-eqb}
+use Rattle.std.proofs.lemmas.Bool.{eqb-true, eq-eqb, or_parts}
 use Rattle.exec_goal.specs.Calls.{state_in, moved_to, where_terminal}
 use Rattle.exec_goal.specs.State.{Transition, after, status_of, is_terminal}
 use Rattle.exec_goal.specs.Table.{GoalRecord, has_id, holds_id, moved_by}
@@ -12,7 +12,7 @@ use Rattle.exec_msg.specs.Lists.{change_first}
 use Rattle.exec_msg.specs.declared.goal.Event.{Event}
 use Rattle.exec_msg.specs.declared.goal.GoalStatus.{GoalStatus}
 use Rattle.exec_msg.specs.declared.goal.GoalStatus.TheVariants as status
-use Rattle.exec_world.proofs.Identifiers.{Distinct, or_false}
+use Rattle.exec_world.proofs.Identifiers.{Distinct}
 use Rattle.exec_world.proofs.Keeping.{ids}
 use Rattle.exec_world.specs.Item.{GoalId}
 use Rattle.exec_world.specs.LawWords.{IsFinal, MayCome, AreLawful}
@@ -138,7 +138,7 @@ found_state test (one ∷ goals) goal p found = by (test one) refl (found_state 
 pub none_in : (id : GoalId) (goals : List GoalRecord) → holds_id id goals ≡ false → state_in id goals ≡ None
 none_in id [] e = refl
 none_in id (goal ∷ goals) e =
-    let parts = or_false (has_id id goal) (holds_id id goals) e in
+    let parts = or_parts (has_id id goal) (holds_id id goals) e in
     rw parts.0 (none_in id goals parts.1)
 
 -- one more goal is found behind the others

@@ -12,7 +12,7 @@ use Rattle.exec_graph.specs.declared.entity.EntityOf.TheVariants.{Timer, Subscri
 use Rattle.exec_msg.specs.Kind.{ready_number}
 use Rattle.exec_msg.specs.declared.kind.Kind.{Kind}
 use Rattle.exec_msg.specs.declared.kind.Kind.TheVariants as kind
-use Rattle.exec_world.proofs.Pairs.{Pairs}
+use Rattle.exec_world.proofs.Pairs.{Pairs, any_before}
 use Rattle.exec_world.proofs.Wiring.{NumbersApart, above, is_listed, numbers_apart, or_more, waits_of}
 use Rattle.exec_world.specs.Transcript.{first_world, new_queue, new_topic, subscribes_to, takes_from_queue}
 use Rattle.exec_world.specs.World.{TopicEntry, is_queue, subscribers_of}
@@ -120,9 +120,6 @@ new_subscribers graph topic (number ∷ numbers) = by (number == topic) refl (ne
         subscribers_in topic (map (new_topic graph) (number ∷ numbers)) ≡ (if is_listed (number ∷ numbers) topic then entities_where (of_entity false (subscribes_to topic)) graph else [])
     by true e rest = rw e (ap (λ (n : EntityNo). entities_where (of_entity false (subscribes_to n)) graph) (eqb-true number topic e))
     by false e rest = rw e rest
-
-any_before : {A : Type 0} (test : A → Bool) (some more : List A) → list_any test some ≡ true → list_any test (some ++ more) ≡ true
-any_before test some more e = list_any-append test some more ∙ ap (λ (b : Bool). b || list_any test more) e
 
 any_behind : {A : Type 0} (test : A → Bool) (some more : List A) → list_any test more ≡ true → list_any test (some ++ more) ≡ true
 any_behind test some more e = list_any-append test some more ∙ ap (λ (b : Bool). list_any test some || b) e ∙ or_more (list_any test some)

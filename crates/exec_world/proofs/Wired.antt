@@ -7,9 +7,9 @@ use Rattle.exec_graph.specs.Graph.{EntityData, GraphData, Waitable, cons_if, dec
 use Rattle.exec_graph.specs.declared.entity.Declared.{Declared}
 use Rattle.exec_graph.specs.declared.entity.Declared.TheVariants.{Topic}
 use Rattle.exec_msg.specs.declared.kind.Kind.{Kind}
-use Rattle.exec_world.specs.Transcript.{new_action_clients, new_queue, takes_from_queue}
+use Rattle.exec_world.specs.Transcript.{new_action_clients, new_queue, takes_from_queue, action_client_for}
 use Rattle.exec_world.specs.World.{ActionClientEntry, Queue}
-use Rattle.exec_world.specs.inner.Parts.{action_client_for, new_queue_of, queues_of}
+use Rattle.exec_world.specs.inner.Parts.{new_queue_of, queues_of}
 
 -- what is made of those from a number on that pass a test
 abbrev pub made_from : {A : Type 0} → (EntityNo → A) → (Declared → Bool) → GraphData → ℕ → List A

@@ -4,7 +4,7 @@ use Rattle.std.specs.List.{find, fold}
 use Rattle.exec_goal.specs.Calls.{end_state}
 use Rattle.exec_goal.specs.Cancel.{CancelRequest, Decided, moved, table_after, code_of}
 use Rattle.exec_goal.specs.State.{status_of}
-use Rattle.exec_goal.specs.Table.{GoalRecord, Asked, told, later, unknown, has_id, is_accepting, new_goal, after_end, asked_for, asked_by}
+use Rattle.exec_goal.specs.Table.{GoalRecord, Asked, told, later, unknown, has_id, is_accepting, with_accepted, after_end, asked_for, asked_by}
 use Rattle.exec_goal.specs.declared.state.State.{State}
 use Rattle.exec_graph.specs.Entity.{EntityNo, Script}
 use Rattle.exec_msg.specs.declared.goal.Event.{Event}
@@ -67,7 +67,7 @@ held_goal script request =
 -- a server that holds one more goal, accepted at a moment
 abbrev pub server_accepting : Moment → ℕ → GoalRequest → ServerEntry → ServerEntry
 server_accepting moment decision request entry = record entry {
-  goals = entry.goals ++ new_goal request.id request.value moment decision ∷ [];
+  goals = with_accepted request.id request.value moment decision entry.goals;
   held = entry.held ++ held_goal entry.handler.script request ∷ [];
 }
 

@@ -15,13 +15,11 @@ use Rattle.exec_msg.specs.declared.line.Line.{Line}
 use Rattle.exec_msg.specs.declared.line.Line.TheVariants as line
 use Rattle.exec_msg.specs.Kind.{ready_number}
 use Rattle.exec_script.specs.Zeros.{zeros}
-use Rattle.exec_world.specs.Callback.{Outcome, callback}
-use Rattle.exec_world.specs.Give.{give}
 use Rattle.exec_world.specs.Item.{GoalId}
-use Rattle.exec_world.specs.Ready.{kind_of, ready_list, run_line, take_inputs}
-use Rattle.exec_world.specs.Run.{brought_home, variables_for, work_for}
+use Rattle.exec_world.specs.Ready.{kind_of, ready_list, take_inputs}
+use Rattle.exec_world.specs.Run.{brought_home, outcome_in}
 use Rattle.exec_world.specs.Transcript.{at_snapshot, run_all}
-use Rattle.exec_world.specs.World.{WorldState, Moment, TimerEntry, Queue, ServerEntry, ClientEntry, ActionClientEntry, add_line}
+use Rattle.exec_world.specs.World.{WorldState, Moment, TimerEntry, Queue, ServerEntry, ClientEntry, ActionClientEntry}
 use Rattle.exec_world.specs.declared.ready.Ready.{Ready}
 
 -- a cancel handler's decision: 1 rejects, and 2 accepts
@@ -118,10 +116,6 @@ pub record IsTurn (plan : PlanData) (number : ℕ) (moment : Moment) (world : Wo
   pub behind : List Ready
   pub stands : ready_list moment (at_snapshot plan number moment world) ≡ before ++ one ∷ behind
   pub came : here ≡ run_all before (take_inputs moment (at_snapshot plan number moment world))
-
--- what a callback does in its turn
-abbrev pub outcome_in : Ready → WorldState → Outcome WorldState
-outcome_in one world = callback (give one) one (work_for one.entity one.cause world) (variables_for one world) (add_line (run_line one) world)
 
 -- the world that what closes it finds
 abbrev pub unclosed : Ready → WorldState → WorldState

@@ -10,15 +10,19 @@ use Rattle.exec_world.specs.Callback.{Outcome, callback}
 use Rattle.exec_world.specs.Close.{close_callback}
 use Rattle.exec_world.specs.Give.{give, give_all}
 use Rattle.exec_world.specs.Ready.{run_line}
-use Rattle.exec_world.specs.World.{WorldState, GoalWork, Variables, add_line, variables_of, with_variables, work_at, with_task}
+use Rattle.exec_world.specs.World.{ServerEntry, WorldState, GoalWork, Variables, add_line, variables_of, with_variables, work_in, with_task}
 use Rattle.exec_world.specs.declared.ready.Cause.{Cause}
 use Rattle.exec_world.specs.declared.ready.Cause.TheVariants as cause
 use Rattle.exec_world.specs.declared.ready.Ready.{Ready}
 
--- the work of the goal that a callback polls, if it polls one
+-- the work of the goal that a callback of one of these servers polls, if it polls one
+abbrev pub work_by : EntityNo → Cause → List ServerEntry → Option GoalWork
+work_by server (cause.Woke id value canceling) servers = work_in server id servers
+work_by server _ servers = None
+
+-- the same of the world's servers
 abbrev pub work_for : EntityNo → Cause → WorldState → Option GoalWork
-work_for server (cause.Woke id value canceling) world = work_at server id world
-work_for server _ world = None
+work_for server why world = work_by server why world.servers
 
 -- the world in which the task of the goal that a callback polls stands so, if it polls one
 abbrev pub with_polled : EntityNo → Cause → Option TaskState → WorldState → WorldState
@@ -41,11 +45,13 @@ brought_home one outcome world = with_polled one.entity one.cause outcome.task (
 abbrev pub after_callback : Ready → Outcome WorldState → WorldState
 after_callback one outcome = close_callback one outcome.close (brought_home one outcome outcome.given)
 
--- a ready callback runs: each of its effects is given to the world at its instruction
+-- what a ready callback does in the world, behind its line: each of its effects is given to the world at its instruction
+abbrev pub outcome_in : Ready → WorldState → Outcome WorldState
+outcome_in one world = callback (give one) one (work_for one.entity one.cause world) (variables_for one world) (add_line (run_line one) world)
+
+-- a ready callback runs
 abbrev pub run : Ready → WorldState → WorldState
-run one world =
-    after_callback one
-    (callback (give one) one (work_for one.entity one.cause world) (variables_for one world) (add_line (run_line one) world))
+run one world = after_callback one (outcome_in one world)
 
 -- what a ready callback does apart from the world, with this work and these variables, its effects listed
 abbrev pub apart_with : Ready → Option GoalWork → Variables → Outcome (List Effect)

@@ -7,6 +7,7 @@ use Rattle.exec_graph.specs.Entity.{EntityNo, Resolved}
 use Rattle.exec_graph.specs.Feeding.{fed_in}
 use Rattle.exec_graph.specs.Graph.{GraphData, of_entity, is_topic, is_timer, is_client, is_server, is_action_client, wait_set, declared_at, group_of, is_exclusive, depth_of, script_for, entities_where, names_of, Waitable}
 use Rattle.exec_graph.specs.Plan.{PlanData}
+use Rattle.exec_graph.specs.declared.entity.Declared.{Declared}
 use Rattle.exec_graph.specs.declared.entity.EntityOf.TheVariants.{Timer, Subscription, Client, Server, ActionClient}
 use Rattle.exec_graph.specs.declared.plan.Fed.{Fed}
 use Rattle.exec_graph.specs.declared.plan.Fed.TheVariants.{Message, Goal, Cancel}
@@ -26,13 +27,13 @@ use Rattle.exec_world.specs.declared.ready.Ready.{Ready}
 
 -- ---- the world before the first round
 
--- an entity's callback of a kind
-abbrev pub handler_of : GraphData → Kind → EntityNo → Handler
-handler_of graph kind number = record {
+-- the callback of a kind of an entity, which stands at a number
+abbrev pub handler_for : GraphData → Kind → EntityNo → Declared → Handler
+handler_for graph kind number declared = record {
   entity = number;
-  group = group_of (declared_at graph number);
-  exclusive = is_exclusive graph (group_of (declared_at graph number));
-  script = unwrap_or (script_for kind (declared_at graph number)) [];
+  group = group_of declared;
+  exclusive = is_exclusive graph (group_of declared);
+  script = unwrap_or (script_for kind declared) [];
 }
 
 -- whether an entity is a subscription of a topic
@@ -50,11 +51,14 @@ period_in (Timer entity) = entity.period
 period_in _ = 0
 
 -- a timer, made at moment 0: its first call comes after one period
-abbrev pub new_timer : GraphData → EntityNo → TimerEntry
-new_timer graph number = record {
-  handler = handler_of graph kind.Timer number;
-  timer = record { next = of_entity 0 period_in (declared_at graph number); period = of_entity 0 period_in (declared_at graph number) };
+abbrev pub timer_for : GraphData → EntityNo → Declared → TimerEntry
+timer_for graph number declared = record {
+  handler = handler_for graph kind.Timer number declared;
+  timer = record { next = of_entity 0 period_in declared; period = of_entity 0 period_in declared };
 }
+
+abbrev pub new_timer : GraphData → EntityNo → TimerEntry
+new_timer graph number = timer_for graph number (declared_at graph number)
 
 -- whether callbacks of a kind take their input from a queue: all but those of timers and polls do
 abbrev pub takes_from_queue : Kind → Bool
@@ -62,14 +66,17 @@ takes_from_queue kind.Timer = false
 takes_from_queue kind.Poll = false
 takes_from_queue _ = true
 
--- an empty queue
-abbrev pub new_queue : GraphData → Waitable → Queue
-new_queue graph waitable = record {
-  handler = handler_of graph waitable.kind waitable.entity;
-  kind = waitable.kind;
-  depth = depth_of (declared_at graph waitable.entity);
+-- an empty queue of a kind
+abbrev pub queue_for : GraphData → Kind → EntityNo → Declared → Queue
+queue_for graph kind number declared = record {
+  handler = handler_for graph kind number declared;
+  kind = kind;
+  depth = depth_of declared;
   items = [];
 }
+
+abbrev pub new_queue : GraphData → Waitable → Queue
+new_queue graph waitable = queue_for graph waitable.kind waitable.entity (declared_at graph waitable.entity)
 
 -- for how many ticks a server keeps a result, where it doesn't keep it without end
 abbrev pub timeout_in : Resolved → Option ℕ
@@ -77,9 +84,12 @@ timeout_in (Server entity) = entity.result_timeout
 timeout_in _ = None
 
 -- a server without goals
+abbrev pub server_for : GraphData → EntityNo → Declared → ServerEntry
+server_for graph number declared =
+    record { handler = handler_for graph kind.Poll number declared; timeout = of_entity None timeout_in declared; goals = []; held = [] }
+
 abbrev pub new_server : GraphData → EntityNo → ServerEntry
-new_server graph number =
-    record { handler = handler_of graph kind.Poll number; timeout = of_entity None timeout_in (declared_at graph number); goals = []; held = [] }
+new_server graph number = server_for graph number (declared_at graph number)
 
 -- the service of a client
 abbrev pub service_in : Resolved → EntityNo
@@ -87,8 +97,11 @@ service_in (Client entity) = entity.service
 service_in _ = 0
 
 -- a service client that hasn't called yet
+abbrev pub client_for : EntityNo → Declared → ClientEntry
+client_for number declared = record { entity = number; service = of_entity 0 service_in declared; calls = 0; pending = [] }
+
 abbrev pub new_client : GraphData → EntityNo → ClientEntry
-new_client graph number = record { entity = number; service = of_entity 0 service_in (declared_at graph number); calls = 0; pending = [] }
+new_client graph number = client_for number (declared_at graph number)
 
 -- the server of an action client
 abbrev pub server_in : Resolved → EntityNo
@@ -100,17 +113,20 @@ abbrev pub asks_in : Resolved → Bool
 asks_in (ActionClient entity) = is_some entity.on_result
 asks_in _ = false
 
+-- an action client that hasn't sent a goal yet, at its place among them
+abbrev pub action_client_for : ℕ → EntityNo → Declared → ActionClientEntry
+action_client_for place number declared = record {
+  entity = number;
+  place = place;
+  server = of_entity 0 server_in declared;
+  asks = of_entity false asks_in declared;
+  goals = 0;
+}
+
 -- action clients at these numbers, the first of which has this place
 abbrev pub new_action_clients : GraphData → ℕ → List EntityNo → List ActionClientEntry
 new_action_clients graph place [] = []
-new_action_clients graph place (number ∷ numbers) =
-    record {
-      entity = number;
-      place = place;
-      server = of_entity 0 server_in (declared_at graph number);
-      asks = of_entity false asks_in (declared_at graph number);
-      goals = 0;
-    } ∷ new_action_clients graph (suc place) numbers
+new_action_clients graph place (number ∷ numbers) = action_client_for place number (declared_at graph number) ∷ new_action_clients graph (suc place) numbers
 
 -- the world of a graph before its first round
 abbrev pub first_world : GraphData → WorldState

@@ -142,9 +142,13 @@ queue_after new queue = record queue { items = sent queue.depth new queue.items 
 abbrev pub queued : EntityNo → Item → WorldState → WorldState
 queued entity new world = record world { queues = change_first (is_queue entity (taker_of new)) (queue_after new) world.queues }
 
--- what that queue loses by it
+-- what these queues lose by an item that is sent to an entity
+abbrev pub lost_from : EntityNo → Item → List Queue → List Item
+lost_from entity new queues = option_map_or (λ queue. displaced queue.depth new queue.items) (find (is_queue entity (taker_of new)) queues) []
+
+-- what the world's queues lose by it
 abbrev pub lost_by : EntityNo → Item → WorldState → List Item
-lost_by entity new world = option_map_or (λ queue. displaced queue.depth new queue.items) (find (is_queue entity (taker_of new)) world.queues) []
+lost_by entity new world = lost_from entity new world.queues
 
 -- an item is sent to an entity: what its queue loses by it is dropped with a line
 abbrev pub push : EntityNo → Item → WorldState → WorldState
@@ -167,17 +171,25 @@ subscribers_of topic world = option_map_or (λ entry. entry.subscribers) (find (
 abbrev pub is_server_at : EntityNo → ServerEntry → Bool
 is_server_at server entry = entry.handler.entity == server
 
+-- the records of the goals of the server of a number; one that isn't there has none
+abbrev pub goals_in : EntityNo → List ServerEntry → List GoalRecord
+goals_in server servers = option_map_or (λ entry. entry.goals) (find (is_server_at server) servers) []
+
 -- the records of a server's goals
 abbrev pub goals_of : EntityNo → WorldState → List GoalRecord
-goals_of server world = option_map_or (λ entry. entry.goals) (find (is_server_at server) world.servers) []
+goals_of server world = goals_in server world.servers
 
 -- whether a server with these goals can hold one more of an identifier: it holds none of it, and isn't full
 abbrev pub has_room_for : GoalId → List GoalRecord → Bool
 has_room_for id goals = not (holds_id id goals || is_full goals)
 
+-- what the server of a number keeps beside them
+abbrev pub held_in : EntityNo → List ServerEntry → List HeldGoal
+held_in server servers = option_map_or (λ entry. entry.held) (find (is_server_at server) servers) []
+
 -- what a server keeps beside them
 abbrev pub held_by : EntityNo → WorldState → List HeldGoal
-held_by server world = option_map_or (λ entry. entry.held) (find (is_server_at server) world.servers) []
+held_by server world = held_in server world.servers
 
 -- the world in which a server is changed
 abbrev pub change_server : EntityNo → (ServerEntry → ServerEntry) → WorldState → WorldState
@@ -195,9 +207,13 @@ is_for id held = held.id == id
 abbrev pub held_for : EntityNo → GoalId → WorldState → Option HeldGoal
 held_for server id world = find (is_for id) (held_by server world)
 
--- the work of a server's goal, if it holds the goal and its task isn't out
+-- the work of the goal of an identifier of the server of a number, if it holds the goal and its task isn't out
+abbrev pub work_in : EntityNo → GoalId → List ServerEntry → Option GoalWork
+work_in server id servers = option_and_then (λ held. held.work) (find (is_for id) (held_in server servers))
+
+-- the work of a server's goal
 abbrev pub work_at : EntityNo → GoalId → WorldState → Option GoalWork
-work_at server id world = option_and_then (λ held. held.work) (held_for server id world)
+work_at server id world = work_in server id world.servers
 
 -- the world in which this is put in the place of that work; where it is none, the goal's task is out
 abbrev pub with_work : EntityNo → GoalId → Option GoalWork → WorldState → WorldState

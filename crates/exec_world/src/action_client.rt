@@ -67,7 +67,7 @@ impl ActionClient {
         ensures sent { OnOk result (self.new ≡ record self.old { goals = self.old.goals + 1 }) }
         ensures refused { OnErr result (self.new ≡ self.old) }
     {
-        // Each goal has a line, so no run comes to a number that doesn't fit.
+        // No run of a lawful plan comes to a number that doesn't fit (law `numbers_stay_below_their_limit`).
         self.goals = self.goals.checked_add(1).ok_or(Memory)?;
         Ok(self.goals)
     }

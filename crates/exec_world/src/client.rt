@@ -59,7 +59,7 @@ impl Client {
         ensures called { OnOk result (self.new ≡ client_called self.old) }
         ensures refused { OnErr result (self.new ≡ self.old) }
     {
-        // Each call has a line, so no run comes to a number that doesn't fit.
+        // No run of a lawful plan comes to a number that doesn't fit (law `numbers_stay_below_their_limit`).
         let number = self.calls.checked_add(1).ok_or(Memory)?;
         self.pending.insert(number, PendingCall::new(number))?;
         self.calls = number;

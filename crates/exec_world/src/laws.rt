@@ -1,6 +1,6 @@
 //! Laws of rounds on one thread: each function's contract says one, and its body is empty or calls the laws that it
 //! rests on.
-ghost use Rattle.std.specs.Prelude.{◌≡◌, ◌≢◌, ℕ, ◌+◌, ◌<◌, ◌≤◌, List, ◌∷◌, [], ◌++◌, ◌==◌, length, map, take, drop, false, None, Some, ℤ, Bool, true};
+ghost use Rattle.std.specs.Prelude.{◌≡◌, ◌≢◌, ℕ, ◌+◌, ◌^◌, ◌<◌, ◌≤◌, List, ◌∷◌, [], ◌++◌, ◌==◌, length, map, take, drop, false, None, Some, ℤ, Bool, true};
 ghost use Rattle.std.specs.List.{All, AllByRecursion, IsDistinct, filter, fold, list_any, Contains};
 ghost use Rattle.exec_goal.specs.Calls.{end_state, state_in};
 ghost use Rattle.exec_goal.specs.declared.info.GoalInfo.{GoalInfo};
@@ -12,6 +12,7 @@ ghost use Rattle.exec_msg.specs.declared.goal.GoalStatus.{GoalStatus};
 ghost use Rattle.exec_msg.specs.declared.goal.GoalStatus.TheVariants as status;
 ghost use Rattle.exec_msg.specs.declared.kind.Kind.{Kind};
 ghost use Rattle.exec_msg.specs.declared.kind.Kind.TheVariants as kind;
+ghost use Rattle.exec_msg.specs.declared.limits.TheConstants.{MOMENTS};
 ghost use Rattle.exec_msg.specs.declared.line.Line.TheVariants as line;
 ghost use Rattle.exec_script.specs.declared.effects.Close.TheVariants as close;
 ghost use Rattle.exec_script.specs.declared.effects.Effect.{Effect};
@@ -19,9 +20,9 @@ ghost use Rattle.exec_world.specs.Callback.{Handling, handle};
 ghost use Rattle.exec_world.specs.Calls.{IsHomeFor, after_finish, after_round, world_after};
 ghost use Rattle.exec_world.specs.Exchanges.{AreAnswered, IsDelivered, is_ask_taken, is_asked, is_result_taken, is_result_told, waiting_in};
 ghost use Rattle.exec_world.specs.Item.{taker_of};
-ghost use Rattle.exec_world.specs.LawWords.{is_loss, AreLawful, IsDecision, is_callback_of, shape_of, statuses_of, IsFinal, MayCome, IsTurn, may_be_polled, outcome_in, unclosed};
+ghost use Rattle.exec_world.specs.LawWords.{is_loss, AreLawful, IsDecision, is_callback_of, shape_of, statuses_of, IsFinal, MayCome, IsTurn, may_be_polled, unclosed};
 ghost use Rattle.exec_world.specs.Ready.{ready_list};
-ghost use Rattle.exec_world.specs.Run.{all_apart, all_home, apart, brought_home, commit, commit_all, effects_of, run};
+ghost use Rattle.exec_world.specs.Run.{all_apart, all_home, apart, brought_home, commit, commit_all, effects_of, run, outcome_in};
 ghost use Rattle.exec_world.specs.Transcript.{at_snapshot, first_world, lines_of, round, rounds, run_all, last_world};
 ghost use Rattle.exec_world.specs.World.{WorldState, goals_of, subscribers_of, ClientEntry, client_at};
 ghost use Rattle.exec_world.specs.declared.ready.Cause.TheVariants as cause;
@@ -171,4 +172,13 @@ pub fn messages_are_delivered_in_order()
 /// took the reply, once, or the call is pending at the end, and not both.
 pub fn calls_are_answered_once()
     ensures { (plan : PlanData) (number : ℕ) (client : ClientEntry) → client_at number (last_world plan) ≡ Some client → AreAnswered client (lines_of plan) }
+{}
+
+/// In the rounds of a lawful plan, as many as a plan may have, no service client makes 2^60 calls and no action client sends
+/// 2^60 goals: the numbers of calls and goals, which count them, fit into 64 bits with a sign.
+pub fn numbers_stay_below_their_limit()
+    ensures calls { (plan : PlanData) (number : ℕ) (moments : List ℕ) → IsLawfulPlan plan → length moments ≤ MOMENTS →
+        All (λ client. client.calls < 2 ^ 60) (rounds plan number moments (first_world plan.graph)).clients }
+    ensures goals { (plan : PlanData) (number : ℕ) (moments : List ℕ) → IsLawfulPlan plan → length moments ≤ MOMENTS →
+        All (λ client. client.goals < 2 ^ 60) (rounds plan number moments (first_world plan.graph)).action_clients }
 {}

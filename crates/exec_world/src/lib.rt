@@ -8,6 +8,7 @@ mod callback_script;
 mod client;
 pub mod examples;
 mod first_world;
+mod fronts;
 mod handler;
 mod homes;
 mod item;

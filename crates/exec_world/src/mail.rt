@@ -1,9 +1,9 @@
+use crate::fronts::list_fronts;
 use crate::homes::Home;
 use crate::item::Item;
 use crate::queue::{Queues, bring_scripts_home};
 use crate::ready_list::ReadyList;
 use crate::server::Servers;
-use crate::state::list_fronts;
 use exec_msg::{EntityNo, Line, Lines, Memory, Moment};
 use std::alloc::Global;
 use std::marker::Model;

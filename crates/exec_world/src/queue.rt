@@ -11,12 +11,12 @@ ghost use Rattle.exec_msg.specs.Lists.{change_first};
 ghost use Rattle.exec_msg.specs.declared.limits.TheConstants.{DEPTH};
 ghost use Rattle.exec_world.specs.Item.{taker_of};
 ghost use Rattle.exec_world.specs.Ready.{queue_taken};
-ghost use Rattle.exec_world.specs.World.{Handler, Queue, is_queue, queue_after};
+ghost use Rattle.exec_world.specs.World.{Handler, Queue, is_queue, queue_after, lost_from};
 ghost use Rattle.exec_world.specs.declared.homes.Home.{Home as HomeAt};
 ghost use Rattle.exec_world.specs.inner.Homes.{AreHomes, IsHome, handlers_of};
 ghost use Rattle.exec_msg.specs.Places.{change_at};
 ghost use Rattle.exec_world.specs.inner.Places.{change_each, places_where};
-ghost use Rattle.exec_world.specs.inner.Queues.{slot_of, CoversFilled, has_item, is_filled_at, is_in_part, is_in_part_at, lost_from};
+ghost use Rattle.exec_world.specs.inner.Queues.{slot_of, CoversFilled, has_item, is_filled_at, is_in_part, is_in_part_at};
 
 mod entry;
 
@@ -24,7 +24,7 @@ use crate::handler::Handler;
 use crate::homes::Home;
 use crate::item::Item;
 use crate::ready_list::ReadyList;
-use entry::Cell;
+use entry::Entry;
 use exec_graph::Script;
 use exec_msg::{EntityNo, Kind, LazyQueue, Memory, PlaceTable};
 use std::alloc::Global;
@@ -34,7 +34,7 @@ use std::marker::Model;
 #[derive(Drop)]
 pub(crate) struct Queues {
     alloc: Global,
-    cells: Vec<Cell>,
+    entries: Vec<Entry>,
     // By entity and kind. A round finds a queue by it, and walks over none.
     places: PlaceTable,
     // The places of the queues that have an item, and of some that had one.
@@ -51,9 +51,9 @@ impl Model for Queues {
 
     ghost Value = { List Queue };
 
-    ghost view = { λ queues. queues.cells.items };
+    ghost view = { λ queues. queues.entries.items };
 
-    ghost invariant = { λ queues. FindsQueues queues.places queues.cells.items × CoversFilled queues.filled.items queues.cells.items × (queues.settled ≡ true → queues.filled.items ≡ places_where has_item queues.cells.items) };
+    ghost invariant = { λ queues. FindsQueues queues.places queues.entries.items × CoversFilled queues.filled.items queues.entries.items × (queues.settled ≡ true → queues.filled.items ≡ places_where has_item queues.entries.items) };
 }
 
 impl Queues {
@@ -63,7 +63,7 @@ impl Queues {
     {
         Queues {
             alloc,
-            cells: Vec::new(alloc),
+            entries: Vec::new(alloc),
             places: PlaceTable::new(alloc),
             filled: Vec::new(alloc),
             settled: false,
@@ -84,10 +84,10 @@ impl Queues {
     {
         let slot = slot(handler.entity, kind);
         self.places.reserve(slot)?;
-        let place = count(&self.cells);
+        let place = count(&self.entries);
         let queue = LazyQueue::new(self.alloc, depth);
         self.settled = false;
-        self.cells.push(Cell {
+        self.entries.push(Entry {
             handler,
             kind,
             queue,
@@ -107,8 +107,8 @@ impl Queues {
             return Ok(None);
         };
         self.settled = false;
-        note_filled(&mut self.filled, &self.cells, place)?;
-        let lost = send_at(&mut self.cells, place, item)?;
+        note_filled(&mut self.filled, &self.entries, place)?;
+        let lost = send_at(&mut self.entries, place, item)?;
         Ok(lost)
     }
 
@@ -123,10 +123,10 @@ impl Queues {
         ensures same { self.new ≡ self.old }
         ensures places { OnOk result (places.new.items ≡ places_where (λ queue. has_item queue && is_in_part before_polls queue) self.old) }
     {
-        settle(&mut self.settled, &mut self.filled, &self.cells);
+        settle(&mut self.settled, &mut self.filled, &self.entries);
         places.clear();
         places.extend_from_slice(&self.filled)?;
-        keep_part(places, &self.cells, before_polls);
+        keep_part(places, &self.entries, before_polls);
         Ok(())
     }
 
@@ -134,25 +134,25 @@ impl Queues {
     pub(crate) fn take_first(&mut self)
         ensures { self.new ≡ map queue_taken self.old }
     {
-        settle(&mut self.settled, &mut self.filled, &self.cells);
+        settle(&mut self.settled, &mut self.filled, &self.entries);
         self.settled = false;
-        take_each(&mut self.cells, &self.filled);
+        take_each(&mut self.entries, &self.filled);
         // So that no place is noted twice, and fewer are sorted in the next round.
-        keep_filled(&mut self.filled, &self.cells);
+        keep_filled(&mut self.filled, &self.entries);
     }
 
     /// Whose callback takes from the queue at a place.
     pub(crate) fn handler(&self, place: usize) -> Option<&Handler>
         ensures { option_copied result ≡ option_map (λ queue. queue.handler) (slice_get self.now place) }
     {
-        handler_at(&self.cells, place)
+        handler_at(&self.entries, place)
     }
 
     /// Whose queue it is that stands at a place.
     pub(crate) fn entity(&self, place: usize) -> Option<EntityNo>
         ensures { result ≡ option_map (λ queue. queue.handler.entity) (slice_get self.now place) }
     {
-        entity_at(&self.cells, place)
+        entity_at(&self.entries, place)
     }
 
     /// The script of the callback that takes from the queue at a place, which may be brought home.
@@ -160,7 +160,7 @@ impl Queues {
         ensures script { IfOk result (λ script. script ≡ option_map (λ queue. queue.handler.script) (slice_get self.old place)) }
         ensures same { self.new ≡ self.old }
     {
-        take_script_at(&mut self.cells, place)
+        take_script_at(&mut self.entries, place)
     }
 
     /// Brings the script of the callback that takes from the queue at a place home.
@@ -168,14 +168,14 @@ impl Queues {
         requires { (queue : Queue) → slice_get self.old place ≡ Some queue → script ≡ queue.handler.script }
         ensures { self.new ≡ self.old }
     {
-        bring_home_at(&mut self.cells, place, script);
+        bring_home_at(&mut self.entries, place, script);
     }
 
     /// The oldest item of the queue at a place.
     pub(crate) fn front(&self, place: usize) -> Option<Item>
         ensures { result ≡ option_map_or (λ queue. slice_get queue.items 0) (slice_get self.now place) None }
     {
-        front_at(&self.cells, place)
+        front_at(&self.entries, place)
     }
 }
 
@@ -201,52 +201,52 @@ fn bring_script_home(queues: &mut Queues, list: &mut ReadyList, home: &Home)
     }
 }
 
-fn handler_at(cells: &[Cell], place: usize) -> Option<&Handler>
-    ensures { option_copied result ≡ option_map (λ queue. queue.handler) (slice_get cells.now place) }
+fn handler_at(entries: &[Entry], place: usize) -> Option<&Handler>
+    ensures { option_copied result ≡ option_map (λ queue. queue.handler) (slice_get entries.now place) }
 {
-    match cells.get(place) {
+    match entries.get(place) {
         None => None,
-        Some(cell) => Some(cell.handler()),
+        Some(entry) => Some(entry.handler()),
     }
 }
 
-fn entity_at(cells: &[Cell], place: usize) -> Option<EntityNo>
-    ensures { result ≡ option_map (λ queue. queue.handler.entity) (slice_get cells.now place) }
+fn entity_at(entries: &[Entry], place: usize) -> Option<EntityNo>
+    ensures { result ≡ option_map (λ queue. queue.handler.entity) (slice_get entries.now place) }
 {
-    match cells.get(place) {
+    match entries.get(place) {
         None => None,
-        Some(cell) => Some(cell.handler().entity),
+        Some(entry) => Some(entry.handler().entity),
     }
 }
 
-fn take_script_at(cells: &mut Vec<Cell>, place: usize) -> Result<Option<Script>, Memory>
-    ensures script { IfOk result (λ script. script ≡ option_map (λ queue. queue.handler.script) (slice_get cells.old.items place)) }
-    ensures same { cells.new.items ≡ cells.old.items }
+fn take_script_at(entries: &mut Vec<Entry>, place: usize) -> Result<Option<Script>, Memory>
+    ensures script { IfOk result (λ script. script ≡ option_map (λ queue. queue.handler.script) (slice_get entries.old.items place)) }
+    ensures same { entries.new.items ≡ entries.old.items }
 {
-    match cells.get_mut(place) {
+    match entries.get_mut(place) {
         None => Ok(None),
-        Some(cell) => {
-            let script = cell.take_script()?;
+        Some(entry) => {
+            let script = entry.take_script()?;
             Ok(Some(script))
         }
     }
 }
 
-fn bring_home_at(cells: &mut Vec<Cell>, place: usize, script: Script)
-    requires { (queue : Queue) → slice_get cells.old.items place ≡ Some queue → script ≡ queue.handler.script }
-    ensures { cells.new.items ≡ cells.old.items }
+fn bring_home_at(entries: &mut Vec<Entry>, place: usize, script: Script)
+    requires { (queue : Queue) → slice_get entries.old.items place ≡ Some queue → script ≡ queue.handler.script }
+    ensures { entries.new.items ≡ entries.old.items }
 {
-    if let Some(cell) = cells.get_mut(place) {
-        cell.bring_home(script);
+    if let Some(entry) = entries.get_mut(place) {
+        entry.bring_home(script);
     }
 }
 
-fn front_at(cells: &[Cell], place: usize) -> Option<Item>
-    ensures { result ≡ option_map_or (λ queue. slice_get queue.items 0) (slice_get cells.now place) None }
+fn front_at(entries: &[Entry], place: usize) -> Option<Item>
+    ensures { result ≡ option_map_or (λ queue. slice_get queue.items 0) (slice_get entries.now place) None }
 {
-    match cells.get(place) {
+    match entries.get(place) {
         None => None,
-        Some(cell) => cell.front(),
+        Some(entry) => entry.front(),
     }
 }
 
@@ -265,66 +265,66 @@ fn number(kind: Kind) -> usize
     kind as usize + 1
 }
 
-fn count(cells: &[Cell]) -> usize
-    ensures { result ≡ length cells.now }
+fn count(entries: &[Entry]) -> usize
+    ensures { result ≡ length entries.now }
 {
-    cells.len()
+    entries.len()
 }
 
-fn is_filled(cells: &[Cell], place: usize) -> bool
-    ensures value { result ≡ is_filled_at cells.now place }
-    ensures bound { IfSome (slice_get cells.now place) (λ queue. length queue.items ≤ queue.depth) }
+fn is_filled(entries: &[Entry], place: usize) -> bool
+    ensures value { result ≡ is_filled_at entries.now place }
+    ensures bound { IfSome (slice_get entries.now place) (λ queue. length queue.items ≤ queue.depth) }
 {
-    match cells.get(place) {
+    match entries.get(place) {
         None => false,
-        Some(cell) => !cell.is_empty(),
+        Some(entry) => !entry.is_empty(),
     }
 }
 
 // Notes a place at which an item is about to stand.
-fn note_filled(filled: &mut Vec<usize>, cells: &[Cell], place: usize) -> Result<(), Memory>
+fn note_filled(filled: &mut Vec<usize>, entries: &[Entry], place: usize) -> Result<(), Memory>
     ensures keeps { (other : ℕ) → Contains filled.old.items other → Contains filled.new.items other }
-    ensures has { OnOk result (CoversFilled filled.old.items cells.now → Contains filled.new.items place) }
-    ensures bound { IfSome (slice_get cells.now place) (λ queue. length queue.items ≤ queue.depth) }
+    ensures has { OnOk result (CoversFilled filled.old.items entries.now → Contains filled.new.items place) }
+    ensures bound { IfSome (slice_get entries.now place) (λ queue. length queue.items ≤ queue.depth) }
 {
-    if !is_filled(cells, place) {
+    if !is_filled(entries, place) {
         filled.push(place)?;
     }
     Ok(())
 }
 
-fn send_at(cells: &mut Vec<Cell>, place: usize, item: Item) -> Result<Option<Item>, Memory>
-    ensures ok { OnOk result (cells.new.items ≡ change_at place (queue_after item) cells.old.items) }
-    ensures lost { IfOk result (λ lost. lost ≡ option_map_or (λ queue. slice_get (displaced queue.depth item queue.items) 0) (slice_get cells.old.items place) None) }
-    ensures err { OnErr result (cells.new.items ≡ cells.old.items) }
+fn send_at(entries: &mut Vec<Entry>, place: usize, item: Item) -> Result<Option<Item>, Memory>
+    ensures ok { OnOk result (entries.new.items ≡ change_at place (queue_after item) entries.old.items) }
+    ensures lost { IfOk result (λ lost. lost ≡ option_map_or (λ queue. slice_get (displaced queue.depth item queue.items) 0) (slice_get entries.old.items place) None) }
+    ensures err { OnErr result (entries.new.items ≡ entries.old.items) }
 {
-    match cells.get_mut(place) {
+    match entries.get_mut(place) {
         None => Ok(None),
-        Some(cell) => {
-            let lost = cell.send(item)?;
+        Some(entry) => {
+            let lost = entry.send(item)?;
             Ok(lost)
         }
     }
 }
 
 // Leaves the places of the queues that have an item, in ascending order, where they aren't settled so yet.
-fn settle(settled: &mut bool, places: &mut Vec<usize>, cells: &[Cell])
-    requires { settled.old ≡ true → places.old.items ≡ places_where has_item cells.now }
-    ensures value { CoversFilled places.old.items cells.now → places.new.items ≡ places_where has_item cells.now }
-    ensures covers { CoversFilled places.old.items cells.now → CoversFilled places.new.items cells.now }
+fn settle(settled: &mut bool, places: &mut Vec<usize>, entries: &[Entry])
+    requires { settled.old ≡ true → places.old.items ≡ places_where has_item entries.now }
+    ensures value { CoversFilled places.old.items entries.now → places.new.items ≡ places_where has_item entries.now }
+    ensures covers { CoversFilled places.old.items entries.now → CoversFilled places.new.items entries.now }
 {
     if !*settled {
         sort_places(places);
-        keep_filled(places, cells);
+        keep_filled(places, entries);
         *settled = true;
     }
 }
 
 // Leaves the places of queues that have an item.
-fn keep_filled(places: &mut Vec<usize>, cells: &[Cell])
-    ensures { places.new.items ≡ filter (λ place. is_filled_at cells.now place) places.old.items }
+fn keep_filled(places: &mut Vec<usize>, entries: &[Entry])
+    ensures { places.new.items ≡ filter (λ place. is_filled_at entries.now place) places.old.items }
 {
-    places.retain(|place| is_filled(cells, *place));
+    places.retain(|place| is_filled(entries, *place));
 }
 
 fn sort_places(places: &mut Vec<usize>)
@@ -345,34 +345,34 @@ fn sort(places: &mut Vec<usize>)
     }
 }
 
-fn take_at(cells: &mut Vec<Cell>, place: usize)
-    ensures { cells.new.items ≡ change_at place queue_taken cells.old.items }
+fn take_at(entries: &mut Vec<Entry>, place: usize)
+    ensures { entries.new.items ≡ change_at place queue_taken entries.old.items }
 {
-    if let Some(cell) = cells.get_mut(place) {
-        cell.take();
+    if let Some(entry) = entries.get_mut(place) {
+        entry.take();
     }
 }
 
-fn take_each(cells: &mut Vec<Cell>, places: &[usize])
-    ensures { cells.new.items ≡ change_each places.now queue_taken cells.old.items }
+fn take_each(entries: &mut Vec<Entry>, places: &[usize])
+    ensures { entries.new.items ≡ change_each places.now queue_taken entries.old.items }
 {
     for &place in places {
-        take_at(cells, place);
+        take_at(entries, place);
     }
 }
 
 // Leaves the places of the queues of one part.
-fn keep_part(places: &mut Vec<usize>, cells: &[Cell], before_polls: bool)
-    ensures { places.new.items ≡ filter (λ place. is_in_part_at before_polls cells.now place) places.old.items }
+fn keep_part(places: &mut Vec<usize>, entries: &[Entry], before_polls: bool)
+    ensures { places.new.items ≡ filter (λ place. is_in_part_at before_polls entries.now place) places.old.items }
 {
-    places.retain(|place| is_in_part(cells, *place, before_polls));
+    places.retain(|place| is_in_part(entries, *place, before_polls));
 }
 
-fn is_in_part(cells: &[Cell], place: usize, before_polls: bool) -> bool
-    ensures { result ≡ is_in_part_at before_polls cells.now place }
+fn is_in_part(entries: &[Entry], place: usize, before_polls: bool) -> bool
+    ensures { result ≡ is_in_part_at before_polls entries.now place }
 {
-    match cells.get(place) {
+    match entries.get(place) {
         None => false,
-        Some(cell) => cell.is_before_polls() == before_polls,
+        Some(entry) => entry.is_before_polls() == before_polls,
     }
 }

@@ -18,7 +18,6 @@ use crate::topic::Topics;
 use exec_graph::{Graph, GroupNo};
 use exec_msg::{EntityNo, Line, Lines, Memory};
 use exec_script::Bank;
-pub(crate) use snapshot::list_fronts;
 use std::alloc::Global;
 use std::marker::Model;
 

@@ -16,7 +16,6 @@ use Rattle.exec_world.specs.World.{GoalWork, HeldGoal, Moment, ServerEntry, Vari
 use Rattle.exec_world.specs.declared.ready.Cause.{Cause}
 use Rattle.exec_world.specs.declared.ready.Cause.TheVariants as cause
 use Rattle.exec_world.specs.declared.ready.Ready.{Ready}
-use Rattle.exec_world.specs.inner.Servers.{work_in}
 
 -- what is kept of a goal, with this work, or with none where its task is out
 abbrev pub doing : Option GoalWork → HeldGoal → HeldGoal
@@ -30,11 +29,6 @@ server_with_work id work entry = record entry { held = change_first (is_for id) 
 abbrev pub server_polled : GoalId → Option TaskState → ServerEntry → ServerEntry
 server_polled id None entry = entry
 server_polled id (Some task) entry = record entry { held = change_first (is_for id) (λ held. record held { work = option_map (λ (work : GoalWork). record work { task = task }) held.work }) entry.held }
-
--- the work that a callback of a server polls, if it polls a goal
-abbrev pub work_by : EntityNo → Cause → List ServerEntry → Option GoalWork
-work_by server (cause.Woke id value canceling) servers = work_in server id servers
-work_by server _ servers = None
 
 -- the servers where the callback left its task so, if it polled one
 abbrev pub polled_by : EntityNo → Cause → Option TaskState → List ServerEntry → List ServerEntry

@@ -1,24 +1,17 @@
 -- Queues in ready order, found by entity and kind.
-use Rattle.std.specs.Prelude.{◌≡◌, ℕ, ◌+◌, ◌*◌, List, [], length, Bool, true, false, not, ◌==◌, if◌then◌else◌, Option, slice_get}
-use Rattle.std.specs.List.{Contains, find}
+use Rattle.std.specs.Prelude.{◌≡◌, ℕ, ◌+◌, ◌*◌, List, length, Bool, true, false, not, ◌==◌, if◌then◌else◌, Option, slice_get}
+use Rattle.std.specs.List.{Contains}
 use Rattle.std.specs.Option.{option_map_or}
 use Rattle.exec_graph.specs.Entity.{EntityNo}
-use Rattle.exec_msg.specs.KeepLast.{displaced}
 use Rattle.exec_msg.specs.Kind.{ready_number}
 use Rattle.exec_msg.specs.declared.kind.Kind.{Kind}
-use Rattle.exec_world.specs.Item.{taker_of}
 use Rattle.exec_world.specs.Ready.{is_before_polls}
 use Rattle.exec_world.specs.World.{Queue, is_queue}
-use Rattle.exec_world.specs.declared.item.Item.{Item}
 use Rattle.exec_msg.specs.Places.{first_place, place_under}
 
 -- the number of a kind's queue of an entity
 abbrev pub slot_of : EntityNo → Kind → ℕ
 slot_of entity kind = entity * 13 + ready_number kind
-
--- what these queues lose by an item that is sent to an entity
-abbrev pub lost_from : EntityNo → Item → List Queue → List Item
-lost_from entity new queues = option_map_or (λ queue. displaced queue.depth new queue.items) (find (is_queue entity (taker_of new)) queues) []
 
 -- whether a queue has an item
 abbrev pub has_item : Queue → Bool

@@ -1,25 +1,11 @@
 -- What is found in a list of servers.
-use Rattle.std.specs.Prelude.{List, [], Option, None, Some}
-use Rattle.std.specs.List.{find}
-use Rattle.std.specs.Option.{option_and_then, option_map_or}
+use Rattle.std.specs.Prelude.{List, Option, None, Some}
 use Rattle.exec_goal.specs.Table.{GoalRecord, Asked, told, later, unknown, has_id, after_event, asked_by}
 use Rattle.exec_graph.specs.Entity.{EntityNo}
 use Rattle.exec_msg.specs.Lists.{change_first}
 use Rattle.exec_msg.specs.declared.goal.Event.TheVariants as event
 use Rattle.exec_world.specs.Item.{GoalId}
-use Rattle.exec_world.specs.World.{GoalWork, HeldGoal, ServerEntry, is_for, is_server_at}
-
--- the records of the goals of the server of a number; one that isn't there has none
-abbrev pub goals_in : EntityNo → List ServerEntry → List GoalRecord
-goals_in server servers = option_map_or (λ entry. entry.goals) (find (is_server_at server) servers) []
-
--- what that server keeps beside them
-abbrev pub held_in : EntityNo → List ServerEntry → List HeldGoal
-held_in server servers = option_map_or (λ entry. entry.held) (find (is_server_at server) servers) []
-
--- the work of its goal of an identifier, if it holds one
-abbrev pub work_in : EntityNo → GoalId → List ServerEntry → Option GoalWork
-work_in server id servers = option_and_then (λ held. held.work) (find (is_for id) (held_in server servers))
+use Rattle.exec_world.specs.World.{ServerEntry, is_server_at}
 
 -- a server whose goals are changed so
 abbrev pub with_goals : (List GoalRecord → List GoalRecord) → ServerEntry → ServerEntry

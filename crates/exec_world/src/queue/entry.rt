@@ -12,21 +12,21 @@ use std::marker::Model;
 
 // The queue of an entity from which its callback of a kind takes.
 #[derive(Drop)]
-pub(super) struct Cell {
+pub(super) struct Entry {
     pub(super) handler: Handler,
     pub(super) kind: Kind,
     pub(super) queue: LazyQueue<Item>,
 }
 
-impl Model for Cell {
+impl Model for Entry {
     ghost use Rattle.exec_world.specs.World.{Queue};
 
     ghost Value = { Queue };
 
-    ghost view = { λ cell. record { handler = cell.handler; kind = cell.kind; depth = cell.queue.depth; items = cell.queue.items } };
+    ghost view = { λ entry. record { handler = entry.handler; kind = entry.kind; depth = entry.queue.depth; items = entry.queue.items } };
 }
 
-impl Cell {
+impl Entry {
     pub(super) fn send(&mut self, item: Item) -> Result<Option<Item>, Memory>
         ensures ok { OnOk result (self.new ≡ queue_after item self.old) }
         ensures lost { IfOk result (λ lost. lost ≡ slice_get (displaced self.old.depth item self.old.items) 0) }

@@ -29,10 +29,10 @@ impl ByNumber<Server> {
     ghost use Rattle.exec_msg.specs.Lists.{change_first};
     ghost use Rattle.exec_world.specs.Close.{server_accepting};
     ghost use Rattle.exec_world.specs.Ready.{poll_ready};
-    ghost use Rattle.exec_world.specs.World.{has_room_for, is_server_at, is_for, work_of};
+    ghost use Rattle.exec_world.specs.World.{has_room_for, is_server_at, is_for, work_of, goals_in, held_in, work_in};
     ghost use Rattle.exec_world.specs.inner.Listing.{listed_behind};
     ghost use Rattle.exec_world.specs.inner.Polling.{poll_listed, server_polled, server_with_work};
-    ghost use Rattle.exec_world.specs.inner.Servers.{asked_in, executed_in, goals_in, held_in, with_goals, work_in};
+    ghost use Rattle.exec_world.specs.inner.Servers.{asked_in, executed_in, with_goals};
 
     // Whether a server can hold one more goal of an identifier.
     pub(crate) fn has_room_for(&self, server: EntityNo, id: GoalId) -> bool

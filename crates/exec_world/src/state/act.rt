@@ -3,7 +3,8 @@ ghost use Rattle.std.specs.Prelude.{◌≡◌, [], slice_index_or, slice_set, If
 ghost use Rattle.exec_script.specs.Script.{listed};
 ghost use Rattle.exec_script.specs.Zeros.{zeros};
 ghost use Rattle.exec_world.specs.Callback.{callback};
-ghost use Rattle.exec_world.specs.inner.Polling.{polled_by, work_by};
+ghost use Rattle.exec_world.specs.inner.Polling.{polled_by};
+ghost use Rattle.exec_world.specs.Run.{work_by};
 
 use super::State;
 use crate::callback::{call_in, take_item};

@@ -20,5 +20,5 @@ returns-clause-places c =
     let all = c.settle.ensures.value covered ∙ ap (places_where has_item) c.deref.ensures.value in
     c.keep_part.ensures
     ∙ (λ i. filter (λ place. is_in_part_at c.args.before_polls (c.deref-3.ensures.value i) place) ((c.in_ok-extend_from_slice.ensures.items ∙ (λ j. c.clear.ensures.items j ++ (c.deref-2.ensures.value ∙ all) j)) i))
-    ∙ in_part c.args.before_polls c.self.inside.cells.items
+    ∙ in_part c.args.before_polls c.self.inside.entries.items
     ∙ ap (places_where (λ queue. has_item queue && is_in_part c.args.before_polls queue)) c.self.view_is

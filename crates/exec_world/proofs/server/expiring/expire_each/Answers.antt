@@ -1,7 +1,8 @@
 use Rattle.std.proofs.Common.{◌++◌, ◌<◌, List, length, slice_set, ap, sym, ◌∙◌, arith}
 use Rattle.std.proofs.lemmas.List.Edits.{map_over_more}
 use Rattle.exec_msg.specs.declared.line.Line.{Line}
-use Rattle.exec_world.proofs.Closings.{lines_more, mapped_set, reads_unmoved}
+use Rattle.exec_world.proofs.Closings.{lines_more, mapped_set}
+use Rattle.exec_world.proofs.Listing.{next_is}
 use Rattle.exec_world.specs.Transcript.{expire_lines, server_expired}
 use Rattle.exec_world.specs.World.{ServerEntry}
 use Rattle.exec_world.specs.inner.Mail.{MailState}
@@ -19,7 +20,7 @@ loop-place-preserved g c =
           ∙ ap (λ (mail : MailState). record mail { lines = mail.lines ++ expire_lines c.args.moment c.index-servers-place.result }) c.loop-place.invariant.lines
           ∙ ap (λ (lines : List Line). record c.args.mail.now { lines = lines })
           (lines_more (expire_lines c.args.moment) c.args.mail.now.lines c.args.servers.now c.loop-place.place c.index-servers-place.result within
-          (reads_unmoved (server_expired c.args.moment) c.args.servers.now c.loop-place.servers c.loop-place.place c.index-servers-place.result within c.loop-place.invariant.servers c.index-servers-place.is));
+          (next_is (server_expired c.args.moment) c.args.servers.now c.loop-place.servers c.loop-place.place c.index-servers-place.result within c.loop-place.invariant.servers c.index-servers-place.is));
       numbers = mapped_set number c.loop-place.servers c.loop-place.place c.index-servers-place.result c.expire_goals.new.server c.index-servers-place.is (c.expire_goals.ensures.number ∙ ap number (sym c.index-servers-place.is))
           ∙ c.loop-place.invariant.numbers;
     }

@@ -1,9 +1,8 @@
 use Rattle.std.proofs.Common.{Option, ap, sym, ◌∙◌}
 use Rattle.exec_world.proofs.FoundByNumber.{unchanged, finds_set}
 use Rattle.exec_world.proofs.FoundServers.{number_of, number_polled, work_absent, work_found, polls}
-use Rattle.exec_world.specs.World.{GoalWork, is_server_at}
+use Rattle.exec_world.specs.World.{GoalWork, is_server_at, work_in}
 use Rattle.exec_world.specs.inner.Polling.{goal_polled, poll_listed, server_polled}
-use Rattle.exec_world.specs.inner.Servers.{work_in}
 use Rattle.exec_world.proofs.server.found.ByNumber+Server.poll.Goals as goal
 
 pub returns-in_default-clause-effects : goal.returns-in_default-clause-effects

@@ -1,6 +1,6 @@
 use Rattle.std.proofs.Common.{refl}
 use Rattle.std.specs.Fmt.{digits}
-use Rattle.exec_run.proofs.fault.code_line.Goals as goal
+use Rattle.exec_run.proofs.program.code_line.Goals as goal
 
 pub returns-in-NotJson : goal.returns-in-NotJson
 unfolding digits

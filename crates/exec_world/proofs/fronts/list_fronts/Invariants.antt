@@ -2,7 +2,7 @@ use Rattle.std.proofs.Common.{◌≡◌, drop}
 use Rattle.exec_world.specs.inner.Homes.{AreHomes, handlers_of}
 use Rattle.exec_world.specs.inner.Listing.{listed_behind}
 use Rattle.exec_world.specs.inner.Snapshots.{fronts_at}
-use Rattle.exec_world.proofs.state.snapshot.list_fronts.Given as goal
+use Rattle.exec_world.proofs.fronts.list_fronts.Given as goal
 
 -- the queues are as they were; what is left to list, from here, makes the list that all places make from the start; and scripts
 -- come from the queues

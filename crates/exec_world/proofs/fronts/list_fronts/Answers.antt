@@ -4,7 +4,7 @@ use Rattle.exec_world.specs.World.{Queue}
 use Rattle.exec_world.specs.inner.Homes.{AreHomes, handlers_of}
 use Rattle.exec_world.specs.inner.Listing.{listed_behind}
 use Rattle.exec_world.specs.inner.Snapshots.{front_at}
-use Rattle.exec_world.proofs.state.snapshot.list_fronts.Goals as goal
+use Rattle.exec_world.proofs.fronts.list_fronts.Goals as goal
 
 pub loop-place-preserved : goal.loop-place-preserved
 loop-place-preserved c =

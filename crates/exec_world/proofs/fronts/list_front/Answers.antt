@@ -7,7 +7,7 @@ use Rattle.exec_world.specs.World.{Handler, Queue, ServerEntry}
 use Rattle.exec_world.specs.declared.ready.Ready.{Ready}
 use Rattle.exec_world.specs.inner.Homes.{HasScriptOf, handlers_of}
 use Rattle.exec_world.specs.inner.Listing.{listed_behind}
-use Rattle.exec_world.proofs.state.snapshot.list_front.Goals as goal
+use Rattle.exec_world.proofs.fronts.list_front.Goals as goal
 
 pub returns-clause-list : goal.returns-clause-list
 returns-clause-list c =
