@@ -4,10 +4,10 @@ use Rattle.std.specs.List.{Any, list_any}
 use Rattle.exec_script.specs.Script.{listed}
 use Rattle.exec_script.specs.declared.effects.Effect.{Effect}
 use Rattle.exec_script.specs.declared.instr.Instr.{Instr}
-use Rattle.exec_task.specs.Task.{TaskState, Polled, polled, Answer, ready, pending, sources_of}
+use Rattle.exec_task.specs.Task.{TaskState, Polled, polled, sources_of}
 use Rattle.exec_task.specs.Wake.{WakeState, LeftWaker}
-use Rattle.exec_task.specs.declared.wait.Answer.{Answer as PollAnswer}
-use Rattle.exec_task.specs.declared.wait.Answer.TheVariants as poll
+use Rattle.exec_task.specs.declared.wait.Answer.{Answer}
+use Rattle.exec_task.specs.declared.wait.Answer.TheVariants as answer
 use Rattle.exec_task.specs.declared.wait.Source.{Source}
 use Rattle.exec_task.specs.declared.wait.Source.TheVariants as source
 use Rattle.exec_task.specs.declared.wait.Turn.{Turn}
@@ -27,15 +27,10 @@ pub record GoalTaskState : Type 0 where
 abbrev pub poll_of : GoalTaskState → List ℤ → Turn → Polled (List Effect)
 poll_of goal variables turn = polled listed goal.script goal.value turn goal.task variables []
 
--- the definition's answer that the code's answer is
-abbrev pub meaning_of : PollAnswer → Answer
-meaning_of (poll.Ready ending) = ready ending
-meaning_of (poll.Pending waits) = pending waits
-
 -- a fact of a poll that pended
-abbrev pub IfPending : PollAnswer → Type 0 → Type 0
-IfPending (poll.Ready ending) fact = ⊤
-IfPending (poll.Pending waits) fact = fact
+abbrev pub IfPending : Answer → Type 0 → Type 0
+IfPending (answer.Ready ending) fact = ⊤
+IfPending (answer.Pending waits) fact = fact
 
 -- what no poll changes: the script, the goal's value, and which sources the task owns
 pub record IsSameGoal (before after : GoalTaskState) : Type 0 where

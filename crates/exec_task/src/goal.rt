@@ -1,7 +1,7 @@
 ghost use Rattle.std.specs.Prelude.{◌≡◌, true, false, None, IsOk, IsErr, IfOk, OnOk, OnErr};
 ghost use Rattle.std.specs.Arc.{arc_value};
 ghost use Rattle.futures.specs.Task.{Covers, Keeps};
-ghost use Rattle.exec_task.specs.Goal.{poll_of, meaning_of, IsSameGoal, GoalNeeds, IfPending, LeftWakers, HoldsNoWaker};
+ghost use Rattle.exec_task.specs.Goal.{poll_of, IsSameGoal, GoalNeeds, IfPending, LeftWakers, HoldsNoWaker};
 ghost use Rattle.exec_task.specs.Task.{new_task, has_ended, is_awake, task_answer, ran, run_of};
 ghost use Rattle.exec_script.specs.Script.{listed};
 
@@ -131,7 +131,7 @@ pub fn poll_goal(
     cx: &mut Context<'_>,
 ) -> Result<Polled, Memory>
     ensures effects { IfOk result (λ polled. polled.effects ≡ (poll_of task.old bank.old turn.now).given) }
-    ensures answer { IfOk result (λ polled. meaning_of polled.answer ≡ task_answer (poll_of task.old bank.old turn.now).task) }
+    ensures answer { IfOk result (λ polled. polled.answer ≡ task_answer (poll_of task.old bank.old turn.now).task) }
     ensures task { OnOk result (task.new.task ≡ (poll_of task.old bank.old turn.now).task) }
     ensures variables { OnOk result (bank.new ≡ (poll_of task.old bank.old turn.now).variables) }
     ensures same { IsSameGoal task.old task.new }
@@ -161,7 +161,7 @@ pub fn poll_goal_into(
     effects: &mut EffectList,
 ) -> Result<Answer, Memory>
     ensures effects { OnOk result (effects.new ≡ (poll_of task.old bank.old turn.now).given) }
-    ensures answer { IfOk result (λ answer. meaning_of answer ≡ task_answer (poll_of task.old bank.old turn.now).task) }
+    ensures answer { IfOk result (λ answer. answer ≡ task_answer (poll_of task.old bank.old turn.now).task) }
     ensures task { OnOk result (task.new.task ≡ (poll_of task.old bank.old turn.now).task) }
     ensures variables { OnOk result (bank.new ≡ (poll_of task.old bank.old turn.now).variables) }
     ensures same { IsSameGoal task.old task.new }

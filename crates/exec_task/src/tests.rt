@@ -6,6 +6,7 @@ use exec_script::{Bank, Destination, Effect, Instr, Operand, Operation, Slot};
 use futures::task::Poll;
 use futures::{Future, FutureExt};
 use std::alloc::Global;
+use std::process::Abort;
 use std::sync::Arc;
 use std::test::Fail;
 use std::thread;
@@ -320,29 +321,16 @@ fn a_pending_goal_goes_on_in_another_thread(rt: HostRuntime) -> Result<(), Fail>
 fn a_call_keeps_its_first_reply(rt: HostRuntime) -> Result<(), Fail> {
     let poller = Poller::new(rt.alloc())?;
     let mut call = PendingCall::new(1);
-    assert!(rt; poll(&poller, &mut call) == Ok(Poll::Pending));
-    assert!(rt; call.complete(8).is_ok());
-    assert!(rt; call.complete(9) == Err(Already));
-    assert!(rt; poll(&poller, &mut call) == Ok(Poll::Ready(8)));
-    assert!(rt; poll(&poller, &mut call) == Ok(Poll::Ready(8)));
-    assert!(rt; call.number() == 1);
+    reply_twice(&rt, &poller, &mut call);
     Ok(())
 }
 
-#[test]
-fn a_call_is_a_future(rt: HostRuntime) -> Result<(), Fail> {
-    let poller = Poller::new(rt.alloc())?;
-    let mut context = poller.begin();
-    let mut call = PendingCall::new(1);
-    let before = Future::poll(&mut call, &mut context);
-    let completed = call.complete(8);
-    let mut next = call.map(|reply| reply.wrapping_add(1));
-    let after = next.poll(&mut context);
-    context.cancel();
-    assert!(rt; before == Poll::Pending);
-    assert!(rt; completed.is_ok());
-    assert!(rt; after == Poll::Ready(9));
-    Ok(())
+fn reply_twice(rt: &impl Abort, poller: &Poller, call: &mut PendingCall) {
+    assert!(rt; poll(poller, call) == Ok(Poll::Pending));
+    assert!(rt; call.complete(8).is_ok());
+    assert!(rt; call.complete(9) == Err(Already));
+    assert!(rt; poll(poller, call) == Ok(Poll::Ready(8)));
+    assert!(rt; poll(poller, call) == Ok(Poll::Ready(8)));
 }
 
 fn poll(poller: &Poller, call: &mut PendingCall) -> Result<Poll<i64>, Memory> {
@@ -350,4 +338,25 @@ fn poll(poller: &Poller, call: &mut PendingCall) -> Result<Poll<i64>, Memory> {
     let polled = call.poll_reply(&mut context);
     context.cancel();
     polled
+}
+
+#[test]
+fn a_call_is_a_future(rt: HostRuntime) -> Result<(), Fail> {
+    let (before, completed, after) = reply_and_map(&Poller::new(rt.alloc())?);
+    assert!(rt; before == Poll::Pending);
+    assert!(rt; completed.is_ok());
+    assert!(rt; after == Poll::Ready(9));
+    Ok(())
+}
+
+// What a poll of a call answers, whether it takes the reply 8, and what a poll of the call with 1 more answers then.
+fn reply_and_map(poller: &Poller) -> (Poll<i64>, Result<(), Already>, Poll<i64>) {
+    let mut context = poller.begin();
+    let mut call = PendingCall::new(1);
+    let before = Future::poll(&mut call, &mut context);
+    let completed = call.complete(8);
+    let mut next = call.map(|reply| reply.wrapping_add(1));
+    let after = next.poll(&mut context);
+    context.cancel();
+    (before, completed, after)
 }
