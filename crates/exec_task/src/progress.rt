@@ -90,6 +90,7 @@ impl Progress {
             ≡ ran turn.now self.old (run_of listed script.now value turn.now self.old bank.old effects.old)) }
         ensures err { OnErr result (self.new ≡ self.old) }
         ensures err_variables { OnErr result (bank.new ≡ bank.old) }
+        ensures err_effects { OnErr result (effects.new ≡ effects.old) }
     {
         let input = Input {
             first: value,
