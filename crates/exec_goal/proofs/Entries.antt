@@ -12,10 +12,9 @@ use Rattle.std.proofs.lemmas.Nat.{div-add-mod'}
 use Rattle.indexmap.specs.IndexMap.{insert_entry}
 use Rattle.exec_goal.specs.Calls.{next_state, moved_to, where_terminal}
 use Rattle.exec_goal.specs.Held.{record_of, records_of}
-use Rattle.exec_goal.specs.LawWords.{HaveDistinctIds}
 use Rattle.exec_goal.specs.State.{is_terminal, status_of}
 use Rattle.exec_goal.specs.declared.state.State.{State}
-use Rattle.exec_goal.specs.Table.{GoalRecord, told, later, unknown, has_id, holds_id, answer_to, asked_for}
+use Rattle.exec_goal.specs.Table.{GoalRecord, told, later, unknown, has_id, holds_id, HaveDistinctIds, answer_to, asked_for}
 use Rattle.exec_msg.specs.Lists.{change_first}
 use Rattle.exec_msg.specs.declared.goal.Event.{Event}
 use Rattle.exec_goal.specs.declared.held.HeldGoal.{HeldGoal}

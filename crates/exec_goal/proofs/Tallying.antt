@@ -18,7 +18,7 @@ use Rattle.exec_goal.specs.declared.held.HeldGoal.{HeldGoal}
 use Rattle.exec_goal.specs.declared.state.State.{State}
 use Rattle.exec_goal.specs.declared.state.State.TheVariants as state
 use Rattle.exec_goal.specs.declared.tally.Tally.{Tally}
-use Rattle.exec_goal.specs.inner.Tally.{one_where, earlier, first_with, first_with_goal, may_expire, CountsMove, EndsFrom, IsTallied}
+use Rattle.exec_goal.specs.inner.Tally.{one_where, first_with, first_with_goal, may_expire, CountsMove, EndsFrom, IsTallied}
 
 -- ---- how many goals are worked on
 

@@ -1,12 +1,11 @@
 -- What the calls on a server's table of goals answer, and the table after them.
-use Rattle.std.specs.Prelude.{◌≡◌, ℕ, ◌<◌, List, [], ◌∷◌, length, slice_index_or, ◌&&◌, ◌==◌, Bool, true, false, if◌then◌else◌, Option, None, Some}
+use Rattle.std.specs.Prelude.{◌≡◌, ℕ, ◌<◌, List, [], length, slice_index_or, ◌==◌, Bool, true, false, if◌then◌else◌, Option, None, Some}
 use Rattle.std.specs.List.{find, list_any}
 use Rattle.std.specs.Option.{option_map}
 use Rattle.exec_msg.specs.Lists.{change_first, drop_first}
 use Rattle.exec_msg.specs.declared.goal.Event.{Event}
-use Rattle.exec_msg.specs.declared.goal.Event.TheVariants as event
-use Rattle.exec_goal.specs.State.{after, is_cancelable, is_terminal}
-use Rattle.exec_goal.specs.Table.{GoalRecord, has_id, Asked, told, later, unknown, is_expired, asked_for, asked_by, after_event}
+use Rattle.exec_goal.specs.State.{after, is_terminal}
+use Rattle.exec_goal.specs.Table.{GoalRecord, has_id, Asked, told, later, unknown, is_expired, asked_for, asked_by}
 use Rattle.exec_goal.specs.declared.refusals.Reject.{Reject}
 use Rattle.exec_goal.specs.declared.refusals.Reject.TheVariants as reject
 use Rattle.exec_goal.specs.declared.state.State.{State}
@@ -63,13 +62,6 @@ pub record IsFirst {A : Type 0} (test : A → Bool) (xs : List A) (place : ℕ) 
 -- identifiers that are accepted for cancelling, as a list
 abbrev pub is_among : List ℕ → ℕ → Bool
 is_among ids id = list_any (λ one. one == id) ids
-
--- whether an accepted candidate moves, and the goal after the answer, by which identifiers are accepted
-abbrev pub moves_by : (ℕ → Bool) → GoalRecord → Bool
-moves_by accepts goal = accepts goal.id && is_cancelable goal.state
-
-abbrev pub after_answer_by : (ℕ → Bool) → GoalRecord → GoalRecord
-after_answer_by accepts goal = if moves_by accepts goal then after_event event.CancelGoal goal else goal
 
 -- the numbers of refusals
 abbrev pub reject_number : Reject → ℕ

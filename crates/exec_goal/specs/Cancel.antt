@@ -40,17 +40,25 @@ is_acceptance decided = decided.1 == 2
 abbrev pub is_accepted_for : List Decided → ℕ → Bool
 is_accepted_for decisions id = list_any (λ decided. (decided.0 == id) && is_acceptance decided) decisions
 
--- an accepted candidate moves where it still may
+-- an accepted candidate moves where it still may, by which identifiers are accepted
+abbrev pub moves_by : (ℕ → Bool) → GoalRecord → Bool
+moves_by accepts goal = accepts goal.id && is_cancelable goal.state
+
+-- whether a goal moves by the decisions
 abbrev pub is_moved : List Decided → GoalRecord → Bool
-is_moved decisions goal = is_accepted_for decisions goal.id && is_cancelable goal.state
+is_moved decisions goal = moves_by (is_accepted_for decisions) goal
 
 -- the goals that move, in order of acceptance
 abbrev pub moved : List Decided → List GoalRecord → List GoalRecord
 moved decisions goals = filter (is_moved decisions) goals
 
+-- a goal after the answer, by which identifiers are accepted
+abbrev pub after_answer_by : (ℕ → Bool) → GoalRecord → GoalRecord
+after_answer_by accepts goal = if moves_by accepts goal then after_event event.CancelGoal goal else goal
+
 -- a goal after the answer
 abbrev pub after_answer : List Decided → GoalRecord → GoalRecord
-after_answer decisions goal = if is_moved decisions goal then after_event event.CancelGoal goal else goal
+after_answer decisions goal = after_answer_by (is_accepted_for decisions) goal
 
 -- the table after the answer
 abbrev pub table_after : List Decided → List GoalRecord → List GoalRecord

@@ -1,11 +1,6 @@
 -- Words for the laws of goals.
-use Rattle.std.specs.Prelude.{◌≢◌, List, [], ◌∷◌, All, AllPairs}
+use Rattle.std.specs.Prelude.{◌≢◌, List, [], ◌∷◌, All}
 use Rattle.exec_goal.specs.Cancel.{Decided}
-use Rattle.exec_goal.specs.Table.{GoalRecord}
-
--- no two goals of the table have one identifier
-abbrev pub HaveDistinctIds : List GoalRecord → Type 0
-HaveDistinctIds goals = AllPairs (λ earlier later. earlier.id ≢ later.id) goals
 
 -- the first list is the second without some of its elements, the others in their order
 pub data IsSublist {X : Type 0} : List X → List X → Type 0 where

@@ -1,5 +1,5 @@
 -- The goals that a server holds, in the order in which it accepted them.
-use Rattle.std.specs.Prelude.{ℕ, ℤ, pos, ◌+◌, List, [], ◌∷◌, ◌++◌, length, Bool, false, not, ◌&&◌, ◌==◌, nat_le, if◌then◌else◌, Option, None, Some}
+use Rattle.std.specs.Prelude.{◌≢◌, ℕ, ℤ, pos, ◌+◌, List, [], ◌∷◌, ◌++◌, length, Bool, false, not, ◌&&◌, ◌==◌, nat_le, if◌then◌else◌, Option, None, Some, AllPairs}
 use Rattle.std.specs.Option.{unwrap_or}
 use Rattle.std.specs.List.{find, filter, list_any}
 use Rattle.exec_msg.specs.declared.goal.Event.{Event}
@@ -28,6 +28,10 @@ has_id id goal = goal.id == id
 -- whether the table holds a goal of this identifier
 abbrev pub holds_id : ℕ → List GoalRecord → Bool
 holds_id id goals = list_any (has_id id) goals
+
+-- no two goals of the table have one identifier
+abbrev pub HaveDistinctIds : List GoalRecord → Type 0
+HaveDistinctIds goals = AllPairs (λ first second. first.id ≢ second.id) goals
 
 -- whether the table has no room
 abbrev pub is_full : List GoalRecord → Bool

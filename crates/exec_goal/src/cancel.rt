@@ -1,7 +1,7 @@
 ghost use Rattle.std.specs.Prelude.{◌≡◌, ℕ, IfOk};
 ghost use Rattle.std.specs.List.{list_any};
-ghost use Rattle.exec_goal.specs.Calls.{is_among, moves_by};
-ghost use Rattle.exec_goal.specs.Cancel.{selects, is_candidate, is_acceptance, is_accepted_for, is_refused};
+ghost use Rattle.exec_goal.specs.Calls.{is_among};
+ghost use Rattle.exec_goal.specs.Cancel.{selects, is_candidate, is_acceptance, is_accepted_for, is_refused, moves_by};
 ghost use Rattle.exec_goal.specs.Info.{info_of};
 ghost use Rattle.exec_goal.specs.Table.{GoalRecord};
 

@@ -47,8 +47,7 @@ impl Goals {
     ghost use Rattle.std.specs.Prelude.{◌≡◌, ◌⊎◌, ◌↔◌, ◌<◌, [], true, false, Some, length, map, slice_get, OnOk, OnErr, IfOk};
     ghost use Rattle.exec_goal.specs.Calls.{state_in};
     ghost use Rattle.exec_goal.specs.Info.{info_of};
-    ghost use Rattle.exec_goal.specs.LawWords.{HaveDistinctIds};
-    ghost use Rattle.exec_goal.specs.Table.{holds_id, is_full, working, accepted_state, with_accepted};
+    ghost use Rattle.exec_goal.specs.Table.{holds_id, HaveDistinctIds, is_full, working, accepted_state, with_accepted};
     ghost use Rattle.exec_goal.specs.declared.refusals.Reject.TheVariants as reject;
 
     /// No goals. It takes no memory.

@@ -18,9 +18,13 @@ pub(crate) struct HeldGoal {
     pub(crate) askers: Items<EntityNo>,
 }
 
+// The decision of a goal handler that has a goal executed at once, ACCEPT_AND_EXECUTE. The other
+// one that accepts, 3, ACCEPT_AND_DEFER, doesn't.
+const ACCEPT_AND_EXECUTE: u8 = 2;
+
 impl HeldGoal {
     ghost use Rattle.std.specs.Prelude.{◌≡◌, ℕ, Some};
-    ghost use Rattle.exec_goal.specs.Calls.{after_answer_by};
+    ghost use Rattle.exec_goal.specs.Cancel.{after_answer_by};
     ghost use Rattle.exec_goal.specs.Held.{record_of};
     ghost use Rattle.exec_goal.specs.Info.{info_of};
     ghost use Rattle.exec_goal.specs.Table.{accepted_state, new_goal, is_expired};
@@ -30,7 +34,7 @@ impl HeldGoal {
         ensures stands_for { (id : ℕ) → record_of (id, result) ≡ new_goal id value moment decision }
         ensures state { result.state ≡ accepted_state decision }
     {
-        let state = if decision == 2 {
+        let state = if decision == ACCEPT_AND_EXECUTE {
             State::Executing
         } else {
             State::Accepted

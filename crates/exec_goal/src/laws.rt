@@ -4,9 +4,9 @@
 ghost use Rattle.std.specs.Prelude.{◌≡◌, ◌≢◌, ◌↔◌, ◌⊎◌, ℕ, ◌+◌, ◌≤◌, ℤ, List, [], ◌∷◌, ◌++◌, length, map, take, drop, true, false, find, All, Any, Contains, IsPermutation, Option, None, Some};
 ghost use Rattle.std.specs.Option.{option_map};
 ghost use Rattle.exec_goal.specs.Cancel.{CancelRequest, Decided, selects, is_candidate, candidates, is_moved, moved, after_answer, table_after, code_of};
-ghost use Rattle.exec_goal.specs.LawWords.{HaveDistinctIds, IsSublist, AllRefused};
+ghost use Rattle.exec_goal.specs.LawWords.{IsSublist, AllRefused};
 ghost use Rattle.exec_goal.specs.State.{Transition, after, status_of, is_terminal};
-ghost use Rattle.exec_goal.specs.Table.{GoalRecord, has_id, holds_id, is_full, is_accepting, new_goal, with_accepted, is_expired, expired, unexpired, told, later, unknown, asked_for};
+ghost use Rattle.exec_goal.specs.Table.{GoalRecord, has_id, holds_id, HaveDistinctIds, is_full, is_accepting, new_goal, with_accepted, is_expired, expired, unexpired, told, later, unknown, asked_for};
 ghost use Rattle.exec_goal.specs.declared.state.State.{State};
 ghost use Rattle.exec_goal.specs.declared.state.State.TheVariants as state;
 ghost use Rattle.exec_msg.specs.Goal.{status_number};

@@ -4,13 +4,14 @@ use Rattle.std.specs.List.{Any, list_any}
 use Rattle.exec_script.specs.Script.{listed}
 use Rattle.exec_script.specs.declared.effects.Effect.{Effect}
 use Rattle.exec_script.specs.declared.instr.Instr.{Instr}
-use Rattle.exec_task.specs.Task.{TaskState, Polled, polled, Answer, ready, pending, sources_of}
+use Rattle.exec_task.specs.Task.{TaskState, Polled, polled, has_ended, task_answer, sources_of}
 use Rattle.exec_task.specs.Wake.{WakeState, LeftWaker}
-use Rattle.exec_task.specs.declared.wait.Answer.{Answer as PollAnswer}
-use Rattle.exec_task.specs.declared.wait.Answer.TheVariants as poll
+use Rattle.exec_task.specs.declared.wait.Answer.{Answer}
+use Rattle.exec_task.specs.declared.wait.Answer.TheVariants as answer
 use Rattle.exec_task.specs.declared.wait.Source.{Source}
 use Rattle.exec_task.specs.declared.wait.Source.TheVariants as source
 use Rattle.exec_task.specs.declared.wait.Turn.{Turn}
+use Rattle.futures.specs.Task.{Covers}
 use Rattle.futures.specs.declared.task.context.Context.{Context}
 
 -- a goal's task: its script, the goal's value, where the task stands, whether it was refused memory once, and the sources
@@ -27,15 +28,10 @@ pub record GoalTaskState : Type 0 where
 abbrev pub poll_of : GoalTaskState → List ℤ → Turn → Polled (List Effect)
 poll_of goal variables turn = polled listed goal.script goal.value turn goal.task variables []
 
--- the definition's answer that the code's answer is
-abbrev pub meaning_of : PollAnswer → Answer
-meaning_of (poll.Ready ending) = ready ending
-meaning_of (poll.Pending waits) = pending waits
-
 -- a fact of a poll that pended
-abbrev pub IfPending : PollAnswer → Type 0 → Type 0
-IfPending (poll.Ready ending) fact = ⊤
-IfPending (poll.Pending waits) fact = fact
+abbrev pub IfPending : Answer → Type 0 → Type 0
+IfPending (answer.Ready ending) fact = ⊤
+IfPending (answer.Pending waits) fact = fact
 
 -- what no poll changes: the script, the goal's value, and which sources the task owns
 pub record IsSameGoal (before after : GoalTaskState) : Type 0 where
@@ -79,3 +75,20 @@ pub record LeftWakers (before after : Context) (goal : GoalTaskState) : Type 0 w
 -- no waker stands at a source of the task
 abbrev pub HoldsNoWaker : GoalTaskState → Type 0
 HoldsNoWaker goal = (goal.clock.waker ≡ None) × (goal.cancellation.waker ≡ None)
+
+-- what a poll in a turn answers that isn't refused memory, and what it leaves: of the goal, of its group's variables, and of
+-- the context that it began with
+pub record IsPolled (turn : Turn) (before after : GoalTaskState) (bank left : List ℤ) (begun ended : Context) (answered : Answer) : Type 0 where
+  pub answer : answered ≡ task_answer (poll_of before bank turn).task
+  pub task : after.task ≡ (poll_of before bank turn).task
+  pub variables : left ≡ (poll_of before bank turn).variables
+  pub registered : IfPending answered (Covers ended (GoalNeeds after))
+  pub wakers : IfPending answered (LeftWakers begun ended after)
+  pub ending : has_ended before.task ≡ false → has_ended after.task ≡ true → HoldsNoWaker after
+  pub unfailed : after.failed ≡ false
+  pub stays : has_ended before.task ≡ true → after ≡ before
+
+-- what a poll leaves that is refused memory
+pub record IsRefused (before after : GoalTaskState) (bank left : List ℤ) : Type 0 where
+  pub task : after ≡ record before { failed = true }
+  pub variables : left ≡ bank

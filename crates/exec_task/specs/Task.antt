@@ -8,6 +8,8 @@ use Rattle.exec_script.specs.declared.effects.Effect.{Effect}
 use Rattle.exec_script.specs.declared.instr.Instr.{Instr}
 use Rattle.exec_script.specs.declared.step.Stop.{Stop}
 use Rattle.exec_script.specs.declared.step.Stop.TheVariants as stop
+use Rattle.exec_task.specs.declared.wait.Answer.{Answer}
+use Rattle.exec_task.specs.declared.wait.Answer.TheVariants as answer
 use Rattle.exec_task.specs.declared.wait.Ending.{Ending}
 use Rattle.exec_task.specs.declared.wait.Source.{Source}
 use Rattle.exec_task.specs.declared.wait.Source.TheVariants as source
@@ -41,11 +43,6 @@ has_ended task = is_some task.ending
 abbrev pub is_awake : TaskState → Turn → Bool
 is_awake task turn = not (has_ended task) && (is_reached task.waits turn.moment || (turn.canceling && not task.told))
 
--- what a poll is answered: an ending, or what the task waits for
-pub data Answer : Type 0 where
-  ready : Ending → Answer
-  pending : Wait → Answer
-
 -- the input of a poll: `in` is the goal's value, and `aux` is 1 where it is canceling
 abbrev pub poll_input : ℤ → Turn → CallInput
 poll_input value turn = record { first = value; aux = if turn.canceling then pos 1 else pos 0; moment = turn.moment }
@@ -76,8 +73,8 @@ run_of give script value turn task variables given = resumed give script task.pl
 
 -- what a task answers that has ended so, or that waits for this
 abbrev pub answer_by : Option Ending → Wait → Answer
-answer_by None waits = pending waits
-answer_by (Some ending) waits = ready ending
+answer_by None waits = answer.Pending waits
+answer_by (Some ending) waits = answer.Ready ending
 
 -- what a task answers, as it stands
 abbrev pub task_answer : TaskState → Answer
@@ -98,7 +95,7 @@ abbrev pub polled_where : {S : Type 0} → Bool → (Effect → S → S) → Lis
 polled_where true give script value turn task variables given = ran turn task (run_of give script value turn task variables given)
 polled_where false give script value turn task variables given = record { task = task; variables = variables; given = given }
 
--- a poll of a task with a goal's script and value, in a turn; it answers `answer_of` the task after it
+-- a poll of a task with a goal's script and value, in a turn; it answers `task_answer` of the task after it
 abbrev pub polled : {S : Type 0} → (Effect → S → S) → List Instr → ℤ → Turn → TaskState → List ℤ → S → Polled S
 polled give script value turn task variables given = polled_where (is_awake task turn) give script value turn task variables given
 

@@ -45,13 +45,6 @@ impl PendingCall {
         }
     }
 
-    /// The call's number among its client's.
-    pub fn number(&self) -> u64
-        ensures { result ≡ self.now.call.number }
-    {
-        self.number
-    }
-
     /// Gives the call its reply, and wakes the task that waits for it. A call that has its reply stays as it was.
     pub fn complete(&mut self, value: i64) -> Result<(), Already>
         ensures call { self.new.call ≡ completed value self.old.call }

@@ -3,34 +3,35 @@ ghost use Rattle.std.specs.Prelude.{◌≡◌, ◌∷◌, [], pos, None, Some};
 ghost use Rattle.exec_msg.specs.declared.goal.Event.TheVariants as event;
 ghost use Rattle.exec_task.specs.Call.{new_call, completed, sources_of_call};
 ghost use Rattle.exec_task.specs.Examples.{yielding, waiting, giving_up, at, canceling_at, poll_alone, after_polls};
-ghost use Rattle.exec_task.specs.Task.{task_answer, ready, pending, new_task};
+ghost use Rattle.exec_task.specs.Task.{task_answer, new_task};
+ghost use Rattle.exec_task.specs.declared.wait.Answer.TheVariants as answer;
 ghost use Rattle.exec_task.specs.declared.wait.Source.TheVariants as source;
 ghost use Rattle.exec_task.specs.declared.wait.Wait.TheVariants as wait;
 
 /// A goal that yields pends until the next round, ends in it, and is answered the same from then on.
 pub fn yielded()
-    ensures first { task_answer (after_polls yielding (at 10 ∷ []) new_task) ≡ pending wait.NextRound }
-    ensures second { task_answer (after_polls yielding (at 10 ∷ at 10 ∷ []) new_task) ≡ ready (record { event = event.Succeed; value = pos 9 }) }
-    ensures third { task_answer (after_polls yielding (at 10 ∷ at 10 ∷ at 11 ∷ []) new_task) ≡ ready (record { event = event.Succeed; value = pos 9 }) }
+    ensures first { task_answer (after_polls yielding (at 10 ∷ []) new_task) ≡ answer.Pending wait.NextRound }
+    ensures second { task_answer (after_polls yielding (at 10 ∷ at 10 ∷ []) new_task) ≡ answer.Ready (record { event = event.Succeed; value = pos 9 }) }
+    ensures third { task_answer (after_polls yielding (at 10 ∷ at 10 ∷ at 11 ∷ []) new_task) ≡ answer.Ready (record { event = event.Succeed; value = pos 9 }) }
     ensures silent { (poll_alone yielding (at 11) (after_polls yielding (at 10 ∷ at 10 ∷ []) new_task)).given ≡ [] }
 {}
 
 /// A goal that waits for 5 ticks at 10 pends until 15, at 12 too, and ends at 15.
 pub fn waited()
-    ensures first { task_answer (after_polls waiting (at 10 ∷ []) new_task) ≡ pending (wait.Until 15) }
-    ensures second { task_answer (after_polls waiting (at 10 ∷ at 12 ∷ []) new_task) ≡ pending (wait.Until 15) }
-    ensures third { task_answer (after_polls waiting (at 10 ∷ at 12 ∷ at 15 ∷ []) new_task) ≡ ready (record { event = event.Succeed; value = pos 9 }) }
+    ensures first { task_answer (after_polls waiting (at 10 ∷ []) new_task) ≡ answer.Pending (wait.Until 15) }
+    ensures second { task_answer (after_polls waiting (at 10 ∷ at 12 ∷ []) new_task) ≡ answer.Pending (wait.Until 15) }
+    ensures third { task_answer (after_polls waiting (at 10 ∷ at 12 ∷ at 15 ∷ []) new_task) ≡ answer.Ready (record { event = event.Succeed; value = pos 9 }) }
 {}
 
 /// A goal that waits is polled before its time where it is being canceled.
 pub fn woken()
-    ensures { task_answer (after_polls waiting (at 10 ∷ canceling_at 12 ∷ []) new_task) ≡ ready (record { event = event.Succeed; value = pos 9 }) }
+    ensures { task_answer (after_polls waiting (at 10 ∷ canceling_at 12 ∷ []) new_task) ≡ answer.Ready (record { event = event.Succeed; value = pos 9 }) }
 {}
 
 /// A goal that ends as canceled is aborted, unless it is being canceled.
 pub fn gave_up()
-    ensures unasked { task_answer (after_polls giving_up (at 10 ∷ []) new_task) ≡ ready (record { event = event.Abort; value = pos 7 }) }
-    ensures asked { task_answer (after_polls giving_up (canceling_at 10 ∷ []) new_task) ≡ ready (record { event = event.Canceled; value = pos 7 }) }
+    ensures unasked { task_answer (after_polls giving_up (at 10 ∷ []) new_task) ≡ answer.Ready (record { event = event.Abort; value = pos 7 }) }
+    ensures asked { task_answer (after_polls giving_up (canceling_at 10 ∷ []) new_task) ≡ answer.Ready (record { event = event.Canceled; value = pos 7 }) }
 {}
 
 /// A goal whose script falls off its end starts again in the next round.

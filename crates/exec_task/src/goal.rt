@@ -1,8 +1,8 @@
-ghost use Rattle.std.specs.Prelude.{◌≡◌, true, false, None, IsOk, IsErr, IfOk, OnOk, OnErr};
+ghost use Rattle.std.specs.Prelude.{◌≡◌, [], true, false, None, IsOk, IsErr, IfOk, OnOk, OnErr};
 ghost use Rattle.std.specs.Arc.{arc_value};
 ghost use Rattle.futures.specs.Task.{Covers, Keeps};
-ghost use Rattle.exec_task.specs.Goal.{poll_of, meaning_of, IsSameGoal, GoalNeeds, IfPending, LeftWakers, HoldsNoWaker};
-ghost use Rattle.exec_task.specs.Task.{new_task, has_ended, is_awake, task_answer, ran, run_of};
+ghost use Rattle.exec_task.specs.Goal.{poll_of, IsSameGoal, IsPolled, IsRefused, GoalNeeds, LeftWakers, HoldsNoWaker};
+ghost use Rattle.exec_task.specs.Task.{new_task, has_ended, is_awake, ran, run_of};
 ghost use Rattle.exec_script.specs.Script.{listed};
 
 use crate::progress::Progress;
@@ -66,6 +66,7 @@ impl GoalTask {
         ensures ended { OnOk result (has_ended self.new.task ≡ true → HoldsNoWaker self.new) }
         ensures err { OnErr result (self.new ≡ record self.old { failed = true }) }
         ensures err_variables { OnErr result (bank.new ≡ bank.old) }
+        ensures err_effects { OnErr result (effects.new ≡ effects.old) }
     {
         let ran = self
             .progress
@@ -131,19 +132,11 @@ pub fn poll_goal(
     cx: &mut Context<'_>,
 ) -> Result<Polled, Memory>
     ensures effects { IfOk result (λ polled. polled.effects ≡ (poll_of task.old bank.old turn.now).given) }
-    ensures answer { IfOk result (λ polled. meaning_of polled.answer ≡ task_answer (poll_of task.old bank.old turn.now).task) }
-    ensures task { OnOk result (task.new.task ≡ (poll_of task.old bank.old turn.now).task) }
-    ensures variables { OnOk result (bank.new ≡ (poll_of task.old bank.old turn.now).variables) }
+    ensures polled { IfOk result (λ polled. IsPolled turn.now task.old task.new bank.old bank.new cx.old cx.new polled.answer) }
     ensures same { IsSameGoal task.old task.new }
-    ensures registered { IfOk result (λ polled. IfPending polled.answer (Covers cx.new (GoalNeeds task.new))) }
-    ensures wakers { IfOk result (λ polled. IfPending polled.answer (LeftWakers cx.old cx.new task.new)) }
-    ensures ending { OnOk result (has_ended task.old.task ≡ false → has_ended task.new.task ≡ true → HoldsNoWaker task.new) }
     ensures kept { Keeps cx.old cx.new }
-    ensures refused { OnErr result (task.new ≡ record task.old { failed = true }) }
-    ensures refused_variables { OnErr result (bank.new ≡ bank.old) }
+    ensures refused { OnErr result (IsRefused task.old task.new bank.old bank.new) }
     ensures failed { task.old.failed ≡ true → IsErr result }
-    ensures unfailed { OnOk result (task.new.failed ≡ false) }
-    ensures ended { has_ended task.old.task ≡ true → OnOk result (task.new ≡ task.old) }
     ensures takes_none { task.old.failed ≡ false → is_awake task.old.task turn.now ≡ false → IsOk result }
 {
     let mut effects = EffectList::new(alloc);
@@ -152,7 +145,7 @@ pub fn poll_goal(
 }
 
 /// Polls a goal as [`poll_goal`] does. The list then has its effects, and these alone: one that is used again and again has
-/// room already.
+/// room already. Where memory is refused, the list is empty.
 pub fn poll_goal_into(
     task: &mut GoalTask,
     bank: &mut Bank,
@@ -161,25 +154,18 @@ pub fn poll_goal_into(
     effects: &mut EffectList,
 ) -> Result<Answer, Memory>
     ensures effects { OnOk result (effects.new ≡ (poll_of task.old bank.old turn.now).given) }
-    ensures answer { IfOk result (λ answer. meaning_of answer ≡ task_answer (poll_of task.old bank.old turn.now).task) }
-    ensures task { OnOk result (task.new.task ≡ (poll_of task.old bank.old turn.now).task) }
-    ensures variables { OnOk result (bank.new ≡ (poll_of task.old bank.old turn.now).variables) }
+    ensures refused_effects { OnErr result (effects.new ≡ []) }
+    ensures polled { IfOk result (IsPolled turn.now task.old task.new bank.old bank.new cx.old cx.new) }
     ensures same { IsSameGoal task.old task.new }
-    ensures registered { IfOk result (λ answer. IfPending answer (Covers cx.new (GoalNeeds task.new))) }
-    ensures wakers { IfOk result (λ answer. IfPending answer (LeftWakers cx.old cx.new task.new)) }
-    ensures ending { OnOk result (has_ended task.old.task ≡ false → has_ended task.new.task ≡ true → HoldsNoWaker task.new) }
     ensures kept { Keeps cx.old cx.new }
-    ensures refused { OnErr result (task.new ≡ record task.old { failed = true }) }
-    ensures refused_variables { OnErr result (bank.new ≡ bank.old) }
+    ensures refused { OnErr result (IsRefused task.old task.new bank.old bank.new) }
     ensures failed { task.old.failed ≡ true → IsErr result }
-    ensures unfailed { OnOk result (task.new.failed ≡ false) }
-    ensures ended { has_ended task.old.task ≡ true → OnOk result (task.new ≡ task.old) }
     ensures takes_none { task.old.failed ≡ false → is_awake task.old.task turn.now ≡ false → IsOk result }
 {
+    effects.clear();
     if task.failed {
         return Err(Memory);
     }
-    effects.clear();
     if is_awake(task, turn.moment, turn.canceling) {
         task.run(bank, turn, effects)?;
     }

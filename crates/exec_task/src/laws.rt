@@ -1,7 +1,7 @@
 //! Laws of goals' tasks: each function's contract says one. They hold for all scripts, from every state of a task, and
 //! for effects that go anywhere: `S` is what they are put into, and `give` puts one there.
 
-ghost use Rattle.std.specs.Prelude.{◌≡◌, ◌≢◌, ◌↔◌, ◌⊎◌, ℕ, ◌≤◌, ℤ, List, [], ◌∷◌, length, Bool, true, false, Contains, Option, None, Some, IfSome, not, ◌&&◌, ◌||◌};
+ghost use Rattle.std.specs.Prelude.{◌≡◌, ◌≢◌, ◌↔◌, ◌⊎◌, ℕ, ◌≤◌, ℤ, List, [], ◌∷◌, length, Bool, true, false, Contains, None, Some, IfSome, not, ◌&&◌, ◌||◌};
 ghost use Rattle.std.specs.List.{list_any};
 ghost use Rattle.exec_msg.specs.declared.goal.Event.{Event};
 ghost use Rattle.exec_msg.specs.declared.goal.Event.TheVariants as event;
@@ -11,7 +11,8 @@ ghost use Rattle.exec_script.specs.declared.effects.Effect.{Effect};
 ghost use Rattle.exec_script.specs.declared.instr.Instr.{Instr};
 ghost use Rattle.exec_task.specs.Call.{CallState, completed, sources_of_call};
 ghost use Rattle.exec_task.specs.LawWords.{has_come, polled_later};
-ghost use Rattle.exec_task.specs.Task.{TaskState, has_ended, is_reached, is_awake, ready, pending, task_answer, polled, sources_of, ending_event};
+ghost use Rattle.exec_task.specs.Task.{TaskState, has_ended, is_reached, is_awake, task_answer, polled, sources_of, ending_event};
+ghost use Rattle.exec_task.specs.declared.wait.Answer.TheVariants as answer;
 ghost use Rattle.exec_task.specs.declared.wait.Ending.{Ending};
 ghost use Rattle.exec_task.specs.declared.wait.Source.TheVariants as source;
 ghost use Rattle.exec_task.specs.declared.wait.Turn.{Turn};
@@ -39,7 +40,7 @@ pub fn times_and_cancellation_wake()
 
 /// Whether a task that pends is awake is read from the wait that its last poll answered.
 pub fn the_last_answer_wakes()
-    ensures { (task : TaskState) (turn : Turn) (waits : Wait) → task_answer task ≡ pending waits →
+    ensures { (task : TaskState) (turn : Turn) (waits : Wait) → task_answer task ≡ answer.Pending waits →
         is_awake task turn ≡ (is_reached waits turn.moment || (turn.canceling && not task.told)) }
 {}
 
@@ -66,10 +67,10 @@ pub fn polls_tell_of_cancellation<S>()
 /// A poll of a task that has ended answers its ending, and has no effect.
 pub fn endings_stay<S>()
     ensures answers { (give : Effect → S → S) (script : List Instr) (value : ℤ) (turn : Turn) (task : TaskState) (variables : List ℤ) (given : S) (ending : Ending) →
-        task_answer task ≡ ready ending →
-        task_answer (polled give script value turn task variables given).task ≡ ready ending }
+        task_answer task ≡ answer.Ready ending →
+        task_answer (polled give script value turn task variables given).task ≡ answer.Ready ending }
     ensures same { (give : Effect → S → S) (script : List Instr) (value : ℤ) (turn : Turn) (task : TaskState) (variables : List ℤ) (given : S) (ending : Ending) →
-        task_answer task ≡ ready ending →
+        task_answer task ≡ answer.Ready ending →
         polled give script value turn task variables given ≡ record { task = task; variables = variables; given = given } }
 {}
 
@@ -99,7 +100,7 @@ pub fn tasks_end_by_an_ending<S>()
 /// A poll that pends until a time is woken by the clock at that time, and one that pends otherwise by the next round.
 pub fn pending_tasks_have_a_source<S>()
     ensures { (give : Effect → S → S) (script : List Instr) (value : ℤ) (turn : Turn) (task : TaskState) (variables : List ℤ) (given : S) (waits : Wait) →
-        task_answer (polled give script value turn task variables given).task ≡ pending waits →
+        task_answer (polled give script value turn task variables given).task ≡ answer.Pending waits →
         (waits ≡ wait.NextRound)
         ⊎ ((time : ℕ) × (waits ≡ wait.Until time) × Contains (sources_of (polled give script value turn task variables given).task) (source.Clock time)) }
 {}

@@ -1,7 +1,6 @@
-ghost use Rattle.std.specs.Prelude.{◌≡◌, ◌||◌, ◌^◌, [], OnOk, OnErr};
+ghost use Rattle.std.specs.Prelude.{◌≡◌, ◌||◌, ◌^◌, OnOk, OnErr};
 ghost use Rattle.exec_script.specs.Script.{WaitsWithin};
 ghost use Rattle.exec_script.specs.Script.{listed};
-ghost use Rattle.exec_task.specs.Goal.{meaning_of};
 ghost use Rattle.exec_task.specs.Task.{new_task, has_ended, is_reached, is_awake, after_stop, ran, run_of, task_answer, ending_event};
 
 use crate::wait::{Answer, Ending, Turn, Wait};
@@ -70,7 +69,7 @@ impl Progress {
     }
 
     pub(crate) fn answer(&self) -> Answer
-        ensures { meaning_of result ≡ task_answer self.now }
+        ensures { result ≡ task_answer self.now }
     {
         match self.ending {
             Some(ending) => Answer::Ready(ending),
@@ -91,6 +90,7 @@ impl Progress {
             ≡ ran turn.now self.old (run_of listed script.now value turn.now self.old bank.old effects.old)) }
         ensures err { OnErr result (self.new ≡ self.old) }
         ensures err_variables { OnErr result (bank.new ≡ bank.old) }
+        ensures err_effects { OnErr result (effects.new ≡ effects.old) }
     {
         let input = Input {
             first: value,

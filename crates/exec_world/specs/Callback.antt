@@ -13,7 +13,9 @@ use Rattle.exec_script.specs.declared.effects.Close.TheVariants as close
 use Rattle.exec_script.specs.declared.effects.Effect.{Effect}
 use Rattle.exec_script.specs.declared.place.Role.{Role}
 use Rattle.exec_script.specs.declared.place.Role.TheVariants as role
-use Rattle.exec_task.specs.Task.{TaskState, Answer, ready, pending, Polled, polled, is_awake, task_answer}
+use Rattle.exec_task.specs.Task.{TaskState, Polled, polled, is_awake, task_answer}
+use Rattle.exec_task.specs.declared.wait.Answer.{Answer}
+use Rattle.exec_task.specs.declared.wait.Answer.TheVariants as answer
 use Rattle.exec_task.specs.declared.wait.Turn.{Turn}
 use Rattle.exec_world.specs.Ready.{turn_at, input_of}
 use Rattle.exec_world.specs.World.{Moment, Variables, GoalWork}
@@ -92,8 +94,8 @@ handle_all give one variables given =
 
 -- what closes a poll that is answered so
 abbrev pub close_of_answer : Answer → Close
-close_of_answer (ready ending) = close.Ended ending.event ending.value
-close_of_answer (pending waits) = close.Pending
+close_of_answer (answer.Ready ending) = close.Ended ending.event ending.value
+close_of_answer (answer.Pending waits) = close.Pending
 
 -- a poll
 abbrev pub after_poll : {S : Type 0} → Polled S → Outcome S

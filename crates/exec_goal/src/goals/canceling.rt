@@ -5,15 +5,16 @@ use crate::info::GoalInfo;
 use exec_msg::{GoalId, Items, Memory, ReturnCode};
 
 impl Goals {
-    ghost use Rattle.std.specs.Prelude.{◌≡◌, ℕ, ◌<◌, length, map, slice_index_or, slice_set, OnOk, OnErr, IfOk};
+    ghost use Rattle.std.specs.Prelude.{◌≡◌, ◌<◌, length, map, slice_index_or, slice_set, OnOk, OnErr, IfOk};
     ghost use Rattle.std.specs.List.{filter, find};
-    ghost use Rattle.exec_goal.specs.Calls.{is_among, moves_by, after_answer_by};
-    ghost use Rattle.exec_goal.specs.Cancel.{candidates, moved, table_after, code_by, code_unmoved, code_of};
+    ghost use Rattle.exec_goal.specs.Calls.{is_among};
+    ghost use Rattle.exec_goal.specs.Cancel.{candidates, moved, table_after, code_by, code_unmoved, code_of, moves_by, after_answer_by};
     ghost use Rattle.exec_goal.specs.Info.{info_of};
     ghost use Rattle.exec_goal.specs.Table.{GoalRecord, has_id};
 
     /// The goals that a cancel request selects and that may be moved, those that are ACCEPTED or
-    /// EXECUTING, in the order of their acceptance.
+    /// EXECUTING, in the order of their acceptance. It answers `Memory` where no memory is left
+    /// for their list, and changes nothing.
     pub fn candidates(&self, request: &CancelRequest) -> Result<Items<GoalInfo>, Memory>
         ensures { IfOk result (λ infos. infos ≡ map info_of (candidates request.now self.now)) }
     {

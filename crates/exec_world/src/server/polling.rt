@@ -2,7 +2,6 @@
 ghost use Rattle.std.specs.Prelude.{◌≡◌, [], false, Some, IfOk, OnErr, OnOk};
 ghost use Rattle.std.specs.Option.{option_map, option_map_or};
 ghost use Rattle.exec_script.specs.declared.effects.Close.TheVariants as close;
-ghost use Rattle.exec_task.specs.Goal.{meaning_of};
 ghost use Rattle.exec_task.specs.Task.{is_awake};
 ghost use Rattle.exec_world.specs.Callback.{close_of_answer};
 ghost use Rattle.exec_world.specs.Ready.{turn_at};
@@ -194,7 +193,7 @@ fn is_any_awake(task: &Option<GoalTask>, moment: Moment, canceling: bool) -> boo
 
 // What closes a poll that is answered so.
 fn close_of(answer: Answer) -> Close
-    ensures { result ≡ close_of_answer (meaning_of answer) }
+    ensures { result ≡ close_of_answer answer }
 {
     match answer {
         Answer::Ready(ending) => Close::Ended(ending.event, ending.value),

@@ -1,8 +1,7 @@
 use Rattle.std.proofs.Common.{◌∙◌, ◌≡◌, ◌==◌, ℕ, List, sym, ap, map, length}
 use Rattle.exec_goal.proofs.Looping.{empty-map, nonempty-map, code-unmoved}
 use Rattle.exec_goal.proofs.ReturnCodes.{none_from}
-use Rattle.exec_goal.specs.Calls.{moves_by, after_answer_by}
-use Rattle.exec_goal.specs.Cancel.{moved}
+use Rattle.exec_goal.specs.Cancel.{moved, moves_by, after_answer_by}
 use Rattle.exec_goal.specs.Table.{GoalRecord}
 use Rattle.std.specs.List.{filter}
 use Rattle.exec_goal.proofs.goals.Goals.answer.Goals.{then-is_empty, else-is_empty}

@@ -1,6 +1,7 @@
 use Rattle.std.proofs.Common.{ℕ, ◌∙◌, sym, ap, List, Bool, slice_set}
 use Rattle.exec_goal.proofs.Looping.{record-at, records-set_value_at}
-use Rattle.exec_goal.specs.Calls.{is_among, after_answer_by}
+use Rattle.exec_goal.specs.Calls.{is_among}
+use Rattle.exec_goal.specs.Cancel.{after_answer_by}
 use Rattle.exec_goal.specs.Held.{record_of, records_of}
 use Rattle.exec_goal.specs.Table.{GoalRecord}
 use Rattle.exec_goal.specs.declared.held.HeldGoal.{HeldGoal}

@@ -1,6 +1,7 @@
 use Rattle.std.proofs.Common.{◌∙◌, ◌<◌, ◌+◌, ◌++◌, ◌∷◌, [], sym, ap, map, drop, length, filter, arith}
 use Rattle.exec_goal.proofs.Looping.{told-at, next_kept, next_passed}
-use Rattle.exec_goal.specs.Calls.{is_among, moves_by}
+use Rattle.exec_goal.specs.Calls.{is_among}
+use Rattle.exec_goal.specs.Cancel.{moves_by}
 use Rattle.exec_goal.specs.Info.{info_of}
 use Rattle.exec_goal.specs.Table.{GoalRecord}
 use Rattle.exec_goal.specs.declared.info.GoalInfo.{GoalInfo}

@@ -1,6 +1,7 @@
 use Rattle.std.proofs.Common.{◌≡◌, ◌++◌, map, drop}
 use Rattle.std.specs.List.{filter}
-use Rattle.exec_goal.specs.Calls.{is_among, moves_by}
+use Rattle.exec_goal.specs.Calls.{is_among}
+use Rattle.exec_goal.specs.Cancel.{moves_by}
 use Rattle.exec_goal.proofs.goals.Goals.moved_by.Given as goal
 
 abbrev pub invariant-loop-index : goal.invariant-loop-index
