@@ -133,7 +133,7 @@ module _ (put : Effect → WorldState → WorldState) (one_more : (most : ℕ) (
   stepped most place (step.Answer value) state p = as_many most state.given p
   stepped most place (step.Wait ticks) state p = as_many most state.given p
   stepped most place step.Yield state p = as_many most state.given p
-  stepped most place (step.End by value) state p = as_many most state.given p
+  stepped most place (step.Ended by value) state p = as_many most state.given p
 
   followed : (most more : ℕ) (input : CallInput) (script : List Instr) (place over : ℕ) (state : ScriptState WorldState) → most + length script ≤ more → HaveMade most state.given → HaveMade more (follow put input script place over state).given
   followed most more input [] place over state grows p = more_made most more state.given (omega (arith, grows)) p
