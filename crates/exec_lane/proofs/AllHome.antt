@@ -12,13 +12,13 @@ use Rattle.exec_lane.specs.Gather.{all_ran, ran_each, ran_in}
 use Rattle.exec_lane.specs.Lane.{AreFinished, Entry, IsFinished, Lane, LaneState, entry_in, lane_at, lane_home, lanes_home, lanes_of, opened, opened_lanes, run_entry, task_home, tasks_home, tasks_out, variables_at, variables_home, with_callback, without_task}
 use Rattle.exec_lane.specs.declared.gathering.Ran.{Ran}
 use Rattle.exec_script.specs.declared.effects.Effect.{Effect}
-use Rattle.exec_world.specs.Callback.{Outcome}
-use Rattle.exec_world.specs.Calls.{AreHome, HaveVariables, IsHomeFor, polls_same}
-use Rattle.exec_world.specs.Run.{all_apart, all_home, apart, apart_with, brought_home, effects_of, variables_for, with_polled, with_variables_for, work_after, work_for}
-use Rattle.exec_world.specs.World.{GoalWork, Variables, WorldState, with_variables, with_work}
-use Rattle.exec_world.specs.declared.ready.Cause.{Cause}
-use Rattle.exec_world.specs.declared.ready.Cause.TheVariants as cause
-use Rattle.exec_world.specs.declared.ready.Ready.{Ready}
+use Rattle.exec_rules.specs.Callback.{Outcome}
+use Rattle.exec_rules.specs.Calls.{AreHome, HaveVariables, IsHomeFor, polls_same}
+use Rattle.exec_rules.specs.Run.{all_apart, all_home, apart, apart_with, brought_home, effects_of, variables_for, with_polled, with_variables_for, work_after, work_for}
+use Rattle.exec_rules.specs.World.{GoalWork, Variables, WorldState, with_variables, with_work}
+use Rattle.exec_rules.specs.declared.ready.Cause.{Cause}
+use Rattle.exec_rules.specs.declared.ready.Cause.TheVariants as cause
+use Rattle.exec_rules.specs.declared.ready.Ready.{Ready}
 
 -- ---- one callback
 

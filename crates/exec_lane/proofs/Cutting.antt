@@ -5,7 +5,7 @@ use Rattle.std.proofs.lemmas.List.Elements.{filter-append}
 use Rattle.std.proofs.lemmas.List.{length-append}
 use Rattle.exec_lane.specs.Lane.{goes_into, lanes_of, with_callback}
 use Rattle.exec_msg.specs.Lists.{change_first}
-use Rattle.exec_world.specs.declared.ready.Ready.{Ready}
+use Rattle.exec_rules.specs.declared.ready.Ready.{Ready}
 
 -- how many callbacks pass a test
 abbrev size : (Ready → Bool) → List Ready → ℕ

@@ -5,7 +5,7 @@ use Rattle.std.proofs.lemmas.Bool.{and_parts, eqb-true, eq-eqb}
 use Rattle.exec_graph.specs.Graph.{GroupNo}
 use Rattle.exec_lane.specs.Lane.{as_lane, goes_into, has_exclusive, is_beside, is_of_exclusive, lanes_of, with_callback}
 use Rattle.exec_msg.specs.Lists.{change_first}
-use Rattle.exec_world.specs.declared.ready.Ready.{Ready}
+use Rattle.exec_rules.specs.declared.ready.Ready.{Ready}
 
 -- a test of callbacks that those of one lane agree on
 abbrev Agrees : (Ready → Bool) → List Ready → Type 0

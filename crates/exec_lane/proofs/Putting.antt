@@ -8,13 +8,13 @@ use Rattle.exec_lane.specs.Lane.{is_beside, task_home, without_task}
 use Rattle.exec_msg.specs.Lists.{change_first}
 use Rattle.exec_script.specs.Zeros.{zeros}
 use Rattle.exec_task.specs.Task.{TaskState}
-use Rattle.exec_world.specs.Calls.{polls_same_of, wakes}
-use Rattle.exec_world.specs.Item.{GoalId}
-use Rattle.exec_world.specs.Run.{variables_for, with_polled, with_variables_for, work_after, work_for}
-use Rattle.exec_world.specs.World.{GoalWork, HeldGoal, ServerEntry, Variables, WorldState, is_for, is_server_at, with_work, work_at}
-use Rattle.exec_world.specs.declared.ready.Cause.{Cause}
-use Rattle.exec_world.specs.declared.ready.Cause.TheVariants as cause
-use Rattle.exec_world.specs.declared.ready.Ready.{Ready}
+use Rattle.exec_rules.specs.Calls.{polls_same_of, wakes}
+use Rattle.exec_rules.specs.Item.{GoalId}
+use Rattle.exec_rules.specs.Run.{variables_for, with_polled, with_variables_for, work_after, work_for}
+use Rattle.exec_rules.specs.World.{GoalWork, HeldGoal, ServerEntry, Variables, WorldState, is_for, is_server_at, with_work, work_at}
+use Rattle.exec_rules.specs.declared.ready.Cause.{Cause}
+use Rattle.exec_rules.specs.declared.ready.Cause.TheVariants as cause
+use Rattle.exec_rules.specs.declared.ready.Ready.{Ready}
 
 -- ---- changes of a list's first element
 

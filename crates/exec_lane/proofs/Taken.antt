@@ -9,13 +9,13 @@ use Rattle.exec_lane.specs.inner.Cuts.{callbacks_of, cut_from, lane_with, opened
 use Rattle.exec_lane.specs.inner.Slots.{SlotState, entries_of}
 use Rattle.exec_msg.specs.Lists.{change_first}
 use Rattle.exec_script.specs.Zeros.{zeros}
-use Rattle.exec_world.specs.Calls.{WorldData, AreHome, IsHomeFor, polls_same, polls_same_of, wakes}
-use Rattle.exec_world.specs.Item.{GoalId}
-use Rattle.exec_world.specs.Run.{work_for}
-use Rattle.exec_world.specs.World.{Variables, WorldState, with_work}
-use Rattle.exec_world.specs.declared.ready.Cause.{Cause}
-use Rattle.exec_world.specs.declared.ready.Cause.TheVariants as cause
-use Rattle.exec_world.specs.declared.ready.Ready.{Ready}
+use Rattle.exec_rules.specs.Calls.{WorldData, AreHome, IsHomeFor, polls_same, polls_same_of, wakes}
+use Rattle.exec_rules.specs.Item.{GoalId}
+use Rattle.exec_rules.specs.Run.{work_for}
+use Rattle.exec_rules.specs.World.{Variables, WorldState, with_work}
+use Rattle.exec_rules.specs.declared.ready.Cause.{Cause}
+use Rattle.exec_rules.specs.declared.ready.Cause.TheVariants as cause
+use Rattle.exec_rules.specs.declared.ready.Ready.{Ready}
 
 -- ---- a task that leaves the world leaves the others there
 

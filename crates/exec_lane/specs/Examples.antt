@@ -1,16 +1,26 @@
 -- A worked example: the lane of two timers of one callback group in their first round.
-use Rattle.std.specs.Prelude.{ℤ, pos, List, [], ◌∷◌, map, None}
+use Rattle.std.specs.Prelude.{ℕ, ℤ, pos, List, [], ◌∷◌, map, true, None, Some}
+use Rattle.exec_graph.specs.Entity.{EntityNo, Script}
 use Rattle.exec_lane.specs.Lane.{Entry, Done, LaneState}
 use Rattle.exec_script.specs.declared.effects.Close.TheVariants as close
 use Rattle.exec_script.specs.declared.effects.Effect.TheVariants as effect
-use Rattle.exec_world.specs.Examples.Timers.{shared}
-use Rattle.exec_world.specs.Ready.{ready_list}
-use Rattle.exec_world.specs.Transcript.{first_world}
-use Rattle.exec_world.specs.declared.ready.Ready.{Ready}
+use Rattle.exec_script.specs.Instruction as instr
+use Rattle.exec_script.specs.declared.instr.Destination.TheVariants as destination
+use Rattle.exec_script.specs.declared.instr.Operand.TheVariants as operand
+use Rattle.exec_script.specs.declared.instr.Operation.TheVariants as operation
+use Rattle.exec_rules.specs.declared.ready.Cause.TheVariants as cause
+use Rattle.exec_rules.specs.declared.ready.Ready.{Ready}
 
--- the ready list of the first round, at moment 1
+-- a timer of the callback group 0 that is due at moment 1, with its place in the ready list
+abbrev pub due : ℕ → EntityNo → Script → Ready
+due position entity script = record { position = position; entity = entity; group = 0; exclusive = true; moment = 1; cause = cause.Due; candidates = []; script = Some script }
+
+-- the ready list of their first round: the first doubles the variable 0 and the second adds 1 to it, and both log it
 abbrev pub first_ready : List Ready
-first_ready = ready_list 1 (first_world shared.graph)
+first_ready =
+    due 1 0 (instr.Set (destination.Variable 0) operation.Mul (operand.Variable 0) (operand.Value (pos 2)) ∷ instr.Log (operand.Variable 0) ∷ [])
+    ∷ due 2 1 (instr.Set (destination.Variable 0) operation.Add (operand.Variable 0) (operand.Value (pos 1)) ∷ instr.Log (operand.Variable 0) ∷ [])
+    ∷ []
 
 -- a callback that polls no goal
 abbrev pub alone : Ready → Entry

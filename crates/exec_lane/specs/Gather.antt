@@ -4,7 +4,7 @@ use Rattle.std.specs.Ordering.{nat_cmp}
 use Rattle.exec_lane.specs.Lane.{Done, Entry, Lane, state_of}
 use Rattle.exec_lane.specs.declared.gathering.Ran.{Ran}
 use Rattle.exec_script.specs.declared.effects.Effects.{Effects}
-use Rattle.exec_world.specs.declared.ready.Ready.{Ready}
+use Rattle.exec_rules.specs.declared.ready.Ready.{Ready}
 
 -- the callbacks that ran, each with what it did
 abbrev pub ran_each : List Entry → List Done → List Ran

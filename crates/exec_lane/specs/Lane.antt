@@ -8,12 +8,12 @@ use Rattle.exec_msg.specs.Lists.{change_first}
 use Rattle.exec_script.specs.Zeros.{zeros}
 use Rattle.exec_script.specs.declared.effects.Effect.{Effect}
 use Rattle.exec_script.specs.declared.effects.Effects.{Effects}
-use Rattle.exec_world.specs.Callback.{Outcome}
-use Rattle.exec_world.specs.Run.{apart_with, effects_of, variables_for, with_variables_for, work_after, work_for}
-use Rattle.exec_world.specs.World.{GoalWork, Variables, WorldState, with_work}
-use Rattle.exec_world.specs.declared.ready.Cause.{Cause}
-use Rattle.exec_world.specs.declared.ready.Cause.TheVariants as cause
-use Rattle.exec_world.specs.declared.ready.Ready.{Ready}
+use Rattle.exec_rules.specs.Callback.{Outcome}
+use Rattle.exec_rules.specs.Run.{apart_with, effects_of, variables_for, with_variables_for, work_after, work_for}
+use Rattle.exec_rules.specs.World.{GoalWork, Variables, WorldState, with_work}
+use Rattle.exec_rules.specs.declared.ready.Cause.{Cause}
+use Rattle.exec_rules.specs.declared.ready.Cause.TheVariants as cause
+use Rattle.exec_rules.specs.declared.ready.Ready.{Ready}
 
 -- ---- which callbacks are a lane
 

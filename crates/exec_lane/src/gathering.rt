@@ -6,7 +6,7 @@ ghost use Rattle.exec_lane.specs.Gather.{AreGathered, ran_in};
 ghost use Rattle.exec_lane.specs.Lane.{lane_home, lanes_home, task_home, variables_home};
 ghost use Rattle.exec_lane.specs.inner.Homing.{ran_first, slot_home, slots_home};
 ghost use Rattle.exec_lane.specs.inner.Slots.{entries_of};
-ghost use Rattle.exec_world.specs.World.{work_of};
+ghost use Rattle.exec_rules.specs.World.{work_of};
 
 use crate::lane_box::{LaneBox, Slot};
 use exec_msg::{EntityNo, Lines, Memory};

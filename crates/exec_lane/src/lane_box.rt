@@ -5,7 +5,7 @@ ghost use Rattle.exec_lane.specs.Gather.{ran_in};
 ghost use Rattle.exec_lane.specs.Lane.{Lane, lane_home, variables_home};
 ghost use Rattle.exec_lane.specs.inner.Homing.{ran_first, slots_home};
 ghost use Rattle.exec_lane.specs.inner.Slots.{SlotState, did_in, entries_of, slot_after, slots_at};
-ghost use Rattle.exec_world.specs.World.{work_of};
+ghost use Rattle.exec_rules.specs.World.{work_of};
 
 use crate::gate::Gate;
 use exec_msg::Memory;
@@ -27,7 +27,7 @@ pub(crate) struct Slot {
 impl Model for Slot {
     ghost use Rattle.std.specs.Option.{option_map};
     ghost use Rattle.exec_lane.specs.inner.Slots.{SlotState};
-    ghost use Rattle.exec_world.specs.World.{work_of};
+    ghost use Rattle.exec_rules.specs.World.{work_of};
 
     ghost Value = { SlotState };
 

@@ -6,13 +6,13 @@ ghost use Rattle.exec_lane.specs.Gather.{all_ran, ran_in};
 ghost use Rattle.exec_lane.specs.Lane.{AreFinished, Lane, as_lane, has_exclusive, is_of_exclusive, lanes_home, lanes_of, opened_lanes, tasks_out};
 ghost use Rattle.exec_msg.specs.declared.kind.Kind.{Kind};
 ghost use Rattle.exec_msg.specs.declared.kind.Kind.TheVariants as kind;
-ghost use Rattle.exec_world.specs.Calls.{AreHome, HaveVariables};
-ghost use Rattle.exec_world.specs.LawWords.{is_callback_of};
-ghost use Rattle.exec_world.specs.Ready.{ready_list};
-ghost use Rattle.exec_world.specs.Run.{all_apart, all_home};
-ghost use Rattle.exec_world.specs.Transcript.{at_snapshot, first_world, rounds};
-ghost use Rattle.exec_world.specs.World.{WorldState};
-ghost use Rattle.exec_world.specs.declared.ready.Ready.{Ready};
+ghost use Rattle.exec_rules.specs.Calls.{AreHome, HaveVariables};
+ghost use Rattle.exec_rules.specs.Ready.{is_callback_of};
+ghost use Rattle.exec_rules.specs.Ready.{ready_list};
+ghost use Rattle.exec_rules.specs.Run.{all_apart, all_home};
+ghost use Rattle.exec_rules.specs.Transcript.{at_snapshot, first_world, rounds};
+ghost use Rattle.exec_rules.specs.World.{WorldState};
+ghost use Rattle.exec_rules.specs.declared.ready.Ready.{Ready};
 
 /// Every ready callback stands in exactly one lane: whatever a test picks, all lanes together hold as many
 /// callbacks that pass it as the ready list.
@@ -39,7 +39,7 @@ pub fn lanes_share_no_queue()
     ensures { (plan : PlanData) (number : ℕ) (moments : List ℕ) (next moment entity : ℕ) (of : Kind) → of ≢ kind.Poll →
         length (filter (is_callback_of entity of) (flat_map (λ lane. lane) (lanes_of (ready_list moment (at_snapshot plan next moment (rounds plan number moments (first_world plan.graph))))))) ≤ 1 }
 {
-    exec_world::laws::an_entity_has_one_callback_of_a_kind();
+    exec_rules::laws::an_entity_has_one_callback_of_a_kind();
 }
 
 /// Lanes that ran, in whatever threads and in whatever order, come home as their callbacks do that run one after another, and

@@ -3,9 +3,9 @@ ghost use Rattle.std.specs.Prelude.{◌≡◌, [], map, true, IfOk, OnErr, OnOk}
 ghost use Rattle.std.specs.Option.{option_map};
 ghost use Rattle.exec_lane.specs.Lane.{opened_lanes, tasks_out, variables_at, without_task};
 ghost use Rattle.exec_lane.specs.inner.Cuts.{callbacks_of, cut_from, opened_slots, slot_in};
-ghost use Rattle.exec_world.specs.Calls.{AreHome, IsHomeFor};
-ghost use Rattle.exec_world.specs.Run.{work_for};
-ghost use Rattle.exec_world.specs.World.{work_of};
+ghost use Rattle.exec_rules.specs.Calls.{AreHome, IsHomeFor};
+ghost use Rattle.exec_rules.specs.Run.{work_for};
+ghost use Rattle.exec_rules.specs.World.{work_of};
 
 use crate::cut::Cut;
 use crate::lane_box::{LaneBox, Slot};

@@ -9,12 +9,12 @@ use Rattle.exec_lane.specs.Lane.{Lane, lanes_home, tasks_out}
 use Rattle.exec_lane.specs.declared.gathering.Ran.{Ran}
 use Rattle.exec_round.proofs.InOrder.{RiseFrom, sorted_is}
 use Rattle.exec_round.specs.inner.Commits.{after_commits, committed}
-use Rattle.exec_world.specs.Calls.{WorldData, after_round, after_snapshot, moment_of, ready_in, state_at, with_left}
-use Rattle.exec_world.specs.Ready.{placed_from, take_inputs}
-use Rattle.exec_world.specs.Run.{all_apart, all_home, apart, brought_home, commit, commit_all, effects_of}
-use Rattle.exec_world.specs.Transcript.{run_all}
-use Rattle.exec_world.specs.World.{WorldState}
-use Rattle.exec_world.specs.declared.ready.Ready.{Ready}
+use Rattle.exec_rules.specs.Calls.{WorldData, after_round, after_snapshot, moment_of, ready_in, state_at, with_left}
+use Rattle.exec_rules.specs.Ready.{placed_from, take_inputs}
+use Rattle.exec_rules.specs.Run.{all_apart, all_home, apart, brought_home, commit, commit_all, effects_of}
+use Rattle.exec_rules.specs.Transcript.{run_all}
+use Rattle.exec_rules.specs.World.{WorldState}
+use Rattle.exec_rules.specs.declared.ready.Ready.{Ready}
 
 -- ---- all of a round
 

@@ -3,7 +3,7 @@ ghost use Rattle.std.specs.Prelude.{◌≡◌, ◌<◌, ◌≤◌, false, vec_le
 ghost use Rattle.exec_lane.specs.Lane.{AreFinished};
 ghost use Rattle.exec_round.specs.inner.Commits.{after_commits};
 ghost use Rattle.exec_round.specs.inner.Sharing.{TakesSome};
-ghost use Rattle.exec_world.specs.Calls.{IsNext, after_commit, after_round};
+ghost use Rattle.exec_rules.specs.Calls.{IsNext, after_commit, after_round};
 
 use crate::claiming::claim_lanes;
 use crate::weighing::workers_for;
@@ -97,7 +97,7 @@ pub(crate) fn run_round<L: Lines, R: Threads + Sync, G: Gate>(
     ensures { OnOk result (world.new ≡ after_round round world.old) }
 {
     laws::lanes_come_home_as_one_thread_leaves_them();
-    exec_world::laws::callbacks_may_be_committed_behind();
+    exec_rules::laws::callbacks_may_be_committed_behind();
     let list = world.snapshot(round)?;
     if list.as_slice().is_empty() {
         return Ok(());

@@ -4,8 +4,8 @@ ghost use Rattle.exec_doc.specs.Document.{document_of};
 ghost use Rattle.exec_graph.specs.Graph.{names_of};
 ghost use Rattle.exec_graph.specs.Plan.{PlanData};
 ghost use Rattle.exec_round.specs.Run.{IsRefusalOf};
-ghost use Rattle.exec_world.specs.Calls.{new_world};
-ghost use Rattle.exec_world.specs.Transcript.{lines_of, text_of};
+ghost use Rattle.exec_rules.specs.Calls.{new_world};
+ghost use Rattle.exec_rules.specs.Transcript.{lines_of, text_of};
 
 use crate::rounds::{Sharing, run_round};
 use exec_doc::{Refused, read_document};
@@ -121,7 +121,7 @@ fn run_each<L: Lines, R: Threads + Sync, G: Gate>(
     ensures unfailed { OnOk result (world.new.failed ≡ false) }
     ensures lines { OnOk result (world.new.state.lines ≡ lines_of world.old.plan) }
 {
-    exec_world::laws::rounds_follow_one_another();
+    exec_rules::laws::rounds_follow_one_another();
     let sharing = Sharing::Claimed(quantum);
     for done in 0..rounds {
         run_round(rt, alloc, world, done + 1, workers, sharing, gate)?;

@@ -6,7 +6,7 @@ mod holding;
 mod lanes;
 
 ghost use Rattle.std.specs.Prelude.{◌≡◌, ◌<◌, true, false};
-ghost use Rattle.exec_world.specs.Calls.{IsNext};
+ghost use Rattle.exec_rules.specs.Calls.{IsNext};
 
 use crate::{round_claimed, round_forked, run};
 use exec_doc::{Refused, read_document};

@@ -15,7 +15,7 @@ use Rattle.exec_run.specs.declared.program.Failure.{Failure}
 use Rattle.exec_run.specs.declared.program.Failure.TheVariants as failure
 use Rattle.exec_run.specs.declared.program.words.WordsFault.{WordsFault}
 use Rattle.exec_run.specs.declared.program.words.WordsFault.TheVariants as words_fault
-use Rattle.exec_world.specs.Transcript.{text_of}
+use Rattle.exec_rules.specs.Transcript.{text_of}
 
 -- the words were good, and a document was read whole
 pub record HasRead (words : Result (Vec (String Global)) WordsFault) (input : StreamRun) (document : List ℕ) : Type 0 where

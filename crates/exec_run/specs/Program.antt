@@ -20,7 +20,7 @@ use Rattle.exec_run.specs.declared.program.words.WordsFault.{WordsFault}
 use Rattle.exec_run.specs.declared.program.words.WordsFault.TheVariants as words_fault
 use Rattle.exec_run.specs.declared.program.streams.ReadFault.{ReadFault}
 use Rattle.exec_run.specs.declared.program.streams.ReadFault.TheVariants as reading
-use Rattle.exec_world.specs.Transcript.{text_of}
+use Rattle.exec_rules.specs.Transcript.{text_of}
 
 -- words that are text, and two numbers in their ranges
 abbrev pub AreGoodWords : Result (Vec (String Global)) WordsFault → Type 0

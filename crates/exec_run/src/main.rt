@@ -1,7 +1,6 @@
 //! `exec_run <workers> <quantum>`: reads a document on standard input and writes its transcript.
 #![tactic(auto)]
 
-mod examples;
 mod program;
 #[cfg(test)]
 mod tests;

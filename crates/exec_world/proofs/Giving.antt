@@ -9,15 +9,15 @@ use Rattle.exec_goal.specs.declared.state.State.TheVariants as state
 use Rattle.exec_msg.specs.declared.goal.Event.TheVariants as event
 use Rattle.exec_msg.specs.declared.goal.GoalStatus.TheVariants as status
 use Rattle.exec_msg.specs.declared.line.Line.TheVariants as line
-use Rattle.exec_world.proofs.FoundEntries.{found_number}
-use Rattle.exec_world.proofs.Running.{found_test}
-use Rattle.exec_world.specs.Give.{call_by, cancel_all_by, cancel_goal_by, execute_goal, publish, send_goal_by}
-use Rattle.exec_world.specs.Item.{goal_id}
-use Rattle.exec_world.specs.World.{ActionClientEntry, ClientEntry, TopicEntry, WorldState, action_client_at, add_line, client_at, push, with_call, with_goal_sent}
-use Rattle.exec_world.specs.declared.item.Item.{Item}
-use Rattle.exec_world.specs.declared.item.Item.TheVariants as item
+use Rattle.exec_entity.proofs.FoundEntries.{found_number}
+use Rattle.exec_rules.proofs.Running.{found_test}
+use Rattle.exec_rules.specs.Give.{call_by, cancel_all_by, cancel_goal_by, execute_goal, publish, send_goal_by}
+use Rattle.exec_rules.specs.Item.{goal_id}
+use Rattle.exec_rules.specs.World.{ActionClientEntry, ClientEntry, TopicEntry, WorldState, action_client_at, add_line, client_at, push, with_call, with_goal_sent}
+use Rattle.exec_rules.specs.declared.item.Item.{Item}
+use Rattle.exec_rules.specs.declared.item.Item.TheVariants as item
 use Rattle.exec_world.specs.inner.Mail.{mail_of, sent_to_each, with_mail}
-use Rattle.exec_world.specs.inner.Servers.{executed_in}
+use Rattle.exec_entity.specs.inner.Servers.{executed_in}
 
 -- ---- topics
 

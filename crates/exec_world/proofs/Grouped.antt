@@ -11,15 +11,15 @@ use Rattle.exec_msg.specs.Timer.{is_due}
 use Rattle.exec_msg.specs.declared.kind.Kind.{Kind}
 use Rattle.exec_msg.specs.declared.kind.Kind.TheVariants as kind
 use Rattle.exec_script.specs.Zeros.{zeros}
-use Rattle.exec_world.proofs.Pairs.{all_filter, all_flat_where, all_map, all_mapped, all_unmapped}
-use Rattle.exec_world.proofs.ReadyLists.{all_ready}
-use Rattle.exec_world.specs.Calls.{HaveVariables}
-use Rattle.exec_world.specs.LawWords.{queue_shape, server_shape, shape_of, timer_shape}
-use Rattle.exec_world.specs.Ready.{due_ready, is_goal_awake, item_ready, poll_ready, queue_ready, ready_list, take_inputs}
-use Rattle.exec_world.specs.Transcript.{first_world, handler_for, new_queue, new_server, new_timer, takes_from_queue}
-use Rattle.exec_world.specs.World.{Handler, Moment, Queue, ServerEntry, TimerEntry, WorldState, goals_of}
-use Rattle.exec_world.specs.declared.item.Item.{Item}
-use Rattle.exec_world.specs.declared.ready.Ready.{Ready}
+use Rattle.exec_rules.proofs.Pairs.{all_filter, all_flat_where, all_map, all_mapped, all_unmapped}
+use Rattle.exec_rules.proofs.ReadyLists.{all_ready}
+use Rattle.exec_rules.specs.Calls.{HaveVariables}
+use Rattle.exec_rules.specs.Shape.{queue_shape, server_shape, shape_of, timer_shape}
+use Rattle.exec_rules.specs.Ready.{due_ready, is_goal_awake, item_ready, poll_ready, queue_ready, ready_list, take_inputs}
+use Rattle.exec_rules.specs.Transcript.{first_world, handler_for, new_queue, new_server, new_timer, takes_from_queue}
+use Rattle.exec_rules.specs.World.{Handler, Moment, Queue, ServerEntry, TimerEntry, WorldState, goals_of}
+use Rattle.exec_rules.specs.declared.item.Item.{Item}
+use Rattle.exec_rules.specs.declared.ready.Ready.{Ready}
 
 -- ---- the groups of a graph
 

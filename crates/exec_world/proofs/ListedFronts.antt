@@ -4,13 +4,13 @@ use Rattle.std.proofs.lemmas.Option.{none-some, same_Some}
 use Rattle.std.specs.Option.{option_and_then, option_map, option_map_or}
 use Rattle.exec_goal.specs.Table.{GoalRecord}
 use Rattle.exec_graph.specs.Entity.{EntityNo, Script}
-use Rattle.exec_world.specs.Ready.{candidates_for, item_ready, ready_for, script_to_take}
-use Rattle.exec_world.specs.World.{Handler, Moment, Queue, ServerEntry, has_room_for, goals_in}
-use Rattle.exec_world.specs.declared.item.Item.{Item}
-use Rattle.exec_world.specs.declared.item.Item.TheVariants as item
-use Rattle.exec_world.specs.declared.ready.Cause.TheVariants as cause
-use Rattle.exec_world.specs.declared.ready.Ready.{Ready}
-use Rattle.exec_world.specs.inner.Homes.{HasScriptOf}
+use Rattle.exec_rules.specs.Ready.{candidates_for, item_ready, ready_for, script_to_take}
+use Rattle.exec_rules.specs.World.{Handler, Moment, Queue, ServerEntry, has_room_for, goals_in}
+use Rattle.exec_rules.specs.declared.item.Item.{Item}
+use Rattle.exec_rules.specs.declared.item.Item.TheVariants as item
+use Rattle.exec_rules.specs.declared.ready.Cause.TheVariants as cause
+use Rattle.exec_rules.specs.declared.ready.Ready.{Ready}
+use Rattle.exec_rules.specs.inner.Homes.{HasScriptOf}
 use Rattle.exec_world.specs.inner.Snapshots.{front_of}
 
 first_ready : (moment : Moment) (handler : Handler) (goals : List GoalRecord) (one : Item) (items : List Item) → Some one ≡ slice_get items 0 →

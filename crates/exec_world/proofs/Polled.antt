@@ -5,14 +5,14 @@ use Rattle.exec_script.specs.Script.{listed}
 use Rattle.exec_script.specs.declared.effects.Effect.{Effect}
 use Rattle.exec_script.specs.Zeros.{zeros}
 use Rattle.exec_task.specs.Task.{TaskState}
-use Rattle.exec_world.proofs.Awake.{unchanged_first}
-use Rattle.exec_world.specs.Callback.{Outcome, callback}
-use Rattle.exec_world.specs.Run.{apart, brought_home, with_polled, work_for, work_by}
-use Rattle.exec_world.specs.World.{GoalWork, ServerEntry, Variables, WorldState, is_server_at, variables_of, with_variables}
-use Rattle.exec_world.specs.declared.ready.Cause.{Cause}
-use Rattle.exec_world.specs.declared.ready.Cause.TheVariants as cause
-use Rattle.exec_world.specs.declared.ready.Ready.{Ready}
-use Rattle.exec_world.specs.inner.Polling.{polled_by}
+use Rattle.exec_entity.proofs.Awake.{unchanged_first}
+use Rattle.exec_rules.specs.Callback.{Outcome, callback}
+use Rattle.exec_rules.specs.Run.{apart, brought_home, with_polled, work_for, work_by}
+use Rattle.exec_rules.specs.World.{GoalWork, ServerEntry, Variables, WorldState, is_server_at, variables_of, with_variables}
+use Rattle.exec_rules.specs.declared.ready.Cause.{Cause}
+use Rattle.exec_rules.specs.declared.ready.Cause.TheVariants as cause
+use Rattle.exec_rules.specs.declared.ready.Ready.{Ready}
+use Rattle.exec_entity.specs.inner.Polling.{polled_by}
 
 -- the work that a callback polls is found in the servers alone
 work_found : (server : EntityNo) (why : Cause) (world : WorldState) → work_by server why world.servers ≡ work_for server why world

@@ -5,17 +5,17 @@ use Rattle.std.specs.Option.{option_map_or}
 use Rattle.std.proofs.lemmas.Bool.{eqb-true}
 use Rattle.exec_goal.specs.Table.{GoalRecord}
 use Rattle.exec_graph.specs.Entity.{EntityNo}
-use Rattle.exec_world.proofs.Filled.{given_each}
-use Rattle.exec_world.proofs.Listing.{listed_more}
-use Rattle.exec_world.specs.Ready.{answered_by_first, due_ready, item_ready, placed_from, poll_ready, queue_ready, queues_before_polls, queues_behind_polls, ready_list, reply_taken}
-use Rattle.exec_world.specs.World.{ClientEntry, Handler, Moment, Queue, ServerEntry, TimerEntry, WorldState}
-use Rattle.exec_world.specs.declared.item.Item.{Item}
-use Rattle.exec_world.specs.declared.item.Item.TheVariants as item
-use Rattle.exec_world.specs.declared.ready.Ready.{Ready}
-use Rattle.exec_world.specs.inner.Listing.{listed_behind}
+use Rattle.exec_queue.proofs.Filled.{given_each}
+use Rattle.exec_rules.proofs.Listing.{listed_more}
+use Rattle.exec_rules.specs.Ready.{answered_by_first, due_ready, item_ready, placed_from, poll_ready, queue_ready, queues_before_polls, queues_behind_polls, ready_list, reply_taken}
+use Rattle.exec_rules.specs.World.{ClientEntry, Handler, Moment, Queue, ServerEntry, TimerEntry, WorldState}
+use Rattle.exec_rules.specs.declared.item.Item.{Item}
+use Rattle.exec_rules.specs.declared.item.Item.TheVariants as item
+use Rattle.exec_rules.specs.declared.ready.Ready.{Ready}
+use Rattle.exec_rules.specs.inner.Listing.{listed_behind}
 use Rattle.exec_world.specs.inner.Mail.{MailState, mail_of}
-use Rattle.exec_world.specs.inner.Places.{places_from, places_where}
-use Rattle.exec_world.specs.inner.Queues.{has_item, is_in_part}
+use Rattle.exec_rules.specs.inner.Places.{places_from, places_where}
+use Rattle.exec_queue.specs.inner.Queues.{has_item, is_in_part}
 use Rattle.exec_world.specs.inner.Snapshots.{fronts_at, replies_at, with_reply_at}
 
 has_one : (item : Item) (items : List Item) → not (length (item ∷ items) == 0) ≡ false → ⊥

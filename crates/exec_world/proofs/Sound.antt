@@ -14,24 +14,24 @@ use Rattle.exec_graph.specs.declared.plan.Feed.{Feed}
 use Rattle.exec_msg.specs.Lists.{change_first}
 use Rattle.exec_msg.specs.Timer.{is_due}
 use Rattle.exec_msg.specs.declared.line.Line.TheVariants as line
-use Rattle.exec_world.proofs.Identifiers.{HasDistinct, Makes, distinct_kept, first_distinct, ids_left}
-use Rattle.exec_world.proofs.Keeping.{Kept, feed_keeps, ids, moves_kept, publish_kept, push_kept}
-use Rattle.exec_world.proofs.Pairs.{Pairs, across, all_append, all_flat, all_mapped, all_weaker, all_passed, pairs_append, pairs_all, pairs_filter, pairs_map, pairs_unmapped}
-use Rattle.exec_world.proofs.ReadyLists.{all_ready}
-use Rattle.exec_world.proofs.Running.{KeptByRounds, run_all_keeps}
-use Rattle.exec_world.proofs.Shapes.{part_changed, shape_kept}
-use Rattle.exec_world.proofs.Wiring.{NumbersApart, numbers_apart, wired}
-use Rattle.exec_world.specs.Calls.{AreHome, IsHomeFor, polls_same, polls_same_of, wakes}
-use Rattle.exec_world.specs.Item.{GoalId}
-use Rattle.exec_world.specs.LawWords.{server_shape, shape_of}
-use Rattle.exec_world.specs.Ready.{due_ready, is_goal_awake, is_task_awake, item_ready, poll_ready, placed_from, queue_ready, queues_before_polls, queues_behind_polls, ready_for, ready_list, take_inputs, turn_at, woken}
-use Rattle.exec_world.specs.Transcript.{expire, feed, first_world, snapshot_and_run}
-use Rattle.exec_world.specs.World.{GoalWork, HeldGoal, Moment, Queue, ServerEntry, TimerEntry, WorldState, add_line, goals_of, is_for, is_server_at, with_work}
-use Rattle.exec_world.specs.declared.item.Item.{Item}
-use Rattle.exec_world.specs.declared.item.Item.TheVariants as item
-use Rattle.exec_world.specs.declared.ready.Cause.{Cause}
-use Rattle.exec_world.specs.declared.ready.Cause.TheVariants as cause
-use Rattle.exec_world.specs.declared.ready.Ready.{Ready}
+use Rattle.exec_rules.proofs.Identifiers.{HasDistinct, Makes, distinct_kept, first_distinct, ids_left}
+use Rattle.exec_rules.proofs.Keeping.{Kept, feed_keeps, ids, moves_kept, publish_kept, push_kept}
+use Rattle.exec_rules.proofs.Pairs.{Pairs, across, all_append, all_flat, all_mapped, all_weaker, all_passed, pairs_append, pairs_all, pairs_filter, pairs_map, pairs_unmapped}
+use Rattle.exec_rules.proofs.ReadyLists.{all_ready}
+use Rattle.exec_rules.proofs.Running.{KeptByRounds, run_all_keeps}
+use Rattle.exec_rules.proofs.Shapes.{part_changed, shape_kept}
+use Rattle.exec_rules.proofs.Wiring.{NumbersApart, numbers_apart, wired}
+use Rattle.exec_rules.specs.Calls.{AreHome, IsHomeFor, polls_same, polls_same_of, wakes}
+use Rattle.exec_rules.specs.Item.{GoalId}
+use Rattle.exec_rules.specs.Shape.{server_shape, shape_of}
+use Rattle.exec_rules.specs.Ready.{due_ready, is_goal_awake, is_task_awake, item_ready, poll_ready, placed_from, queue_ready, queues_before_polls, queues_behind_polls, ready_for, ready_list, take_inputs, turn_at, woken}
+use Rattle.exec_rules.specs.Transcript.{expire, feed, first_world, snapshot_and_run}
+use Rattle.exec_rules.specs.World.{GoalWork, HeldGoal, Moment, Queue, ServerEntry, TimerEntry, WorldState, add_line, goals_of, is_for, is_server_at, with_work}
+use Rattle.exec_rules.specs.declared.item.Item.{Item}
+use Rattle.exec_rules.specs.declared.item.Item.TheVariants as item
+use Rattle.exec_rules.specs.declared.ready.Cause.{Cause}
+use Rattle.exec_rules.specs.declared.ready.Cause.TheVariants as cause
+use Rattle.exec_rules.specs.declared.ready.Ready.{Ready}
 use Rattle.exec_world.specs.inner.Sound.{IsSound}
 
 -- ---- what is kept

@@ -7,8 +7,8 @@ use Rattle.exec_graph.specs.Graph.{EntityData, GraphData, Waitable, cons_if, dec
 use Rattle.exec_graph.specs.declared.entity.Declared.{Declared}
 use Rattle.exec_graph.specs.declared.entity.Declared.TheVariants.{Topic}
 use Rattle.exec_msg.specs.declared.kind.Kind.{Kind}
-use Rattle.exec_world.specs.Transcript.{new_action_clients, new_queue, takes_from_queue, action_client_for}
-use Rattle.exec_world.specs.World.{ActionClientEntry, Queue}
+use Rattle.exec_rules.specs.Transcript.{new_action_clients, new_queue, takes_from_queue, action_client_for}
+use Rattle.exec_rules.specs.World.{ActionClientEntry, Queue}
 use Rattle.exec_world.specs.inner.Parts.{new_queue_of, queues_of}
 
 -- what is made of those from a number on that pass a test

@@ -1,13 +1,2 @@
-pub mod Callback
-pub mod Calls
-pub mod Close
-pub mod Examples
-pub mod Exchanges
-pub mod Give
-pub mod Item
-pub mod LawWords
-pub mod Ready
-pub mod Run
-pub mod Transcript
-pub mod World
+pub mod Faults
 pub mod inner

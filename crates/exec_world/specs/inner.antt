@@ -1,14 +1,5 @@
-pub mod Homes
-pub mod Keeping
-pub mod Listing
 pub mod Mail
-pub mod Numbered
 pub mod Parts
-pub mod Places
-pub mod Polling
-pub mod Queues
 pub mod Rounds
-pub mod Server
-pub mod Servers
 pub mod Snapshots
 pub mod Sound

@@ -9,17 +9,9 @@ use exec_graph::{
     SubscriptionEntity, TimerEntity,
 };
 use exec_msg::{EntityNo, Kind, Memory};
+use exec_rules::share;
 use std::alloc::Global;
 use std::sync::Arc;
-
-// The same script, which is shared.
-#[inline(always)]
-pub(crate) fn share(script: &Script) -> Result<Script, Memory>
-    ensures { IfOk result (λ shared. shared ≡ script.now) }
-{
-    let instructions = script.shared().clone()?;
-    Ok(Script::of(instructions))
-}
 
 // The script of an entity's callbacks of a kind, where it has such callbacks. That of an ask is empty, and so is that of a
 // result for which the action client has none.

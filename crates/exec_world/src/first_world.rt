@@ -5,19 +5,15 @@ ghost use Rattle.exec_graph.specs.Entity.{is_within};
 ghost use Rattle.exec_graph.specs.Graph.{callback_script, cons_if, entities_where, has_kind, in_group, is_action_client, is_client, is_exclusive, is_server, is_timer, is_topic, of_entity};
 ghost use Rattle.exec_graph.specs.declared.entity.EntityOf.TheVariants as resolved;
 ghost use Rattle.exec_script.specs.Zeros.{zeros};
-ghost use Rattle.exec_world.specs.Transcript.{first_world, new_topic, subscribes_to, takes_from_queue, action_client_for, client_for, queue_for, server_for, timer_for};
+ghost use Rattle.exec_rules.specs.Transcript.{first_world, new_topic, subscribes_to, takes_from_queue, action_client_for, client_for, queue_for, server_for, timer_for};
 ghost use Rattle.exec_world.specs.inner.Parts.{new_queue_of, queues_of};
 
-use crate::action_client::{ActionClient, ActionClients};
-use crate::callback_script::{callback_script, share};
-use crate::client::{Client, Clients};
-use crate::handler::Handler;
-use crate::queue::Queues;
-use crate::server::{Server, Servers};
-use crate::timer::EntityTimer;
-use crate::topic::{Topic, Topics};
+use crate::callback_script::callback_script;
+use exec_entity::{ActionClient, ActionClients, Client, Clients, Server, Servers, Topic, Topics};
 use exec_graph::{Declared, EntityOf, Graph, GraphEntity, Script};
 use exec_msg::{EntityNo, Kind, Memory};
+use exec_queue::{EntityTimer, Queues};
+use exec_rules::{Handler, share};
 use exec_script::Bank;
 use std::alloc::Global;
 

@@ -1,19 +1,17 @@
 //! Callbacks that take what stands first in queues.
 ghost use Rattle.std.specs.Prelude.{◌≡◌, [], slice_get, IfOk, OnOk};
 ghost use Rattle.std.specs.Option.{option_and_then, option_copied, option_map_or};
-ghost use Rattle.exec_world.specs.Ready.{script_to_take};
-ghost use Rattle.exec_world.specs.inner.Homes.{AreHomes, handlers_of};
-ghost use Rattle.exec_world.specs.inner.Listing.{listed_behind};
+ghost use Rattle.exec_rules.specs.Ready.{script_to_take};
+ghost use Rattle.exec_rules.specs.inner.Homes.{AreHomes, handlers_of};
+ghost use Rattle.exec_rules.specs.inner.Listing.{listed_behind};
 ghost use Rattle.exec_world.specs.inner.Snapshots.{front_at, fronts_at};
 
-use crate::homes::Home;
-use crate::item::Item;
-use crate::queue::Queues;
-use crate::ready_list::ReadyList;
-use crate::server::{Server, Servers};
 use crate::taken::{ready_for_item, runs_script};
+use exec_entity::{Server, Servers};
 use exec_graph::Script;
 use exec_msg::{Memory, Moment};
+use exec_queue::Queues;
+use exec_rules::{Home, Item, ReadyList};
 use std::alloc::Global;
 
 // Lists the callbacks that take from the queues at these places.

@@ -1,10 +1,8 @@
 use crate::fronts::list_fronts;
-use crate::homes::Home;
-use crate::item::Item;
-use crate::queue::{Queues, bring_scripts_home};
-use crate::ready_list::ReadyList;
-use crate::server::Servers;
+use exec_entity::Servers;
 use exec_msg::{EntityNo, Line, Lines, Memory, Moment};
+use exec_queue::{Queues, bring_home_to_queues};
+use exec_rules::{Home, Item, ReadyList};
 use std::alloc::Global;
 use std::marker::Model;
 
@@ -26,13 +24,15 @@ impl<L: Lines> Model for Mail<L> {
 impl<L: Lines> Mail<L> {
     ghost use Rattle.std.specs.Prelude.{◌≡◌, ◌++◌, ◌&&◌, map, OnOk};
     ghost use Rattle.std.specs.Option.{option_to_list};
-    ghost use Rattle.exec_world.specs.World.{drop_line};
-    ghost use Rattle.exec_world.specs.Ready.{queue_taken};
-    ghost use Rattle.exec_world.specs.inner.Homes.{AreHomes, handlers_of};
-    ghost use Rattle.exec_world.specs.inner.Listing.{listed_behind};
-    ghost use Rattle.exec_world.specs.inner.Places.{places_where};
+    ghost use Rattle.exec_rules.specs.World.{drop_line};
+    ghost use Rattle.exec_rules.specs.Ready.{queue_taken};
+    ghost use Rattle.exec_rules.specs.Transcript.{expire_lines, server_expired};
+    ghost use Rattle.std.specs.List.{flat_map};
+    ghost use Rattle.exec_rules.specs.inner.Homes.{AreHomes, handlers_of};
+    ghost use Rattle.exec_rules.specs.inner.Listing.{listed_behind};
+    ghost use Rattle.exec_rules.specs.inner.Places.{places_where};
     ghost use Rattle.exec_world.specs.inner.Snapshots.{fronts_at};
-    ghost use Rattle.exec_world.specs.inner.Queues.{has_item, is_in_part};
+    ghost use Rattle.exec_queue.specs.inner.Queues.{has_item, is_in_part};
     ghost use Rattle.exec_world.specs.inner.Mail.{with_line, sent_to, sent_to_any, sent_to_each};
 
     // Empty queues, and where lines go.
@@ -106,7 +106,7 @@ impl<L: Lines> Mail<L> {
         requires { AreHomes (handlers_of self.old.queues) list.old homes.now }
         ensures { self.new ≡ self.old }
     {
-        bring_scripts_home(&mut self.queues, list, homes);
+        bring_home_to_queues(&mut self.queues, list, homes);
     }
 
     // Takes the first item of each queue that has one.
@@ -123,6 +123,14 @@ impl<L: Lines> Mail<L> {
         ensures { OnOk result (self.new ≡ with_line line self.old) }
     {
         self.lines.add(&line)
+    }
+
+    // Servers forget the goals whose results they keep no longer at a moment, each with its line, server by server.
+    pub(crate) fn expire(&mut self, moment: Moment, servers: &mut Servers) -> Result<(), Memory>
+        ensures servers { OnOk result (servers.new ≡ map (server_expired moment) servers.old) }
+        ensures lines { OnOk result (self.new ≡ record self.old { lines = self.old.lines ++ flat_map (expire_lines moment) servers.old }) }
+    {
+        servers.expire(moment, &mut self.lines)
     }
 
     // Sends an item to an entity: what its queue loses by it is dropped with a line.

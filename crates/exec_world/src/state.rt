@@ -6,17 +6,14 @@ mod lend;
 mod round;
 mod snapshot;
 
-use crate::action_client::ActionClients;
-use crate::client::Clients;
 use crate::first_world::{
     new_action_clients, new_banks, new_clients, new_queues, new_servers, new_timers, new_topics,
 };
 use crate::mail::Mail;
-use crate::server::Servers;
-use crate::timer::EntityTimer;
-use crate::topic::Topics;
+use exec_entity::{ActionClients, Clients, Servers, Topics};
 use exec_graph::{Graph, GroupNo};
 use exec_msg::{EntityNo, Line, Lines, Memory};
+use exec_queue::EntityTimer;
 use exec_script::Bank;
 use std::alloc::Global;
 use std::marker::Model;
@@ -38,7 +35,7 @@ pub(crate) struct State<L: Lines> {
 }
 
 impl<L: Lines> Model for State<L> {
-    ghost use Rattle.exec_world.specs.World.{WorldState};
+    ghost use Rattle.exec_rules.specs.World.{WorldState};
 
     ghost Value = { WorldState };
 
@@ -56,8 +53,8 @@ impl<L: Lines> Model for State<L> {
 
 impl<L: Lines> State<L> {
     ghost use Rattle.std.specs.Prelude.{◌≡◌, [], IfOk, OnOk};
-    ghost use Rattle.exec_world.specs.Transcript.{first_world};
-    ghost use Rattle.exec_world.specs.World.{add_line, variables_of, with_variables};
+    ghost use Rattle.exec_rules.specs.Transcript.{first_world};
+    ghost use Rattle.exec_rules.specs.World.{add_line, variables_of, with_variables};
 
     // The world of a graph before its first round, with no lines yet.
     pub(crate) fn new(alloc: Global, graph: &Graph, lines: L) -> Result<State<L>, Memory>

@@ -2,17 +2,15 @@
 ghost use Rattle.std.specs.Prelude.{◌≡◌, [], None, Some, if◌then◌else◌, IfOk};
 ghost use Rattle.std.specs.Option.{option_copied, option_map_or};
 ghost use Rattle.exec_graph.specs.Entity.{Script};
-ghost use Rattle.exec_world.specs.Ready.{candidates_for, ready_for, script_to_take};
-ghost use Rattle.exec_world.specs.World.{has_room_for};
-ghost use Rattle.exec_world.specs.declared.ready.Cause.TheVariants as cause;
+ghost use Rattle.exec_rules.specs.Ready.{candidates_for, ready_for, script_to_take};
+ghost use Rattle.exec_rules.specs.World.{has_room_for};
+ghost use Rattle.exec_rules.specs.declared.ready.Cause.TheVariants as cause;
 
-use crate::handler::Handler;
-use crate::item::Item;
-use crate::ready::{Cause, Ready};
-use crate::server::Server;
+use exec_entity::Server;
 use exec_goal::GoalInfo;
 use exec_graph::Script;
 use exec_msg::{GoalId, Items, Memory, Moment};
+use exec_rules::{Cause, Handler, Item, Ready};
 use std::alloc::Global;
 
 // The callback that takes an item, where its entity is this server, if it is one, and this is the script that it runs, if any.

@@ -1,13 +1,11 @@
 ghost use Rattle.std.specs.Prelude.{◌≡◌, [], IfOk};
 ghost use Rattle.std.specs.Arc.{arc_value};
-ghost use Rattle.exec_world.specs.Transcript.{lines_of};
+ghost use Rattle.exec_rules.specs.Transcript.{lines_of};
 
-use crate::homes::Homes;
-use crate::ready::Ready;
-use crate::ready_list::ReadyList;
 use crate::state::State;
 use exec_graph::{FeedByRound, GroupNo, Plan};
 use exec_msg::{EntityNo, GoalId, Line, LineList, Lines, Memory};
+use exec_rules::{Homes, Ready, ReadyList};
 use exec_script::{Bank, EffectList, Effects};
 use exec_task::{GoalTask, Poller};
 use std::alloc::Global;
@@ -28,7 +26,7 @@ pub enum WorldFault {
 
 impl WorldFault {
     ghost use Rattle.std.specs.Prelude.{◌≡◌};
-    ghost use Rattle.exec_world.specs.Calls.{world_fault_number};
+    ghost use Rattle.exec_world.specs.Faults.{world_fault_number};
 
     /// Its number.
     pub fn number(self) -> u8
@@ -68,7 +66,7 @@ impl<L: Lines> Model for World<L> {
     ghost use Rattle.std.specs.Prelude.{◌≡◌, false, length};
     ghost use Rattle.std.specs.Arc.{arc_value};
     ghost use Rattle.exec_graph.specs.Feeding.{feeds_by_round};
-    ghost use Rattle.exec_world.specs.Calls.{WorldData};
+    ghost use Rattle.exec_rules.specs.Calls.{WorldData};
     ghost use Rattle.exec_world.specs.inner.Rounds.{HasBegun, rounds_in};
     ghost use Rattle.exec_world.specs.inner.Sound.{IsSound};
 
@@ -82,7 +80,7 @@ impl<L: Lines> Model for World<L> {
 impl World<LineList> {
     ghost use Rattle.std.specs.Prelude.{◌≡◌, false, IfOk};
     ghost use Rattle.std.specs.Arc.{arc_value};
-    ghost use Rattle.exec_world.specs.Calls.{new_world};
+    ghost use Rattle.exec_rules.specs.Calls.{new_world};
 
     /// The world of a plan before its first round.
     ///
@@ -106,10 +104,11 @@ impl World<LineList> {
 impl<L: Lines> World<L> {
     ghost use Rattle.std.specs.Prelude.{◌≡◌, ◌↔◌, ◌<◌, [], length, true, false, None, Some, IfOk, IfErr, OnOk};
     ghost use Rattle.std.specs.Arc.{arc_value};
-    ghost use Rattle.exec_world.specs.Calls.{AreHome, HasFailed, HaveVariables, IsNext, after_all, after_commit, after_finish, after_round, after_snapshot, new_world, ready_in, world_after};
+    ghost use Rattle.exec_world.specs.Faults.{HasFailed};
+    ghost use Rattle.exec_rules.specs.Calls.{AreHome, HaveVariables, IsNext, after_all, after_commit, after_finish, after_round, after_snapshot, new_world, ready_in, world_after};
     ghost use Rattle.exec_world.specs.declared.world.WorldFault.TheVariants as fault;
-    ghost use Rattle.exec_world.specs.World.{GoalWork, variables_of, with_variables, with_work, work_at, work_of};
-    ghost use Rattle.exec_world.specs.Transcript.{lines_of};
+    ghost use Rattle.exec_rules.specs.World.{GoalWork, variables_of, with_variables, with_work, work_at, work_of};
+    ghost use Rattle.exec_rules.specs.Transcript.{lines_of};
 
     /// The world of a plan before its first round, whose lines go where there are none yet.
     ///

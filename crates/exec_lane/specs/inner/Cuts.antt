@@ -5,9 +5,9 @@ use Rattle.exec_graph.specs.Graph.{GroupNo}
 use Rattle.exec_lane.specs.Lane.{Lane, goes_into, variables_at, without_task}
 use Rattle.exec_lane.specs.inner.Slots.{SlotState, entries_of}
 use Rattle.exec_msg.specs.Lists.{change_first}
-use Rattle.exec_world.specs.Run.{work_for}
-use Rattle.exec_world.specs.World.{WorldState}
-use Rattle.exec_world.specs.declared.ready.Ready.{Ready}
+use Rattle.exec_rules.specs.Run.{work_for}
+use Rattle.exec_rules.specs.World.{WorldState}
+use Rattle.exec_rules.specs.declared.ready.Ready.{Ready}
 use Rattle.exec_msg.specs.Places.{first_place, place_under}
 
 -- the callbacks of slots

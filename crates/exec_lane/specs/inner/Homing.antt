@@ -5,8 +5,8 @@ use Rattle.exec_lane.specs.Lane.{task_home}
 use Rattle.exec_lane.specs.declared.gathering.Ran.{Ran}
 use Rattle.exec_lane.specs.inner.Slots.{SlotState}
 use Rattle.exec_script.specs.declared.effects.Effects.{Effects}
-use Rattle.exec_world.specs.World.{WorldState}
-use Rattle.exec_world.specs.declared.ready.Ready.{Ready}
+use Rattle.exec_rules.specs.World.{WorldState}
+use Rattle.exec_rules.specs.declared.ready.Ready.{Ready}
 
 -- the world in which the work of a callback's goal is home
 abbrev pub slot_home : WorldState → SlotState → WorldState

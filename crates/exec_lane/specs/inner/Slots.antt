@@ -4,10 +4,10 @@ use Rattle.std.specs.Option.{option_map}
 use Rattle.exec_lane.specs.Lane.{Done, Entry}
 use Rattle.exec_script.specs.declared.effects.Effect.{Effect}
 use Rattle.exec_script.specs.declared.effects.Effects.{Effects}
-use Rattle.exec_world.specs.Callback.{Outcome}
-use Rattle.exec_world.specs.Run.{apart_with, effects_of, work_after}
-use Rattle.exec_world.specs.World.{GoalWork, Variables}
-use Rattle.exec_world.specs.declared.ready.Ready.{Ready}
+use Rattle.exec_rules.specs.Callback.{Outcome}
+use Rattle.exec_rules.specs.Run.{apart_with, effects_of, work_after}
+use Rattle.exec_rules.specs.World.{GoalWork, Variables}
+use Rattle.exec_rules.specs.declared.ready.Ready.{Ready}
 
 -- a callback, the work of the goal that it polls, if it polls one, and what it did, if it ran
 pub record SlotState : Type 0 where

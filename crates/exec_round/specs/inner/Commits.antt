@@ -2,9 +2,9 @@
 use Rattle.std.specs.Prelude.{List}
 use Rattle.std.specs.List.{fold}
 use Rattle.exec_lane.specs.declared.gathering.Ran.{Ran}
-use Rattle.exec_world.specs.Calls.{WorldData, after_commit}
-use Rattle.exec_world.specs.Run.{commit}
-use Rattle.exec_world.specs.World.{WorldState}
+use Rattle.exec_rules.specs.Calls.{WorldData, after_commit}
+use Rattle.exec_rules.specs.Run.{commit}
+use Rattle.exec_rules.specs.World.{WorldState}
 
 -- a world after callbacks that ran are committed
 abbrev pub after_commits : List Ran → WorldData → WorldData

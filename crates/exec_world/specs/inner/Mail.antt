@@ -4,9 +4,9 @@ use Rattle.std.specs.List.{fold}
 use Rattle.exec_graph.specs.Entity.{EntityNo}
 use Rattle.exec_msg.specs.Lists.{change_first}
 use Rattle.exec_msg.specs.declared.line.Line.{Line}
-use Rattle.exec_world.specs.Item.{taker_of}
-use Rattle.exec_world.specs.World.{WorldState, Queue, is_queue, queue_after, drop_line, lost_from}
-use Rattle.exec_world.specs.declared.item.Item.{Item}
+use Rattle.exec_rules.specs.Item.{taker_of}
+use Rattle.exec_rules.specs.World.{WorldState, Queue, is_queue, queue_after, drop_line, lost_from}
+use Rattle.exec_rules.specs.declared.item.Item.{Item}
 
 -- the queues and the lines of a world
 pub record MailState : Type 0 where

@@ -3,8 +3,8 @@ use Rattle.std.specs.Prelude.{List, [], map, if◌then◌else◌}
 use Rattle.exec_graph.specs.Entity.{EntityNo}
 use Rattle.exec_graph.specs.Graph.{GraphData, has_kind, entities_where}
 use Rattle.exec_msg.specs.declared.kind.Kind.{Kind}
-use Rattle.exec_world.specs.Transcript.{takes_from_queue, new_queue}
-use Rattle.exec_world.specs.World.{Queue}
+use Rattle.exec_rules.specs.Transcript.{takes_from_queue, new_queue}
+use Rattle.exec_rules.specs.World.{Queue}
 
 -- the queue of an entity's callbacks of a kind
 abbrev pub new_queue_of : GraphData → Kind → EntityNo → Queue

@@ -3,9 +3,9 @@ use Rattle.std.specs.Prelude.{◌≡◌, ◌==◌, map}
 use Rattle.std.specs.List.{IsDistinct}
 use Rattle.exec_graph.specs.Entity.{EntityNo}
 use Rattle.exec_graph.specs.Graph.{GraphData}
-use Rattle.exec_world.specs.LawWords.{shape_of}
-use Rattle.exec_world.specs.Transcript.{first_world}
-use Rattle.exec_world.specs.World.{WorldState, goals_of}
+use Rattle.exec_rules.specs.Shape.{shape_of}
+use Rattle.exec_rules.specs.Transcript.{first_world}
+use Rattle.exec_rules.specs.World.{WorldState, goals_of}
 
 -- a world has the shape of its graph, and no two goals of one server have one identifier
 pub record IsSound (graph : GraphData) (world : WorldState) : Type 0 where

@@ -2,15 +2,14 @@
 ghost use Rattle.std.specs.Prelude.{◌≡◌, [], slice_index_or, slice_set, IfOk, OnOk};
 ghost use Rattle.exec_script.specs.Script.{listed};
 ghost use Rattle.exec_script.specs.Zeros.{zeros};
-ghost use Rattle.exec_world.specs.Callback.{callback};
-ghost use Rattle.exec_world.specs.inner.Polling.{polled_by};
-ghost use Rattle.exec_world.specs.Run.{work_by};
+ghost use Rattle.exec_rules.specs.Callback.{callback};
+ghost use Rattle.exec_entity.specs.inner.Polling.{polled_by};
+ghost use Rattle.exec_rules.specs.Run.{work_by};
 
 use super::State;
-use crate::callback::{call_in, take_item};
-use crate::ready::{Cause, Ready};
-use crate::server::Servers;
+use exec_entity::Servers;
 use exec_msg::{Lines, Memory};
+use exec_rules::{Cause, Ready, call_in, take_item};
 use exec_script::{Bank, Close, Effect, EffectList, Role};
 use exec_task::Turn;
 use futures::task::Context;
@@ -18,7 +17,7 @@ use std::alloc::Global;
 
 impl<L: Lines> State<L> {
     ghost use Rattle.std.specs.Prelude.{◌≡◌, IfOk, OnOk};
-    ghost use Rattle.exec_world.specs.Run.{apart, brought_home, commit, run};
+    ghost use Rattle.exec_rules.specs.Run.{apart, brought_home, commit, run};
 
     // Runs a ready callback; a goal is polled in a context that the caller has made. The list has room for effects, which is used
     // again and again.

@@ -1,14 +1,12 @@
 //! What closes a callback in the world, behind its effects.
 ghost use Rattle.std.specs.Prelude.{◌≡◌};
-ghost use Rattle.exec_world.specs.Close.{reply_in};
+ghost use Rattle.exec_rules.specs.Close.{reply_in};
 
 use super::State;
-use crate::callback::decision_in;
-use crate::item::Item;
-use crate::ready::{Cause, Ready};
-use crate::server::GoalRequest;
+use exec_entity::GoalRequest;
 use exec_goal::{Asked, CancelRequest};
 use exec_msg::{EntityNo, Event, GoalId, GoalStatus, Line, Lines, Memory, Moment};
+use exec_rules::{Cause, Item, Ready, decision_in};
 use exec_script::Close;
 
 impl<L: Lines> State<L> {
@@ -17,10 +15,10 @@ impl<L: Lines> State<L> {
     ghost use Rattle.exec_goal.specs.Calls.{askers_in};
     ghost use Rattle.exec_msg.specs.declared.goal.GoalStatus.TheVariants as status;
     ghost use Rattle.exec_msg.specs.declared.line.Line.TheVariants as line;
-    ghost use Rattle.exec_world.specs.declared.item.Item.TheVariants as item;
+    ghost use Rattle.exec_rules.specs.declared.item.Item.TheVariants as item;
     ghost use Rattle.exec_goal.specs.Table.{is_accepting};
-    ghost use Rattle.exec_world.specs.Close.{accept, answer_goal, ask, cancel, close_callback, close_item, close_poll, decide, decisions_in, end, reply_to, respond, tell};
-    ghost use Rattle.exec_world.specs.World.{action_client_at, add_line, add_lines, goals_of, has_room_for, push};
+    ghost use Rattle.exec_rules.specs.Close.{accept, answer_goal, ask, cancel, close_callback, close_item, close_poll, decide, decisions_in, end, reply_to, respond, tell};
+    ghost use Rattle.exec_rules.specs.World.{action_client_at, add_line, add_lines, goals_of, has_room_for, push};
 
     // Closes a ready callback.
     #[inline(always)]

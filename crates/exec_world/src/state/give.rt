@@ -1,17 +1,16 @@
 //! What the effects of a callback do to the world.
 use super::State;
-use crate::item::Item;
-use crate::ready::{Cause, Ready};
 use exec_goal::CancelRequest;
 use exec_msg::{EntityNo, GoalId, GoalStatus, Line, Lines, Memory};
+use exec_rules::{Cause, Item, Ready};
 use exec_script::Effect;
 
 impl<L: Lines> State<L> {
     ghost use Rattle.std.specs.Prelude.{◌≡◌, Some, OnOk};
     ghost use Rattle.exec_msg.specs.declared.line.Line.TheVariants as line;
-    ghost use Rattle.exec_world.specs.declared.item.Item.TheVariants as item;
-    ghost use Rattle.exec_world.specs.Give.{call_by, cancel_all_by, cancel_goal_by, client_of, execute, give, give_all, give_feedback, publish, send_goal_by};
-    ghost use Rattle.exec_world.specs.World.{action_client_at, add_line, client_at, push, push_any};
+    ghost use Rattle.exec_rules.specs.declared.item.Item.TheVariants as item;
+    ghost use Rattle.exec_rules.specs.Give.{call_by, cancel_all_by, cancel_goal_by, client_of, execute, give, give_all, give_feedback, publish, send_goal_by};
+    ghost use Rattle.exec_rules.specs.World.{action_client_at, add_line, client_at, push, push_any};
 
     // Gives effects of a ready callback, one after another.
     #[inline(always)]

@@ -6,7 +6,7 @@ use exec_task::GoalTask;
 impl<L: Lines> State<L> {
     ghost use Rattle.std.specs.Prelude.{◌≡◌, None, Some};
     ghost use Rattle.std.specs.Option.{option_map};
-    ghost use Rattle.exec_world.specs.World.{with_work, work_at, work_of};
+    ghost use Rattle.exec_rules.specs.World.{with_work, work_at, work_of};
 
     // Takes the task of a server's goal out of the world, and answers `None` where no such goal is held or its task is out.
     pub(crate) fn take_task(&mut self, server: EntityNo, id: GoalId) -> Option<GoalTask>

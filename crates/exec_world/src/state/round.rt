@@ -1,30 +1,26 @@
 //! Rounds, from the first line to the last.
 ghost use Rattle.std.specs.Prelude.{◌≡◌, ◌++◌, length, OnOk};
 ghost use Rattle.std.specs.List.{flat_map};
-ghost use Rattle.exec_world.specs.Transcript.{pending_by};
+ghost use Rattle.exec_rules.specs.Transcript.{pending_by};
 
 use super::State;
-use crate::by_number::Numbered;
-use crate::client::Client;
-use crate::homes::Homes;
-use crate::item::Item;
 use crate::mail::Mail;
-use crate::ready::Ready;
-use crate::ready_list::ReadyList;
-use crate::timer::bring_scripts_home;
+use exec_entity::{Client, Numbered};
 use exec_goal::CancelRequest;
 use exec_graph::{Fed, Feed};
 use exec_msg::{Line, Lines, Memory, Moment};
+use exec_queue::bring_home_to_timers;
+use exec_rules::{Homes, Item, Ready, ReadyList};
 use exec_script::EffectList;
 use futures::task::Context;
 
 impl<L: Lines> State<L> {
     ghost use Rattle.std.specs.Prelude.{◌≡◌, OnOk};
     ghost use Rattle.exec_msg.specs.declared.line.Line.TheVariants as line;
-    ghost use Rattle.exec_world.specs.Ready.{ready_list, take_inputs};
-    ghost use Rattle.exec_world.specs.Transcript.{closing_lines, expire, feed, feed_one, finish, run_all, snapshot_and_run};
-    ghost use Rattle.exec_world.specs.World.{add_line};
-    ghost use Rattle.exec_world.specs.inner.Homes.{AreHomes, queue_handlers, timer_handlers};
+    ghost use Rattle.exec_rules.specs.Ready.{ready_list, take_inputs};
+    ghost use Rattle.exec_rules.specs.Transcript.{closing_lines, expire, feed, feed_one, finish, run_all, snapshot_and_run};
+    ghost use Rattle.exec_rules.specs.World.{add_line};
+    ghost use Rattle.exec_rules.specs.inner.Homes.{AreHomes, queue_handlers, timer_handlers};
 
     // Begins the round of a number at a moment, and takes each input. The list then has the callbacks that are ready, and these
     // alone.
@@ -72,7 +68,7 @@ impl<L: Lines> State<L> {
         requires queues { AreHomes (queue_handlers self.old) list.old homes.now.queues.items }
         ensures { self.new ≡ self.old }
     {
-        bring_scripts_home(&mut self.timers, list, &homes.timers);
+        bring_home_to_timers(&mut self.timers, list, &homes.timers);
         self.mail.bring_scripts_home(list, &homes.queues);
     }
 
@@ -104,7 +100,7 @@ impl<L: Lines> State<L> {
     fn expire(&mut self, moment: Moment) -> Result<(), Memory>
         ensures { OnOk result (self.new ≡ expire moment self.old) }
     {
-        self.servers.expire(moment, &mut self.mail)
+        self.mail.expire(moment, &mut self.servers)
     }
 
     fn feed(&mut self, entries: &[Feed]) -> Result<(), Memory>

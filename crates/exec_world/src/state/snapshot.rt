@@ -1,23 +1,20 @@
 //! The snapshot of a round.
 ghost use Rattle.std.specs.Prelude.{◌≡◌, [], ◌∷◌};
-ghost use Rattle.exec_world.specs.Ready.{answered_by_first};
+ghost use Rattle.exec_rules.specs.Ready.{answered_by_first};
 ghost use Rattle.exec_world.specs.inner.Snapshots.{replies_at, with_reply_at};
 
 use super::State;
-use crate::client::Clients;
-use crate::homes::{Home, Homes};
-use crate::item::Item;
-use crate::queue::Queues;
-use crate::ready_list::ReadyList;
-use crate::timer::take_due_into;
+use exec_entity::Clients;
 use exec_msg::{EntityNo, Lines, Memory, Moment};
+use exec_queue::{Queues, take_due_into};
+use exec_rules::{Home, Homes, Item, ReadyList};
 
 impl<L: Lines> State<L> {
     ghost use Rattle.std.specs.Prelude.{◌≡◌, OnOk};
     ghost use Rattle.std.specs.List.{flat_map, fold};
-    ghost use Rattle.exec_world.specs.Ready.{queue_ready, queues_before_polls, queues_behind_polls, ready_list, reply_taken, take_inputs};
-    ghost use Rattle.exec_world.specs.inner.Homes.{AreHomes, queue_handlers, timer_handlers};
-    ghost use Rattle.exec_world.specs.inner.Listing.{listed_behind};
+    ghost use Rattle.exec_rules.specs.Ready.{queue_ready, queues_before_polls, queues_behind_polls, ready_list, reply_taken, take_inputs};
+    ghost use Rattle.exec_rules.specs.inner.Homes.{AreHomes, queue_handlers, timer_handlers};
+    ghost use Rattle.exec_rules.specs.inner.Listing.{listed_behind};
 
     // Takes each input at a moment. The list then has the callbacks that are ready, and these alone.
     pub(crate) fn snapshot(

@@ -3,8 +3,8 @@ use Rattle.exec_lane.specs.Lane.{variables_home}
 use Rattle.exec_lane.specs.declared.gathering.Ran.{Ran}
 use Rattle.exec_lane.specs.inner.Homing.{slots_home}
 use Rattle.exec_lane.specs.inner.Slots.{SlotState, entries_of}
-use Rattle.exec_world.specs.Calls.{WorldData}
-use Rattle.exec_world.specs.World.{WorldState}
+use Rattle.exec_rules.specs.Calls.{WorldData}
+use Rattle.exec_rules.specs.World.{WorldState}
 use Rattle.exec_lane.proofs.gathering.bring_lane_home.Goals as goal
 
 pub returns-clause-ran : goal.returns-clause-ran

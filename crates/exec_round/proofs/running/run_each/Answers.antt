@@ -1,5 +1,5 @@
 use Rattle.std.proofs.Common.{◌≡◌, ◌+◌, ◌<◌, length, ap, sym, ◌∙◌, arith, rules}
-use Rattle.exec_world.specs.Calls.{IsNext, WorldData, after_round}
+use Rattle.exec_rules.specs.Calls.{IsNext, WorldData, after_round}
 use Rattle.exec_round.proofs.running.run_each.Goals as goal
 
 pub loop-done-init : goal.loop-done-init

@@ -1,5 +1,5 @@
 use Rattle.std.proofs.Common.{◌≡◌}
-use Rattle.exec_world.specs.Calls.{world_after}
+use Rattle.exec_rules.specs.Calls.{world_after}
 use Rattle.exec_round.proofs.running.run_each.Given as goal
 
 -- so many rounds are done

@@ -3,7 +3,7 @@ use Rattle.exec_graph.specs.Graph.{cons_if, has_kind}
 use Rattle.exec_graph.specs.declared.entity.Declared.{Declared}
 use Rattle.exec_world.proofs.Wired.{next_made}
 use Rattle.exec_world.specs.inner.Parts.{new_queue_of}
-use Rattle.exec_world.specs.Transcript.{queue_for}
+use Rattle.exec_rules.specs.Transcript.{queue_for}
 use Rattle.exec_world.proofs.first_world.declare_all.Goals as goal
 
 pub loop-number-preserved : goal.loop-number-preserved

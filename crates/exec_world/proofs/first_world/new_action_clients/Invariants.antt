@@ -1,6 +1,6 @@
 use Rattle.std.proofs.Common.{◌≡◌, ◌≤◌, ◌++◌, length}
 use Rattle.exec_world.proofs.Wired.{clients_from}
-use Rattle.exec_world.specs.Transcript.{first_world}
+use Rattle.exec_rules.specs.Transcript.{first_world}
 use Rattle.exec_world.proofs.first_world.new_action_clients.Given as goal
 
 -- no more clients than numbers, and those so far are followed by those of the numbers that are left

@@ -1,7 +1,7 @@
 use Rattle.std.proofs.Common.{◌≡◌, ◌++◌}
 use Rattle.exec_graph.specs.Graph.{is_topic}
 use Rattle.exec_world.proofs.Wired.{made_from}
-use Rattle.exec_world.specs.Transcript.{new_topic}
+use Rattle.exec_rules.specs.Transcript.{new_topic}
 use Rattle.exec_world.proofs.first_world.new_topics.Given as goal
 
 -- the topics so far are followed by those of the numbers that are left

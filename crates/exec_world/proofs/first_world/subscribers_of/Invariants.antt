@@ -1,7 +1,7 @@
 use Rattle.std.proofs.Common.{◌≡◌, false, ◌++◌}
 use Rattle.exec_graph.specs.Graph.{entities_where, of_entity}
 use Rattle.exec_world.proofs.Wired.{made_from}
-use Rattle.exec_world.specs.Transcript.{subscribes_to}
+use Rattle.exec_rules.specs.Transcript.{subscribes_to}
 use Rattle.exec_world.proofs.first_world.subscribers_of.Given as goal
 
 -- the subscriptions so far are followed by those among the numbers that are left

@@ -3,10 +3,10 @@ use Rattle.std.proofs.lemmas.Option.{slice_get-map}
 use Rattle.std.proofs.lemmas.Result.{on_ok_weaker}
 use Rattle.std.specs.Option.{option_map, option_map_or}
 use Rattle.exec_world.proofs.ListedFronts.{front_home, front_listed}
-use Rattle.exec_world.specs.World.{Handler, Queue, ServerEntry}
-use Rattle.exec_world.specs.declared.ready.Ready.{Ready}
-use Rattle.exec_world.specs.inner.Homes.{HasScriptOf, handlers_of}
-use Rattle.exec_world.specs.inner.Listing.{listed_behind}
+use Rattle.exec_rules.specs.World.{Handler, Queue, ServerEntry}
+use Rattle.exec_rules.specs.declared.ready.Ready.{Ready}
+use Rattle.exec_rules.specs.inner.Homes.{HasScriptOf, handlers_of}
+use Rattle.exec_rules.specs.inner.Listing.{listed_behind}
 use Rattle.exec_world.proofs.fronts.list_front.Goals as goal
 
 pub returns-clause-list : goal.returns-clause-list

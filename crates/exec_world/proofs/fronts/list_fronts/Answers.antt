@@ -1,8 +1,8 @@
 use Rattle.std.proofs.Common.{List, slice_index_or, ap, subst, ◌∙◌}
-use Rattle.exec_world.proofs.Listing.{listed_next}
-use Rattle.exec_world.specs.World.{Queue}
-use Rattle.exec_world.specs.inner.Homes.{AreHomes, handlers_of}
-use Rattle.exec_world.specs.inner.Listing.{listed_behind}
+use Rattle.exec_rules.proofs.Listing.{listed_next}
+use Rattle.exec_rules.specs.World.{Queue}
+use Rattle.exec_rules.specs.inner.Homes.{AreHomes, handlers_of}
+use Rattle.exec_rules.specs.inner.Listing.{listed_behind}
 use Rattle.exec_world.specs.inner.Snapshots.{front_at}
 use Rattle.exec_world.proofs.fronts.list_fronts.Goals as goal
 

@@ -1,6 +1,6 @@
 use Rattle.std.proofs.Common.{◌≡◌, drop}
-use Rattle.exec_world.specs.inner.Homes.{AreHomes, handlers_of}
-use Rattle.exec_world.specs.inner.Listing.{listed_behind}
+use Rattle.exec_rules.specs.inner.Homes.{AreHomes, handlers_of}
+use Rattle.exec_rules.specs.inner.Listing.{listed_behind}
 use Rattle.exec_world.specs.inner.Snapshots.{fronts_at}
 use Rattle.exec_world.proofs.fronts.list_fronts.Given as goal
 

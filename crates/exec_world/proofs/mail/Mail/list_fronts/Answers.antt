@@ -1,6 +1,6 @@
 use Rattle.std.proofs.Common.{subst}
 use Rattle.std.specs.Result.{OnOk}
-use Rattle.exec_world.specs.inner.Homes.{AreHomes, handlers_of}
+use Rattle.exec_rules.specs.inner.Homes.{AreHomes, handlers_of}
 use Rattle.exec_world.specs.inner.Mail.{MailState}
 use Rattle.exec_world.proofs.mail.Mail.list_fronts.Goals as goal
 

@@ -3,8 +3,8 @@ use Rattle.std.proofs.lemmas.List.{take_all}
 use Rattle.exec_msg.specs.declared.goal.GoalStatus.TheVariants as status
 use Rattle.exec_msg.specs.declared.line.Line.{Line}
 use Rattle.exec_msg.specs.declared.line.Line.TheVariants as line
-use Rattle.exec_world.proofs.Closings.{line_more}
-use Rattle.exec_world.specs.World.{WorldState, add_line, add_lines}
+use Rattle.exec_entity.proofs.Closings.{line_more}
+use Rattle.exec_rules.specs.World.{WorldState, add_line, add_lines}
 use Rattle.exec_world.proofs.state.State.add_moved.Goals as goal
 
 pub loop-id-preserved : goal.loop-id-preserved

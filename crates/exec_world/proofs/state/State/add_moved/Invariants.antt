@@ -1,7 +1,7 @@
 use Rattle.std.proofs.Common.{◌≡◌, ℕ, map, take}
 use Rattle.exec_msg.specs.declared.goal.GoalStatus.TheVariants as status
 use Rattle.exec_msg.specs.declared.line.Line.TheVariants as line
-use Rattle.exec_world.specs.World.{add_lines}
+use Rattle.exec_rules.specs.World.{add_lines}
 use Rattle.exec_world.proofs.state.State.add_moved.Given as goal
 
 -- the goals so far have their lines

@@ -5,8 +5,8 @@ use Rattle.std.proofs.lemmas.Result.{on_ok_weaker}
 use Rattle.exec_msg.specs.Lists.{change_first}
 use Rattle.exec_msg.specs.declared.line.Line.TheVariants as line
 use Rattle.exec_world.proofs.Giving.{called}
-use Rattle.exec_world.specs.World.{ClientEntry, WorldState, add_line, client_at, client_called, is_client_at, push}
-use Rattle.exec_world.specs.declared.item.Item.TheVariants as item
+use Rattle.exec_rules.specs.World.{ClientEntry, WorldState, add_line, client_at, client_called, is_client_at, push}
+use Rattle.exec_rules.specs.declared.item.Item.TheVariants as item
 use Rattle.exec_world.proofs.state.State.call.Goals as goal
 
 pub returns-in-Some : goal.returns-in-Some

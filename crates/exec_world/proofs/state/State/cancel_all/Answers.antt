@@ -1,7 +1,7 @@
 use Rattle.std.proofs.Common.{◌≡◌, Some, ap, sym, ◌∙◌}
 use Rattle.std.proofs.lemmas.Result.{on_ok_weaker}
 use Rattle.exec_world.proofs.Giving.{canceled_all}
-use Rattle.exec_world.specs.World.{WorldState, action_client_at}
+use Rattle.exec_rules.specs.World.{WorldState, action_client_at}
 use Rattle.exec_world.proofs.state.State.cancel_all.Goals as goal
 
 pub returns-in-Some : goal.returns-in-Some

@@ -2,8 +2,8 @@ use Rattle.std.proofs.Common.{ℤ, w64, to_z, of_z, rules, ap, ◌∙◌}
 use mir.Val.{SFits}
 use Rattle.std.proofs.lemmas.Int.{to_z-of_z}
 use Rattle.std.proofs.lemmas.Result.{on_ok_weaker}
-use Rattle.exec_world.proofs.Closings.{ended_told}
-use Rattle.exec_world.specs.Close.{end}
+use Rattle.exec_entity.proofs.Closings.{ended_told}
+use Rattle.exec_rules.specs.Close.{end}
 use Rattle.exec_world.proofs.state.State.end.Goals as goal
 
 pub returns-in-Some : goal.returns-in-Some

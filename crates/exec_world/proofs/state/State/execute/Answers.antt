@@ -5,9 +5,9 @@ use Rattle.exec_goal.specs.Table.{GoalRecord}
 use Rattle.exec_msg.specs.declared.goal.GoalStatus.TheVariants as status
 use Rattle.exec_msg.specs.declared.line.Line.TheVariants as line
 use Rattle.exec_world.proofs.Giving.{executed_oldest}
-use Rattle.exec_world.specs.Give.{oldest_accepted}
-use Rattle.exec_world.specs.World.{WorldState, add_line, goals_of}
-use Rattle.exec_world.specs.inner.Servers.{executed_in}
+use Rattle.exec_rules.specs.Give.{oldest_accepted}
+use Rattle.exec_rules.specs.World.{WorldState, add_line, goals_of}
+use Rattle.exec_entity.specs.inner.Servers.{executed_in}
 use Rattle.exec_world.proofs.state.State.execute.Goals as goal
 
 pub returns-in-Some : goal.returns-in-Some

@@ -1,5 +1,5 @@
 use Rattle.std.proofs.Common.{◌≡◌, take}
-use Rattle.exec_world.specs.Transcript.{feed}
+use Rattle.exec_rules.specs.Transcript.{feed}
 use Rattle.exec_world.proofs.state.State.feed.Given as goal
 
 -- the entries so far are fed

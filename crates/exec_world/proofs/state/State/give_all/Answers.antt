@@ -3,8 +3,8 @@ use Rattle.std.specs.List.{fold}
 use Rattle.std.proofs.lemmas.List.{take_all}
 use Rattle.std.proofs.lemmas.List.Sums.{fold_more}
 use Rattle.exec_script.specs.declared.effects.Effect.{Effect}
-use Rattle.exec_world.specs.Give.{give}
-use Rattle.exec_world.specs.World.{WorldState}
+use Rattle.exec_rules.specs.Give.{give}
+use Rattle.exec_rules.specs.World.{WorldState}
 use Rattle.exec_world.proofs.state.State.give_all.Goals as goal
 
 pub loop-effect-preserved : goal.loop-effect-preserved

@@ -1,5 +1,5 @@
 use Rattle.std.proofs.Common.{◌≡◌, take}
-use Rattle.exec_world.specs.Give.{give_all}
+use Rattle.exec_rules.specs.Give.{give_all}
 use Rattle.exec_world.proofs.state.State.give_all.Given as goal
 
 -- the effects so far are given

@@ -1,7 +1,7 @@
 use Rattle.std.proofs.Common.{List, ap, subst, ◌∙◌}
 use Rattle.exec_world.proofs.Snapshots.{listed_after}
-use Rattle.exec_world.specs.World.{Queue, WorldState}
-use Rattle.exec_world.specs.inner.Homes.{AreHomes, handlers_of}
+use Rattle.exec_rules.specs.World.{Queue, WorldState}
+use Rattle.exec_rules.specs.inner.Homes.{AreHomes, handlers_of}
 use Rattle.exec_world.specs.inner.Mail.{MailState}
 use Rattle.exec_world.proofs.state.State.list_behind_polls.Goals as goal
 

@@ -2,8 +2,8 @@ use Rattle.std.proofs.Common.{◌≡◌, SFits, rules, ◌==◌, Some, find, w64
 use Rattle.std.proofs.lemmas.Int.{to_z-of_z}
 use Rattle.std.proofs.lemmas.Result.{on_ok_weaker}
 use Rattle.exec_world.proofs.Giving.{published}
-use Rattle.exec_world.specs.World.{TopicEntry, WorldState}
-use Rattle.exec_world.specs.declared.item.Item.TheVariants as item
+use Rattle.exec_rules.specs.World.{TopicEntry, WorldState}
+use Rattle.exec_rules.specs.declared.item.Item.TheVariants as item
 use Rattle.exec_world.specs.inner.Mail.{mail_of, sent_to_each, with_mail}
 use Rattle.exec_world.proofs.state.State.publish.Goals as goal
 

@@ -1,6 +1,6 @@
 use Rattle.std.proofs.Common.{◌≡◌, Some, ap, sym, ◌∙◌}
-use Rattle.exec_world.proofs.Closings.{responds}
-use Rattle.exec_world.specs.World.{WorldState, action_client_at}
+use Rattle.exec_entity.proofs.Closings.{responds}
+use Rattle.exec_rules.specs.World.{WorldState, action_client_at}
 use Rattle.exec_world.proofs.state.State.respond.Goals as goal
 
 pub returns-in_ok-ask_for-in-Some : goal.returns-in_ok-ask_for-in-Some

@@ -2,10 +2,10 @@ use Rattle.std.proofs.Common.{List, take, ap, sym, ◌∙◌}
 use Rattle.std.specs.List.{fold}
 use Rattle.std.proofs.lemmas.List.{take_all}
 use Rattle.std.proofs.lemmas.List.Sums.{fold_more}
-use Rattle.exec_world.specs.Run.{run}
-use Rattle.exec_world.specs.Transcript.{run_all}
-use Rattle.exec_world.specs.World.{WorldState}
-use Rattle.exec_world.specs.declared.ready.Ready.{Ready}
+use Rattle.exec_rules.specs.Run.{run}
+use Rattle.exec_rules.specs.Transcript.{run_all}
+use Rattle.exec_rules.specs.World.{WorldState}
+use Rattle.exec_rules.specs.declared.ready.Ready.{Ready}
 use Rattle.exec_world.proofs.state.State.run_all.Goals as goal
 
 pub loop-one-preserved : goal.loop-one-preserved

@@ -1,5 +1,5 @@
 use Rattle.std.proofs.Common.{◌≡◌, take}
-use Rattle.exec_world.specs.Transcript.{run_all}
+use Rattle.exec_rules.specs.Transcript.{run_all}
 use Rattle.exec_world.proofs.state.State.run_all.Given as goal
 
 -- the callbacks so far ran

@@ -1,7 +1,7 @@
 use Rattle.std.proofs.Common.{List, ap, subst, sym, ◌∙◌}
-use Rattle.exec_world.proofs.ScriptsHome.{queues_stay, timers_stay}
-use Rattle.exec_world.specs.World.{Handler}
-use Rattle.exec_world.specs.inner.Homes.{AreHomes, queue_handlers, timer_handlers}
+use Rattle.exec_rules.proofs.ScriptsHome.{queues_stay, timers_stay}
+use Rattle.exec_rules.specs.World.{Handler}
+use Rattle.exec_rules.specs.inner.Homes.{AreHomes, queue_handlers, timer_handlers}
 use Rattle.exec_world.proofs.state.State.run_round.Goals as goal
 
 pub bring_scripts_home-requires-clause-timers : goal.bring_scripts_home-requires-clause-timers

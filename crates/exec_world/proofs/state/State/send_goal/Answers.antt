@@ -5,9 +5,9 @@ use Rattle.std.proofs.lemmas.Result.{on_ok_weaker}
 use Rattle.exec_msg.specs.Lists.{change_first}
 use Rattle.exec_msg.specs.declared.line.Line.TheVariants as line
 use Rattle.exec_world.proofs.Giving.{goal_sent}
-use Rattle.exec_world.specs.Item.{goal_id}
-use Rattle.exec_world.specs.World.{ActionClientEntry, WorldState, action_client_at, add_line, is_action_client_at, push}
-use Rattle.exec_world.specs.declared.item.Item.TheVariants as item
+use Rattle.exec_rules.specs.Item.{goal_id}
+use Rattle.exec_rules.specs.World.{ActionClientEntry, WorldState, action_client_at, add_line, is_action_client_at, push}
+use Rattle.exec_rules.specs.declared.item.Item.TheVariants as item
 use Rattle.exec_world.proofs.state.State.send_goal.Goals as goal
 
 pub returns-in-Some : goal.returns-in-Some

@@ -1,8 +1,8 @@
 use Rattle.std.proofs.Common.{List, map, ap, subst, sym, ◌∙◌}
-use Rattle.exec_world.proofs.ScriptsHome.{grown_by, no_homes}
+use Rattle.exec_rules.proofs.ScriptsHome.{grown_by, no_homes}
 use Rattle.exec_world.proofs.Snapshots.{all_listed}
-use Rattle.exec_world.specs.World.{Handler, TimerEntry, WorldState}
-use Rattle.exec_world.specs.inner.Homes.{AreHomes, handlers_of, queue_handlers, timer_handlers}
+use Rattle.exec_rules.specs.World.{Handler, TimerEntry, WorldState}
+use Rattle.exec_rules.specs.inner.Homes.{AreHomes, handlers_of, queue_handlers, timer_handlers}
 use Rattle.exec_world.proofs.state.State.snapshot.Goals as goal
 
 pub returns-clause-list : goal.returns-clause-list

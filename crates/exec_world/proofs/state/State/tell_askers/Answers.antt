@@ -3,9 +3,9 @@ use mir.Val.{SFits}
 use Rattle.std.specs.List.{fold}
 use Rattle.std.proofs.lemmas.Int.{to_z-of_z}
 use Rattle.exec_goal.specs.Calls.{askers_in}
-use Rattle.exec_world.proofs.Closings.{left_next, left_none}
-use Rattle.exec_world.specs.Close.{tell}
-use Rattle.exec_world.specs.World.{WorldState, ServerEntry, goals_of, goals_in}
+use Rattle.exec_entity.proofs.Closings.{left_next, left_none}
+use Rattle.exec_rules.specs.Close.{tell}
+use Rattle.exec_rules.specs.World.{WorldState, ServerEntry, goals_of, goals_in}
 use Rattle.exec_world.proofs.state.State.tell_askers.Goals as goal
 
 pub loop-client-preserved : goal.loop-client-preserved

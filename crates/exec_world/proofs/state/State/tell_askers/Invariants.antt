@@ -1,8 +1,8 @@
 use Rattle.std.proofs.Common.{◌≡◌, ◌-◌, length, drop}
 use Rattle.std.specs.List.{fold}
 use Rattle.exec_goal.specs.Calls.{askers_in}
-use Rattle.exec_world.specs.Close.{tell}
-use Rattle.exec_world.specs.World.{goals_of}
+use Rattle.exec_rules.specs.Close.{tell}
+use Rattle.exec_rules.specs.World.{goals_of}
 use Rattle.exec_world.proofs.state.State.tell_askers.Given as goal
 
 -- telling those that are left, from here, is telling all, from the start

@@ -2,9 +2,9 @@ use Rattle.std.proofs.Common.{◌++◌, List, length, ap, ◌∙◌}
 use Rattle.std.specs.List.{flat_map}
 use Rattle.std.proofs.lemmas.List.{take_all}
 use Rattle.exec_msg.specs.declared.line.Line.{Line}
-use Rattle.exec_world.proofs.Closings.{lines_more}
-use Rattle.exec_world.specs.Transcript.{pending_by}
-use Rattle.exec_world.specs.World.{ClientEntry}
+use Rattle.exec_entity.proofs.Closings.{lines_more}
+use Rattle.exec_rules.specs.Transcript.{pending_by}
+use Rattle.exec_rules.specs.World.{ClientEntry}
 use Rattle.exec_world.specs.inner.Mail.{MailState}
 use Rattle.exec_world.proofs.state.round.add_pending.Goals as goal
 

@@ -1,7 +1,7 @@
 use Rattle.std.proofs.Common.{◌≡◌, ◌++◌, length, take}
 use Rattle.std.specs.List.{flat_map}
-use Rattle.exec_world.specs.Transcript.{pending_by}
-use Rattle.exec_world.specs.World.{ClientEntry}
+use Rattle.exec_rules.specs.Transcript.{pending_by}
+use Rattle.exec_rules.specs.World.{ClientEntry}
 use Rattle.exec_world.proofs.state.round.add_pending.Given as goal
 
 -- the clients so far have their lines

@@ -1,8 +1,8 @@
 use Rattle.std.proofs.Common.{◌≡◌, ◌≤◌, ◌-◌, ◌==◌, false, rules, subst, sym, ◌∙◌}
 use Rattle.std.specs.Arc.{arc_value}
-use Rattle.exec_world.proofs.Running.{commit_keeps}
+use Rattle.exec_rules.proofs.Running.{commit_keeps}
 use Rattle.exec_world.proofs.Sound.{not_refused, sound}
-use Rattle.exec_world.specs.World.{WorldState}
+use Rattle.exec_rules.specs.World.{WorldState}
 use Rattle.exec_world.specs.inner.Sound.{IsSound}
 use Rattle.exec_world.proofs.world.World.commit.Goals as goal
 

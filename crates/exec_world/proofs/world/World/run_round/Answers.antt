@@ -1,7 +1,7 @@
 use Rattle.std.proofs.Common.{subst, sym, ◌∙◌, true≢false}
 use Rattle.std.specs.Arc.{arc_value}
 use Rattle.exec_world.proofs.Sound.{not_refused, round_sound}
-use Rattle.exec_world.specs.World.{WorldState}
+use Rattle.exec_rules.specs.World.{WorldState}
 use Rattle.exec_world.specs.inner.Sound.{IsSound}
 use Rattle.exec_world.proofs.world.World.run_round.Goals as goal
 

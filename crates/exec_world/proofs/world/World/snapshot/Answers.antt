@@ -2,12 +2,12 @@ use Rattle.std.proofs.Common.{◌≡◌, ◌==◌, ◌≤◌, List, false, lengt
 use Rattle.std.specs.Arc.{arc_value}
 use Rattle.exec_world.proofs.Sound.{begun_sound, fed_sound, not_refused, snapshot_home}
 use Rattle.exec_world.proofs.Grouped.{snapshot_variables}
-use Rattle.exec_world.specs.Calls.{AreHome, HaveVariables, WorldData}
+use Rattle.exec_rules.specs.Calls.{AreHome, HaveVariables, WorldData}
 use Rattle.exec_msg.specs.declared.line.Line.TheVariants as line
-use Rattle.exec_world.specs.Ready.{ready_list}
-use Rattle.exec_world.specs.Transcript.{expire, feed}
-use Rattle.exec_world.specs.World.{WorldState, add_line}
-use Rattle.exec_world.specs.declared.ready.Ready.{Ready}
+use Rattle.exec_rules.specs.Ready.{ready_list}
+use Rattle.exec_rules.specs.Transcript.{expire, feed}
+use Rattle.exec_rules.specs.World.{WorldState, add_line}
+use Rattle.exec_rules.specs.declared.ready.Ready.{Ready}
 use Rattle.exec_world.specs.inner.Sound.{IsSound}
 use Rattle.exec_world.proofs.world.World.snapshot.Goals as goal
 

@@ -1,7 +1,7 @@
 use Rattle.std.proofs.Common.{None, subst, sym}
 use Rattle.std.specs.Arc.{arc_value}
 use Rattle.exec_world.proofs.Sound.{lent_sound}
-use Rattle.exec_world.specs.World.{WorldState}
+use Rattle.exec_rules.specs.World.{WorldState}
 use Rattle.exec_world.specs.inner.Sound.{IsSound}
 use Rattle.exec_world.proofs.world.World.take_task.Goals as goal
 

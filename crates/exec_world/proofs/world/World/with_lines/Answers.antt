@@ -4,8 +4,8 @@ use Rattle.exec_graph.specs.Feeding.{feeds_by_round}
 use Rattle.exec_graph.specs.Graph.{GraphData}
 use Rattle.exec_graph.specs.Plan.{PlanData}
 use Rattle.exec_world.proofs.Sound.{first_sound}
-use Rattle.exec_world.specs.Transcript.{first_world}
-use Rattle.exec_world.specs.World.{WorldState}
+use Rattle.exec_rules.specs.Transcript.{first_world}
+use Rattle.exec_rules.specs.World.{WorldState}
 use Rattle.exec_world.specs.inner.Sound.{IsSound}
 use Rattle.exec_world.proofs.world.World.with_lines.Goals as goal
 

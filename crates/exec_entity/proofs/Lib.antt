@@ -1,0 +1,10 @@
+pub mod Awake
+pub mod Closings
+pub mod Expiring
+pub mod FoundByNumber
+pub mod FoundEntries
+pub mod FoundServers
+pub mod HeldEntries
+pub mod Pending
+pub mod Polls
+pub mod Serving

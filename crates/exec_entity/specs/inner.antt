@@ -1,0 +1,5 @@
+pub mod Keeping
+pub mod Numbered
+pub mod Polling
+pub mod Server
+pub mod Servers

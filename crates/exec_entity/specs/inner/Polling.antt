@@ -1,0 +1,45 @@
+-- What a poll makes of a server, and what a task that is taken from it leaves.
+use Rattle.std.specs.Prelude.{List, [], ◌∷◌, if◌then◌else◌, Option, None, Some}
+use Rattle.std.specs.List.{find}
+use Rattle.std.specs.Option.{option_and_then, option_map}
+use Rattle.exec_goal.specs.Table.{GoalRecord}
+use Rattle.exec_graph.specs.Entity.{EntityNo}
+use Rattle.exec_msg.specs.Lists.{change_first}
+use Rattle.exec_script.specs.Script.{listed}
+use Rattle.exec_script.specs.declared.effects.Effect.{Effect}
+use Rattle.exec_task.specs.Task.{TaskState}
+use Rattle.exec_task.specs.declared.wait.Turn.{Turn}
+use Rattle.exec_rules.specs.Callback.{Outcome, poll_listed}
+use Rattle.exec_rules.specs.Item.{GoalId}
+use Rattle.exec_rules.specs.Ready.{is_goal_awake, ready_for, woken}
+use Rattle.exec_rules.specs.World.{GoalWork, HeldGoal, Moment, ServerEntry, Variables, is_for, is_server_at}
+use Rattle.exec_rules.specs.declared.ready.Cause.{Cause}
+use Rattle.exec_rules.specs.declared.ready.Cause.TheVariants as cause
+use Rattle.exec_rules.specs.declared.ready.Ready.{Ready}
+
+-- what is kept of a goal, with this work, or with none where its task is out
+abbrev pub doing : Option GoalWork → HeldGoal → HeldGoal
+doing work held = record held { work = work }
+
+-- a server whose goal of an identifier does this work
+abbrev pub server_with_work : GoalId → Option GoalWork → ServerEntry → ServerEntry
+server_with_work id work entry = record entry { held = change_first (is_for id) (doing work) entry.held }
+
+-- the same where a poll left its task so, if it was polled
+abbrev pub server_polled : GoalId → Option TaskState → ServerEntry → ServerEntry
+server_polled id None entry = entry
+server_polled id (Some task) entry = record entry { held = change_first (is_for id) (λ held. record held { work = option_map (λ (work : GoalWork). record work { task = task }) held.work }) entry.held }
+
+-- the servers where the callback left its task so, if it polled one
+abbrev pub polled_by : EntityNo → Cause → Option TaskState → List ServerEntry → List ServerEntry
+polled_by server (cause.Woke id value canceling) task servers = change_first (is_server_at server) (server_polled id task) servers
+polled_by server _ task servers = servers
+
+-- a poll of a server's goal
+abbrev pub goal_polled : Turn → GoalId → ServerEntry → Variables → Outcome (List Effect)
+goal_polled turn id entry variables = poll_listed turn (option_and_then (λ held. held.work) (find (is_for id) entry.held)) variables
+
+-- the poll of a server's goal where that is awake at a moment
+abbrev pub goal_ready : Moment → ServerEntry → GoalRecord → List Ready
+goal_ready moment entry goal =
+    if is_goal_awake moment entry.held goal then ready_for moment entry.handler (woken goal) [] (Some entry.handler.script) ∷ [] else []

@@ -1,0 +1,107 @@
+use crate::by_number::{ByNumber, Numbered};
+use exec_msg::{EntityNo, GoalId, Memory};
+use std::marker::Model;
+
+/// An action client.
+#[derive(Drop)]
+pub struct ActionClient {
+    entity: EntityNo,
+    // Its place among the action clients, from 0.
+    place: u16,
+    server: EntityNo,
+    // Whether it asks for the results of its goals.
+    asks: bool,
+    // The number of its last goal.
+    goals: u64,
+}
+
+impl Model for ActionClient {
+    ghost use Rattle.exec_rules.specs.World.{ActionClientEntry};
+
+    ghost Value = { ActionClientEntry };
+
+    ghost view = { λ client. record { entity = client.entity; place = client.place; server = client.server; asks = client.asks; goals = client.goals } };
+}
+
+impl ActionClient {
+    ghost use Rattle.std.specs.Prelude.{◌≡◌, ◌+◌, OnOk, OnErr, IfOk};
+    ghost use Rattle.exec_rules.specs.Item.{goal_id};
+
+    /// A client that hasn't sent a goal yet.
+    pub fn new(entity: EntityNo, place: u16, server: EntityNo, asks: bool) -> ActionClient
+        ensures { result ≡ record { entity = entity; place = place; server = server; asks = asks; goals = 0 } }
+    {
+        ActionClient {
+            entity,
+            place,
+            server,
+            asks,
+            goals: 0,
+        }
+    }
+
+    /// Its server.
+    pub fn server(&self) -> EntityNo
+        ensures { result ≡ self.now.server }
+    {
+        self.server
+    }
+
+    /// Whether it asks for the results of its goals.
+    pub fn asks(&self) -> bool
+        ensures { result ≡ self.now.asks }
+    {
+        self.asks
+    }
+
+    /// The identifier of its goal of a number.
+    pub fn goal_id(&self, number: u64) -> GoalId
+        ensures { result ≡ goal_id self.now.place number }
+    {
+        GoalId::new((self.place as u128 + 1) * (1 << 64) + number as u128)
+    }
+
+    /// Counts its next goal, and gives the goal's number, from 1. Where memory is refused, the client stays as it was.
+    pub fn send_goal(&mut self) -> Result<u64, Memory>
+        ensures number { IfOk result (λ number. number ≡ self.old.goals + 1) }
+        ensures sent { OnOk result (self.new ≡ record self.old { goals = self.old.goals + 1 }) }
+        ensures refused { OnErr result (self.new ≡ self.old) }
+    {
+        // No run of a lawful plan comes to a number that doesn't fit (law `numbers_stay_below_their_limit`).
+        self.goals = self.goals.checked_add(1).ok_or(Memory)?;
+        Ok(self.goals)
+    }
+}
+
+impl Numbered for ActionClient {
+    ghost number_of = { λ client. client.entity };
+
+    fn number(&self) -> EntityNo {
+        self.entity
+    }
+}
+
+impl ByNumber<ActionClient> {
+    ghost use Rattle.std.specs.Prelude.{◌≡◌, ◌+◌, find, None, OnOk, IfOk};
+    ghost use Rattle.std.specs.Option.{option_map};
+    ghost use Rattle.exec_msg.specs.Lists.{change_first};
+    ghost use Rattle.exec_rules.specs.Item.{goal_id};
+    ghost use Rattle.exec_rules.specs.World.{is_action_client_at};
+
+    /// A client counts its next goal. Answers its server and the goal's identifier, or `None` where there is no such client.
+    pub fn send_goal(&mut self, client: EntityNo) -> Result<Option<(EntityNo, GoalId)>, Memory>
+        ensures made { IfOk result (λ made. made ≡ option_map (λ entry. (entry.server, goal_id entry.place (entry.goals + 1))) (find (is_action_client_at client) self.old)) }
+        ensures sent { OnOk result (self.new ≡ change_first (is_action_client_at client) (λ entry. record entry { goals = entry.goals + 1 }) self.old) }
+        ensures absent { IfOk result (λ made. made ≡ None → self.new ≡ self.old) }
+    {
+        let place = self.place(client);
+        let Some(entry) = self.entries.get_mut(place) else {
+            return Ok(None);
+        };
+        let number = entry.send_goal()?;
+        Ok(Some((entry.server(), entry.goal_id(number))))
+    }
+}
+
+/// The action clients of a graph.
+pub type ActionClients = ByNumber<ActionClient>;

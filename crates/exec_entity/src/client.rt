@@ -1,0 +1,130 @@
+use crate::by_number::{ByNumber, Numbered};
+use exec_msg::{EntityNo, Memory};
+use exec_task::PendingCall;
+use indexmap::IndexMap;
+use std::alloc::Global;
+use std::marker::Model;
+
+/// A service client.
+#[derive(Drop)]
+pub struct Client {
+    entity: EntityNo,
+    service: EntityNo,
+    // The number of its last call.
+    calls: u64,
+    // The calls without a reply, each by its number.
+    pending: IndexMap<u64, PendingCall>,
+}
+
+impl Model for Client {
+    ghost use Rattle.std.specs.List.{All};
+    ghost use Rattle.std.specs.Map.{keys_of};
+    ghost use Rattle.std.specs.Prelude.{◌≤◌};
+    ghost use Rattle.exec_rules.specs.World.{ClientEntry};
+
+    ghost Value = { ClientEntry };
+
+    ghost view = { λ client. record { entity = client.entity; service = client.service; calls = client.calls; pending = keys_of client.pending.entries } };
+
+    ghost invariant = { λ client. All (λ number. number ≤ client.calls) (keys_of client.pending.entries) };
+}
+
+impl Client {
+    ghost use Rattle.std.specs.Prelude.{◌≡◌, ◌+◌, [], length, OnOk, OnErr, IfOk};
+    ghost use Rattle.exec_rules.specs.Ready.{call_answered};
+    ghost use Rattle.exec_rules.specs.World.{client_called};
+
+    /// A client of a service that hasn't called yet. It takes no memory.
+    pub fn new(alloc: Global, entity: EntityNo, service: EntityNo) -> Client
+        ensures { result ≡ record { entity = entity; service = service; calls = 0; pending = [] } }
+    {
+        Client {
+            entity,
+            service,
+            calls: 0,
+            pending: IndexMap::new(alloc),
+        }
+    }
+
+    /// Its service.
+    pub fn service(&self) -> EntityNo
+        ensures { result ≡ self.now.service }
+    {
+        self.service
+    }
+
+    /// Makes its next call, which pends, and gives the call's number, from 1.
+    pub fn call(&mut self) -> Result<u64, Memory>
+        ensures number { IfOk result (λ number. number ≡ self.old.calls + 1) }
+        ensures called { OnOk result (self.new ≡ client_called self.old) }
+        ensures refused { OnErr result (self.new ≡ self.old) }
+    {
+        // No run of a lawful plan comes to a number that doesn't fit (law `numbers_stay_below_their_limit`).
+        let number = self.calls.checked_add(1).ok_or(Memory)?;
+        self.pending.insert(number, PendingCall::new(number))?;
+        self.calls = number;
+        Ok(number)
+    }
+
+    /// Gives a call its reply, after which it pends no more. A call that doesn't pend stays answered.
+    pub fn complete(&mut self, number: u64, value: i64)
+        ensures { self.new ≡ call_answered number self.old }
+    {
+        if let Some(mut call) = self.pending.shift_remove(&number) {
+            // The call is new to a reply: it pends.
+            let _ = call.complete(value);
+        }
+    }
+
+    /// How many calls pend.
+    pub fn pending(&self) -> usize
+        ensures { result ≡ length self.now.pending }
+    {
+        self.pending.len()
+    }
+}
+
+impl Numbered for Client {
+    ghost number_of = { λ client. client.entity };
+
+    fn number(&self) -> EntityNo {
+        self.entity
+    }
+}
+
+impl ByNumber<Client> {
+    ghost use Rattle.std.specs.Prelude.{◌≡◌, ◌+◌, find, None, OnOk, IfOk};
+    ghost use Rattle.std.specs.Option.{option_map};
+    ghost use Rattle.exec_msg.specs.Lists.{change_first};
+    ghost use Rattle.exec_rules.specs.Ready.{call_answered};
+    ghost use Rattle.exec_rules.specs.World.{client_called, is_client_at};
+
+    /// A client makes its next call, which pends. Answers its service and the call's number, from 1, or `None` where there is no
+    /// such client.
+    pub fn call(&mut self, client: EntityNo) -> Result<Option<(EntityNo, u64)>, Memory>
+        ensures made { IfOk result (λ made. made ≡ option_map (λ entry. (entry.service, entry.calls + 1)) (find (is_client_at client) self.old)) }
+        ensures called { OnOk result (self.new ≡ change_first (is_client_at client) client_called self.old) }
+        ensures absent { IfOk result (λ made. made ≡ None → self.new ≡ self.old) }
+    {
+        let place = self.place(client);
+        let Some(entry) = self.entries.get_mut(place) else {
+            return Ok(None);
+        };
+        let number = entry.call()?;
+        Ok(Some((entry.service(), number)))
+    }
+
+    /// A client's call is given its reply, after which it pends no more.
+    pub fn complete(&mut self, client: EntityNo, number: u64, value: i64)
+        ensures { self.new ≡ change_first (is_client_at client) (call_answered number) self.old }
+    {
+        let place = self.place(client);
+        let Some(entry) = self.entries.get_mut(place) else {
+            return;
+        };
+        entry.complete(number, value);
+    }
+}
+
+/// The service clients of a graph.
+pub type Clients = ByNumber<Client>;

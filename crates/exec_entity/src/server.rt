@@ -1,0 +1,264 @@
+//! A server with its goals and their work.
+ghost use Rattle.std.specs.Prelude.{◌≡◌, ◌<◌, ◌++◌, ◌∷◌, [], false};
+ghost use Rattle.std.specs.List.{list_any};
+ghost use Rattle.indexmap.specs.IndexMap.{spare};
+ghost use Rattle.exec_msg.specs.Lists.{drop_first};
+ghost use Rattle.exec_rules.specs.World.{is_for};
+ghost use Rattle.exec_entity.specs.inner.Server.{held_goal_of, held_goals_of};
+
+mod expiring;
+mod found;
+mod polling;
+
+use exec_goal::{Asked, CancelAnswer, CancelRequest, GoalInfo, Goals, State};
+use exec_msg::{EntityNo, Event, GoalId, Items, Memory, Moment};
+use exec_rules::Handler;
+use exec_task::GoalTask;
+pub use found::Servers;
+use indexmap::IndexMap;
+use std::alloc::Global;
+use std::marker::Model;
+
+/// A request for a goal: its identifier, the action client that sent it, if one did, and its value.
+#[derive(Clone, Copy, Debug, PartialEq, Eq)]
+pub struct GoalRequest {
+    pub id: GoalId,
+    pub client: Option<EntityNo>,
+    pub value: i64,
+}
+
+impl Model for GoalRequest {
+    ghost use Rattle.exec_rules.specs.Close.{GoalRequest as Data};
+
+    ghost Value = { Data };
+
+    ghost view = { λ request. record { id = request.id; client = request.client; value = request.value } };
+
+    ghost inverse = { λ request. record { id = request.id; client = request.client; value = request.value } };
+}
+
+// What a server keeps beside a goal's record: the action client that sent the goal, if one did, and its task, `None` while
+// that is out.
+#[derive(Drop)]
+pub(crate) struct Held {
+    pub(crate) client: Option<EntityNo>,
+    pub(crate) task: Option<GoalTask>,
+}
+
+/// A server: the callback that polls its goals, for how many ticks it keeps a result (without end where there is none), its
+/// goals, and what it keeps beside each.
+#[derive(Drop)]
+pub struct Server {
+    handler: Handler,
+    timeout: Option<u64>,
+    goals: Goals,
+    held: IndexMap<GoalId, Held>,
+}
+
+impl Model for Server {
+    ghost use Rattle.exec_rules.specs.World.{ServerEntry};
+    ghost use Rattle.exec_entity.specs.inner.Keeping.{AreKept};
+    ghost use Rattle.exec_entity.specs.inner.Server.{held_goals_of};
+
+    ghost Value = { ServerEntry };
+
+    ghost view = { λ server. record { handler = server.handler; timeout = server.timeout; goals = server.goals; held = held_goals_of server.held.entries } };
+
+    ghost invariant = { λ server. AreKept server.goals (held_goals_of server.held.entries) };
+}
+
+impl Server {
+    ghost use Rattle.std.specs.Prelude.{◌⊎◌, true, length, map, None, Some, slice_get, find, IfNone, IfOk, IfSome, OnErr, OnOk};
+    ghost use Rattle.std.specs.Option.{option_map, option_map_or};
+    ghost use Rattle.exec_goal.specs.Calls.{after_asking, askers_in, end_state};
+    ghost use Rattle.exec_goal.specs.Cancel.{candidates, code_of, moved, table_after};
+    ghost use Rattle.exec_goal.specs.Info.{answer_of, info_of};
+    ghost use Rattle.exec_goal.specs.State.{is_accepted};
+    ghost use Rattle.exec_goal.specs.Table.{after_end, asked_for, has_id, working};
+    ghost use Rattle.exec_msg.specs.Lists.{change_first};
+    ghost use Rattle.exec_task.specs.Task.{new_task};
+    ghost use Rattle.exec_rules.specs.Close.{server_accepting};
+    ghost use Rattle.exec_rules.specs.World.{has_room_for};
+    ghost use Rattle.exec_entity.specs.inner.Keeping.{executed};
+
+    /// A server without goals. It takes no memory.
+    pub fn new(alloc: Global, handler: Handler, timeout: Option<u64>) -> Server
+        ensures { result ≡ record { handler = handler; timeout = timeout; goals = []; held = [] } }
+    {
+        Server {
+            handler,
+            timeout,
+            goals: Goals::new(alloc),
+            held: IndexMap::new(alloc),
+        }
+    }
+
+    /// The server's entity.
+    pub fn number(&self) -> EntityNo
+        ensures { result ≡ self.now.handler.entity }
+    {
+        self.handler.entity
+    }
+
+    /// How many goals are held, in whatever state.
+    pub fn len(&self) -> usize
+        ensures { result ≡ length self.now.goals }
+    {
+        self.goals.len()
+    }
+
+    /// The goal at this place, from 0, in the order of acceptance.
+    pub fn goal_at(&self, index: usize) -> GoalInfo
+        requires { index < length self.now.goals }
+        ensures { slice_get (map info_of self.now.goals) index ≡ Some result }
+    {
+        self.goals.at(index)
+    }
+
+    /// Whether one more goal of this identifier can be held: none of it is, and there is room.
+    pub fn has_room_for(&self, id: GoalId) -> bool
+        ensures { result ≡ has_room_for id self.now.goals }
+    {
+        !(self.goals.holds(id) || self.goals.is_full())
+    }
+
+    /// The action client that sent a goal, if one did.
+    pub fn client_of(&self, id: GoalId) -> Option<EntityNo>
+        ensures { result ≡ option_map_or (λ held. held.client) (find (is_for id) self.now.held) None }
+    {
+        self.held.get(&id)?.client
+    }
+
+    /// The action client that asked for a goal's result at this place, from 0, in the order of asking, or `None` beyond them
+    /// and where no such goal is held.
+    pub fn asker(&self, id: GoalId, index: usize) -> Option<EntityNo>
+        ensures { result ≡ slice_get (askers_in id self.now.goals) index }
+    {
+        self.goals.asker(id, index)
+    }
+
+    /// Accepts a goal at a moment, by decision 2, which executes it at once, or by decision 3, which defers it. Where memory is
+    /// refused, the server stays as it was.
+    pub fn accept(
+        &mut self,
+        moment: Moment,
+        decision: u8,
+        request: &GoalRequest,
+    ) -> Result<(), Memory>
+        requires decision { (decision ≡ 2) ⊎ (decision ≡ 3) }
+        requires room { has_room_for request.now.id self.old.goals ≡ true }
+        ensures accepted { OnOk result (self.new ≡ server_accepting moment decision request.now self.old) }
+        ensures refused { OnErr result (self.new ≡ self.old) }
+    {
+        let task = self.new_task(request.value)?;
+        let held = Held {
+            client: request.client,
+            task: Some(task),
+        };
+        self.held.reserve(1)?;
+        // Room and identifier are as they must be, so that memory alone may be refused.
+        let Ok(_accepted) = self
+            .goals
+            .accept(request.id, request.value, moment, decision)
+        else {
+            return Err(Memory);
+        };
+        insert_new(&mut self.held, request.id, held);
+        Ok(())
+    }
+
+    // The task of a goal of this value, before its first poll.
+    fn new_task(&self, value: i64) -> Result<GoalTask, Memory>
+        ensures script { IfOk result (λ task. task.script ≡ self.now.handler.script) }
+        ensures value { IfOk result (λ task. task.value ≡ value) }
+        ensures task { IfOk result (λ task. task.task ≡ new_task) }
+    {
+        let script = self.handler.script.shared().clone()?;
+        Ok(GoalTask::new(script, value))
+    }
+
+    /// The goals that a cancel request selects and that may be moved, in the order of acceptance.
+    pub fn candidates(&self, request: &CancelRequest) -> Result<Items<GoalInfo>, Memory>
+        ensures { IfOk result (λ infos. infos ≡ map info_of (candidates request.now self.now.goals)) }
+    {
+        self.goals.candidates(request)
+    }
+
+    /// Cancels by what was decided of a request's candidates, each by its identifier, of which 2 accepts. Where memory is
+    /// refused, the server stays as it was.
+    pub fn cancel(
+        &mut self,
+        request: &CancelRequest,
+        decisions: &[(GoalId, u8)],
+    ) -> Result<CancelAnswer, Memory>
+        ensures code { IfOk result (λ answer. answer.code ≡ code_of request.now decisions.now self.old.goals) }
+        ensures moved { IfOk result (λ answer. answer.moved ≡ map (λ goal. goal.id) (moved decisions.now self.old.goals)) }
+        ensures table { OnOk result (self.new ≡ record self.old { goals = table_after decisions.now self.old.goals }) }
+        ensures refused { OnErr result (self.new ≡ self.old) }
+    {
+        let answer = self.goals.answer(request, decisions)?;
+        Ok(answer)
+    }
+
+    /// What an action client is told that asks for a goal's result; where it comes later, the client is noted. Where memory
+    /// is refused, the server stays as it was.
+    pub fn ask(&mut self, id: GoalId, client: EntityNo) -> Result<Asked, Memory>
+        ensures told { IfOk result (λ told. told ≡ answer_of (asked_for id self.old.goals)) }
+        ensures noted { OnOk result (self.new ≡ record self.old { goals = after_asking id client self.old.goals }) }
+        ensures refused { OnErr result (self.new ≡ self.old) }
+    {
+        let told = self.goals.ask_result(id, client)?;
+        Ok(told)
+    }
+
+    /// Executes the oldest goal that is accepted and not executed yet, and answers its identifier, or `None` where there is none.
+    pub fn execute_oldest(&mut self) -> Option<GoalId>
+        ensures found { result ≡ option_map (λ goal. goal.id) (find (λ goal. is_accepted goal.state) self.old.goals) }
+        ensures executed { self.new ≡ record self.old { goals = executed (find (λ goal. is_accepted goal.state) self.old.goals) self.old.goals } }
+    {
+        let id = self.oldest_accepted()?;
+        let _state = self.goals.apply(id, Event::Execute);
+        Some(id)
+    }
+
+    fn oldest_accepted(&self) -> Option<GoalId>
+        ensures { result ≡ option_map (λ goal. goal.id) (find (λ goal. is_accepted goal.state) self.now.goals) }
+    {
+        for index in 0..self.len() {
+            let goal = self.goal_at(index);
+            if goal.state.is_accepted() {
+                return Some(goal.id);
+            }
+        }
+        None
+    }
+
+    /// Ends a goal by an event at a moment with its result, and answers its terminal state. Where no such goal is held, or the
+    /// event leads its state to no terminal one, nothing changes and there is no answer.
+    pub fn end(&mut self, id: GoalId, event: Event, value: i64, moment: Moment) -> Option<State>
+        ensures reached { result ≡ end_state id event self.old.goals }
+        ensures ended { IfSome result (λ _. self.new ≡ record self.old { goals = change_first (has_id id) (after_end event value moment) self.old.goals }) }
+        ensures refused { IfNone result (self.new ≡ self.old) }
+    {
+        let Ok(reached) = self.goals.end(id, event, value, moment) else {
+            return None;
+        };
+        Some(reached)
+    }
+}
+
+// Puts work that is kept under a new identifier behind what is kept, where there is room for it.
+fn insert_new(held: &mut IndexMap<GoalId, Held>, id: GoalId, new: Held)
+    requires room { 0 < spare held.old }
+    requires new { list_any (is_for id) (held_goals_of held.old.entries) ≡ false }
+    ensures { held_goals_of held.new.entries ≡ held_goals_of held.old.entries ++ held_goal_of (id, new) ∷ [] }
+{
+    let _none = held.insert(id, new).unwrap();
+}
+
+// Drops what is kept under an identifier, if anything is.
+fn remove(held: &mut IndexMap<GoalId, Held>, id: GoalId)
+    ensures { held_goals_of held.new.entries ≡ drop_first (is_for id) (held_goals_of held.old.entries) }
+{
+    let _dropped = held.shift_remove(&id);
+}

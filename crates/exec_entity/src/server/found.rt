@@ -1,0 +1,213 @@
+//! Servers, each found by its number. What is asked of one that isn't there changes nothing.
+use super::{GoalRequest, Server};
+use crate::by_number::{ByNumber, Numbered};
+use exec_goal::{Asked, CancelAnswer, CancelRequest, Goals, State};
+use exec_msg::{EntityNo, Event, GoalId, Memory, Moment};
+use exec_rules::ReadyList;
+use exec_script::{Bank, Close, EffectList};
+use exec_task::{GoalTask, Turn};
+use futures::task::Context;
+use std::alloc::Global;
+
+impl Numbered for Server {
+    ghost number_of = { λ server. server.handler.entity };
+
+    fn number(&self) -> EntityNo {
+        self.handler.entity
+    }
+}
+
+impl ByNumber<Server> {
+    ghost use Rattle.std.specs.Prelude.{◌≡◌, ◌⊎◌, [], true, None, Some, map, find, slice_get, IfNone, IfOk, IfSome, OnErr, OnOk};
+    ghost use Rattle.std.specs.List.{flat_map};
+    ghost use Rattle.std.specs.Option.{option_map, option_map_or};
+    ghost use Rattle.exec_goal.specs.Calls.{askers_in, end_state};
+    ghost use Rattle.exec_goal.specs.Cancel.{code_of, moved, table_after};
+    ghost use Rattle.exec_goal.specs.Info.{answer_of};
+    ghost use Rattle.exec_goal.specs.State.{is_accepted};
+    ghost use Rattle.exec_goal.specs.Table.{after_end, asked_for, has_id};
+    ghost use Rattle.exec_msg.specs.Lists.{change_first};
+    ghost use Rattle.exec_rules.specs.Close.{server_accepting};
+    ghost use Rattle.exec_rules.specs.Ready.{poll_ready};
+    ghost use Rattle.exec_rules.specs.World.{has_room_for, is_server_at, is_for, work_of, goals_in, held_in, work_in};
+    ghost use Rattle.exec_rules.specs.inner.Listing.{listed_behind};
+    ghost use Rattle.exec_rules.specs.Callback.{poll_listed};
+    ghost use Rattle.exec_entity.specs.inner.Polling.{server_polled, server_with_work};
+    ghost use Rattle.exec_entity.specs.inner.Servers.{asked_in, executed_in, with_goals};
+
+    /// Whether a server can hold one more goal of an identifier.
+    pub fn has_room_for(&self, server: EntityNo, id: GoalId) -> bool
+        ensures { result ≡ has_room_for id (goals_in server self.now) }
+    {
+        match self.find(server) {
+            Some(found) => found.has_room_for(id),
+            None => true,
+        }
+    }
+
+    /// The action client that sent a goal, if one did.
+    pub fn client_of(&self, server: EntityNo, id: GoalId) -> Option<EntityNo>
+        ensures { result ≡ option_map_or (λ held. held.client) (find (is_for id) (held_in server self.now)) None }
+    {
+        self.find(server)?.client_of(id)
+    }
+
+    /// The action client that asked for a goal's result at this place, from 0, in the order of asking, or `None` beyond them.
+    pub fn asker(&self, server: EntityNo, id: GoalId, index: usize) -> Option<EntityNo>
+        ensures { result ≡ slice_get (askers_in id (goals_in server self.now)) index }
+    {
+        self.find(server)?.asker(id, index)
+    }
+
+    /// A server accepts a goal at a moment, by decision 2, which executes it at once, or by decision 3, which defers it.
+    pub fn accept(
+        &mut self,
+        server: EntityNo,
+        moment: Moment,
+        decision: u8,
+        request: &GoalRequest,
+    ) -> Result<(), Memory>
+        requires decision { (decision ≡ 2) ⊎ (decision ≡ 3) }
+        requires room { has_room_for request.now.id (goals_in server self.old) ≡ true }
+        ensures { OnOk result (self.new ≡ change_first (is_server_at server) (server_accepting moment decision request.now) self.old) }
+    {
+        let place = self.place(server);
+        let Some(entry) = self.entries.get_mut(place) else {
+            return Ok(());
+        };
+        entry.accept(moment, decision, request)?;
+        Ok(())
+    }
+
+    /// A server cancels by what was decided of a request's candidates, each by its identifier, of which 2 accepts. One that
+    /// isn't there has no goals.
+    pub fn cancel(
+        &mut self,
+        alloc: Global,
+        server: EntityNo,
+        request: &CancelRequest,
+        decisions: &[(GoalId, u8)],
+    ) -> Result<CancelAnswer, Memory>
+        ensures code { IfOk result (λ answer. answer.code ≡ code_of request.now decisions.now (goals_in server self.old)) }
+        ensures moved { IfOk result (λ answer. answer.moved ≡ map (λ goal. goal.id) (moved decisions.now (goals_in server self.old))) }
+        ensures table { OnOk result (self.new ≡ change_first (is_server_at server) (with_goals (table_after decisions.now)) self.old) }
+    {
+        let place = self.place(server);
+        let Some(entry) = self.entries.get_mut(place) else {
+            let mut goals = Goals::new(alloc);
+            let answer = goals.answer(request, decisions)?;
+            return Ok(answer);
+        };
+        let answer = entry.cancel(request, decisions)?;
+        Ok(answer)
+    }
+
+    /// What an action client is told that asks a server for a goal's result; where it comes later, the client is noted.
+    pub fn ask(&mut self, server: EntityNo, id: GoalId, client: EntityNo) -> Result<Asked, Memory>
+        ensures told { IfOk result (λ told. told ≡ answer_of (asked_for id (goals_in server self.old))) }
+        ensures noted { OnOk result (self.new ≡ asked_in (asked_for id (goals_in server self.old)) server id client self.old) }
+    {
+        let place = self.place(server);
+        let Some(entry) = self.entries.get_mut(place) else {
+            return Ok(Asked::Unknown);
+        };
+        let told = entry.ask(id, client)?;
+        Ok(told)
+    }
+
+    /// A server executes its oldest goal that is accepted and not executed yet, and answers its identifier, or `None` where there is
+    /// none.
+    pub fn execute_oldest(&mut self, server: EntityNo) -> Option<GoalId>
+        ensures found { result ≡ option_map (λ goal. goal.id) (find (λ goal. is_accepted goal.state) (goals_in server self.old)) }
+        ensures executed { self.new ≡ executed_in server (find (λ goal. is_accepted goal.state) (goals_in server self.old)) self.old }
+    {
+        let place = self.place(server);
+        let entry = self.entries.get_mut(place)?;
+        entry.execute_oldest()
+    }
+
+    /// A server ends a goal by an event at a moment with its result, and answers its terminal state. Where no such goal is
+    /// held, or the event leads its state to no terminal one, nothing changes and there is no answer.
+    pub fn end(
+        &mut self,
+        server: EntityNo,
+        id: GoalId,
+        event: Event,
+        value: i64,
+        moment: Moment,
+    ) -> Option<State>
+        ensures reached { result ≡ end_state id event (goals_in server self.old) }
+        ensures ended { IfSome result (λ _. self.new ≡ change_first (is_server_at server) (with_goals (change_first (has_id id) (after_end event value moment))) self.old) }
+        ensures refused { IfNone result (self.new ≡ self.old) }
+    {
+        let place = self.place(server);
+        let entry = self.entries.get_mut(place)?;
+        entry.end(id, event, value, moment)
+    }
+
+    /// A server polls a goal in a turn, with the variables of its callback group, in a context that the caller has made, and
+    /// answers what closes the poll. The list then has its effects, and these alone. A goal that isn't held or isn't awake isn't
+    /// polled, and pends. Where memory is refused, the bank stays as it was.
+    pub fn poll(
+        &mut self,
+        server: EntityNo,
+        id: GoalId,
+        turn: &Turn,
+        bank: &mut Bank,
+        cx: &mut Context<'_>,
+        effects: &mut EffectList,
+    ) -> Result<Close, Memory>
+        ensures effects { OnOk result (effects.new ≡ (poll_listed turn.now (work_in server id self.old) bank.old).given) }
+        ensures close { IfOk result (λ close. close ≡ (poll_listed turn.now (work_in server id self.old) bank.old).close) }
+        ensures variables { OnOk result (bank.new ≡ (poll_listed turn.now (work_in server id self.old) bank.old).variables) }
+        ensures task { OnOk result (self.new ≡ change_first (is_server_at server) (server_polled id (poll_listed turn.now (work_in server id self.old) bank.old).task) self.old) }
+        ensures refused { OnErr result (bank.new ≡ bank.old) }
+    {
+        let place = self.place(server);
+        let Some(entry) = self.entries.get_mut(place) else {
+            effects.clear();
+            return Ok(Close::Pending);
+        };
+        let close = entry.poll(id, turn, bank, cx, effects)?;
+        Ok(close)
+    }
+
+    /// Takes the task of a server's goal out, and answers `None` where no such goal is held or its task is out.
+    pub fn take_task(&mut self, server: EntityNo, id: GoalId) -> Option<GoalTask>
+        ensures taken { option_map work_of result ≡ work_in server id self.old }
+        ensures out { self.new ≡ change_first (is_server_at server) (server_with_work id None) self.old }
+    {
+        let place = self.place(server);
+        let entry = self.entries.get_mut(place)?;
+        entry.take_task(id)
+    }
+
+    /// Puts the task of a server's goal in its place. Where no such goal is held, nothing changes.
+    pub fn put_task(&mut self, server: EntityNo, id: GoalId, task: GoalTask)
+        ensures { self.new ≡ change_first (is_server_at server) (server_with_work id (Some (work_of task))) self.old }
+    {
+        let place = self.place(server);
+        let Some(entry) = self.entries.get_mut(place) else {
+            return;
+        };
+        entry.put_task(id, task);
+    }
+
+    /// Lists a poll for each goal that is awake at a moment, server by server, each in the order of acceptance.
+    pub fn list_polls(
+        &self,
+        alloc: Global,
+        moment: Moment,
+        list: &mut ReadyList,
+    ) -> Result<(), Memory>
+        ensures { OnOk result (list.new ≡ listed_behind list.old (flat_map (poll_ready moment) self.now)) }
+    {
+        for entry in &self.entries {
+            entry.list_polls(alloc, moment, list)?;
+        }
+        Ok(())
+    }
+}
+
+/// The servers of a graph.
+pub type Servers = ByNumber<Server>;

@@ -1,0 +1,190 @@
+//! Polls of a server's goals.
+ghost use Rattle.std.specs.Prelude.{◌≡◌, [], false, Some, IfOk, OnErr, OnOk};
+ghost use Rattle.std.specs.Option.{option_map, option_map_or};
+ghost use Rattle.exec_script.specs.declared.effects.Close.TheVariants as close;
+ghost use Rattle.exec_task.specs.Task.{is_awake};
+ghost use Rattle.exec_rules.specs.Callback.{close_of_answer};
+ghost use Rattle.exec_rules.specs.Ready.{turn_at};
+ghost use Rattle.exec_rules.specs.World.{work_of};
+ghost use Rattle.exec_rules.specs.Run.{work_after};
+
+use super::{Held, Server};
+use exec_goal::GoalInfo;
+use exec_msg::{GoalId, Items, Memory, Moment};
+use exec_rules::{Cause, Ready, ReadyList, poll_any};
+use exec_script::{Bank, Close, EffectList};
+use exec_task::{Answer, GoalTask, Turn, is_awake, poll_goal_into};
+use futures::task::Context;
+use std::alloc::Global;
+use std::mem;
+
+impl Server {
+    ghost use Rattle.std.specs.Prelude.{ℕ, ◌<◌, None, length, map, filter, find, slice_get, slice_index_or};
+    ghost use Rattle.std.specs.Option.{option_and_then};
+    ghost use Rattle.exec_goal.specs.Info.{info_of};
+    ghost use Rattle.exec_goal.specs.State.{is_canceling};
+    ghost use Rattle.exec_goal.specs.Table.{GoalRecord, working};
+    ghost use Rattle.exec_rules.specs.Ready.{is_goal_awake, is_task_awake, poll_ready, ready_for, woken};
+    ghost use Rattle.exec_rules.specs.World.{is_for};
+    ghost use Rattle.exec_rules.specs.inner.Listing.{listed_behind};
+    ghost use Rattle.exec_entity.specs.inner.Polling.{goal_polled, goal_ready, server_polled, server_with_work};
+
+    /// How many goals the server works on; where there are none, none is awake. It looks at no goal.
+    pub fn working(&self) -> usize
+        ensures working { result ≡ working self.now.goals }
+        ensures idle { result ≡ 0 → (moment : ℕ) → filter (is_goal_awake moment self.now.held) self.now.goals ≡ [] }
+    {
+        self.goals.working()
+    }
+
+    // Whether the goal at this place, of which this is told, is awake at a moment.
+    fn is_goal_awake(&self, index: usize, info: &GoalInfo, moment: Moment) -> bool
+        requires { slice_get (map info_of self.now.goals) index ≡ Some info.now }
+        ensures { (goal : GoalRecord) → info.now ≡ info_of goal → result ≡ is_goal_awake moment self.now.held goal }
+    {
+        info.state.is_worked_on() && self.is_task_awake(index, info, moment)
+    }
+
+    // Work is kept in the order of the goals, so that it is found by its place.
+    fn is_task_awake(&self, index: usize, goal: &GoalInfo, moment: Moment) -> bool
+        requires { slice_get (map info_of self.now.goals) index ≡ Some goal.now }
+        ensures { result ≡ is_task_awake (turn_at moment (is_canceling goal.now.state)) (find (is_for goal.now.id) self.now.held) }
+    {
+        let entry = self.held.get_index(index).unwrap();
+        is_any_awake(&entry.1.task, moment, goal.state.is_canceling())
+    }
+
+    /// Lists a poll for each goal that is awake at a moment, in the order of acceptance.
+    pub fn list_polls(
+        &self,
+        alloc: Global,
+        moment: Moment,
+        list: &mut ReadyList,
+    ) -> Result<(), Memory>
+        ensures { OnOk result (list.new ≡ listed_behind list.old (poll_ready moment self.now)) }
+    {
+        if self.working() == 0 {
+            return Ok(());
+        }
+        self.list_awake(alloc, moment, list)
+    }
+
+    fn list_awake(&self, alloc: Global, moment: Moment, list: &mut ReadyList) -> Result<(), Memory>
+        ensures { OnOk result (list.new ≡ listed_behind list.old (poll_ready moment self.now)) }
+    {
+        for index in 0..self.len() {
+            self.list_poll(alloc, moment, index, list)?;
+        }
+        Ok(())
+    }
+
+    // Lists a poll of the goal at this place, from 0, in the order of acceptance, where it is awake.
+    fn list_poll(
+        &self,
+        alloc: Global,
+        moment: Moment,
+        index: usize,
+        list: &mut ReadyList,
+    ) -> Result<(), Memory>
+        requires { index < length self.now.goals }
+        ensures { OnOk result ((d : GoalRecord) → list.new ≡ listed_behind list.old (goal_ready moment self.now (slice_index_or self.now.goals index d))) }
+    {
+        let goal = self.goal_at(index);
+        self.list_goal(alloc, moment, index, &goal, list)
+    }
+
+    fn list_goal(
+        &self,
+        alloc: Global,
+        moment: Moment,
+        index: usize,
+        info: &GoalInfo,
+        list: &mut ReadyList,
+    ) -> Result<(), Memory>
+        requires { slice_get (map info_of self.now.goals) index ≡ Some info.now }
+        ensures { OnOk result ((goal : GoalRecord) → info.now ≡ info_of goal → list.new ≡ listed_behind list.old (goal_ready moment self.now goal)) }
+    {
+        if self.is_goal_awake(index, info, moment) {
+            list.push(self.poll_of(alloc, moment, info)?)?;
+        }
+        Ok(())
+    }
+
+    fn poll_of(&self, alloc: Global, moment: Moment, info: &GoalInfo) -> Result<Ready, Memory>
+        ensures { IfOk result (λ ready. (goal : GoalRecord) → info.now ≡ info_of goal → ready ≡ ready_for moment self.now.handler (woken goal) [] (Some self.now.handler.script)) }
+    {
+        let script = self.handler.share_script()?;
+        let cause = Cause::Woke {
+            id: info.id,
+            value: info.value,
+            canceling: info.state.is_canceling(),
+        };
+        Ok(
+            self.handler
+                .ready(moment, cause, Items::new(alloc), Some(script)),
+        )
+    }
+
+    /// Polls a goal in a turn, with the variables of its callback group, in a context that the caller has made, and answers what
+    /// closes the poll. The list then has its effects, and these alone. A goal that isn't held or isn't awake, or whose task is
+    /// out, isn't polled, and pends. Where memory is refused, the server and the bank stay as they were.
+    pub fn poll(
+        &mut self,
+        id: GoalId,
+        turn: &Turn,
+        bank: &mut Bank,
+        cx: &mut Context<'_>,
+        effects: &mut EffectList,
+    ) -> Result<Close, Memory>
+        ensures effects { OnOk result (effects.new ≡ (goal_polled turn.now id self.old bank.old).given) }
+        ensures close { IfOk result (λ close. close ≡ (goal_polled turn.now id self.old bank.old).close) }
+        ensures variables { OnOk result (bank.new ≡ (goal_polled turn.now id self.old bank.old).variables) }
+        ensures task { OnOk result (self.new ≡ server_polled id (goal_polled turn.now id self.old bank.old).task self.old) }
+        ensures refused { OnErr result (self.new ≡ self.old) }
+        ensures refused_variables { OnErr result (bank.new ≡ bank.old) }
+    {
+        let Some(held) = self.held.get_mut(&id) else {
+            effects.clear();
+            return Ok(Close::Pending);
+        };
+        let close = poll_any(&mut held.task, turn, bank, cx, effects)?;
+        Ok(close)
+    }
+
+    /// Takes the task of a goal out, and answers `None` where no such goal is held or its task is out.
+    pub fn take_task(&mut self, id: GoalId) -> Option<GoalTask>
+        ensures taken { option_map work_of result ≡ option_and_then (λ held. held.work) (find (is_for id) self.old.held) }
+        ensures out { self.new ≡ server_with_work id None self.old }
+    {
+        let held = self.held.get_mut(&id)?;
+        replace_task(held, None)
+    }
+
+    /// Puts a goal's task in its place. Where no such goal is held, nothing changes.
+    pub fn put_task(&mut self, id: GoalId, task: GoalTask)
+        ensures { self.new ≡ server_with_work id (Some (work_of task)) self.old }
+    {
+        let Some(held) = self.held.get_mut(&id) else {
+            return;
+        };
+        let _replaced = replace_task(held, Some(task));
+    }
+}
+
+// Puts a task, or none, in the place of a goal's, which it answers.
+fn replace_task(held: &mut Held, task: Option<GoalTask>) -> Option<GoalTask>
+    ensures taken { result ≡ held.old.task }
+    ensures put { held.new ≡ record held.old { task = task } }
+{
+    mem::replace(&mut held.task, task)
+}
+
+// Whether a task is awake; one that is out never is.
+fn is_any_awake(task: &Option<GoalTask>, moment: Moment, canceling: bool) -> bool
+    ensures { result ≡ option_map_or (λ work. is_awake work.task (turn_at moment canceling)) (option_map work_of task.now) false }
+{
+    match task {
+        None => false,
+        Some(task) => is_awake(task, moment, canceling),
+    }
+}

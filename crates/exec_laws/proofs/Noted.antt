@@ -1,0 +1,155 @@
+-- How often an action client is noted for the result of a goal, over all servers.
+use Rattle.std.proofs.Common.{◌≡◌, ℕ, ℤ, ◌+◌, ◌≤◌, Bool, true, false, not, ◌&&◌, ◌==◌, List, [], ◌∷◌, ◌++◌, map, Some, refl, sym, ap, ◌∙◌, arith}
+use Rattle.std.specs.List.{filter, find}
+use Rattle.std.proofs.lemmas.Bool.{eqb-true}
+use Rattle.exec_goal.specs.Calls.{end_state, where_terminal}
+use Rattle.exec_goal.specs.Cancel.{Decided, is_moved, table_after}
+use Rattle.exec_goal.specs.State.{after, is_terminal}
+use Rattle.exec_goal.specs.Table.{GoalRecord, has_id, after_event, after_end, asked_by, is_expired}
+use Rattle.exec_goal.specs.declared.state.State.{State}
+use Rattle.exec_graph.specs.Entity.{EntityNo}
+use Rattle.exec_msg.specs.Lists.{change_first}
+use Rattle.exec_msg.specs.declared.goal.Event.{Event}
+use Rattle.exec_msg.specs.declared.goal.Event.TheVariants as event
+use Rattle.exec_laws.proofs.Asked.{executed_waits, canceled_waits}
+use Rattle.exec_laws.proofs.Called.{among, among_append}
+use Rattle.exec_laws.proofs.Channels.{weigh}
+use Rattle.exec_rules.proofs.Identifiers.{Makes}
+use Rattle.exec_laws.proofs.Results.{ends_active}
+use Rattle.exec_laws.specs.Exchanges.{waiting_for}
+use Rattle.exec_rules.specs.Item.{GoalId}
+use Rattle.exec_rules.specs.Transcript.{server_expired}
+use Rattle.exec_rules.specs.World.{Moment, ServerEntry, is_server_at, goals_in}
+
+module _ (client : EntityNo) (id : GoalId) where
+  -- how often the client waits for a goal, where that is of the identifier
+  abbrev note : GoalRecord → ℕ
+  note goal = weigh (goal.id == id) (among client (waiting_for (Some goal)))
+
+  abbrev pub notes : List GoalRecord → ℕ
+  notes [] = 0
+  notes (goal ∷ goals) = note goal + notes goals
+
+  -- over all servers
+  abbrev pub noted_by : List ServerEntry → ℕ
+  noted_by [] = 0
+  noted_by (entry ∷ servers) = notes entry.goals + noted_by servers
+
+  -- ---- goals
+
+  -- a change that leaves who waits
+  note_left : (goal changed : GoalRecord) → changed.id ≡ goal.id → waiting_for (Some changed) ≡ waiting_for (Some goal) → note changed ≡ note goal
+  note_left goal changed same waits = ap (λ (n : GoalId). weigh (n == id) (among client (waiting_for (Some changed)))) same ∙ ap (λ (some : List EntityNo). weigh (goal.id == id) (among client some)) waits
+
+  notes_changed : (other : GoalId) (change : GoalRecord → GoalRecord) → ((goal : GoalRecord) → (change goal).id ≡ goal.id) → ((goal : GoalRecord) → waiting_for (Some (change goal)) ≡ waiting_for (Some goal)) → (goals : List GoalRecord) → notes (change_first (has_id other) change goals) ≡ notes goals
+  notes_changed other change same waits [] = refl
+  notes_changed other change same waits (goal ∷ goals) = by (has_id other goal) refl (notes_changed other change same waits goals)
+    where
+      by : (b : Bool) → has_id other goal ≡ b → notes (change_first (has_id other) change goals) ≡ notes goals → notes (change_first (has_id other) change (goal ∷ goals)) ≡ notes (goal ∷ goals)
+      by true e rest = rw e (ap (λ (n : ℕ). n + notes goals) (note_left goal (change goal) (same goal) (waits goal)))
+      by false e rest = rw e (ap (λ (n : ℕ). note goal + n) rest)
+
+  pub notes_executed : (other : GoalId) (goals : List GoalRecord) → notes (change_first (has_id other) (after_event event.Execute) goals) ≡ notes goals
+  notes_executed other goals = notes_changed other (after_event event.Execute) (λ goal. refl) (executed_waits client id) goals
+
+  pub notes_answered : (decisions : List Decided) (goals : List GoalRecord) → notes (table_after decisions goals) ≡ notes goals
+  notes_answered decisions [] = refl
+  notes_answered decisions (goal ∷ goals) = by (is_moved decisions goal) refl (notes_answered decisions goals)
+    where
+      by : (b : Bool) → is_moved decisions goal ≡ b → notes (table_after decisions goals) ≡ notes goals → notes (table_after decisions (goal ∷ goals)) ≡ notes (goal ∷ goals)
+      by true e rest =
+          let first : note (after_event event.CancelGoal goal) ≡ note goal = note_left goal (after_event event.CancelGoal goal) refl (canceled_waits client id goal) in
+          rw e (omega (arith, first, rest))
+      by false e rest = rw e (ap (λ (n : ℕ). note goal + n) rest)
+
+  -- a goal that nobody asked for yet is accepted
+  pub notes_accepted : (goals : List GoalRecord) (new : GoalRecord) → new.askers ≡ [] → notes (goals ++ new ∷ []) ≡ notes goals
+  notes_accepted [] new none = by (is_terminal new.state) (new.id == id) refl refl
+    where
+      by : (b c : Bool) → is_terminal new.state ≡ b → new.id == id ≡ c → note new + 0 ≡ 0
+      by true true e f = rw (f, e) (omega arith)
+      by false true e f = rw (f, e, none) (omega arith)
+      by b false e f = rw f (omega arith)
+  notes_accepted (goal ∷ goals) new none = let rest = notes_accepted goals new none in omega (arith, rest)
+
+  -- a client is noted
+  pub notes_asked : (other : GoalId) (asker : EntityNo) (goals : List GoalRecord) → notes (change_first (has_id other) (asked_by asker) goals) ≤ notes goals + weigh ((asker == client) && (other == id)) 1
+  notes_asked other asker [] = omega arith
+  notes_asked other asker (goal ∷ goals) = by (has_id other goal) refl (notes_asked other asker goals)
+    where
+      here : goal.id ≡ other → note (asked_by asker goal) ≤ note goal + weigh ((asker == client) && (other == id)) 1
+      here same = of (is_terminal goal.state) (other == id) (asker == client) refl refl refl
+        where
+          of : (b c d : Bool) → is_terminal goal.state ≡ b → other == id ≡ c → asker == client ≡ d → note (asked_by asker goal) ≤ note goal + weigh ((asker == client) && (other == id)) 1
+          of b false d e f g = rw (same, f) (omega arith)
+          of true true d e f g = rw (same, f, e) (omega arith)
+          of false true true e f g = let more = among_append client goal.askers (asker ∷ []) in let one : weigh (asker == client) 1 ≡ 1 = rw g refl in rw (same, f, e, g) (omega (arith, more, one))
+          of false true false e f g = let more = among_append client goal.askers (asker ∷ []) in let one : weigh (asker == client) 1 ≡ 0 = rw g refl in rw (same, f, e, g) (omega (arith, more, one))
+
+      by : (b : Bool) → has_id other goal ≡ b → notes (change_first (has_id other) (asked_by asker) goals) ≤ notes goals + weigh ((asker == client) && (other == id)) 1 → notes (change_first (has_id other) (asked_by asker) (goal ∷ goals)) ≤ notes (goal ∷ goals) + weigh ((asker == client) && (other == id)) 1
+      by true e rest = let first = here (eqb-true goal.id other e) in rw e (omega (arith, first))
+      by false e rest = rw e (omega (arith, rest))
+
+  -- a goal ends: those that waited for it don't any more
+  pub notes_ended : (other : GoalId) (by_event : Event) (value : ℤ) (moment : Moment) (reached : State) (found : GoalRecord) (goals : List GoalRecord) → end_state other by_event goals ≡ Some reached → find (has_id other) (change_first (has_id other) (after_end by_event value moment) goals) ≡ Some found →
+      notes (change_first (has_id other) (after_end by_event value moment) goals) + weigh (other == id) (among client found.askers) ≤ notes goals
+  notes_ended other by_event value moment reached found [] leads is = absurd cc
+  notes_ended other by_event value moment reached found (goal ∷ goals) leads is = by (has_id other goal) refl (notes_ended other by_event value moment reached found goals)
+    where
+      by : (b : Bool) → has_id other goal ≡ b →
+          (end_state other by_event goals ≡ Some reached → find (has_id other) (change_first (has_id other) (after_end by_event value moment) goals) ≡ Some found → notes (change_first (has_id other) (after_end by_event value moment) goals) + weigh (other == id) (among client found.askers) ≤ notes goals) →
+          notes (change_first (has_id other) (after_end by_event value moment) (goal ∷ goals)) + weigh (other == id) (among client found.askers) ≤ notes (goal ∷ goals)
+      by true e rest =
+          let here : Some (after_end by_event value moment goal) ≡ Some found = rw (e, e) at is in
+          let ends : where_terminal (after goal.state by_event) ≡ Some reached = rw e at leads in
+          let states = ends_active goal.state by_event reached ends in
+          let same : after_end by_event value moment goal ≡ found = cc in
+          let asked : found.askers ≡ goal.askers = ap (λ (g : GoalRecord). g.askers) (sym same) in
+          let named : goal.id ≡ other = eqb-true goal.id other e in
+          let before : note goal ≡ weigh (other == id) (among client goal.askers) = rw (named, states.0) refl in
+          let after_it : note (after_end by_event value moment goal) ≡ 0 = rw states.1 (nothing (goal.id == id)) in
+          let told : weigh (other == id) (among client found.askers) ≡ weigh (other == id) (among client goal.askers) = ap (λ (some : List EntityNo). weigh (other == id) (among client some)) asked in
+          rw e (omega (arith, before, after_it, told))
+        where
+          nothing : (b : Bool) → weigh b 0 ≡ 0
+          nothing true = refl
+          nothing false = refl
+      by false e rest =
+          let behind : end_state other by_event goals ≡ Some reached = rw e at leads in
+          let there : find (has_id other) (change_first (has_id other) (after_end by_event value moment) goals) ≡ Some found = rw (e, e) at is in
+          let few = rest behind there in
+          rw e (omega (arith, few))
+
+  notes_kept : (test : GoalRecord → Bool) (goals : List GoalRecord) → notes (filter test goals) ≤ notes goals
+  notes_kept test [] = omega arith
+  notes_kept test (goal ∷ goals) = by (test goal) refl (notes_kept test goals)
+    where
+      by : (b : Bool) → test goal ≡ b → notes (filter test goals) ≤ notes goals → notes (filter test (goal ∷ goals)) ≤ notes (goal ∷ goals)
+      by true e rest = rw e (omega (arith, rest))
+      by false e rest = rw e (omega (arith, rest))
+
+  -- ---- servers
+
+  -- what a change makes of one server's goals it makes of all
+  pub noted_changed : {change : ServerEntry → ServerEntry} {goals : List GoalRecord → List GoalRecord} → Makes change goals → (server : EntityNo) (servers : List ServerEntry) (less more : ℕ) →
+      notes (goals (goals_in server servers)) + less ≤ notes (goals_in server servers) + more → noted_by (change_first (is_server_at server) change servers) + less ≤ noted_by servers + more
+  noted_changed m server [] less more few = omega (arith, few)
+  noted_changed {change} {goals} m server (entry ∷ servers) less more few = by (is_server_at server entry) refl (noted_changed m server servers less more)
+    where
+      by : (b : Bool) → is_server_at server entry ≡ b → (notes (goals (goals_in server servers)) + less ≤ notes (goals_in server servers) + more → noted_by (change_first (is_server_at server) change servers) + less ≤ noted_by servers + more) →
+          noted_by (change_first (is_server_at server) change (entry ∷ servers)) + less ≤ noted_by (entry ∷ servers) + more
+      by true e rest =
+          let here : notes (goals entry.goals) + less ≤ notes entry.goals + more = rw e at few in
+          let same : notes (change entry).goals ≡ notes (goals entry.goals) = ap (λ (some : List GoalRecord). notes some) (m.makes entry) in
+          rw e (omega (arith, here, same))
+      by false e rest =
+          let there : notes (goals (goals_in server servers)) + less ≤ notes (goals_in server servers) + more = rw e at few in
+          let behind = rest there in
+          rw e (omega (arith, behind))
+
+  pub noted_expired : (moment : Moment) (servers : List ServerEntry) → noted_by (map (server_expired moment) servers) ≤ noted_by servers
+  noted_expired moment [] = omega arith
+  noted_expired moment (entry ∷ servers) =
+      let first = notes_kept (λ goal. not (is_expired moment entry.timeout goal)) entry.goals in
+      let rest = noted_expired moment servers in
+      omega (arith, first, rest)

@@ -1,0 +1,237 @@
+-- How long scripts are, and how many goals servers hold, in any world of a lawful plan.
+use Rattle.std.proofs.Common.{◌≡◌, ℕ, zero, suc, ◌≤◌, ◌||◌, nat_le, Bool, true, false, not, List, [], ◌∷◌, ◌++◌, length, Option, None, Some, length-append, slice_index_or, refl, sym, ap, ◌∙◌, arith}
+use Rattle.std.specs.List.{AllByRecursion, filter}
+use Rattle.std.specs.Option.{option_map, unwrap_or}
+use Rattle.std.proofs.lemmas.Bool.{leb-false, or_parts, not-true}
+use Rattle.std.proofs.lemmas.List.{length-map}
+use Rattle.std.proofs.lemmas.List.Elements.{recursion_from_All}
+use Rattle.std.proofs.lemmas.List.Filters.{length-filter_both}
+use Rattle.exec_goal.specs.Table.{GoalRecord, holds_id, is_full, is_expired, new_goal}
+use Rattle.exec_graph.specs.Entity.{EntityNo, Resolved, Script, scripts_of, result_scripts}
+use Rattle.exec_graph.specs.Graph.{EntityData, GraphData, Waitable, callback_script, declared_at, entities_where, is_server, is_timer, script_for, wait_set}
+use Rattle.exec_graph.specs.Lawful.{IsLawful, IsLawfulDeclared, IsLawfulScript}
+use Rattle.exec_graph.specs.declared.entity.Declared.{Declared}
+use Rattle.exec_graph.specs.declared.entity.Declared.TheVariants as declared
+use Rattle.exec_graph.specs.declared.entity.EntityOf.TheVariants.{Timer, Subscription, Service, Client, Server, ActionClient}
+use Rattle.exec_msg.specs.Lists.{change_first}
+use Rattle.exec_msg.specs.Timer.{is_due}
+use Rattle.exec_msg.specs.declared.kind.Kind.{Kind}
+use Rattle.exec_msg.specs.declared.kind.Kind.TheVariants as kind
+use Rattle.exec_task.specs.Task.{TaskState}
+use Rattle.exec_rules.proofs.Keeping.{ids}
+use Rattle.exec_rules.proofs.Pairs.{all_append, all_filter, all_map, all_mapped, all_weaker}
+use Rattle.exec_rules.proofs.Running.{KeptByRounds}
+use Rattle.exec_rules.specs.Close.{GoalRequest, held_goal, server_accepting}
+use Rattle.exec_rules.specs.Item.{GoalId}
+use Rattle.exec_rules.specs.Ready.{queue_taken, timer_taken}
+use Rattle.exec_rules.specs.Transcript.{first_world, handler_for, new_queue, new_server, new_timer, server_expired, takes_from_queue}
+use Rattle.exec_rules.specs.World.{GoalWork, Moment, ServerEntry, TimerEntry, WorldState, has_room_for, is_for, is_server_at, goals_in}
+
+-- a script of no more instructions than one may have
+abbrev pub IsShort : Script → Type 0
+IsShort script = length script ≤ 64
+
+-- a goal's work, if it is at home, has such a script
+abbrev pub IsShortWork : Option GoalWork → Type 0
+IsShortWork None = Unit {0}
+IsShortWork (Some work) = IsShort work.script
+
+-- a server's script is short, as its goals' are, and it holds no more goals than one may
+pub record IsSmallServer (entry : ServerEntry) : Type 0 where
+  pub script : IsShort entry.handler.script
+  pub goals : length entry.goals ≤ 64
+  pub works : AllByRecursion (λ held. IsShortWork held.work) entry.held
+
+-- all scripts of a world are short, and no server holds more goals than it may
+pub record IsSmall (world : WorldState) : Type 0 where
+  pub timers : AllByRecursion (λ entry. IsShort entry.handler.script) world.timers
+  pub queues : AllByRecursion (λ queue. IsShort queue.handler.script) world.queues
+  pub servers : AllByRecursion IsSmallServer world.servers
+
+-- ---- lists
+
+pub all_changed : {A : Type 0} (P : A → Type 0) (test : A → Bool) (change : A → A) → ((one : A) → P one → P (change one)) → (all : List A) → AllByRecursion P all → AllByRecursion P (change_first test change all)
+all_changed P test change kept [] p = tt
+all_changed {A} P test change kept (one ∷ all) p = by (test one) refl (all_changed P test change kept all p.1)
+  where
+    by : (b : Bool) → test one ≡ b → AllByRecursion P (change_first test change all) → AllByRecursion P (change_first test change (one ∷ all))
+    by true e rest = rw e (kept one p.0, p.1)
+    by false e rest = rw e (p.0, rest)
+
+pub filter_less : {A : Type 0} (test : A → Bool) (all : List A) → length (filter test all) ≤ length all
+filter_less test all = omega (arith, length-filter_both test (λ one. not (test one)) (λ one. refl) all)
+
+-- ---- rounds
+
+work_tasked : (task : TaskState) (work : Option GoalWork) → IsShortWork work → IsShortWork (option_map (λ (work : GoalWork). record work { task = task }) work)
+work_tasked task None p = tt
+work_tasked task (Some work) p = p
+
+server_tasked : (id : GoalId) (task : TaskState) (entry : ServerEntry) → IsSmallServer entry → IsSmallServer (record entry { held = change_first (is_for id) (λ held. record held { work = option_map (λ (work : GoalWork). record work { task = task }) held.work }) entry.held })
+server_tasked id task entry p = record {
+  script = p.script;
+  goals = p.goals;
+  works = all_changed (λ held. IsShortWork held.work) (is_for id) _ (λ held q. work_tasked task held.work q) entry.held p.works;
+}
+
+server_changed : (change : List GoalRecord → List GoalRecord) → ((goals : List GoalRecord) → ids (change goals) ≡ ids goals) → (entry : ServerEntry) → IsSmallServer entry → IsSmallServer (record entry { goals = change entry.goals })
+server_changed change same entry p =
+    let long : length (change entry.goals) ≡ length entry.goals =
+    sym (length-map (change entry.goals) (λ goal. goal.id)) ∙ ap (λ (some : List GoalId). length some) (same entry.goals) ∙ length-map entry.goals (λ goal. goal.id) in
+    record { script = p.script; goals = omega (arith, long, p.goals); works = p.works }
+
+-- a server accepts a goal where it has room for one more
+server_accepted : (server : EntityNo) (moment : Moment) (decision : ℕ) (request : GoalRequest) (servers : List ServerEntry) → has_room_for request.id (goals_in server servers) ≡ true → AllByRecursion IsSmallServer servers →
+    AllByRecursion IsSmallServer (change_first (is_server_at server) (server_accepting moment decision request) servers)
+server_accepted server moment decision request [] room p = tt
+server_accepted server moment decision request (entry ∷ servers) room p = by (is_server_at server entry) refl (server_accepted server moment decision request servers)
+  where
+    by : (b : Bool) → is_server_at server entry ≡ b →
+        (has_room_for request.id (goals_in server servers) ≡ true → AllByRecursion IsSmallServer servers → AllByRecursion IsSmallServer (change_first (is_server_at server) (server_accepting moment decision request) servers)) →
+        AllByRecursion IsSmallServer (change_first (is_server_at server) (server_accepting moment decision request) (entry ∷ servers))
+    by true e rest =
+        let here : has_room_for request.id entry.goals ≡ true = rw e at room in
+        let few : nat_le 64 (length entry.goals) ≡ false = (or_parts (holds_id request.id entry.goals) (is_full entry.goals) (not-true (holds_id request.id entry.goals || is_full entry.goals) here)).1 in
+        let one_more : List GoalRecord = new_goal request.id request.value moment decision ∷ [] in
+        let fits : length (entry.goals ++ one_more) ≤ 64 = omega (arith, leb-false 64 (length entry.goals) few, length-append entry.goals one_more) in
+        let accepted : IsSmallServer (server_accepting moment decision request entry) = record {
+          script = p.0.script;
+          goals = fits;
+          works = all_append (λ held. IsShortWork held.work) entry.held (held_goal entry.handler.script request ∷ []) p.0.works (p.0.script, tt);
+        } in
+        rw e (accepted, p.1)
+    by false e rest = let behind : has_room_for request.id (goals_in server servers) ≡ true = rw e at room in rw e (p.0, rest behind p.1)
+
+server_left : (moment : Moment) (entry : ServerEntry) → IsSmallServer entry → IsSmallServer (server_expired moment entry)
+server_left moment entry p = record {
+  script = p.script;
+  goals = omega (arith, p.goals, filter_less (λ goal. not (is_expired moment entry.timeout goal)) entry.goals);
+  works = all_filter (λ held. IsShortWork held.work) _ entry.held p.works;
+}
+
+timer_called : (moment : Moment) (entry : TimerEntry) → IsShort entry.handler.script → IsShort (timer_taken moment entry).handler.script
+timer_called moment entry p = by (is_due entry.timer moment) refl
+  where
+    by : (b : Bool) → is_due entry.timer moment ≡ b → IsShort (timer_taken moment entry).handler.script
+    by true e = rw e p
+    by false e = rw e p
+
+pub small_kept : KeptByRounds IsSmall
+small_kept = record {
+  basic = record {
+    lines_kept = λ lines world p. record { timers = p.timers; queues = p.queues; servers = p.servers };
+    queues_kept = λ entity new world p. record { timers = p.timers; queues = all_changed (λ queue. IsShort queue.handler.script) _ _ (λ queue q. q) world.queues p.queues; servers = p.servers };
+    goals_kept = λ server change world same p. record { timers = p.timers; queues = p.queues; servers = all_changed IsSmallServer _ _ (server_changed change same) world.servers p.servers };
+    tasks_kept = λ server id task world p. record { timers = p.timers; queues = p.queues; servers = all_changed IsSmallServer _ _ (server_tasked id task) world.servers p.servers };
+    calls_kept = λ client world p. record { timers = p.timers; queues = p.queues; servers = p.servers };
+    sending_kept = λ client world p. record { timers = p.timers; queues = p.queues; servers = p.servers };
+    variables_kept = λ group variables world p. record { timers = p.timers; queues = p.queues; servers = p.servers };
+  };
+  accepts_kept = λ server moment decision request world room p. record { timers = p.timers; queues = p.queues; servers = server_accepted server moment decision request world.servers room p.servers };
+  expiry_kept = λ moment world p. record { timers = p.timers; queues = p.queues; servers = all_mapped IsSmallServer IsSmallServer _ (server_left moment) world.servers p.servers };
+  snapshot_kept = λ moment world p. record {
+    timers = all_mapped (λ entry. IsShort entry.handler.script) (λ entry. IsShort entry.handler.script) _ (timer_called moment) world.timers p.timers;
+    queues = all_mapped (λ queue. IsShort queue.handler.script) (λ queue. IsShort queue.handler.script) queue_taken (λ queue q. q) world.queues p.queues;
+    servers = p.servers;
+  };
+}
+
+-- ---- the first world
+
+result_short : (script : Option Script) → AllByRecursion (λ roled. IsShort roled.script) (result_scripts script) → IsShort (unwrap_or script [])
+result_short None all = omega arith
+result_short (Some script) all = all.0
+
+-- the script of an entity's callbacks of a kind is one of its scripts
+script_short : (of : Kind) (is : Resolved) → AllByRecursion (λ roled. IsShort roled.script) (scripts_of is) → IsShort (unwrap_or (callback_script of is) [])
+script_short kind.Timer (Timer entity) all = all.0
+script_short kind.Message (Timer entity) all = omega arith
+script_short kind.Request (Timer entity) all = omega arith
+script_short kind.Reply (Timer entity) all = omega arith
+script_short kind.Goal (Timer entity) all = omega arith
+script_short kind.Cancel (Timer entity) all = omega arith
+script_short kind.Ask (Timer entity) all = omega arith
+script_short kind.Poll (Timer entity) all = omega arith
+script_short kind.Response (Timer entity) all = omega arith
+script_short kind.Code (Timer entity) all = omega arith
+script_short kind.Feedback (Timer entity) all = omega arith
+script_short kind.Result (Timer entity) all = omega arith
+script_short kind.Timer (Subscription entity) all = omega arith
+script_short kind.Message (Subscription entity) all = all.0
+script_short kind.Request (Subscription entity) all = omega arith
+script_short kind.Reply (Subscription entity) all = omega arith
+script_short kind.Goal (Subscription entity) all = omega arith
+script_short kind.Cancel (Subscription entity) all = omega arith
+script_short kind.Ask (Subscription entity) all = omega arith
+script_short kind.Poll (Subscription entity) all = omega arith
+script_short kind.Response (Subscription entity) all = omega arith
+script_short kind.Code (Subscription entity) all = omega arith
+script_short kind.Feedback (Subscription entity) all = omega arith
+script_short kind.Result (Subscription entity) all = omega arith
+script_short kind.Timer (Service entity) all = omega arith
+script_short kind.Message (Service entity) all = omega arith
+script_short kind.Request (Service entity) all = all.0
+script_short kind.Reply (Service entity) all = omega arith
+script_short kind.Goal (Service entity) all = omega arith
+script_short kind.Cancel (Service entity) all = omega arith
+script_short kind.Ask (Service entity) all = omega arith
+script_short kind.Poll (Service entity) all = omega arith
+script_short kind.Response (Service entity) all = omega arith
+script_short kind.Code (Service entity) all = omega arith
+script_short kind.Feedback (Service entity) all = omega arith
+script_short kind.Result (Service entity) all = omega arith
+script_short kind.Timer (Client entity) all = omega arith
+script_short kind.Message (Client entity) all = omega arith
+script_short kind.Request (Client entity) all = omega arith
+script_short kind.Reply (Client entity) all = all.0
+script_short kind.Goal (Client entity) all = omega arith
+script_short kind.Cancel (Client entity) all = omega arith
+script_short kind.Ask (Client entity) all = omega arith
+script_short kind.Poll (Client entity) all = omega arith
+script_short kind.Response (Client entity) all = omega arith
+script_short kind.Code (Client entity) all = omega arith
+script_short kind.Feedback (Client entity) all = omega arith
+script_short kind.Result (Client entity) all = omega arith
+script_short kind.Timer (Server entity) all = omega arith
+script_short kind.Message (Server entity) all = omega arith
+script_short kind.Request (Server entity) all = omega arith
+script_short kind.Reply (Server entity) all = omega arith
+script_short kind.Goal (Server entity) all = all.0
+script_short kind.Cancel (Server entity) all = all.1.0
+script_short kind.Ask (Server entity) all = omega arith
+script_short kind.Poll (Server entity) all = all.1.1.0
+script_short kind.Response (Server entity) all = omega arith
+script_short kind.Code (Server entity) all = omega arith
+script_short kind.Feedback (Server entity) all = omega arith
+script_short kind.Result (Server entity) all = omega arith
+script_short kind.Timer (ActionClient entity) all = omega arith
+script_short kind.Message (ActionClient entity) all = omega arith
+script_short kind.Request (ActionClient entity) all = omega arith
+script_short kind.Reply (ActionClient entity) all = omega arith
+script_short kind.Goal (ActionClient entity) all = omega arith
+script_short kind.Cancel (ActionClient entity) all = omega arith
+script_short kind.Ask (ActionClient entity) all = omega arith
+script_short kind.Poll (ActionClient entity) all = omega arith
+script_short kind.Response (ActionClient entity) all = all.0
+script_short kind.Code (ActionClient entity) all = all.1.0
+script_short kind.Feedback (ActionClient entity) all = all.1.1.0
+script_short kind.Result (ActionClient entity) all = result_short entity.on_result all.1.1.1
+
+declared_short : (graph : GraphData) (of : Kind) (is : Declared) → IsLawfulDeclared graph is → IsShort (unwrap_or (script_for of is) [])
+declared_short graph of declared.Topic p = omega arith
+declared_short graph of (declared.Entity entity) p =
+    script_short of entity.is (all_weaker (IsLawfulScript graph p.group) (λ roled. IsShort roled.script) (λ roled q. q.short) (scripts_of entity.is) (recursion_from_All (IsLawfulScript graph p.group) (scripts_of entity.is) p.scripts))
+
+lawful_at : (graph : GraphData) (entities : List EntityData) (number : ℕ) → AllByRecursion (λ entity. IsLawfulDeclared graph entity.is) entities → IsLawfulDeclared graph (slice_index_or entities number (record { name = []; is = declared.Topic })).is
+lawful_at graph [] number p = tt
+lawful_at graph (entity ∷ entities) zero p = p.0
+lawful_at graph (entity ∷ entities) (suc number) p = lawful_at graph entities number p.1
+
+pub first_small : (graph : GraphData) → IsLawful graph → IsSmall (first_world graph)
+first_small graph lawful =
+    let short : (of : Kind) (number : EntityNo) → IsShort (handler_for graph of number (declared_at graph number)).script = λ of number. declared_short graph of (declared_at graph number) (lawful_at graph graph.entities number (recursion_from_All (λ entity. IsLawfulDeclared graph entity.is) graph.entities lawful.entities)) in
+    record {
+      timers = all_map (λ entry. IsShort entry.handler.script) (new_timer graph) (λ number. short kind.Timer number) (entities_where is_timer graph);
+      queues = all_map (λ queue. IsShort queue.handler.script) (new_queue graph) (λ waitable. short waitable.kind waitable.entity) (filter (λ (waitable : Waitable). takes_from_queue waitable.kind) (wait_set graph));
+      servers = all_map IsSmallServer (new_server graph) (λ number. record { script = short kind.Poll number; goals = omega arith; works = tt }) (entities_where is_server graph);
+    }

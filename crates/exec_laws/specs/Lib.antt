@@ -1,0 +1,4 @@
+pub mod Documents
+pub mod Examples
+pub mod Exchanges
+pub mod Goals

@@ -1,0 +1,11 @@
+use Rattle.std.proofs.lemmas.List.Filters.{dedup_is}
+use Rattle.std.proofs.lemmas.List.Kept.{Contains-dedup_nat}
+use Rattle.std.proofs.lemmas.List.Sorted.{Contains-permutation}
+use Rattle.std.proofs.lemmas.Map.Keys.{IsStrictlyIncreasing-dedup}
+use Rattle.exec_queue.proofs.queue.sort_places.Goals as goal
+
+pub returns-clause-rises : goal.returns-clause-rises
+returns-clause-rises c = rw (dedup_is _ _ _ c.dedup.ensures.filtered) (IsStrictlyIncreasing-dedup _ c.sort.ensures.sorted)
+
+pub returns-clause-keeps : goal.returns-clause-keeps
+returns-clause-keeps c = λ place is. rw (dedup_is _ _ _ c.dedup.ensures.filtered) (Contains-dedup_nat _ place (Contains-permutation _ _ place c.sort.ensures.permutation is))

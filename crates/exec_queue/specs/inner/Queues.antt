@@ -1,0 +1,38 @@
+-- Queues in ready order, found by entity and kind.
+use Rattle.std.specs.Prelude.{◌≡◌, ℕ, ◌+◌, ◌*◌, List, length, Bool, true, false, not, ◌==◌, if◌then◌else◌, Option, slice_get}
+use Rattle.std.specs.List.{Contains}
+use Rattle.std.specs.Option.{option_map_or}
+use Rattle.exec_graph.specs.Entity.{EntityNo}
+use Rattle.exec_msg.specs.Kind.{ready_number}
+use Rattle.exec_msg.specs.declared.kind.Kind.{Kind}
+use Rattle.exec_rules.specs.Ready.{is_before_polls}
+use Rattle.exec_rules.specs.World.{Queue, is_queue}
+use Rattle.exec_msg.specs.Places.{first_place, place_under}
+
+-- the number of a kind's queue of an entity
+abbrev pub slot_of : EntityNo → Kind → ℕ
+slot_of entity kind = entity * 13 + ready_number kind
+
+-- whether a queue has an item
+abbrev pub has_item : Queue → Bool
+has_item queue = not (length queue.items == 0)
+
+-- whether the queue at a place has one
+abbrev pub is_filled_at : List Queue → ℕ → Bool
+is_filled_at queues place = option_map_or has_item (slice_get queues place) false
+
+-- whether a queue is of a kind before polls, or of one behind them
+abbrev pub is_in_part : Bool → Queue → Bool
+is_in_part before queue = if before then is_before_polls queue.kind else not (is_before_polls queue.kind)
+
+-- whether the queue at a place is
+abbrev pub is_in_part_at : Bool → List Queue → ℕ → Bool
+is_in_part_at before queues place = option_map_or (is_in_part before) (slice_get queues place) false
+
+-- a look-up by the number gives the place of the first queue of that entity and kind
+abbrev pub FindsQueues : List (Option ℕ) → List Queue → Type 0
+FindsQueues places queues = (entity : EntityNo) (kind : Kind) → place_under (slot_of entity kind) places ≡ first_place (is_queue entity kind) queues
+
+-- each queue with an item stands among these places
+abbrev pub CoversFilled : List ℕ → List Queue → Type 0
+CoversFilled filled queues = (place : ℕ) → is_filled_at queues place ≡ true → Contains filled place

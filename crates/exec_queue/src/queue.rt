@@ -1,0 +1,366 @@
+//! The queues of a plan's entities in ready order, found by entity and kind. A snapshot walks over those that have an item,
+//! and over no other.
+ghost use Rattle.std.specs.Prelude.{◌≡◌, ◌==◌, ◌&&◌, ℕ, List, ◌<◌, ◌≤◌, ◌^◌, [], ◌∷◌, ◌++◌, false, true, None, Some, length, map, slice_get, OnOk, OnErr, IfOk, IfSome};
+ghost use Rattle.std.specs.List.{Contains, filter, find};
+ghost use Rattle.std.specs.List.Sorted.{IsPermutation, IsSorted, IsStrictlyIncreasing};
+ghost use Rattle.std.specs.Option.{option_copied, option_map, option_map_or, option_to_list};
+ghost use Rattle.std.specs.Ordering.{nat_cmp};
+ghost use Rattle.exec_msg.specs.KeepLast.{displaced};
+ghost use Rattle.exec_msg.specs.Kind.{ready_number};
+ghost use Rattle.exec_msg.specs.Lists.{change_first};
+ghost use Rattle.exec_msg.specs.declared.limits.TheConstants.{DEPTH};
+ghost use Rattle.exec_rules.specs.Item.{taker_of};
+ghost use Rattle.exec_rules.specs.Ready.{queue_taken};
+ghost use Rattle.exec_rules.specs.World.{Handler, Queue, is_queue, queue_after, lost_from};
+ghost use Rattle.exec_rules.specs.declared.homes.Home.{Home as HomeAt};
+ghost use Rattle.exec_rules.specs.inner.Homes.{AreHomes, IsHome, handlers_of};
+ghost use Rattle.exec_msg.specs.Places.{change_at};
+ghost use Rattle.exec_rules.specs.inner.Places.{change_each, places_where};
+ghost use Rattle.exec_queue.specs.inner.Queues.{slot_of, CoversFilled, has_item, is_filled_at, is_in_part, is_in_part_at};
+
+mod entry;
+
+use entry::Entry;
+use exec_graph::Script;
+use exec_msg::{EntityNo, Kind, LazyQueue, Memory, PlaceTable};
+use exec_rules::{Handler, Home, Item, ReadyList};
+use std::alloc::Global;
+use std::marker::Model;
+
+/// Queues in the order in which they were declared.
+#[derive(Drop)]
+pub struct Queues {
+    alloc: Global,
+    entries: Vec<Entry>,
+    // By entity and kind. A round finds a queue by it, and walks over none.
+    places: PlaceTable,
+    // The places of the queues that have an item, and of some that had one.
+    filled: Vec<usize>,
+    // Whether these are the places of the queues that have an item, in ascending order.
+    settled: bool,
+}
+
+impl Model for Queues {
+    ghost use Rattle.std.specs.Prelude.{◌≡◌, List, true};
+    ghost use Rattle.exec_rules.specs.World.{Queue};
+    ghost use Rattle.exec_rules.specs.inner.Places.{places_where};
+    ghost use Rattle.exec_queue.specs.inner.Queues.{FindsQueues, CoversFilled, has_item};
+
+    ghost Value = { List Queue };
+
+    ghost view = { λ queues. queues.entries.items };
+
+    ghost invariant = { λ queues. FindsQueues queues.places queues.entries.items × CoversFilled queues.filled.items queues.entries.items × (queues.settled ≡ true → queues.filled.items ≡ places_where has_item queues.entries.items) };
+}
+
+impl Queues {
+    /// No queues. It takes no memory.
+    pub fn new(alloc: Global) -> Queues
+        ensures { result ≡ [] }
+    {
+        Queues {
+            alloc,
+            entries: Vec::new(alloc),
+            places: PlaceTable::new(alloc),
+            filled: Vec::new(alloc),
+            settled: false,
+        }
+    }
+
+    /// Declares an empty queue behind the others, of a depth from 1 to [`DEPTH`](exec_msg::limits::DEPTH) items. Where memory
+    /// is refused, the queues stay as they were.
+    pub fn declare(&mut self, handler: Handler, kind: Kind, depth: usize) -> Result<(), Memory>
+        requires { (1 ≤ depth) × (depth ≤ DEPTH) }
+        ensures ok { OnOk result (self.new ≡ self.old ++ record { handler = handler; kind = kind; depth = depth; items = [] } ∷ []) }
+        ensures err { OnErr result (self.new ≡ self.old) }
+    {
+        let slot = slot(handler.entity, kind);
+        self.places.reserve(slot)?;
+        let place = count(&self.entries);
+        let queue = LazyQueue::new(self.alloc, depth);
+        self.settled = false;
+        self.entries.push(Entry {
+            handler,
+            kind,
+            queue,
+        })?;
+        self.places.note(slot, place);
+        Ok(())
+    }
+
+    /// Sends an item to an entity's queue of its kind, and answers the item that is lost by it, the oldest of a full queue.
+    /// Where there is no such queue nothing changes. Where memory is refused, the queues stay as they were.
+    pub fn send(&mut self, entity: EntityNo, item: Item) -> Result<Option<Item>, Memory>
+        ensures ok { OnOk result (self.new ≡ change_first (is_queue entity (taker_of item)) (queue_after item) self.old) }
+        ensures lost { IfOk result (λ lost. option_to_list lost ≡ lost_from entity item self.old) }
+        ensures err { OnErr result (self.new ≡ self.old) }
+    {
+        let Some(place) = self.places.get(slot(entity, item.kind())) else {
+            return Ok(None);
+        };
+        self.settled = false;
+        note_filled(&mut self.filled, &self.entries, place)?;
+        let lost = send_at(&mut self.entries, place, item)?;
+        Ok(lost)
+    }
+
+    /// Sets places to those of the queues that have an item, either of the kinds before polls or of those behind them, in
+    /// ascending order. Where there is room for them it is never refused memory; where it is, the queues stay as they
+    /// were.
+    pub fn filled(&mut self, before_polls: bool, places: &mut Vec<usize>) -> Result<(), Memory>
+        ensures same { self.new ≡ self.old }
+        ensures places { OnOk result (places.new.items ≡ places_where (λ queue. has_item queue && is_in_part before_polls queue) self.old) }
+    {
+        settle(&mut self.settled, &mut self.filled, &self.entries);
+        places.clear();
+        places.extend_from_slice(&self.filled)?;
+        keep_part(places, &self.entries, before_polls);
+        Ok(())
+    }
+
+    /// Takes the first item of each queue that has one.
+    pub fn take_first(&mut self)
+        ensures { self.new ≡ map queue_taken self.old }
+    {
+        settle(&mut self.settled, &mut self.filled, &self.entries);
+        self.settled = false;
+        take_each(&mut self.entries, &self.filled);
+        // So that no place is noted twice, and fewer are sorted in the next round.
+        keep_filled(&mut self.filled, &self.entries);
+    }
+
+    /// Whose callback takes from the queue at a place.
+    pub fn handler(&self, place: usize) -> Option<&Handler>
+        ensures { option_copied result ≡ option_map (λ queue. queue.handler) (slice_get self.now place) }
+    {
+        handler_at(&self.entries, place)
+    }
+
+    /// Whose queue it is that stands at a place.
+    pub fn entity(&self, place: usize) -> Option<EntityNo>
+        ensures { result ≡ option_map (λ queue. queue.handler.entity) (slice_get self.now place) }
+    {
+        entity_at(&self.entries, place)
+    }
+
+    /// The script of the callback that takes from the queue at a place, which may be brought home.
+    pub fn take_script(&mut self, place: usize) -> Result<Option<Script>, Memory>
+        ensures script { IfOk result (λ script. script ≡ option_map (λ queue. queue.handler.script) (slice_get self.old place)) }
+        ensures same { self.new ≡ self.old }
+    {
+        take_script_at(&mut self.entries, place)
+    }
+
+    /// Brings the script of the callback that takes from the queue at a place home.
+    pub fn bring_home(&mut self, place: usize, script: Script)
+        requires { (queue : Queue) → slice_get self.old place ≡ Some queue → script ≡ queue.handler.script }
+        ensures { self.new ≡ self.old }
+    {
+        bring_home_at(&mut self.entries, place, script);
+    }
+
+    /// The oldest item of the queue at a place.
+    pub fn front(&self, place: usize) -> Option<Item>
+        ensures { result ≡ option_map_or (λ queue. slice_get queue.items 0) (slice_get self.now place) None }
+    {
+        front_at(&self.entries, place)
+    }
+}
+
+/// Brings home the scripts that come from queues.
+pub fn bring_home_to_queues(queues: &mut Queues, list: &mut ReadyList, homes: &[Home])
+    requires { AreHomes (handlers_of queues.old) list.old homes.now }
+    ensures queues { queues.new ≡ queues.old }
+    ensures others { (handlers : List Handler) (others : List HomeAt) → AreHomes handlers list.old others → AreHomes handlers list.new others }
+{
+    for home in homes {
+        bring_script_home(queues, list, home);
+    }
+}
+
+#[inline(always)]
+fn bring_script_home(queues: &mut Queues, list: &mut ReadyList, home: &Home)
+    requires { IsHome (handlers_of queues.old) list.old home.now }
+    ensures queues { queues.new ≡ queues.old }
+    ensures others { (handlers : List Handler) (others : List HomeAt) → AreHomes handlers list.old others → AreHomes handlers list.new others }
+{
+    if let Some(script) = list.take_script(home.at) {
+        queues.bring_home(home.place, script);
+    }
+}
+
+fn handler_at(entries: &[Entry], place: usize) -> Option<&Handler>
+    ensures { option_copied result ≡ option_map (λ queue. queue.handler) (slice_get entries.now place) }
+{
+    match entries.get(place) {
+        None => None,
+        Some(entry) => Some(entry.handler()),
+    }
+}
+
+fn entity_at(entries: &[Entry], place: usize) -> Option<EntityNo>
+    ensures { result ≡ option_map (λ queue. queue.handler.entity) (slice_get entries.now place) }
+{
+    match entries.get(place) {
+        None => None,
+        Some(entry) => Some(entry.handler().entity),
+    }
+}
+
+fn take_script_at(entries: &mut Vec<Entry>, place: usize) -> Result<Option<Script>, Memory>
+    ensures script { IfOk result (λ script. script ≡ option_map (λ queue. queue.handler.script) (slice_get entries.old.items place)) }
+    ensures same { entries.new.items ≡ entries.old.items }
+{
+    match entries.get_mut(place) {
+        None => Ok(None),
+        Some(entry) => {
+            let script = entry.take_script()?;
+            Ok(Some(script))
+        }
+    }
+}
+
+fn bring_home_at(entries: &mut Vec<Entry>, place: usize, script: Script)
+    requires { (queue : Queue) → slice_get entries.old.items place ≡ Some queue → script ≡ queue.handler.script }
+    ensures { entries.new.items ≡ entries.old.items }
+{
+    if let Some(entry) = entries.get_mut(place) {
+        entry.bring_home(script);
+    }
+}
+
+fn front_at(entries: &[Entry], place: usize) -> Option<Item>
+    ensures { result ≡ option_map_or (λ queue. slice_get queue.items 0) (slice_get entries.now place) None }
+{
+    match entries.get(place) {
+        None => None,
+        Some(entry) => entry.front(),
+    }
+}
+
+// The number by which a queue is found.
+fn slot(entity: EntityNo, kind: Kind) -> usize
+    ensures value { result ≡ slot_of entity kind }
+    ensures bound { result < 2 ^ 32 }
+{
+    entity.0 as usize * 13 + number(kind)
+}
+
+fn number(kind: Kind) -> usize
+    ensures value { result ≡ ready_number kind }
+    ensures bound { result ≤ 12 }
+{
+    kind as usize + 1
+}
+
+fn count(entries: &[Entry]) -> usize
+    ensures { result ≡ length entries.now }
+{
+    entries.len()
+}
+
+fn is_filled(entries: &[Entry], place: usize) -> bool
+    ensures value { result ≡ is_filled_at entries.now place }
+    ensures bound { IfSome (slice_get entries.now place) (λ queue. length queue.items ≤ queue.depth) }
+{
+    match entries.get(place) {
+        None => false,
+        Some(entry) => !entry.is_empty(),
+    }
+}
+
+// Notes a place at which an item is about to stand.
+fn note_filled(filled: &mut Vec<usize>, entries: &[Entry], place: usize) -> Result<(), Memory>
+    ensures keeps { (other : ℕ) → Contains filled.old.items other → Contains filled.new.items other }
+    ensures has { OnOk result (CoversFilled filled.old.items entries.now → Contains filled.new.items place) }
+    ensures bound { IfSome (slice_get entries.now place) (λ queue. length queue.items ≤ queue.depth) }
+{
+    if !is_filled(entries, place) {
+        filled.push(place)?;
+    }
+    Ok(())
+}
+
+fn send_at(entries: &mut Vec<Entry>, place: usize, item: Item) -> Result<Option<Item>, Memory>
+    ensures ok { OnOk result (entries.new.items ≡ change_at place (queue_after item) entries.old.items) }
+    ensures lost { IfOk result (λ lost. lost ≡ option_map_or (λ queue. slice_get (displaced queue.depth item queue.items) 0) (slice_get entries.old.items place) None) }
+    ensures err { OnErr result (entries.new.items ≡ entries.old.items) }
+{
+    match entries.get_mut(place) {
+        None => Ok(None),
+        Some(entry) => {
+            let lost = entry.send(item)?;
+            Ok(lost)
+        }
+    }
+}
+
+// Leaves the places of the queues that have an item, in ascending order, where they aren't settled so yet.
+fn settle(settled: &mut bool, places: &mut Vec<usize>, entries: &[Entry])
+    requires { settled.old ≡ true → places.old.items ≡ places_where has_item entries.now }
+    ensures value { CoversFilled places.old.items entries.now → places.new.items ≡ places_where has_item entries.now }
+    ensures covers { CoversFilled places.old.items entries.now → CoversFilled places.new.items entries.now }
+{
+    if !*settled {
+        sort_places(places);
+        keep_filled(places, entries);
+        *settled = true;
+    }
+}
+
+// Leaves the places of queues that have an item.
+fn keep_filled(places: &mut Vec<usize>, entries: &[Entry])
+    ensures { places.new.items ≡ filter (λ place. is_filled_at entries.now place) places.old.items }
+{
+    places.retain(|place| is_filled(entries, *place));
+}
+
+fn sort_places(places: &mut Vec<usize>)
+    ensures rises { IsStrictlyIncreasing places.new.items }
+    ensures keeps { (place : ℕ) → Contains places.old.items place → Contains places.new.items place }
+{
+    sort(places);
+    places.dedup();
+}
+
+// Callbacks run in ready order, so that the places rise in a few long runs: these are merged, where there is memory for it.
+fn sort(places: &mut Vec<usize>)
+    ensures sorted { IsSorted nat_cmp places.new.items }
+    ensures permutation { IsPermutation places.old.items places.new.items }
+{
+    if places.sort().is_err() {
+        places.sort_unstable();
+    }
+}
+
+fn take_at(entries: &mut Vec<Entry>, place: usize)
+    ensures { entries.new.items ≡ change_at place queue_taken entries.old.items }
+{
+    if let Some(entry) = entries.get_mut(place) {
+        entry.take();
+    }
+}
+
+fn take_each(entries: &mut Vec<Entry>, places: &[usize])
+    ensures { entries.new.items ≡ change_each places.now queue_taken entries.old.items }
+{
+    for &place in places {
+        take_at(entries, place);
+    }
+}
+
+// Leaves the places of the queues of one part.
+fn keep_part(places: &mut Vec<usize>, entries: &[Entry], before_polls: bool)
+    ensures { places.new.items ≡ filter (λ place. is_in_part_at before_polls entries.now place) places.old.items }
+{
+    places.retain(|place| is_in_part(entries, *place, before_polls));
+}
+
+fn is_in_part(entries: &[Entry], place: usize, before_polls: bool) -> bool
+    ensures { result ≡ is_in_part_at before_polls entries.now place }
+{
+    match entries.get(place) {
+        None => false,
+        Some(entry) => entry.is_before_polls() == before_polls,
+    }
+}

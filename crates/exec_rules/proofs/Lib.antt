@@ -1,0 +1,16 @@
+pub mod AllRounds
+pub mod Apart
+pub mod Aside
+pub mod Calling
+pub mod Committing
+pub mod Identifiers
+pub mod Keeping
+pub mod Later
+pub mod Listing
+pub mod OfKinds
+pub mod Pairs
+pub mod ReadyLists
+pub mod Running
+pub mod ScriptsHome
+pub mod Shapes
+pub mod Wiring

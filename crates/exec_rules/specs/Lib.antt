@@ -1,0 +1,12 @@
+pub mod Callback
+pub mod Calls
+pub mod Close
+pub mod Give
+pub mod Item
+pub mod Lines
+pub mod Ready
+pub mod Run
+pub mod Shape
+pub mod Transcript
+pub mod World
+pub mod inner

@@ -1,0 +1,222 @@
+-- The rounds of a plan on one thread, and their transcript.
+use Rattle.std.specs.Prelude.{ℕ, zero, suc, List, [], ◌∷◌, ◌++◌, length, map, replicate, Bool, is_some, ◌==◌, Option, None, true, false}
+use Rattle.std.specs.List.{filter, flat_map, fold}
+use Rattle.std.specs.Option.{unwrap_or}
+use Rattle.exec_goal.specs.Table.{GoalRecord, holds_id, expired, unexpired}
+use Rattle.exec_graph.specs.Entity.{EntityNo, Resolved}
+use Rattle.exec_graph.specs.Feeding.{fed_in}
+use Rattle.exec_graph.specs.Graph.{GraphData, of_entity, is_topic, is_timer, is_client, is_server, is_action_client, wait_set, declared_at, group_of, is_exclusive, depth_of, script_for, entities_where, names_of, Waitable}
+use Rattle.exec_graph.specs.Plan.{PlanData}
+use Rattle.exec_graph.specs.declared.entity.Declared.{Declared}
+use Rattle.exec_graph.specs.declared.entity.EntityOf.TheVariants.{Timer, Subscription, Client, Server, ActionClient}
+use Rattle.exec_graph.specs.declared.plan.Fed.{Fed}
+use Rattle.exec_graph.specs.declared.plan.Fed.TheVariants.{Message, Goal, Cancel}
+use Rattle.exec_graph.specs.declared.plan.Feed.{Feed}
+use Rattle.exec_msg.specs.Line.{transcript_text}
+use Rattle.exec_msg.specs.declared.kind.Kind.{Kind}
+use Rattle.exec_msg.specs.declared.kind.Kind.TheVariants as kind
+use Rattle.exec_msg.specs.declared.line.Line.{Line}
+use Rattle.exec_msg.specs.declared.line.Line.TheVariants as line
+use Rattle.exec_script.specs.Zeros.{zeros}
+use Rattle.exec_rules.specs.Give.{publish}
+use Rattle.exec_rules.specs.Ready.{ready_list, take_inputs}
+use Rattle.exec_rules.specs.Run.{run}
+use Rattle.exec_rules.specs.World.{WorldState, Moment, Handler, TopicEntry, TimerEntry, Queue, ServerEntry, ClientEntry, ActionClientEntry, add_line, add_lines, push}
+use Rattle.exec_rules.specs.declared.item.Item.TheVariants as item
+use Rattle.exec_rules.specs.declared.ready.Ready.{Ready}
+
+-- ---- the world before the first round
+
+-- the callback of a kind of an entity, which stands at a number
+abbrev pub handler_for : GraphData → Kind → EntityNo → Declared → Handler
+handler_for graph kind number declared = record {
+  entity = number;
+  group = group_of declared;
+  exclusive = is_exclusive graph (group_of declared);
+  script = unwrap_or (script_for kind declared) [];
+}
+
+-- whether an entity is a subscription of a topic
+abbrev pub subscribes_to : EntityNo → Resolved → Bool
+subscribes_to topic (Subscription entity) = entity.topic == topic
+subscribes_to topic _ = false
+
+-- a topic with its subscriptions
+abbrev pub new_topic : GraphData → EntityNo → TopicEntry
+new_topic graph topic = record { entity = topic; subscribers = entities_where (of_entity false (subscribes_to topic)) graph }
+
+-- the period of a timer
+abbrev pub period_in : Resolved → ℕ
+period_in (Timer entity) = entity.period
+period_in _ = 0
+
+-- a timer, made at moment 0: its first call comes after one period
+abbrev pub timer_for : GraphData → EntityNo → Declared → TimerEntry
+timer_for graph number declared = record {
+  handler = handler_for graph kind.Timer number declared;
+  timer = record { next = of_entity 0 period_in declared; period = of_entity 0 period_in declared };
+}
+
+abbrev pub new_timer : GraphData → EntityNo → TimerEntry
+new_timer graph number = timer_for graph number (declared_at graph number)
+
+-- whether callbacks of a kind take their input from a queue: all but those of timers and polls do
+abbrev pub takes_from_queue : Kind → Bool
+takes_from_queue kind.Timer = false
+takes_from_queue kind.Poll = false
+takes_from_queue _ = true
+
+-- an empty queue of a kind
+abbrev pub queue_for : GraphData → Kind → EntityNo → Declared → Queue
+queue_for graph kind number declared = record {
+  handler = handler_for graph kind number declared;
+  kind = kind;
+  depth = depth_of declared;
+  items = [];
+}
+
+abbrev pub new_queue : GraphData → Waitable → Queue
+new_queue graph waitable = queue_for graph waitable.kind waitable.entity (declared_at graph waitable.entity)
+
+-- for how many ticks a server keeps a result, where it doesn't keep it without end
+abbrev pub timeout_in : Resolved → Option ℕ
+timeout_in (Server entity) = entity.result_timeout
+timeout_in _ = None
+
+-- a server without goals
+abbrev pub server_for : GraphData → EntityNo → Declared → ServerEntry
+server_for graph number declared =
+    record { handler = handler_for graph kind.Poll number declared; timeout = of_entity None timeout_in declared; goals = []; held = [] }
+
+abbrev pub new_server : GraphData → EntityNo → ServerEntry
+new_server graph number = server_for graph number (declared_at graph number)
+
+-- the service of a client
+abbrev pub service_in : Resolved → EntityNo
+service_in (Client entity) = entity.service
+service_in _ = 0
+
+-- a service client that hasn't called yet
+abbrev pub client_for : EntityNo → Declared → ClientEntry
+client_for number declared = record { entity = number; service = of_entity 0 service_in declared; calls = 0; pending = [] }
+
+abbrev pub new_client : GraphData → EntityNo → ClientEntry
+new_client graph number = client_for number (declared_at graph number)
+
+-- the server of an action client
+abbrev pub server_in : Resolved → EntityNo
+server_in (ActionClient entity) = entity.server
+server_in _ = 0
+
+-- whether it asks for the results of its goals
+abbrev pub asks_in : Resolved → Bool
+asks_in (ActionClient entity) = is_some entity.on_result
+asks_in _ = false
+
+-- an action client that hasn't sent a goal yet, at its place among them
+abbrev pub action_client_for : ℕ → EntityNo → Declared → ActionClientEntry
+action_client_for place number declared = record {
+  entity = number;
+  place = place;
+  server = of_entity 0 server_in declared;
+  asks = of_entity false asks_in declared;
+  goals = 0;
+}
+
+-- action clients at these numbers, the first of which has this place
+abbrev pub new_action_clients : GraphData → ℕ → List EntityNo → List ActionClientEntry
+new_action_clients graph place [] = []
+new_action_clients graph place (number ∷ numbers) = action_client_for place number (declared_at graph number) ∷ new_action_clients graph (suc place) numbers
+
+-- the world of a graph before its first round
+abbrev pub first_world : GraphData → WorldState
+first_world graph = record {
+  topics = map (new_topic graph) (entities_where is_topic graph);
+  timers = map (new_timer graph) (entities_where is_timer graph);
+  queues = map (new_queue graph) (filter (λ waitable. takes_from_queue waitable.kind) (wait_set graph));
+  servers = map (new_server graph) (entities_where is_server graph);
+  clients = map (new_client graph) (entities_where is_client graph);
+  action_clients = new_action_clients graph 0 (entities_where is_action_client graph);
+  variables = replicate (length graph.groups) zeros;
+  lines = [];
+}
+
+-- ---- expiry
+
+-- the lines of the goals that a server forgets, in order of acceptance
+abbrev pub expire_lines : Moment → ServerEntry → List Line
+expire_lines moment entry = map (λ goal. line.Expire entry.handler.entity goal.id) (expired moment entry.timeout entry.goals)
+
+-- a server that keeps these goals alone
+abbrev pub keeping : List GoalRecord → ServerEntry → ServerEntry
+keeping goals entry = record entry { goals = goals; held = filter (λ held. holds_id held.id goals) entry.held }
+
+-- a server without the goals that it forgets
+abbrev pub server_expired : Moment → ServerEntry → ServerEntry
+server_expired moment entry = keeping (unexpired moment entry.timeout entry.goals) entry
+
+-- the world after expiry at a moment
+abbrev pub expire : Moment → WorldState → WorldState
+expire moment world = record (add_lines (flat_map (expire_lines moment) world.servers) world) { servers = map (server_expired moment) world.servers }
+
+-- ---- feeding
+
+-- what an entry of the feed does: only a drop that follows has a line
+abbrev pub feed_one : Fed → WorldState → WorldState
+feed_one (Message topic value) world = publish topic value world
+feed_one (Goal server id value) world = push server (item.Goal id None value) world
+feed_one (Cancel server id stamp) world = push server (item.Cancel (record { id = id; stamp = stamp }) None) world
+
+-- the world after entries of a feed, one after another
+abbrev pub feed : List Feed → WorldState → WorldState
+feed entries world = fold (λ before entry. feed_one entry.fed before) world entries
+
+-- ---- rounds
+
+-- the world of which a round's snapshot is taken: its line, expiry, and feeding, in the order of the document
+abbrev pub at_snapshot : PlanData → ℕ → Moment → WorldState → WorldState
+at_snapshot plan number moment world = feed (fed_in number plan.feed) (expire moment (add_line (line.Round number moment) world))
+
+-- the world after ready callbacks ran, one after another
+abbrev pub run_all : List Ready → WorldState → WorldState
+run_all list world = fold (λ before one. run one before) world list
+
+-- the world after the snapshot at a moment and the callbacks that are ready then
+abbrev pub snapshot_and_run : Moment → WorldState → WorldState
+snapshot_and_run moment world = run_all (ready_list moment world) (take_inputs moment world)
+
+-- a round: what comes before its snapshot, the snapshot, and then each ready callback in order
+abbrev pub round : PlanData → ℕ → Moment → WorldState → WorldState
+round plan number moment world = snapshot_and_run moment (at_snapshot plan number moment world)
+
+-- rounds at these moments, the first of which has this number
+abbrev pub rounds : PlanData → ℕ → List Moment → WorldState → WorldState
+rounds plan number [] world = world
+rounds plan number (moment ∷ moments) world = rounds plan (suc number) moments (round plan number moment world)
+
+-- ---- the end
+
+-- the line of a service client that has calls without a reply
+abbrev pub pending_by : EntityNo → ℕ → List Line
+pending_by number zero = []
+pending_by number (suc more) = line.Pending number (suc more) ∷ []
+
+-- the closing lines after so many rounds
+abbrev pub closing_lines : ℕ → WorldState → List Line
+closing_lines number world = flat_map (λ entry. pending_by entry.entity (length entry.pending)) world.clients ++ line.End number ∷ []
+
+-- the world whose transcript is closed after so many rounds
+abbrev pub finish : ℕ → WorldState → WorldState
+finish number world = add_lines (closing_lines number world) world
+
+-- the world after the last round, its transcript closed
+abbrev pub last_world : PlanData → WorldState
+last_world plan = finish (length plan.moments) (rounds plan 1 plan.moments (first_world plan.graph))
+
+-- the transcript of a plan
+abbrev pub lines_of : PlanData → List Line
+lines_of plan = (last_world plan).lines
+
+-- its text
+abbrev pub text_of : PlanData → List ℕ
+text_of plan = transcript_text (names_of plan.graph) (lines_of plan)

@@ -1,0 +1,256 @@
+-- The world: what changes while a plan is run.
+use Rattle.std.specs.Prelude.{ℕ, ◌+◌, ℤ, List, [], ◌∷◌, ◌++◌, map, Bool, not, ◌&&◌, ◌||◌, ◌==◌, Option, None, Some, slice_index_or, slice_set}
+use Rattle.std.specs.List.{find}
+use Rattle.std.specs.Option.{option_and_then, option_map, option_map_or}
+use Rattle.exec_goal.specs.Table.{GoalRecord, holds_id, is_full}
+use Rattle.exec_graph.specs.Entity.{EntityNo, Script}
+use Rattle.exec_graph.specs.Graph.{GroupNo}
+use Rattle.exec_msg.specs.KeepLast.{sent, displaced}
+use Rattle.exec_msg.specs.Kind.{ready_number}
+use Rattle.exec_msg.specs.Lists.{change_first}
+use Rattle.exec_msg.specs.Timer.{TimerState}
+use Rattle.exec_msg.specs.declared.kind.Kind.{Kind}
+use Rattle.exec_msg.specs.declared.line.Line.{Line}
+use Rattle.exec_msg.specs.declared.line.Line.TheVariants as line
+use Rattle.exec_script.specs.Zeros.{zeros}
+use Rattle.exec_task.specs.Goal.{GoalTaskState}
+use Rattle.exec_task.specs.Task.{TaskState}
+use Rattle.exec_rules.specs.Item.{GoalId, taker_of, first_of}
+use Rattle.exec_rules.specs.declared.item.Item.{Item}
+
+-- a moment in ticks
+abbrev pub Moment : Type 0
+Moment = ℕ
+
+-- the eight variables of a callback group
+abbrev pub Variables : Type 0
+Variables = List ℤ
+
+-- whose callback it is: an entity's, of a callback group that is mutually exclusive or not, and with which script
+pub record Handler : Type 0 where
+  pub entity : EntityNo
+  pub group : GroupNo
+  pub exclusive : Bool
+  pub script : Script
+
+-- a timer, with its callback
+pub record TimerEntry : Type 0 where
+  pub handler : Handler
+  pub timer : TimerState
+
+-- a queue: the callback that takes from it, of which kind that is, its depth, and its items, the oldest first
+pub record Queue : Type 0 where
+  pub handler : Handler
+  pub kind : Kind
+  pub depth : ℕ
+  pub items : List Item
+
+-- a topic with its subscriptions, in the order of declaration
+pub record TopicEntry : Type 0 where
+  pub entity : EntityNo
+  pub subscribers : List EntityNo
+
+-- what a goal does: its script, the value that it was sent with, and where its task stands
+pub record GoalWork : Type 0 where
+  pub script : Script
+  pub value : ℤ
+  pub task : TaskState
+
+-- the work that a task does
+abbrev pub work_of : GoalTaskState → GoalWork
+work_of task = record { script = task.script; value = task.value; task = task.task }
+
+-- what a server keeps beside a goal's record, by identifier: the action client that sent the goal (none where it was fed),
+-- and the goal's work (none while its task is out)
+pub record HeldGoal : Type 0 where
+  pub id : GoalId
+  pub client : Option EntityNo
+  pub work : Option GoalWork
+
+-- a server: the callback that polls its goals, for how many ticks it keeps a result (without end where there is none), the
+-- records of its goals in order of acceptance, and what it keeps beside each
+pub record ServerEntry : Type 0 where
+  pub handler : Handler
+  pub timeout : Option ℕ
+  pub goals : List GoalRecord
+  pub held : List HeldGoal
+
+-- a service client: its service, the number of its last call, and the numbers of those without a reply
+pub record ClientEntry : Type 0 where
+  pub entity : EntityNo
+  pub service : EntityNo
+  pub calls : ℕ
+  pub pending : List ℕ
+
+-- an action client: its place among the action clients, from 0, its server, whether it asks for the results of its goals,
+-- and the number of its last goal
+pub record ActionClientEntry : Type 0 where
+  pub entity : EntityNo
+  pub place : ℕ
+  pub server : EntityNo
+  pub asks : Bool
+  pub goals : ℕ
+
+-- the world: topics, timers, queues in ready order, servers, service clients and action clients, each of the others in the
+-- order of declaration; the variables of each callback group (no callback of a reentrant group reads or writes its own); and
+-- the lines so far
+pub record WorldState : Type 0 where
+  pub topics : List TopicEntry
+  pub timers : List TimerEntry
+  pub queues : List Queue
+  pub servers : List ServerEntry
+  pub clients : List ClientEntry
+  pub action_clients : List ActionClientEntry
+  pub variables : List Variables
+  pub lines : List Line
+
+-- ---- lines
+
+-- the world with one more line
+abbrev pub add_line : Line → WorldState → WorldState
+add_line line world = record world { lines = world.lines ++ line ∷ [] }
+
+-- the world with more lines
+abbrev pub add_lines : List Line → WorldState → WorldState
+add_lines lines world = record world { lines = world.lines ++ lines }
+
+-- ---- variables of callback groups
+
+-- the variables of a group
+abbrev pub variables_of : GroupNo → WorldState → Variables
+variables_of group world = slice_index_or world.variables group zeros
+
+-- the world with other variables of a group
+abbrev pub with_variables : GroupNo → Variables → WorldState → WorldState
+with_variables group variables world = record world { variables = slice_set world.variables group variables }
+
+-- ---- queues
+
+-- whether a queue is that of an entity and a kind
+abbrev pub is_queue : EntityNo → Kind → Queue → Bool
+is_queue entity kind queue = (queue.handler.entity == entity) && (ready_number queue.kind == ready_number kind)
+
+-- the line of an item that an entity's queue lost
+abbrev pub drop_line : EntityNo → Item → Line
+drop_line entity lost = line.Drop entity (taker_of lost) (first_of lost)
+
+-- a queue after an item was sent to it
+abbrev pub queue_after : Item → Queue → Queue
+queue_after new queue = record queue { items = sent queue.depth new queue.items }
+
+-- the world after an item was sent to an entity's queue of its kind
+abbrev pub queued : EntityNo → Item → WorldState → WorldState
+queued entity new world = record world { queues = change_first (is_queue entity (taker_of new)) (queue_after new) world.queues }
+
+-- what these queues lose by an item that is sent to an entity
+abbrev pub lost_from : EntityNo → Item → List Queue → List Item
+lost_from entity new queues = option_map_or (λ queue. displaced queue.depth new queue.items) (find (is_queue entity (taker_of new)) queues) []
+
+-- what the world's queues lose by it
+abbrev pub lost_by : EntityNo → Item → WorldState → List Item
+lost_by entity new world = lost_from entity new world.queues
+
+-- an item is sent to an entity: what its queue loses by it is dropped with a line
+abbrev pub push : EntityNo → Item → WorldState → WorldState
+push entity new world = add_lines (map (drop_line entity) (lost_by entity new world)) (queued entity new world)
+
+-- an item is sent to an entity, if there is one
+abbrev pub push_any : Option EntityNo → Item → WorldState → WorldState
+push_any None new world = world
+push_any (Some entity) new world = push entity new world
+
+-- ---- topics
+
+-- the subscriptions of a topic
+abbrev pub subscribers_of : EntityNo → WorldState → List EntityNo
+subscribers_of topic world = option_map_or (λ entry. entry.subscribers) (find (λ entry. entry.entity == topic) world.topics) []
+
+-- ---- servers and their goals
+
+-- whether a server is the one of this number
+abbrev pub is_server_at : EntityNo → ServerEntry → Bool
+is_server_at server entry = entry.handler.entity == server
+
+-- the records of the goals of the server of a number; one that isn't there has none
+abbrev pub goals_in : EntityNo → List ServerEntry → List GoalRecord
+goals_in server servers = option_map_or (λ entry. entry.goals) (find (is_server_at server) servers) []
+
+-- the records of a server's goals
+abbrev pub goals_of : EntityNo → WorldState → List GoalRecord
+goals_of server world = goals_in server world.servers
+
+-- whether a server with these goals can hold one more of an identifier: it holds none of it, and isn't full
+abbrev pub has_room_for : GoalId → List GoalRecord → Bool
+has_room_for id goals = not (holds_id id goals || is_full goals)
+
+-- what the server of a number keeps beside them
+abbrev pub held_in : EntityNo → List ServerEntry → List HeldGoal
+held_in server servers = option_map_or (λ entry. entry.held) (find (is_server_at server) servers) []
+
+-- what a server keeps beside them
+abbrev pub held_by : EntityNo → WorldState → List HeldGoal
+held_by server world = held_in server world.servers
+
+-- the world in which a server is changed
+abbrev pub change_server : EntityNo → (ServerEntry → ServerEntry) → WorldState → WorldState
+change_server server change world = record world { servers = change_first (is_server_at server) change world.servers }
+
+-- the world in which the records of a server's goals are changed
+abbrev pub change_goals : EntityNo → (List GoalRecord → List GoalRecord) → WorldState → WorldState
+change_goals server change world = change_server server (λ entry. record entry { goals = change entry.goals }) world
+
+-- whether what a server keeps is kept for the goal of an identifier
+abbrev pub is_for : GoalId → HeldGoal → Bool
+is_for id held = held.id == id
+
+-- what a server keeps beside the goal of an identifier
+abbrev pub held_for : EntityNo → GoalId → WorldState → Option HeldGoal
+held_for server id world = find (is_for id) (held_by server world)
+
+-- the work of the goal of an identifier of the server of a number, if it holds the goal and its task isn't out
+abbrev pub work_in : EntityNo → GoalId → List ServerEntry → Option GoalWork
+work_in server id servers = option_and_then (λ held. held.work) (find (is_for id) (held_in server servers))
+
+-- the work of a server's goal
+abbrev pub work_at : EntityNo → GoalId → WorldState → Option GoalWork
+work_at server id world = work_in server id world.servers
+
+-- the world in which this is put in the place of that work; where it is none, the goal's task is out
+abbrev pub with_work : EntityNo → GoalId → Option GoalWork → WorldState → WorldState
+with_work server id work world =
+    change_server server (λ entry. record entry { held = change_first (is_for id) (λ held. record held { work = work }) entry.held }) world
+
+-- the world in which the task of a server's goal stands so, if it isn't out
+abbrev pub with_task : EntityNo → GoalId → TaskState → WorldState → WorldState
+with_task server id task world =
+    change_server server (λ entry. record entry { held = change_first (is_for id) (λ held. record held { work = option_map (λ (work : GoalWork). record work { task = task }) held.work }) entry.held }) world
+
+-- ---- clients
+
+-- whether a service client is the one of this number
+abbrev pub is_client_at : EntityNo → ClientEntry → Bool
+is_client_at client entry = entry.entity == client
+
+-- the service client of a number
+abbrev pub client_at : EntityNo → WorldState → Option ClientEntry
+client_at client world = find (is_client_at client) world.clients
+
+-- a service client after its next call, which is pending
+abbrev pub client_called : ClientEntry → ClientEntry
+client_called entry = record entry { calls = entry.calls + 1; pending = entry.pending ++ (entry.calls + 1) ∷ [] }
+
+-- the world after a service client made its next call
+abbrev pub with_call : EntityNo → WorldState → WorldState
+with_call client world = record world { clients = change_first (is_client_at client) client_called world.clients }
+
+-- whether an action client is the one of this number
+abbrev pub is_action_client_at : EntityNo → ActionClientEntry → Bool
+is_action_client_at client entry = entry.entity == client
+
+-- the action client of a number
+abbrev pub action_client_at : EntityNo → WorldState → Option ActionClientEntry
+action_client_at client world = find (is_action_client_at client) world.action_clients
+
+-- the world after an action client sent its next goal
+abbrev pub with_goal_sent : EntityNo → WorldState → WorldState
+with_goal_sent client world = record world { action_clients = change_first (is_action_client_at client) (λ entry. record entry { goals = entry.goals + 1 }) world.action_clients }

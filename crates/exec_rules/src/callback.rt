@@ -1,0 +1,196 @@
+//! What a callback does apart from the world, its effects listed.
+ghost use Rattle.std.specs.Prelude.{◌≡◌, IfOk, OnErr, OnOk};
+ghost use Rattle.std.specs.Option.{option_map};
+ghost use Rattle.exec_script.specs.Script.{called, listed};
+ghost use Rattle.exec_rules.specs.Callback.{call_in, candidate_input, decision_by, handle_all, instructions_of, take_item};
+ghost use Rattle.exec_rules.specs.Close.{decision_in};
+ghost use Rattle.exec_rules.specs.Ready.{turn_at};
+ghost use Rattle.exec_rules.specs.Run.{apart_with, effects_of, work_after};
+ghost use Rattle.exec_rules.specs.World.{work_of};
+ghost use Rattle.exec_rules.specs.Callback.{poll_listed};
+
+use crate::item::Item;
+use crate::polling::poll_any;
+use crate::ready::{Cause, Ready};
+use exec_goal::GoalInfo;
+use exec_msg::{Memory, Moment};
+use exec_script::{
+    Bank, Close, DecisionList, EffectList, Effects, Input, Instr, Role, run_call_into,
+};
+use exec_task::{GoalTask, Poller, Turn};
+use std::alloc::Global;
+
+impl Ready {
+    /// Runs the callback apart from the world, with its group's variables and, where it polls a goal, that goal's task: gives
+    /// what it did, for the world to commit. A poll without a task does nothing, and the goal pends.
+    ///
+    /// # Errors
+    /// [`Memory`] where a growth was refused. The variables stay as they were, and so does what the task does.
+    pub fn run_apart(
+        &self,
+        alloc: Global,
+        task: &mut Option<GoalTask>,
+        bank: &mut Bank,
+        poller: &Poller,
+    ) -> Result<Effects, Memory>
+        ensures effects { IfOk result (λ did. did ≡ effects_of (apart_with self.now (option_map work_of task.old) bank.old)) }
+        ensures variables { OnOk result (bank.new ≡ (apart_with self.now (option_map work_of task.old) bank.old).variables) }
+        ensures task { OnOk result (option_map work_of task.new ≡ option_map (work_after (apart_with self.now (option_map work_of task.old) bank.old).task) (option_map work_of task.old)) }
+        ensures refused { OnErr result (bank.new ≡ bank.old) }
+        ensures refused_task { OnErr result (option_map work_of task.new ≡ option_map work_of task.old) }
+    {
+        let mut effects = EffectList::new(alloc);
+        let mut after = *bank;
+        let close = match &self.cause {
+            Cause::Due => call_in(Role::Callback, self, &mut after, &mut effects)?,
+            Cause::Took(item) => take_item(alloc, item, self, &mut after, &mut effects)?,
+            Cause::Woke { canceling, .. } => {
+                self.poll_apart(*canceling, task, &mut after, poller, &mut effects)?
+            }
+        };
+        *bank = after;
+        Ok(Effects {
+            list: effects,
+            close,
+        })
+    }
+
+    // Polls the goal's task. The list then has its effects, and these alone.
+    fn poll_apart(
+        &self,
+        canceling: bool,
+        task: &mut Option<GoalTask>,
+        bank: &mut Bank,
+        poller: &Poller,
+        effects: &mut EffectList,
+    ) -> Result<Close, Memory>
+        ensures effects { OnOk result (effects.new ≡ (poll_listed (turn_at self.now.moment canceling) (option_map work_of task.old) bank.old).given) }
+        ensures close { IfOk result (λ close. close ≡ (poll_listed (turn_at self.now.moment canceling) (option_map work_of task.old) bank.old).close) }
+        ensures variables { OnOk result (bank.new ≡ (poll_listed (turn_at self.now.moment canceling) (option_map work_of task.old) bank.old).variables) }
+        ensures task { OnOk result (option_map work_of task.new ≡ option_map (work_after (poll_listed (turn_at self.now.moment canceling) (option_map work_of task.old) bank.old).task) (option_map work_of task.old)) }
+        ensures refused { OnErr result (option_map work_of task.new ≡ option_map work_of task.old) }
+    {
+        let turn = Turn {
+            moment: self.moment,
+            canceling,
+        };
+        let mut context = poller.begin();
+        let polled = poll_any(task, &turn, bank, &mut context, effects);
+        context.cancel();
+        let close = polled?;
+        Ok(close)
+    }
+}
+
+/// Runs a callback that took an item, and puts its effects behind those that are listed.
+#[inline(always)]
+pub fn take_item(
+    alloc: Global,
+    item: &Item,
+    one: &Ready,
+    bank: &mut Bank,
+    effects: &mut EffectList,
+) -> Result<Close, Memory>
+    ensures variables { OnOk result (bank.new ≡ (take_item item.now listed one.now bank.old effects.old).variables) }
+    ensures effects { OnOk result (effects.new ≡ (take_item item.now listed one.now bank.old effects.old).given) }
+    ensures close { IfOk result (λ close. close ≡ (take_item item.now listed one.now bank.old effects.old).close) }
+{
+    match item {
+        Item::Cancel { .. } => handle_all(alloc, one, bank, effects),
+        Item::Request { .. } => call_in(Role::Service, one, bank, effects),
+        Item::Goal { .. } => call_in(Role::GoalHandler, one, bank, effects),
+        Item::Message { .. }
+        | Item::Reply { .. }
+        | Item::Ask { .. }
+        | Item::Response { .. }
+        | Item::Code { .. }
+        | Item::Feedback { .. }
+        | Item::Result { .. } => call_in(Role::Callback, one, bank, effects),
+    }
+}
+
+/// Runs a callback's script once in a role, and puts its effects behind those that are listed.
+#[inline(always)]
+pub fn call_in(
+    role: Role,
+    one: &Ready,
+    bank: &mut Bank,
+    effects: &mut EffectList,
+) -> Result<Close, Memory>
+    ensures variables { OnOk result (bank.new ≡ (call_in role listed one.now bank.old effects.old).variables) }
+    ensures effects { OnOk result (effects.new ≡ (call_in role listed one.now bank.old effects.old).given) }
+    ensures close { IfOk result (λ close. close ≡ (call_in role listed one.now bank.old effects.old).close) }
+{
+    run_call_into(instructions_of(one), role, bank, &one.input(), effects)
+}
+
+// The instructions of a callback's script; none is empty.
+#[inline(always)]
+fn instructions_of(one: &Ready) -> &[Instr]
+    ensures { result.now ≡ instructions_of one.now.script }
+{
+    match &one.script {
+        Some(script) => script.as_slice(),
+        None => &[],
+    }
+}
+
+fn handle_all(
+    alloc: Global,
+    one: &Ready,
+    bank: &mut Bank,
+    effects: &mut EffectList,
+) -> Result<Close, Memory>
+    ensures variables { OnOk result (bank.new ≡ (handle_all listed one.now bank.old effects.old).variables) }
+    ensures effects { OnOk result (effects.new ≡ (handle_all listed one.now bank.old effects.old).given) }
+    ensures close { IfOk result (λ close. close ≡ (handle_all listed one.now bank.old effects.old).close) }
+{
+    let mut decisions = Vec::new(alloc);
+    for candidate in one.candidates.as_slice() {
+        let decision = handle(one, candidate, bank, effects)?;
+        decisions.push((candidate.id, decision))?;
+    }
+    Ok(Close::Decisions(DecisionList::of(decisions)))
+}
+
+// Runs a cancel handler for a candidate, and answers its decision.
+fn handle(
+    one: &Ready,
+    candidate: &GoalInfo,
+    bank: &mut Bank,
+    effects: &mut EffectList,
+) -> Result<u8, Memory>
+    ensures variables { OnOk result (bank.new ≡ (called listed (instructions_of one.now.script) bank.old (candidate_input one.now.moment candidate.now) effects.old).variables) }
+    ensures effects { OnOk result (effects.new ≡ (called listed (instructions_of one.now.script) bank.old (candidate_input one.now.moment candidate.now) effects.old).given) }
+    ensures decision { IfOk result (λ decision. decision ≡ decision_by (called listed (instructions_of one.now.script) bank.old (candidate_input one.now.moment candidate.now) effects.old).answer) }
+{
+    let input = candidate_input(one.moment, candidate);
+    let close = run_call_into(
+        instructions_of(one),
+        Role::CancelHandler,
+        bank,
+        &input,
+        effects,
+    )?;
+    Ok(decision_in(&close))
+}
+
+fn candidate_input(moment: Moment, candidate: &GoalInfo) -> Input
+    ensures { result ≡ candidate_input moment candidate.now }
+{
+    Input {
+        first: candidate.value,
+        aux: i64::from(candidate.state.status().number()),
+        moment,
+    }
+}
+
+/// The decision that closes a callback; any other closing rejects.
+pub fn decision_in(closing: &Close) -> u8
+    ensures { result ≡ decision_in closing.now }
+{
+    match closing {
+        Close::Decide(decision) => *decision,
+        _ => 1,
+    }
+}

@@ -1,0 +1,39 @@
+//! Laws of rounds that crates above rest on: each function's contract says one, and its body is empty.
+ghost use Rattle.std.specs.Prelude.{◌≡◌, ◌≢◌, ℕ, ◌+◌, ◌<◌, ◌≤◌, List, length};
+ghost use Rattle.std.specs.List.{AllByRecursion, filter};
+ghost use Rattle.exec_graph.specs.Plan.{PlanData};
+ghost use Rattle.exec_msg.specs.declared.kind.Kind.{Kind};
+ghost use Rattle.exec_msg.specs.declared.kind.Kind.TheVariants as kind;
+ghost use Rattle.exec_rules.specs.Calls.{IsHomeFor, after_finish, after_round, world_after};
+ghost use Rattle.exec_rules.specs.Ready.{is_callback_of};
+ghost use Rattle.exec_rules.specs.Ready.{ready_list};
+ghost use Rattle.exec_rules.specs.Run.{all_apart, all_home, apart, brought_home, commit, commit_all, effects_of, run};
+ghost use Rattle.exec_rules.specs.Transcript.{at_snapshot, first_world, lines_of, round, rounds, run_all};
+ghost use Rattle.exec_rules.specs.World.{WorldState};
+ghost use Rattle.exec_rules.specs.declared.ready.Ready.{Ready};
+
+/// A callback may run apart from the world: where its effects are listed, its variables and its goal's task are brought home
+/// and it is committed then, the world is as if each effect had been given to it at its instruction.
+pub fn callbacks_may_run_apart()
+    ensures { (one : Ready) (world : WorldState) → run one world ≡ commit one (effects_of (apart one world)) (brought_home one (apart one world) world) }
+{}
+
+/// The callbacks of a round may all run apart from the world, one after another, and be committed behind the last of them, in
+/// their order: the world is as if each had run in it, where the tasks of the goals that they poll are at home.
+pub fn callbacks_may_be_committed_behind()
+    ensures { (list : List Ready) (world : WorldState) → AllByRecursion (λ one. IsHomeFor one.entity one.cause world) list →
+        run_all list world ≡ commit_all list (all_apart list world) (all_home list world) }
+{}
+
+/// The rounds of a plan follow one another: a round behind the first ones leaves the world that is after one more, and the
+/// world after all of them, closed, has the plan's lines.
+pub fn rounds_follow_one_another()
+    ensures next { (plan : PlanData) (count : ℕ) → count < length plan.moments → after_round (count + 1) (world_after count plan) ≡ world_after (count + 1) plan }
+    ensures closed { (plan : PlanData) → (after_finish (world_after (length plan.moments) plan)).state.lines ≡ lines_of plan }
+{}
+
+/// In each ready list an entity has at most one callback of each kind but poll.
+pub fn an_entity_has_one_callback_of_a_kind()
+    ensures { (plan : PlanData) (number : ℕ) (moments : List ℕ) (next moment entity : ℕ) (of : Kind) → of ≢ kind.Poll →
+        length (filter (is_callback_of entity of) (ready_list moment (at_snapshot plan next moment (rounds plan number moments (first_world plan.graph))))) ≤ 1 }
+{}

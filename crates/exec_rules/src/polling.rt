@@ -1,0 +1,71 @@
+//! A poll of a goal's task, apart from where that is kept.
+ghost use Rattle.std.specs.Prelude.{◌≡◌, Some, IfOk, OnErr, OnOk};
+ghost use Rattle.std.specs.Option.{option_map};
+ghost use Rattle.exec_rules.specs.Callback.{close_of_answer, poll_listed};
+ghost use Rattle.exec_rules.specs.Run.{work_after};
+ghost use Rattle.exec_rules.specs.World.{work_of};
+
+use exec_msg::Memory;
+use exec_script::{Bank, Close, EffectList};
+use exec_task::{Answer, GoalTask, Turn, is_awake, poll_goal_into};
+use futures::task::Context;
+
+// What closes a poll that is answered so.
+fn close_of(answer: Answer) -> Close
+    ensures { result ≡ close_of_answer answer }
+{
+    match answer {
+        Answer::Ready(ending) => Close::Ended(ending.event, ending.value),
+        Answer::Pending(_) => Close::Pending,
+    }
+}
+
+/// Polls a task where it isn't out and is awake, with the variables of its callback group, in a context that the caller has
+/// made, and answers what closes the poll. The list then has its effects, and these alone.
+///
+/// # Errors
+/// [`Memory`] where a growth was refused. The task and the variables stay as they were.
+pub fn poll_any(
+    task: &mut Option<GoalTask>,
+    turn: &Turn,
+    bank: &mut Bank,
+    cx: &mut Context<'_>,
+    effects: &mut EffectList,
+) -> Result<Close, Memory>
+    ensures effects { OnOk result (effects.new ≡ (poll_listed turn.now (option_map work_of task.old) bank.old).given) }
+    ensures close { IfOk result (λ close. close ≡ (poll_listed turn.now (option_map work_of task.old) bank.old).close) }
+    ensures variables { OnOk result (bank.new ≡ (poll_listed turn.now (option_map work_of task.old) bank.old).variables) }
+    ensures task { OnOk result (option_map work_of task.new ≡ option_map (work_after (poll_listed turn.now (option_map work_of task.old) bank.old).task) (option_map work_of task.old)) }
+    ensures refused { OnErr result (option_map work_of task.new ≡ option_map work_of task.old) }
+    ensures refused_variables { OnErr result (bank.new ≡ bank.old) }
+{
+    let Some(task) = task else {
+        effects.clear();
+        return Ok(Close::Pending);
+    };
+    let close = poll_task(task, turn, bank, cx, effects)?;
+    Ok(close)
+}
+
+// Polls a task where it is awake.
+fn poll_task(
+    task: &mut GoalTask,
+    turn: &Turn,
+    bank: &mut Bank,
+    cx: &mut Context<'_>,
+    effects: &mut EffectList,
+) -> Result<Close, Memory>
+    ensures effects { OnOk result (effects.new ≡ (poll_listed turn.now (Some (work_of task.old)) bank.old).given) }
+    ensures close { IfOk result (λ close. close ≡ (poll_listed turn.now (Some (work_of task.old)) bank.old).close) }
+    ensures variables { OnOk result (bank.new ≡ (poll_listed turn.now (Some (work_of task.old)) bank.old).variables) }
+    ensures task { OnOk result (work_of task.new ≡ work_after (poll_listed turn.now (Some (work_of task.old)) bank.old).task (work_of task.old)) }
+    ensures refused { OnErr result (work_of task.new ≡ work_of task.old) }
+    ensures refused_variables { OnErr result (bank.new ≡ bank.old) }
+{
+    if !is_awake(task, turn.moment, turn.canceling) {
+        effects.clear();
+        return Ok(Close::Pending);
+    }
+    let answer = poll_goal_into(task, bank, turn, cx, effects)?;
+    Ok(close_of(answer))
+}

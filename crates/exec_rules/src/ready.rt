@@ -1,0 +1,137 @@
+ghost use Rattle.std.specs.Prelude.{◌≡◌};
+ghost use Rattle.exec_rules.specs.Ready.{kind_of, id_for, input_at, input_of, run_line};
+
+use crate::item::Item;
+use exec_goal::GoalInfo;
+use exec_graph::{GroupNo, Script};
+use exec_msg::{EntityNo, GoalId, Items, Kind, Line, Moment};
+use exec_script::Input;
+
+/// Why a callback is ready.
+#[derive(Clone, Copy, Debug, PartialEq, Eq)]
+pub enum Cause {
+    /// Its timer is due.
+    Due,
+    /// It took the oldest item of its queue.
+    Took(Item),
+    /// A goal is awake: its identifier, its value, and whether it is being canceled.
+    Woke {
+        id: GoalId,
+        value: i64,
+        canceling: bool,
+    },
+}
+
+/// A callback that is ready at a snapshot, with the input that the snapshot took for it.
+#[derive(Drop)]
+pub struct Ready {
+    /// Its place in the ready list, from 1.
+    pub position: usize,
+    /// Its entity.
+    pub entity: EntityNo,
+    /// The entity's callback group.
+    pub group: GroupNo,
+    /// Whether that is mutually exclusive.
+    pub exclusive: bool,
+    /// The moment of its round.
+    pub moment: Moment,
+    /// Why it is ready.
+    pub cause: Cause,
+    /// Of a cancel request the goals that it may cancel, as they were at the snapshot, in the order of acceptance.
+    pub candidates: Items<GoalInfo>,
+    /// What runs, of a cancel request once for each candidate. None for an ask, and none for a goal request whose identifier
+    /// is held, or that finds no room, at the snapshot.
+    pub script: Option<Script>,
+}
+
+impl Cause {
+    /// The kind of the callback.
+    #[inline(always)]
+    pub fn kind(&self) -> Kind
+        ensures { result ≡ kind_of self.now }
+    {
+        match self {
+            Cause::Due => Kind::Timer,
+            Cause::Took(item) => item.kind(),
+            Cause::Woke { .. } => Kind::Poll,
+        }
+    }
+
+    /// The identifier on the callback's line.
+    #[inline(always)]
+    pub fn id(&self) -> Option<GoalId>
+        ensures { result ≡ id_for self.now }
+    {
+        match self {
+            Cause::Due => None,
+            Cause::Took(item) => item.id(),
+            Cause::Woke { id, .. } => Some(*id),
+        }
+    }
+}
+
+impl Ready {
+    /// The kind of the callback.
+    pub fn kind(&self) -> Kind
+        ensures { result ≡ kind_of self.now.cause }
+    {
+        self.cause.kind()
+    }
+
+    /// What the callback is handed; a cancel handler is handed something else for each candidate.
+    #[inline(always)]
+    pub fn input(&self) -> Input
+        ensures { result ≡ input_of self.now }
+    {
+        input_at(self.moment, &self.cause, self.candidates.len())
+    }
+
+    /// The identifier on the callback's line.
+    pub fn id(&self) -> Option<GoalId>
+        ensures { result ≡ id_for self.now.cause }
+    {
+        self.cause.id()
+    }
+
+    /// The line with which the callback begins.
+    #[inline(always)]
+    pub fn run_line(&self) -> Line
+        ensures { result ≡ run_line self.now }
+    {
+        let input = self.input();
+        Line::Run {
+            entity: self.entity,
+            kind: self.kind(),
+            input: input.first,
+            aux: input.aux,
+            id: self.id(),
+        }
+    }
+}
+
+#[inline(always)]
+fn input_at(moment: Moment, cause: &Cause, candidates: usize) -> Input
+    ensures { result ≡ input_at moment cause.now candidates }
+{
+    match cause {
+        Cause::Due => Input {
+            first: moment.ticks() as i64,
+            aux: 0,
+            moment,
+        },
+        Cause::Took(item) => Input {
+            first: item.first(),
+            aux: item.aux(candidates),
+            moment,
+        },
+        Cause::Woke {
+            value,
+            canceling,
+            ..
+        } => Input {
+            first: *value,
+            aux: i64::from(*canceling),
+            moment,
+        },
+    }
+}

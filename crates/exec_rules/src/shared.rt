@@ -1,0 +1,13 @@
+ghost use Rattle.std.specs.Prelude.{◌≡◌, IfOk};
+
+use exec_graph::Script;
+use exec_msg::Memory;
+
+/// The same script, which is shared.
+#[inline(always)]
+pub fn share(script: &Script) -> Result<Script, Memory>
+    ensures { IfOk result (λ shared. shared ≡ script.now) }
+{
+    let instructions = script.shared().clone()?;
+    Ok(Script::of(instructions))
+}

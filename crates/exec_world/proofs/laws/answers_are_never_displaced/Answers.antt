@@ -1,6 +1,0 @@
-use Rattle.exec_world.proofs.Depths.{deep_first}
-use Rattle.exec_world.proofs.Displaced.{none_displaced}
-use Rattle.exec_world.proofs.laws.answers_are_never_displaced.Goals as goal
-
-pub returns : goal.returns
-returns c = λ plan lawful. none_displaced plan (deep_first plan.graph lawful.graph)

@@ -1,5 +1,0 @@
-use Rattle.exec_world.proofs.Results.{asks_answered}
-use Rattle.exec_world.proofs.laws.asks_are_answered_once.Goals as goal
-
-pub returns : goal.returns
-returns c = λ plan server id. asks_answered server id plan

@@ -1,5 +1,0 @@
-use Rattle.exec_world.proofs.Committing.{all_commit}
-use Rattle.exec_world.proofs.laws.callbacks_may_be_committed_behind.Goals as goal
-
-pub returns : goal.returns
-returns c = all_commit

@@ -1,5 +1,0 @@
-use Rattle.exec_world.proofs.Apart.{runs_apart}
-use Rattle.exec_world.proofs.laws.callbacks_may_run_apart.Goals as goal
-
-pub returns : goal.returns
-returns c = runs_apart

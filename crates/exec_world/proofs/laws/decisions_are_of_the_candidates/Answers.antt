@@ -1,9 +1,0 @@
-use Rattle.exec_world.proofs.Handling.{decisions_before, decided_ids, decided_each}
-use Rattle.exec_world.proofs.laws.decisions_are_of_the_candidates.Goals as goal
-
-pub returns : goal.returns
-returns g c = record {
-  before = decisions_before;
-  identifiers = decided_ids;
-  each = decided_each;
-}

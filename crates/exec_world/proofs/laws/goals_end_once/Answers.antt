@@ -1,5 +1,0 @@
-use Rattle.exec_world.proofs.Ended.{behind_final}
-use Rattle.exec_world.proofs.laws.goals_end_once.Goals as goal
-
-pub returns : goal.returns
-returns c = λ before after final comes. behind_final c.goals_move_by_the_table.ensures c.ended_goals_stay.ensures before after final comes

@@ -1,8 +1,0 @@
-use Rattle.exec_world.proofs.Growing.{round_grows, rounds_grow}
-use Rattle.exec_world.proofs.laws.lines_only_grow.Goals as goal
-
-pub returns : goal.returns
-returns c = record {
-  round = round_grows;
-  rounds = rounds_grow;
-}

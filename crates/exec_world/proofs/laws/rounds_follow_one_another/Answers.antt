@@ -1,8 +1,0 @@
-use Rattle.exec_world.proofs.AllRounds.{closed_lines, next_round}
-use Rattle.exec_world.proofs.laws.rounds_follow_one_another.Goals as goal
-
-pub returns : goal.returns
-returns c = record {
-  next = next_round;
-  closed = closed_lines;
-}

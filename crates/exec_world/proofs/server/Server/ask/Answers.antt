@@ -1,6 +1,0 @@
-use Rattle.exec_world.proofs.Serving.{kept-asked}
-use Rattle.exec_world.specs.inner.Server.{held_goals_of}
-use Rattle.exec_world.proofs.server.Server.ask.Goals as goal
-
-pub invariant_of-self-2 : goal.invariant_of-self-2
-invariant_of-self-2 c = rw c.in_ok-told.ensures.noted (kept-asked c.args.id c.args.client c.self.inside.goals (held_goals_of c.self.inside.held.entries) c.self.invariant)

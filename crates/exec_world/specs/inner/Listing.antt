@@ -1,8 +1,0 @@
--- Ready callbacks that are listed behind others.
-use Rattle.std.specs.Prelude.{◌+◌, ◌++◌, List, length}
-use Rattle.exec_world.specs.Ready.{placed_from}
-use Rattle.exec_world.specs.declared.ready.Ready.{Ready}
-
--- a ready list with more callbacks behind it, at their places
-abbrev pub listed_behind : List Ready → List Ready → List Ready
-listed_behind list more = list ++ placed_from (length list + 1) more
