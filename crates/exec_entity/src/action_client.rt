@@ -61,7 +61,10 @@ impl ActionClient {
         GoalId::new((self.place as u128 + 1) * (1 << 64) + number as u128)
     }
 
-    /// Counts its next goal, and gives the goal's number, from 1. Where memory is refused, the client stays as it was.
+    /// Counts its next goal, and gives the goal's number, from 1.
+    ///
+    /// # Errors
+    /// [`Memory`] where a growth was refused. The client stays as it was.
     pub fn send_goal(&mut self) -> Result<u64, Memory>
         ensures number { IfOk result (λ number. number ≡ self.old.goals + 1) }
         ensures sent { OnOk result (self.new ≡ record self.old { goals = self.old.goals + 1 }) }
@@ -88,7 +91,11 @@ impl ByNumber<ActionClient> {
     ghost use Rattle.exec_rules.specs.Item.{goal_id};
     ghost use Rattle.exec_rules.specs.World.{is_action_client_at};
 
-    /// A client counts its next goal. Answers its server and the goal's identifier, or `None` where there is no such client.
+    /// A client counts its next goal. Answers its server and the goal's identifier, or `None` where there is no such
+    /// client.
+    ///
+    /// # Errors
+    /// [`Memory`] where a growth was refused. The client stays as it was.
     pub fn send_goal(&mut self, client: EntityNo) -> Result<Option<(EntityNo, GoalId)>, Memory>
         ensures made { IfOk result (λ made. made ≡ option_map (λ entry. (entry.server, goal_id entry.place (entry.goals + 1))) (find (is_action_client_at client) self.old)) }
         ensures sent { OnOk result (self.new ≡ change_first (is_action_client_at client) (λ entry. record entry { goals = entry.goals + 1 }) self.old) }

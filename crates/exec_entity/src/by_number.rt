@@ -47,6 +47,9 @@ impl<E: Numbered> ByNumber<E> {
     }
 
     /// Declares an entry behind the others.
+    ///
+    /// # Errors
+    /// [`Memory`] where a growth was refused.
     pub fn declare(&mut self, entry: E) -> Result<(), Memory>
         ensures { OnOk result (self.new ≡ self.old ++ entry ∷ []) }
     {

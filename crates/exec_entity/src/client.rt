@@ -54,6 +54,9 @@ impl Client {
     }
 
     /// Makes its next call, which pends, and gives the call's number, from 1.
+    ///
+    /// # Errors
+    /// [`Memory`] where a growth was refused. The client stays as it was.
     pub fn call(&mut self) -> Result<u64, Memory>
         ensures number { IfOk result (λ number. number ≡ self.old.calls + 1) }
         ensures called { OnOk result (self.new ≡ client_called self.old) }
@@ -99,8 +102,11 @@ impl ByNumber<Client> {
     ghost use Rattle.exec_rules.specs.Ready.{call_answered};
     ghost use Rattle.exec_rules.specs.World.{client_called, is_client_at};
 
-    /// A client makes its next call, which pends. Answers its service and the call's number, from 1, or `None` where there is no
-    /// such client.
+    /// A client makes its next call, which pends. Answers its service and the call's number, from 1, or `None` where there
+    /// is no such client.
+    ///
+    /// # Errors
+    /// [`Memory`] where a growth was refused. The client stays as it was.
     pub fn call(&mut self, client: EntityNo) -> Result<Option<(EntityNo, u64)>, Memory>
         ensures made { IfOk result (λ made. made ≡ option_map (λ entry. (entry.service, entry.calls + 1)) (find (is_client_at client) self.old)) }
         ensures called { OnOk result (self.new ≡ change_first (is_client_at client) client_called self.old) }

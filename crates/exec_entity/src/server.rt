@@ -137,8 +137,10 @@ impl Server {
         self.goals.asker(id, index)
     }
 
-    /// Accepts a goal at a moment, by decision 2, which executes it at once, or by decision 3, which defers it. Where memory is
-    /// refused, the server stays as it was.
+    /// Accepts a goal at a moment, by decision 2, which executes it at once, or by decision 3, which defers it.
+    ///
+    /// # Errors
+    /// [`Memory`] where a growth was refused. The server stays as it was.
     pub fn accept(
         &mut self,
         moment: Moment,
@@ -178,14 +180,19 @@ impl Server {
     }
 
     /// The goals that a cancel request selects and that may be moved, in the order of acceptance.
+    ///
+    /// # Errors
+    /// [`Memory`] where a growth was refused.
     pub fn candidates(&self, request: &CancelRequest) -> Result<Items<GoalInfo>, Memory>
         ensures { IfOk result (λ infos. infos ≡ map info_of (candidates request.now self.now.goals)) }
     {
         self.goals.candidates(request)
     }
 
-    /// Cancels by what was decided of a request's candidates, each by its identifier, of which 2 accepts. Where memory is
-    /// refused, the server stays as it was.
+    /// Cancels by what was decided of a request's candidates, each by its identifier, of which 2 accepts.
+    ///
+    /// # Errors
+    /// [`Memory`] where a growth was refused. The server stays as it was.
     pub fn cancel(
         &mut self,
         request: &CancelRequest,
@@ -200,8 +207,10 @@ impl Server {
         Ok(answer)
     }
 
-    /// What an action client is told that asks for a goal's result; where it comes later, the client is noted. Where memory
-    /// is refused, the server stays as it was.
+    /// What an action client is told that asks for a goal's result; where it comes later, the client is noted.
+    ///
+    /// # Errors
+    /// [`Memory`] where a growth was refused. The server stays as it was.
     pub fn ask(&mut self, id: GoalId, client: EntityNo) -> Result<Asked, Memory>
         ensures told { IfOk result (λ told. told ≡ answer_of (asked_for id self.old.goals)) }
         ensures noted { OnOk result (self.new ≡ record self.old { goals = after_asking id client self.old.goals }) }

@@ -67,8 +67,10 @@ impl Queues {
         }
     }
 
-    /// Declares an empty queue behind the others, of a depth from 1 to [`DEPTH`](exec_msg::limits::DEPTH) items. Where memory
-    /// is refused, the queues stay as they were.
+    /// Declares an empty queue behind the others, of a depth from 1 to [`DEPTH`](exec_msg::limits::DEPTH) items.
+    ///
+    /// # Errors
+    /// [`Memory`] where a growth was refused. The queues stay as they were.
     pub fn declare(&mut self, handler: Handler, kind: Kind, depth: usize) -> Result<(), Memory>
         requires { (1 ≤ depth) × (depth ≤ DEPTH) }
         ensures ok { OnOk result (self.new ≡ self.old ++ record { handler = handler; kind = kind; depth = depth; items = [] } ∷ []) }
@@ -89,7 +91,10 @@ impl Queues {
     }
 
     /// Sends an item to an entity's queue of its kind, and answers the item that is lost by it, the oldest of a full queue.
-    /// Where there is no such queue nothing changes. Where memory is refused, the queues stay as they were.
+    /// Where there is no such queue nothing changes.
+    ///
+    /// # Errors
+    /// [`Memory`] where a growth was refused. The queues stay as they were.
     pub fn send(&mut self, entity: EntityNo, item: Item) -> Result<Option<Item>, Memory>
         ensures ok { OnOk result (self.new ≡ change_first (is_queue entity (taker_of item)) (queue_after item) self.old) }
         ensures lost { IfOk result (λ lost. option_to_list lost ≡ lost_from entity item self.old) }
@@ -105,8 +110,10 @@ impl Queues {
     }
 
     /// Sets places to those of the queues that have an item, either of the kinds before polls or of those behind them, in
-    /// ascending order. Where there is room for them it is never refused memory; where it is, the queues stay as they
-    /// were.
+    /// ascending order. Where there is room for them it is never refused memory.
+    ///
+    /// # Errors
+    /// [`Memory`] where a growth was refused. The queues stay as they were, and the places may have changed.
     pub fn filled(&mut self, before_polls: bool, places: &mut Vec<usize>) -> Result<(), Memory>
         ensures same { self.new ≡ self.old }
         ensures places { OnOk result (places.new.items ≡ places_where (λ queue. has_item queue && is_in_part before_polls queue) self.old) }
@@ -144,6 +151,9 @@ impl Queues {
     }
 
     /// The script of the callback that takes from the queue at a place, which may be brought home.
+    ///
+    /// # Errors
+    /// [`Memory`] where the count of shares was refused one more. The queues stay as they were.
     pub fn take_script(&mut self, place: usize) -> Result<Option<Script>, Memory>
         ensures script { IfOk result (λ script. script ≡ option_map (λ queue. queue.handler.script) (slice_get self.old place)) }
         ensures same { self.new ≡ self.old }

@@ -47,6 +47,9 @@ impl EntityTimer {
     }
 
     /// Makes the timer's call where it is due, and then lists its callback. The timer stands at a place.
+    ///
+    /// # Errors
+    /// [`Memory`] where a growth was refused. The timer may have made its call.
     #[inline(always)]
     pub fn take_into(
         &mut self,
@@ -81,6 +84,9 @@ impl EntityTimer {
 }
 
 /// Makes the call of each timer that is due, and lists their callbacks.
+///
+/// # Errors
+/// [`Memory`] where a growth was refused. Some of the timers may have made their calls.
 pub fn take_due_into(
     alloc: Global,
     timers: &mut [EntityTimer],

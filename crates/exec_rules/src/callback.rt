@@ -83,6 +83,9 @@ impl Ready {
 }
 
 /// Runs a callback that took an item, and puts its effects behind those that are listed.
+///
+/// # Errors
+/// [`Memory`] where a growth was refused. The variables and the effects may have changed.
 #[inline(always)]
 pub fn take_item(
     alloc: Global,
@@ -110,6 +113,9 @@ pub fn take_item(
 }
 
 /// Runs a callback's script once in a role, and puts its effects behind those that are listed.
+///
+/// # Errors
+/// [`Memory`] where a growth was refused. The variables and the effects may have changed.
 #[inline(always)]
 pub fn call_in(
     role: Role,

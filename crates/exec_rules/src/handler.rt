@@ -45,6 +45,9 @@ impl Handler {
     }
 
     /// The callback's script, which is shared.
+    ///
+    /// # Errors
+    /// [`Memory`] where the count of shares was refused one more.
     #[inline(always)]
     pub fn share_script(&self) -> Result<Script, Memory>
         ensures { IfOk result (λ script. script ≡ self.now.script) }
@@ -53,6 +56,9 @@ impl Handler {
     }
 
     /// The callback's script, which is shared, and which may be brought home.
+    ///
+    /// # Errors
+    /// [`Memory`] where the count of shares was refused one more. The handler stays as it was.
     #[inline(always)]
     pub fn take_script(&mut self) -> Result<Script, Memory>
         ensures script { IfOk result (λ script. script ≡ self.old.script) }

@@ -43,6 +43,9 @@ impl ReadyList {
     }
 
     /// Adds a callback at the end, and tells it its place, from 1.
+    ///
+    /// # Errors
+    /// [`Memory`] where a growth was refused.
     #[inline(always)]
     pub fn push(&mut self, ready: Ready) -> Result<(), Memory>
         ensures { OnOk result (self.new ≡ listed_behind self.old (ready ∷ [])) }
@@ -53,6 +56,9 @@ impl ReadyList {
     }
 
     /// Adds a callback at the end, and notes that its script comes from the handler at a place.
+    ///
+    /// # Errors
+    /// [`Memory`] where a growth was refused.
     #[inline(always)]
     pub fn push_from(
         &mut self,

@@ -4,6 +4,9 @@ use exec_graph::Script;
 use exec_msg::Memory;
 
 /// The same script, which is shared.
+///
+/// # Errors
+/// [`Memory`] where the count of shares was refused one more.
 #[inline(always)]
 pub fn share(script: &Script) -> Result<Script, Memory>
     ensures { IfOk result (λ shared. shared ≡ script.now) }

@@ -34,6 +34,9 @@ impl ByNumber<Server> {
     ghost use Rattle.exec_rules.specs.Transcript.{expire_lines, server_expired};
 
     /// Forgets the goals whose results are kept no longer at a moment, each with its line, server by server.
+    ///
+    /// # Errors
+    /// [`Memory`] where a growth was refused. Goals may have been forgotten, with and without their lines.
     pub fn expire<L: Lines>(&mut self, moment: Moment, lines: &mut L) -> Result<(), Memory>
         ensures servers { OnOk result (self.new ≡ map (server_expired moment) self.old) }
         ensures lines { OnOk result (L.lines lines.new ≡ L.lines lines.old ++ flat_map (expire_lines moment) self.old) }

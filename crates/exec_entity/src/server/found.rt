@@ -60,6 +60,9 @@ impl ByNumber<Server> {
     }
 
     /// A server accepts a goal at a moment, by decision 2, which executes it at once, or by decision 3, which defers it.
+    ///
+    /// # Errors
+    /// [`Memory`] where a growth was refused.
     pub fn accept(
         &mut self,
         server: EntityNo,
@@ -81,6 +84,9 @@ impl ByNumber<Server> {
 
     /// A server cancels by what was decided of a request's candidates, each by its identifier, of which 2 accepts. One that
     /// isn't there has no goals.
+    ///
+    /// # Errors
+    /// [`Memory`] where a growth was refused.
     pub fn cancel(
         &mut self,
         alloc: Global,
@@ -103,6 +109,9 @@ impl ByNumber<Server> {
     }
 
     /// What an action client is told that asks a server for a goal's result; where it comes later, the client is noted.
+    ///
+    /// # Errors
+    /// [`Memory`] where a growth was refused.
     pub fn ask(&mut self, server: EntityNo, id: GoalId, client: EntityNo) -> Result<Asked, Memory>
         ensures told { IfOk result (λ told. told ≡ answer_of (asked_for id (goals_in server self.old))) }
         ensures noted { OnOk result (self.new ≡ asked_in (asked_for id (goals_in server self.old)) server id client self.old) }
@@ -145,9 +154,12 @@ impl ByNumber<Server> {
         entry.end(id, event, value, moment)
     }
 
-    /// A server polls a goal in a turn, with the variables of its callback group, in a context that the caller has made, and
-    /// answers what closes the poll. The list then has its effects, and these alone. A goal that isn't held or isn't awake isn't
-    /// polled, and pends. Where memory is refused, the bank stays as it was.
+    /// A server polls a goal in a turn, with the variables of its callback group, in a context that the caller has made,
+    /// and answers what closes the poll. The list then has its effects, and these alone. A goal that isn't held or isn't
+    /// awake isn't polled, and pends.
+    ///
+    /// # Errors
+    /// [`Memory`] where a growth was refused.
     pub fn poll(
         &mut self,
         server: EntityNo,
@@ -194,6 +206,9 @@ impl ByNumber<Server> {
     }
 
     /// Lists a poll for each goal that is awake at a moment, server by server, each in the order of acceptance.
+    ///
+    /// # Errors
+    /// [`Memory`] where a growth was refused.
     pub fn list_polls(
         &self,
         alloc: Global,

@@ -55,6 +55,9 @@ impl Server {
     }
 
     /// Lists a poll for each goal that is awake at a moment, in the order of acceptance.
+    ///
+    /// # Errors
+    /// [`Memory`] where a growth was refused.
     pub fn list_polls(
         &self,
         alloc: Global,
@@ -125,9 +128,12 @@ impl Server {
         )
     }
 
-    /// Polls a goal in a turn, with the variables of its callback group, in a context that the caller has made, and answers what
-    /// closes the poll. The list then has its effects, and these alone. A goal that isn't held or isn't awake, or whose task is
-    /// out, isn't polled, and pends. Where memory is refused, the server and the bank stay as they were.
+    /// Polls a goal in a turn, with the variables of its callback group, in a context that the caller has made, and answers
+    /// what closes the poll. The list then has its effects, and these alone. A goal that isn't held or isn't awake, or
+    /// whose task is out, isn't polled, and pends.
+    ///
+    /// # Errors
+    /// [`Memory`] where a growth was refused. The server and the variables stay as they were.
     pub fn poll(
         &mut self,
         id: GoalId,
