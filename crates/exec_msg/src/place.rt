@@ -81,7 +81,7 @@ pub(crate) fn place_named(bytes: &mut [u8], at: usize, word: &str, name: &str) -
     ensures text { take result bytes.new ≡ take at bytes.old ++ joined (word.now ∷ name.now ∷ []) }
     ensures within { result ≤ at + length word.now + length name.now + 1 }
 {
-    let end = place(bytes, at, word);
+    let end = place_short(bytes, at, word);
     place_field(bytes, end, name)
 }
 
