@@ -61,11 +61,8 @@ impl ActionClient {
         GoalId::new((self.place as u128 + 1) * (1 << 64) + number as u128)
     }
 
-    /// Counts its next goal, and gives the goal's number, from 1.
-    ///
-    /// # Errors
-    /// [`Memory`] where a growth was refused. The client stays as it was.
-    pub fn send_goal(&mut self) -> Result<u64, Memory>
+    // Counts its next goal, and gives the goal's number, from 1. Where memory is refused, the client stays as it was.
+    pub(crate) fn send_goal(&mut self) -> Result<u64, Memory>
         ensures number { IfOk result (λ number. number ≡ self.old.goals + 1) }
         ensures sent { OnOk result (self.new ≡ record self.old { goals = self.old.goals + 1 }) }
         ensures refused { OnErr result (self.new ≡ self.old) }

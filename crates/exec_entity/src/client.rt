@@ -46,18 +46,15 @@ impl Client {
         }
     }
 
-    /// Its service.
-    pub fn service(&self) -> EntityNo
+    // Its service.
+    pub(crate) fn service(&self) -> EntityNo
         ensures { result ≡ self.now.service }
     {
         self.service
     }
 
-    /// Makes its next call, which pends, and gives the call's number, from 1.
-    ///
-    /// # Errors
-    /// [`Memory`] where a growth was refused. The client stays as it was.
-    pub fn call(&mut self) -> Result<u64, Memory>
+    // Makes its next call, which pends, and gives the call's number, from 1.
+    pub(crate) fn call(&mut self) -> Result<u64, Memory>
         ensures number { IfOk result (λ number. number ≡ self.old.calls + 1) }
         ensures called { OnOk result (self.new ≡ client_called self.old) }
         ensures refused { OnErr result (self.new ≡ self.old) }
@@ -69,8 +66,8 @@ impl Client {
         Ok(number)
     }
 
-    /// Gives a call its reply, after which it pends no more. A call that doesn't pend stays answered.
-    pub fn complete(&mut self, number: u64, value: i64)
+    // Gives a call its reply, after which it pends no more. A call that doesn't pend stays answered.
+    pub(crate) fn complete(&mut self, number: u64, value: i64)
         ensures { self.new ≡ call_answered number self.old }
     {
         if let Some(mut call) = self.pending.shift_remove(&number) {

@@ -93,22 +93,22 @@ impl Server {
         }
     }
 
-    /// The server's entity.
-    pub fn number(&self) -> EntityNo
+    // The server's entity.
+    pub(crate) fn number(&self) -> EntityNo
         ensures { result ≡ self.now.handler.entity }
     {
         self.handler.entity
     }
 
-    /// How many goals are held, in whatever state.
-    pub fn len(&self) -> usize
+    // How many goals are held, in whatever state.
+    pub(crate) fn len(&self) -> usize
         ensures { result ≡ length self.now.goals }
     {
         self.goals.len()
     }
 
-    /// The goal at this place, from 0, in the order of acceptance.
-    pub fn goal_at(&self, index: usize) -> GoalInfo
+    // The goal at this place, from 0, in the order of acceptance.
+    pub(crate) fn goal_at(&self, index: usize) -> GoalInfo
         requires { index < length self.now.goals }
         ensures { slice_get (map info_of self.now.goals) index ≡ Some result }
     {
@@ -122,26 +122,24 @@ impl Server {
         !(self.goals.holds(id) || self.goals.is_full())
     }
 
-    /// The action client that sent a goal, if one did.
-    pub fn client_of(&self, id: GoalId) -> Option<EntityNo>
+    // The action client that sent a goal, if one did.
+    pub(crate) fn client_of(&self, id: GoalId) -> Option<EntityNo>
         ensures { result ≡ option_map_or (λ held. held.client) (find (is_for id) self.now.held) None }
     {
         self.held.get(&id)?.client
     }
 
-    /// The action client that asked for a goal's result at this place, from 0, in the order of asking, or `None` beyond them
-    /// and where no such goal is held.
-    pub fn asker(&self, id: GoalId, index: usize) -> Option<EntityNo>
+    // The action client that asked for a goal's result at this place, from 0, in the order of asking, or `None` beyond them
+    // and where no such goal is held.
+    pub(crate) fn asker(&self, id: GoalId, index: usize) -> Option<EntityNo>
         ensures { result ≡ slice_get (askers_in id self.now.goals) index }
     {
         self.goals.asker(id, index)
     }
 
-    /// Accepts a goal at a moment, by decision 2, which executes it at once, or by decision 3, which defers it.
-    ///
-    /// # Errors
-    /// [`Memory`] where a growth was refused. The server stays as it was.
-    pub fn accept(
+    // Accepts a goal at a moment, by decision 2, which executes it at once, or by decision 3, which defers it. Where memory is
+    // refused, the server stays as it was.
+    pub(crate) fn accept(
         &mut self,
         moment: Moment,
         decision: u8,
@@ -189,11 +187,9 @@ impl Server {
         self.goals.candidates(request)
     }
 
-    /// Cancels by what was decided of a request's candidates, each by its identifier, of which 2 accepts.
-    ///
-    /// # Errors
-    /// [`Memory`] where a growth was refused. The server stays as it was.
-    pub fn cancel(
+    // Cancels by what was decided of a request's candidates, each by its identifier, of which 2 accepts. Where memory is
+    // refused, the server stays as it was.
+    pub(crate) fn cancel(
         &mut self,
         request: &CancelRequest,
         decisions: &[(GoalId, u8)],
@@ -207,11 +203,9 @@ impl Server {
         Ok(answer)
     }
 
-    /// What an action client is told that asks for a goal's result; where it comes later, the client is noted.
-    ///
-    /// # Errors
-    /// [`Memory`] where a growth was refused. The server stays as it was.
-    pub fn ask(&mut self, id: GoalId, client: EntityNo) -> Result<Asked, Memory>
+    // What an action client is told that asks for a goal's result; where it comes later, the client is noted. Where memory
+    // is refused, the server stays as it was.
+    pub(crate) fn ask(&mut self, id: GoalId, client: EntityNo) -> Result<Asked, Memory>
         ensures told { IfOk result (λ told. told ≡ answer_of (asked_for id self.old.goals)) }
         ensures noted { OnOk result (self.new ≡ record self.old { goals = after_asking id client self.old.goals }) }
         ensures refused { OnErr result (self.new ≡ self.old) }
@@ -220,8 +214,8 @@ impl Server {
         Ok(told)
     }
 
-    /// Executes the oldest goal that is accepted and not executed yet, and answers its identifier, or `None` where there is none.
-    pub fn execute_oldest(&mut self) -> Option<GoalId>
+    // Executes the oldest goal that is accepted and not executed yet, and answers its identifier, or `None` where there is none.
+    pub(crate) fn execute_oldest(&mut self) -> Option<GoalId>
         ensures found { result ≡ option_map (λ goal. goal.id) (find (λ goal. is_accepted goal.state) self.old.goals) }
         ensures executed { self.new ≡ record self.old { goals = executed (find (λ goal. is_accepted goal.state) self.old.goals) self.old.goals } }
     {
@@ -242,9 +236,15 @@ impl Server {
         None
     }
 
-    /// Ends a goal by an event at a moment with its result, and answers its terminal state. Where no such goal is held, or the
-    /// event leads its state to no terminal one, nothing changes and there is no answer.
-    pub fn end(&mut self, id: GoalId, event: Event, value: i64, moment: Moment) -> Option<State>
+    // Ends a goal by an event at a moment with its result, and answers its terminal state. Where no such goal is held, or the
+    // event leads its state to no terminal one, nothing changes and there is no answer.
+    pub(crate) fn end(
+        &mut self,
+        id: GoalId,
+        event: Event,
+        value: i64,
+        moment: Moment,
+    ) -> Option<State>
         ensures reached { result ≡ end_state id event self.old.goals }
         ensures ended { IfSome result (λ _. self.new ≡ record self.old { goals = change_first (has_id id) (after_end event value moment) self.old.goals }) }
         ensures refused { IfNone result (self.new ≡ self.old) }

@@ -161,8 +161,8 @@ impl Queues {
         take_script_at(&mut self.entries, place)
     }
 
-    /// Brings the script of the callback that takes from the queue at a place home.
-    pub fn bring_home(&mut self, place: usize, script: Script)
+    // Brings the script of the callback that takes from the queue at a place home.
+    fn bring_home(&mut self, place: usize, script: Script)
         requires { (queue : Queue) → slice_get self.old place ≡ Some queue → script ≡ queue.handler.script }
         ensures { self.new ≡ self.old }
     {

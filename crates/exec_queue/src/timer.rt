@@ -46,12 +46,9 @@ impl EntityTimer {
         }
     }
 
-    /// Makes the timer's call where it is due, and then lists its callback. The timer stands at a place.
-    ///
-    /// # Errors
-    /// [`Memory`] where a growth was refused. The timer may have made its call.
+    // Makes the timer's call where it is due, and then lists its callback. The timer stands at a place.
     #[inline(always)]
-    pub fn take_into(
+    fn take_into(
         &mut self,
         alloc: Global,
         now: Moment,

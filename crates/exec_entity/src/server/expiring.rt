@@ -13,9 +13,9 @@ impl Server {
     ghost use Rattle.exec_goal.specs.Table.{expired};
     ghost use Rattle.exec_rules.specs.Transcript.{server_expired};
 
-    /// Forgets the first goal, in the order of acceptance, whose result the server keeps no longer at a moment, and answers its
-    /// identifier, or `None` where there is none.
-    pub fn expire(&mut self, moment: Moment) -> Option<GoalId>
+    // Forgets the first goal, in the order of acceptance, whose result the server keeps no longer at a moment, and answers its
+    // identifier, or `None` where there is none.
+    pub(crate) fn expire(&mut self, moment: Moment) -> Option<GoalId>
         ensures first { result ≡ option_map (λ goal. goal.id) (slice_get (expired moment self.old.timeout self.old.goals) 0) }
         ensures left { expired moment self.new.timeout self.new.goals ≡ drop 1 (expired moment self.old.timeout self.old.goals) }
         ensures kept { server_expired moment self.new ≡ server_expired moment self.old }

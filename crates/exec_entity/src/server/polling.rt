@@ -29,8 +29,8 @@ impl Server {
     ghost use Rattle.exec_rules.specs.inner.Listing.{listed_behind};
     ghost use Rattle.exec_entity.specs.inner.Polling.{goal_polled, goal_ready, server_polled, server_with_work};
 
-    /// How many goals the server works on; where there are none, none is awake. It looks at no goal.
-    pub fn working(&self) -> usize
+    // How many goals the server works on; where there are none, none is awake. It looks at no goal.
+    pub(crate) fn working(&self) -> usize
         ensures working { result ≡ working self.now.goals }
         ensures idle { result ≡ 0 → (moment : ℕ) → filter (is_goal_awake moment self.now.held) self.now.goals ≡ [] }
     {
@@ -54,11 +54,8 @@ impl Server {
         is_any_awake(&entry.1.task, moment, goal.state.is_canceling())
     }
 
-    /// Lists a poll for each goal that is awake at a moment, in the order of acceptance.
-    ///
-    /// # Errors
-    /// [`Memory`] where a growth was refused.
-    pub fn list_polls(
+    // Lists a poll for each goal that is awake at a moment, in the order of acceptance.
+    pub(crate) fn list_polls(
         &self,
         alloc: Global,
         moment: Moment,
@@ -128,13 +125,10 @@ impl Server {
         )
     }
 
-    /// Polls a goal in a turn, with the variables of its callback group, in a context that the caller has made, and answers
-    /// what closes the poll. The list then has its effects, and these alone. A goal that isn't held or isn't awake, or
-    /// whose task is out, isn't polled, and pends.
-    ///
-    /// # Errors
-    /// [`Memory`] where a growth was refused. The server and the variables stay as they were.
-    pub fn poll(
+    // Polls a goal in a turn, with the variables of its callback group, in a context that the caller has made, and answers what
+    // closes the poll. The list then has its effects, and these alone. A goal that isn't held or isn't awake, or whose task is
+    // out, isn't polled, and pends. Where memory is refused, the server and the bank stay as they were.
+    pub(crate) fn poll(
         &mut self,
         id: GoalId,
         turn: &Turn,
@@ -157,8 +151,8 @@ impl Server {
         Ok(close)
     }
 
-    /// Takes the task of a goal out, and answers `None` where no such goal is held or its task is out.
-    pub fn take_task(&mut self, id: GoalId) -> Option<GoalTask>
+    // Takes the task of a goal out, and answers `None` where no such goal is held or its task is out.
+    pub(crate) fn take_task(&mut self, id: GoalId) -> Option<GoalTask>
         ensures taken { option_map work_of result ≡ option_and_then (λ held. held.work) (find (is_for id) self.old.held) }
         ensures out { self.new ≡ server_with_work id None self.old }
     {
@@ -166,8 +160,8 @@ impl Server {
         replace_task(held, None)
     }
 
-    /// Puts a goal's task in its place. Where no such goal is held, nothing changes.
-    pub fn put_task(&mut self, id: GoalId, task: GoalTask)
+    // Puts a goal's task in its place. Where no such goal is held, nothing changes.
+    pub(crate) fn put_task(&mut self, id: GoalId, task: GoalTask)
         ensures { self.new ≡ server_with_work id (Some (work_of task)) self.old }
     {
         let Some(held) = self.held.get_mut(&id) else {
