@@ -9,17 +9,17 @@ use Rattle.serde_json.specs.Find.{as_array, get}
 use Rattle.exec_doc.specs.Document.{resolved_fed, resolved_entry}
 use Rattle.exec_doc.specs.Draft.{DocumentDraft}
 use Rattle.exec_doc.specs.Forms.{id_in_text, text, count, integer, identifier, values_of, list_of, needed, or_default, required, list, Fields, fields_of, message_in, goal_in, cancel_in, form_in, fed_in, entry, declared, draft_of}
-use Rattle.exec_graph.specs.Entity.{if_there}
+use Rattle.exec_plan.specs.Entity.{if_there}
 use Rattle.exec_doc.specs.declared.draft.EntryDraft.{EntryDraft}
 use Rattle.exec_doc.specs.declared.draft.FedDraft.{FedDraft}
 use Rattle.exec_doc.specs.declared.draft.FedDraft.TheVariants as draft
 use Rattle.exec_graph.specs.declared.draft.GraphDraft.{GraphDraft}
-use Rattle.exec_graph.specs.Feeding.{has_128_bits}
+use Rattle.exec_plan.specs.Feeding.{has_128_bits}
 use Rattle.exec_graph.specs.Numbers.{topic_named, server_named}
-use Rattle.exec_graph.specs.declared.plan.Fed.{Fed}
-use Rattle.exec_graph.specs.declared.plan.Fed.TheVariants.{Message, Goal, Cancel}
-use Rattle.exec_graph.specs.declared.plan.Feed.{Feed}
-use Rattle.exec_graph.proofs.Reading.{then_read, AreRead, are_read}
+use Rattle.exec_plan.specs.declared.plan.Fed.{Fed}
+use Rattle.exec_plan.specs.declared.plan.Fed.TheVariants.{Message, Goal, Cancel}
+use Rattle.exec_plan.specs.declared.plan.Feed.{Feed}
+use Rattle.exec_plan.proofs.Reading.{then_read, AreRead, are_read}
 use Rattle.exec_doc.proofs.Feeding.{all_read}
 use Rattle.exec_doc.proofs.Identifiers.{id_below}
 

@@ -11,15 +11,15 @@ use Rattle.exec_doc.specs.Draft.{DocumentDraft}
 use Rattle.exec_doc.specs.declared.draft.FedDraft.TheVariants as draft
 use Rattle.exec_doc.specs.Refusals as refusals
 use Rattle.exec_graph.specs.declared.draft.GraphDraft.{GraphDraft}
-use Rattle.exec_graph.specs.Feeding.{goes_somewhere}
-use Rattle.exec_graph.specs.Graph.{GraphData, is_topic, is_server}
-use Rattle.exec_graph.specs.Lawful.{is_at}
+use Rattle.exec_plan.specs.Feeding.{goes_somewhere}
+use Rattle.exec_plan.specs.Graph.{GraphData, is_topic, is_server}
+use Rattle.exec_plan.specs.Lawful.{is_at}
 use Rattle.exec_graph.specs.Numbers.{topic_named, server_named}
-use Rattle.exec_graph.specs.Schedule.{schedule_fits, greatest, stamp_of, is_in_order, is_identified, plan_fault_in}
-use Rattle.exec_graph.specs.declared.plan.Fed.{Fed}
-use Rattle.exec_graph.specs.declared.plan.Fed.TheVariants.{Message, Goal, Cancel}
-use Rattle.exec_graph.specs.declared.plan.Feed.{Feed}
-use Rattle.exec_graph.proofs.Reading.{then_read, AreRead, as_many, seen_alike}
+use Rattle.exec_plan.specs.Schedule.{schedule_fits, greatest, stamp_of, is_in_order, is_identified, plan_fault_in}
+use Rattle.exec_plan.specs.declared.plan.Fed.{Fed}
+use Rattle.exec_plan.specs.declared.plan.Fed.TheVariants.{Message, Goal, Cancel}
+use Rattle.exec_plan.specs.declared.plan.Feed.{Feed}
+use Rattle.exec_plan.proofs.Reading.{then_read, AreRead, as_many, seen_alike}
 use Rattle.exec_doc.proofs.Kept.{IsKept}
 
 not_zero : (read : Option ℕ) (id : ℕ) → read ≡ Some id → option_map_or (λ id. nat_le 1 id) read false ≡ nat_le 1 id

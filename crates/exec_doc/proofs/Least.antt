@@ -3,7 +3,7 @@ use Rattle.std.proofs.Common.{◌≡◌, ℕ, suc, ◌<◌, ◌≤◌, ◌⊎◌
 use Rattle.std.specs.Option.{option_map_or}
 use Rattle.exec_doc.specs.Draft.{DocumentDraft}
 use Rattle.exec_doc.specs.Forms.{draft_of}
-use Rattle.exec_graph.specs.Options.{◌>>=◌}
+use Rattle.exec_plan.specs.Options.{◌>>=◌}
 use Rattle.serde_json.specs.Data.{Data}
 use Rattle.exec_doc.specs.Refusals.{number_of, has_fault, holds, codes_in_order, refusal_in}
 use Rattle.exec_doc.specs.declared.refused.Refused.{Refused}

@@ -12,18 +12,18 @@ use Rattle.exec_doc.specs.inner.Placing.{fed_by, entry_by}
 use Rattle.exec_doc.specs.Refusals as refusals
 use Rattle.exec_doc.specs.Refusals.{feeds}
 use Rattle.exec_graph.specs.declared.draft.GraphDraft.{GraphDraft}
-use Rattle.exec_graph.specs.Feeding.{goes_somewhere}
-use Rattle.exec_graph.specs.Graph.{GraphData, is_topic, is_server, topic_at, server_at}
-use Rattle.exec_graph.specs.Lawful.{is_at}
+use Rattle.exec_plan.specs.Feeding.{goes_somewhere}
+use Rattle.exec_plan.specs.Graph.{GraphData, is_topic, is_server, topic_at, server_at}
+use Rattle.exec_plan.specs.Lawful.{is_at}
 use Rattle.exec_graph.specs.Numbers.{topic_named, server_named}
-use Rattle.exec_graph.specs.Options.{each}
+use Rattle.exec_plan.specs.Options.{each}
 use Rattle.exec_graph.specs.Resolved.{graph_in}
-use Rattle.exec_graph.specs.Schedule.{stamp_of, is_identified}
-use Rattle.exec_graph.specs.declared.plan.Fed.{Fed}
-use Rattle.exec_graph.specs.declared.plan.Fed.TheVariants.{Goal, Cancel}
-use Rattle.exec_graph.specs.declared.plan.Feed.{Feed}
+use Rattle.exec_plan.specs.Schedule.{stamp_of, is_identified}
+use Rattle.exec_plan.specs.declared.plan.Fed.{Fed}
+use Rattle.exec_plan.specs.declared.plan.Fed.TheVariants.{Goal, Cancel}
+use Rattle.exec_plan.specs.declared.plan.Feed.{Feed}
 use Rattle.exec_graph.proofs.Found.{found_there, Finds, finds}
-use Rattle.exec_graph.proofs.Reading.{AreRead, are_read, as_many, seen_alike, each_some, mapped_read, some_mapped}
+use Rattle.exec_plan.proofs.Reading.{AreRead, are_read, as_many, seen_alike, each_some, mapped_read, some_mapped}
 
 -- ---- what is found in a graph
 

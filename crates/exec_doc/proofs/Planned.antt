@@ -14,10 +14,10 @@ use Rattle.exec_doc.specs.Refusals.{feeds, is_identified, codes_in_order, refusa
 use Rattle.exec_doc.specs.declared.refused.Refused.{Refused}
 use Rattle.exec_graph.specs.declared.draft.GraphDraft.{GraphDraft}
 use Rattle.exec_graph.specs.Numbers.{topic_named, server_named}
-use Rattle.exec_graph.specs.Options.{◌>>=◌, each}
+use Rattle.exec_plan.specs.Options.{◌>>=◌, each}
 use Rattle.exec_graph.specs.Refusals.{fault_in}
 use Rattle.exec_graph.specs.Resolved.{graph_in}
-use Rattle.exec_graph.proofs.Reading.{goes_on, each_some}
+use Rattle.exec_plan.proofs.Reading.{goes_on, each_some}
 use Rattle.exec_doc.proofs.Kept.{IsKept, holds_of, kept}
 
 -- ---- the feed

@@ -11,16 +11,16 @@ use Rattle.exec_doc.specs.Refusals.{feeds, has_small_schedule, is_clocked}
 use Rattle.exec_doc.specs.declared.refused.Refused.{Refused}
 use Rattle.exec_doc.specs.declared.refused.Refused.TheVariants as refused
 use Rattle.exec_graph.specs.declared.draft.GraphDraft.{GraphDraft}
-use Rattle.exec_graph.specs.Graph.{GraphData}
-use Rattle.exec_graph.specs.Options.{each}
-use Rattle.exec_graph.specs.Plan.{PlanData}
+use Rattle.exec_plan.specs.Graph.{GraphData}
+use Rattle.exec_plan.specs.Options.{each}
+use Rattle.exec_plan.specs.Plan.{PlanData}
 use Rattle.exec_graph.specs.Resolved.{graph_in}
-use Rattle.exec_graph.specs.Schedule.{schedule_fits, greatest, stamp_of, is_in_order, is_identified, plan_fault_in}
+use Rattle.exec_plan.specs.Schedule.{schedule_fits, greatest, stamp_of, is_in_order, is_identified, plan_fault_in}
 use Rattle.exec_graph.specs.Refusals.{fault_in}
 use Rattle.exec_graph.specs.declared.fault.GraphFault.{GraphFault}
 use Rattle.exec_graph.specs.declared.fault.GraphFault.TheVariants as graph_fault
-use Rattle.exec_graph.specs.declared.fault.PlanFault.{PlanFault}
-use Rattle.exec_graph.specs.declared.plan.Feed.{Feed}
+use Rattle.exec_plan.specs.declared.fault.PlanFault.{PlanFault}
+use Rattle.exec_plan.specs.declared.plan.Feed.{Feed}
 use Rattle.exec_msg.specs.declared.limits.TheConstants.{MOMENTS, FEED, TICKS}
 use Rattle.exec_doc.proofs.Placed.{has_schedule, feed_there, are_declared, are_said}
 use Rattle.exec_doc.proofs.Refusing.{plan_by, undeclared, of_graph, scheduled, by_schedule, plan_tests, IsScheduled, is_scheduled}

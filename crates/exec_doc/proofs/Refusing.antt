@@ -12,8 +12,8 @@ use Rattle.exec_graph.specs.Faults.{has_faulty_script, shares_variables, is_smal
 use Rattle.exec_graph.specs.Refusals.{fault_in}
 use Rattle.exec_graph.specs.declared.fault.GraphFault.{GraphFault}
 use Rattle.exec_graph.specs.declared.fault.GraphFault.TheVariants as graph_fault
-use Rattle.exec_graph.specs.declared.fault.PlanFault.{PlanFault}
-use Rattle.exec_graph.specs.declared.fault.PlanFault.TheVariants as plan_fault
+use Rattle.exec_plan.specs.declared.fault.PlanFault.{PlanFault}
+use Rattle.exec_plan.specs.declared.fault.PlanFault.TheVariants as plan_fault
 
 -- the refusal by order and identifiers alone
 abbrev pub late : Bool → Bool → Option Refused

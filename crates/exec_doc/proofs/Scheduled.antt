@@ -5,8 +5,8 @@ use Rattle.std.specs.List.{list_all}
 use Rattle.std.proofs.Math.Nat.{max-zero}
 use Rattle.std.proofs.lemmas.List.{drop_all}
 use Rattle.exec_graph.proofs.NameLists.{at_place}
-use Rattle.exec_graph.specs.Schedule.{greatest}
-use Rattle.exec_graph.specs.Options.{◌>>=◌, each}
+use Rattle.exec_plan.specs.Schedule.{greatest}
+use Rattle.exec_plan.specs.Options.{◌>>=◌, each}
 
 -- each passes a test where all do
 pub each_only : {A : Type 0} (test : A → Bool) (xs : List A) → each (λ x. then_some (test x) x) xs ≡ then_some (list_all test xs) xs

@@ -14,11 +14,11 @@ use Rattle.exec_graph.specs.declared.draft.GroupDraft.{GroupDraft}
 use Rattle.exec_graph.specs.declared.draft.NodeDraft.{NodeDraft}
 use Rattle.exec_graph.specs.declared.draft.EntityDraft.{EntityDraft}
 use Rattle.exec_graph.specs.declared.draft.GraphDraft.{GraphDraft}
-use Rattle.exec_graph.specs.Entity.{Drafted, Spelled, if_there}
-use Rattle.exec_graph.specs.Options.{◌>>=◌, each}
-use Rattle.exec_graph.specs.declared.entity.EntityKind.{EntityKind}
-use Rattle.exec_graph.specs.declared.entity.EntityKind.TheVariants as kind
-use Rattle.exec_graph.specs.declared.entity.EntityOf.TheVariants.{Timer, Subscription, Service, Client, Server, ActionClient}
+use Rattle.exec_plan.specs.Entity.{Drafted, Spelled, if_there}
+use Rattle.exec_plan.specs.Options.{◌>>=◌, each}
+use Rattle.exec_plan.specs.declared.entity.EntityKind.{EntityKind}
+use Rattle.exec_plan.specs.declared.entity.EntityKind.TheVariants as kind
+use Rattle.exec_plan.specs.declared.entity.EntityOf.TheVariants.{Timer, Subscription, Service, Client, Server, ActionClient}
 use Rattle.exec_msg.specs.declared.limits.TheConstants.{DEFAULT_DEPTH}
 use Rattle.exec_script.specs.declared.word.Word.{Word}
 use Rattle.exec_script.specs.declared.word.Word.TheVariants.{Text, Number}

@@ -11,11 +11,11 @@ use Rattle.exec_doc.specs.Draft.{DocumentDraft}
 use Rattle.exec_graph.specs.declared.draft.GraphDraft.{GraphDraft}
 use Rattle.exec_doc.specs.Forms.{draft_of}
 use Rattle.exec_graph.specs.Faults.{has_faulty_script, shares_variables, is_small, is_well_named}
-use Rattle.exec_graph.specs.Options.{◌>>=◌}
+use Rattle.exec_plan.specs.Options.{◌>>=◌}
 use Rattle.exec_graph.specs.Numbers.{topic_named, server_named}
 use Rattle.exec_doc.specs.declared.refused.Refused.{Refused}
 use Rattle.exec_doc.specs.declared.refused.Refused.TheVariants as refused
-use Rattle.exec_graph.specs.Schedule.{schedule_fits, greatest, is_in_order}
+use Rattle.exec_plan.specs.Schedule.{schedule_fits, greatest, is_in_order}
 
 -- ---- 1: no JSON
 

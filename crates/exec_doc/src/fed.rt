@@ -1,12 +1,12 @@
 ghost use Rattle.std.specs.Prelude.{◌≡◌, ◌⊎◌, IsTrue, IfOk, IfErr, None, Some};
 ghost use Rattle.std.specs.List.{All, list_all};
 ghost use Rattle.std.specs.Option.{option_map};
-ghost use Rattle.exec_graph.specs.Feeding.{goes_somewhere};
-ghost use Rattle.exec_graph.specs.Graph.{topic_at, server_at};
+ghost use Rattle.exec_plan.specs.Feeding.{goes_somewhere};
+ghost use Rattle.exec_plan.specs.Graph.{topic_at, server_at};
 ghost use Rattle.exec_doc.specs.inner.Placing.{id_or_0, fed_by, entry_by};
 ghost use Rattle.exec_doc.specs.Refusals.{feeds, is_identified};
-ghost use Rattle.exec_graph.specs.Options.{each};
-ghost use Rattle.exec_graph.specs.declared.plan.Fed.TheVariants.{Message, Goal, Cancel};
+ghost use Rattle.exec_plan.specs.Options.{each};
+ghost use Rattle.exec_plan.specs.declared.plan.Fed.TheVariants.{Message, Goal, Cancel};
 
 use crate::draft::{EntryDraft, FedDraft};
 use crate::refused::Refused;

@@ -3,8 +3,8 @@ ghost use Rattle.std.specs.Prelude.{◌≡◌, ℕ, ◌<◌, List, Some, None, i
 ghost use Rattle.exec_doc.specs.Document.{document_of};
 ghost use Rattle.exec_doc.specs.Refusals.{value_read, number_of, holds, refusal_of};
 ghost use Rattle.exec_doc.specs.declared.refused.Refused.{Refused};
-ghost use Rattle.exec_graph.specs.Lawful.{IsLawfulPlan};
-ghost use Rattle.exec_graph.specs.Plan.{PlanData};
+ghost use Rattle.exec_plan.specs.Lawful.{IsLawfulPlan};
+ghost use Rattle.exec_plan.specs.Plan.{PlanData};
 
 /// Bytes are refused by a code that holds of what was read, and no lesser one does; where they aren't refused none holds.
 pub fn the_least_code_counts()

@@ -3,7 +3,7 @@ ghost use Rattle.std.specs.Prelude.{◌≡◌, length, map, nat_le, IfOk, OnErr}
 ghost use Rattle.std.specs.List.{list_all};
 ghost use Rattle.std.specs.Option.{option_map};
 ghost use Rattle.exec_doc.specs.Refusals.{stamp_of};
-ghost use Rattle.exec_graph.specs.Schedule.{schedule_fits, greatest};
+ghost use Rattle.exec_plan.specs.Schedule.{schedule_fits, greatest};
 ghost use Rattle.exec_msg.specs.declared.limits.TheConstants.{TICKS};
 
 use crate::draft::{EntryDraft, FedDraft};

@@ -9,7 +9,7 @@ use Rattle.exec_goal.specs.Calls.{askers_of, askers_in, end_state, moved_to, whe
 use Rattle.exec_goal.specs.State.{after, is_terminal, status_of}
 use Rattle.exec_goal.specs.Table.{GoalRecord, has_id, after_end}
 use Rattle.exec_goal.specs.declared.state.State.{State}
-use Rattle.exec_graph.specs.Entity.{EntityNo}
+use Rattle.exec_plan.specs.Entity.{EntityNo}
 use Rattle.exec_msg.specs.declared.goal.Event.{Event}
 use Rattle.exec_msg.specs.declared.goal.GoalStatus.{GoalStatus}
 use Rattle.exec_msg.specs.declared.goal.GoalStatus.TheVariants as status

@@ -9,17 +9,17 @@ use Rattle.std.proofs.lemmas.List.Folds.{list_any-append}
 use Rattle.indexmap.specs.IndexMap.{insert_entry}
 use Rattle.exec_graph.specs.inner.Directory.{DirectoryData, directory_of}
 use Rattle.exec_graph.specs.declared.draft.GraphDraft.{GraphDraft}
-use Rattle.exec_graph.specs.inner.Entries.{entity_of}
-use Rattle.exec_graph.specs.inner.Entries.{entities_in as entries_of}
+use Rattle.exec_plan.specs.inner.Entries.{entity_of}
+use Rattle.exec_plan.specs.inner.Entries.{entities_in as entries_of}
 use Rattle.exec_graph.specs.Faults.{drafted_names}
-use Rattle.exec_graph.specs.Graph.{EntityData}
-use Rattle.exec_graph.specs.Names.{are_distinct}
+use Rattle.exec_plan.specs.Graph.{EntityData}
+use Rattle.exec_plan.specs.Names.{are_distinct}
 use Rattle.exec_graph.specs.Numbers.{Placed, entities_of}
-use Rattle.exec_graph.specs.Options.{each}
+use Rattle.exec_plan.specs.Options.{each}
 use Rattle.exec_graph.specs.Resolved.{entity_in, topic_in}
-use Rattle.exec_graph.specs.declared.entity.Declared.{Declared}
+use Rattle.exec_plan.specs.declared.entity.Declared.{Declared}
 use Rattle.exec_graph.proofs.NameLists.{from_place}
-use Rattle.exec_graph.proofs.SameTexts.{bytes_sym, is_text}
+use Rattle.exec_plan.proofs.SameTexts.{bytes_sym, is_text}
 
 -- the name of what is declared, and of what is placed
 abbrev pub title : EntityData → List ℕ

@@ -10,21 +10,21 @@ use Rattle.std.proofs.lemmas.List.{length-map, nil_from_length}
 use Rattle.std.proofs.lemmas.Option.{same_Some}
 use Rattle.exec_graph.specs.inner.Directory.{DirectoryData, directory_of, is_reentrant_at, fault_at, faults_of}
 use Rattle.exec_graph.specs.declared.draft.GraphDraft.{GraphDraft}
-use Rattle.exec_graph.specs.Entity.{scripts_of}
-use Rattle.exec_graph.specs.inner.Entries.{entities_in as entries_of}
+use Rattle.exec_plan.specs.Entity.{scripts_of}
+use Rattle.exec_plan.specs.inner.Entries.{entities_in as entries_of}
 use Rattle.exec_graph.specs.Faults.{drafted_names, is_of_variable, is_well_named, is_small, has_faulty_script, shares_variables}
-use Rattle.exec_graph.specs.Graph as graph
-use Rattle.exec_graph.specs.Graph.{EntityData, GraphData}
-use Rattle.exec_graph.specs.Lawful.{IsLawful}
-use Rattle.exec_graph.specs.Names.{is_name, are_distinct}
+use Rattle.exec_plan.specs.Graph as graph
+use Rattle.exec_plan.specs.Graph.{EntityData, GraphData}
+use Rattle.exec_plan.specs.Lawful.{IsLawful}
+use Rattle.exec_plan.specs.Names.{is_name, are_distinct}
 use Rattle.exec_graph.specs.Numbers.{Placed, entities_of, groups_of, groups_from, named_group, scope_of}
-use Rattle.exec_graph.specs.Options.{◌>>=◌, each}
+use Rattle.exec_plan.specs.Options.{◌>>=◌, each}
 use Rattle.exec_graph.specs.Refusals.{fault_in}
 use Rattle.exec_graph.specs.Resolved.{entity_in, graph_in, topic_in}
 use Rattle.exec_graph.specs.Scripts.{is_reentrant, entity_faults, script_faults}
 use Rattle.exec_graph.specs.declared.draft.NodeDraft.{NodeDraft}
-use Rattle.exec_graph.specs.declared.entity.CallbackGroup.{CallbackGroup}
-use Rattle.exec_graph.specs.declared.entity.Declared.{Declared}
+use Rattle.exec_plan.specs.declared.entity.CallbackGroup.{CallbackGroup}
+use Rattle.exec_plan.specs.declared.entity.Declared.{Declared}
 use Rattle.exec_graph.specs.declared.fault.GraphFault.TheVariants as graph_fault
 use Rattle.exec_msg.specs.declared.limits.TheConstants.{NODES, NAMED_GROUPS, TOPICS, ENTITIES}
 use Rattle.exec_script.specs.declared.fault.ScriptFault.{ScriptFault}
@@ -32,7 +32,7 @@ use Rattle.exec_graph.proofs.Complete.{has_entities}
 use Rattle.exec_graph.proofs.Faultless.{scripts_same}
 use Rattle.exec_graph.proofs.Kept.{names_kept, small_kept, without_fault}
 use Rattle.exec_graph.proofs.Lawful as lawful
-use Rattle.exec_graph.proofs.Reading.{then_read, AreRead, are_read, mapped_read}
+use Rattle.exec_plan.proofs.Reading.{then_read, AreRead, are_read, mapped_read}
 use Rattle.exec_graph.proofs.Resolving.{graph_of, IsBuilt, built, has_group}
 
 -- ---- the faults of scripts

@@ -3,11 +3,11 @@ use Rattle.std.proofs.Common.{◌≡◌, ℕ, ◌≤◌, Bool, true, false, cond
 use Rattle.std.specs.List.{filter, flat_map}
 use Rattle.std.proofs.lemmas.Bool.{leb-true, le-leb, eqb-true, and_parts, and_from}
 use Rattle.std.proofs.lemmas.List.{map-append}
-use Rattle.exec_graph.specs.Entity.{entity_kinds, rank_of, kind_of_entity, is_of}
-use Rattle.exec_graph.specs.Lawful.{is_ascending_from}
+use Rattle.exec_plan.specs.Entity.{entity_kinds, rank_of, kind_of_entity, is_of}
+use Rattle.exec_plan.specs.Lawful.{is_ascending_from}
 use Rattle.exec_graph.specs.Numbers.{Placed, entities_from, numbered}
 use Rattle.exec_graph.specs.declared.draft.NodeDraft.{NodeDraft}
-use Rattle.exec_graph.specs.declared.entity.EntityKind.{EntityKind}
+use Rattle.exec_plan.specs.declared.entity.EntityKind.{EntityKind}
 
 -- each number is this one
 abbrev pub AreAll : ℕ → List ℕ → Type 0

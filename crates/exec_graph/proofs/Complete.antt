@@ -4,17 +4,17 @@ use Rattle.std.specs.List.{list_all, list_any}
 use Rattle.std.proofs.lemmas.Bool.{and_parts, or_parts, and_from}
 use Rattle.std.proofs.lemmas.List.Folds.{list_any-append}
 use Rattle.exec_graph.specs.declared.draft.GraphDraft.{GraphDraft}
-use Rattle.exec_graph.specs.Entity.{refers, scripts_of, read_by}
+use Rattle.exec_plan.specs.Entity.{refers, scripts_of, read_by}
 use Rattle.exec_graph.specs.Faults.{is_resolved, has_faulty_script}
 use Rattle.exec_graph.specs.Numbers.{Placed, entities_of, named, group_named, scope_of}
-use Rattle.exec_graph.specs.Options.{each}
+use Rattle.exec_plan.specs.Options.{each}
 use Rattle.exec_graph.specs.Refusals.{fault_in}
 use Rattle.exec_graph.specs.Resolved.{script_in, entity_in, graph_in}
 use Rattle.exec_graph.specs.Scripts.{is_reentrant, entity_faults}
 use Rattle.exec_graph.proofs.EntityReading.{readable}
 use Rattle.exec_graph.proofs.Faultless.{is_another, all_spelt}
 use Rattle.exec_graph.proofs.Kept.{kept}
-use Rattle.exec_graph.proofs.Reading.{goes_on, each_some}
+use Rattle.exec_plan.proofs.Reading.{goes_on, each_some}
 
 -- ---- entities
 

@@ -3,14 +3,14 @@ use Rattle.std.proofs.Common.{◌≡◌, ℕ, suc, Bool, true, false, cond, ◌&
 use Rattle.std.specs.List.{filter, flat_map, list_any}
 use Rattle.std.proofs.lemmas.List.Folds.{list_any-append}
 use Rattle.exec_graph.specs.declared.draft.GraphDraft.{GraphDraft}
-use Rattle.exec_graph.specs.Entity.{Drafted, entity_kinds, is_of}
+use Rattle.exec_plan.specs.Entity.{Drafted, entity_kinds, is_of}
 use Rattle.exec_graph.specs.Numbers.{Placed, placed_in, entities_from, numbered, entities_of, server_named}
 use Rattle.exec_graph.specs.declared.draft.EntityDraft.{EntityDraft}
 use Rattle.exec_graph.specs.declared.draft.NodeDraft.{NodeDraft}
-use Rattle.exec_graph.specs.declared.entity.EntityKind.{EntityKind}
-use Rattle.exec_graph.specs.declared.entity.EntityKind.TheVariants as kind
-use Rattle.exec_graph.specs.declared.entity.EntityOf.TheVariants.{Timer, Subscription, Service, Client, Server, ActionClient}
-use Rattle.exec_graph.proofs.Positions.{found_any}
+use Rattle.exec_plan.specs.declared.entity.EntityKind.{EntityKind}
+use Rattle.exec_plan.specs.declared.entity.EntityKind.TheVariants as kind
+use Rattle.exec_plan.specs.declared.entity.EntityOf.TheVariants.{Timer, Subscription, Service, Client, Server, ActionClient}
+use Rattle.exec_plan.proofs.Positions.{found_any}
 
 -- whether a placed entity is the action server of a name
 abbrev is_action : List ℕ → Placed → Bool

@@ -5,14 +5,14 @@ use Rattle.std.specs.Result.{result_ok, result_err}
 use Rattle.std.proofs.lemmas.Bool.{leb-true, and_parts}
 use Rattle.std.proofs.lemmas.List.Elements.{All-nil, All-cons, All-append, All-map}
 use Rattle.exec_graph.specs.declared.draft.GraphDraft.{GraphDraft}
-use Rattle.exec_graph.specs.Entity.{Spelled, Script, RoleScriptData, is_within, scripts_of}
+use Rattle.exec_plan.specs.Entity.{Spelled, Script, RoleScriptData, is_within, scripts_of}
 use Rattle.exec_graph.specs.Faults.{has_short_scripts}
-use Rattle.exec_graph.specs.Graph.{EntityData, GraphData, in_group}
-use Rattle.exec_graph.specs.Lawful.{IsLawfulScript, IsLawfulDeclared, is_declared}
+use Rattle.exec_plan.specs.Graph.{EntityData, GraphData, in_group}
+use Rattle.exec_plan.specs.Lawful.{IsLawfulScript, IsLawfulDeclared, is_declared}
 use Rattle.exec_graph.specs.Numbers.{Placed, entities_of, scope_of}
 use Rattle.exec_graph.specs.Resolved.{script_in, entity_in, topic_in}
 use Rattle.exec_graph.specs.Scripts.{fault_of, entity_faults}
-use Rattle.exec_graph.specs.declared.entity.CallbackGroup.{CallbackGroup}
+use Rattle.exec_plan.specs.declared.entity.CallbackGroup.{CallbackGroup}
 use Rattle.exec_msg.specs.declared.limits.TheConstants.{INSTRUCTIONS}
 use Rattle.exec_script.specs.Legality.{legality_of}
 use Rattle.exec_script.specs.Spelling.{ScopeNames, script_of, ◌>>=◌}
@@ -23,7 +23,7 @@ use Rattle.exec_graph.proofs.EntityReading.{roled_by}
 use Rattle.exec_graph.proofs.Faultless.{front_nothing, back_nothing, first_none, others_nothing}
 use Rattle.exec_graph.proofs.Known.{Knows, spelt_by}
 use Rattle.exec_graph.proofs.Resolving.{graph_of, AreEntities, built, has_group, named_there, knows}
-use Rattle.exec_graph.proofs.Reading.{AreRead, mapped_read}
+use Rattle.exec_plan.proofs.Reading.{AreRead, mapped_read}
 
 -- ---- scripts
 

@@ -3,15 +3,15 @@ use Rattle.std.proofs.Common.{◌≡◌, Bool, true, ◌&&◌, is_some, Option, 
 use Rattle.std.specs.List.{list_all}
 use Rattle.std.proofs.lemmas.Bool.{and_parts}
 use Rattle.std.proofs.lemmas.Option.{same_Some}
-use Rattle.exec_graph.specs.Entity.{RoleScriptData, kind_of_entity, refers, is_within, result_scripts, scripts_of, if_there, read_by}
-use Rattle.exec_graph.specs.declared.entity.EntityKind.TheVariants as entity_kind
-use Rattle.exec_graph.specs.declared.entity.EntityOf.{EntityOf}
-use Rattle.exec_graph.specs.declared.entity.EntityOf.TheVariants.{Timer, Subscription, Service, Client, Server, ActionClient}
-use Rattle.exec_graph.specs.declared.entity.parts.Referent.{Referent}
-use Rattle.exec_graph.specs.declared.entity.parts.Referent.TheVariants as referent
+use Rattle.exec_plan.specs.Entity.{RoleScriptData, kind_of_entity, refers, is_within, result_scripts, scripts_of, if_there, read_by}
+use Rattle.exec_plan.specs.declared.entity.EntityKind.TheVariants as entity_kind
+use Rattle.exec_plan.specs.declared.entity.EntityOf.{EntityOf}
+use Rattle.exec_plan.specs.declared.entity.EntityOf.TheVariants.{Timer, Subscription, Service, Client, Server, ActionClient}
+use Rattle.exec_plan.specs.declared.entity.parts.Referent.{Referent}
+use Rattle.exec_plan.specs.declared.entity.parts.Referent.TheVariants as referent
 use Rattle.exec_script.specs.declared.place.Role.{Role}
 use Rattle.exec_script.specs.declared.place.Role.TheVariants as role
-use Rattle.exec_graph.proofs.Reading.{then_read, goes_on, AreRead, some_mapped}
+use Rattle.exec_plan.proofs.Reading.{then_read, goes_on, AreRead, some_mapped}
 
 -- a script with its role
 abbrev pub roled : {S : Type 0} → Role → S → RoleScriptData S

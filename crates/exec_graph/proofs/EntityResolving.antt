@@ -3,14 +3,14 @@ use Rattle.std.proofs.Common.{◌≡◌, ℕ, true, Option, None, Some, option_a
 use Rattle.std.proofs.lemmas.Option.{same_Some}
 use Rattle.exec_graph.specs.inner.Directory.{DirectoryData, Linked, NodeData, directory_of, group_in, referred, linked_in, resolved_by, titled}
 use Rattle.exec_graph.specs.declared.draft.GraphDraft.{GraphDraft}
-use Rattle.exec_graph.specs.Entity.{Resolved, read_by}
+use Rattle.exec_plan.specs.Entity.{Resolved, read_by}
 use Rattle.exec_graph.specs.Faults.{drafted_names}
-use Rattle.exec_graph.specs.Graph.{in_group}
-use Rattle.exec_graph.specs.Names.{are_distinct}
+use Rattle.exec_plan.specs.Graph.{in_group}
+use Rattle.exec_plan.specs.Names.{are_distinct}
 use Rattle.exec_graph.specs.Numbers.{Placed, named, group_named, scope_of}
 use Rattle.exec_graph.specs.Resolved.{script_in, entity_in}
 use Rattle.exec_graph.proofs.Lookups.{resolved_same}
-use Rattle.exec_graph.proofs.Reading.{then_read}
+use Rattle.exec_plan.proofs.Reading.{then_read}
 use Rattle.exec_graph.proofs.WellNamed.{group_same}
 
 -- an entity was linked: its group and what it refers to were found, and it is itself

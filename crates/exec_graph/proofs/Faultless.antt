@@ -5,7 +5,7 @@ use Rattle.std.specs.Result.{result_ok, result_err}
 use Rattle.std.proofs.lemmas.Bool.{or_parts, and_from}
 use Rattle.std.proofs.lemmas.Option.{same_Some}
 use Rattle.exec_graph.specs.inner.Directory.{fault_at}
-use Rattle.exec_graph.specs.Entity.{Spelled, Script, RoleScriptData}
+use Rattle.exec_plan.specs.Entity.{Spelled, Script, RoleScriptData}
 use Rattle.exec_graph.specs.Faults.{is_of_variable}
 use Rattle.exec_graph.specs.Resolved.{script_in}
 use Rattle.exec_graph.specs.Scripts.{fault_of}
@@ -16,7 +16,7 @@ use Rattle.exec_script.specs.declared.instr.Instr.{Instr}
 use Rattle.exec_script.specs.declared.place.Role.{Role}
 use Rattle.exec_graph.proofs.EntityReading.{roled, roled_by}
 use Rattle.exec_graph.proofs.Misspelt.{IsOther, script_other}
-use Rattle.exec_graph.proofs.Reading.{AreRead}
+use Rattle.exec_plan.proofs.Reading.{AreRead}
 
 -- ---- lists with nothing in them
 

@@ -5,23 +5,15 @@ use Rattle.std.specs.Option.{option_map_or}
 use Rattle.std.proofs.lemmas.Bool.{and_parts}
 use Rattle.std.proofs.lemmas.Option.{same_Some}
 use Rattle.exec_graph.specs.declared.draft.GraphDraft.{GraphDraft}
-use Rattle.exec_graph.specs.Graph.{EntityData, GraphData, is_topic, is_server, topic_at, server_at}
-use Rattle.exec_graph.specs.Entity.{is_of}
+use Rattle.exec_plan.specs.Graph.{EntityData, GraphData, is_topic, is_server, topic_at, server_at}
+use Rattle.exec_plan.specs.Entity.{is_of}
 use Rattle.exec_graph.specs.Numbers.{Placed, entities_of, topic_named, server_named}
-use Rattle.exec_graph.specs.Options.{each}
+use Rattle.exec_plan.specs.Options.{each}
 use Rattle.exec_graph.specs.Resolved.{entity_in, topic_in, graph_in}
-use Rattle.exec_graph.specs.declared.entity.EntityKind.TheVariants as kind
-use Rattle.exec_graph.proofs.Positions.{at_position}
-use Rattle.exec_graph.proofs.Reading.{then_read, AreRead, are_read}
+use Rattle.exec_plan.specs.declared.entity.EntityKind.TheVariants as kind
+use Rattle.exec_plan.proofs.Positions.{at_position}
+use Rattle.exec_plan.proofs.Reading.{then_read, AreRead, are_read}
 use Rattle.exec_graph.proofs.Resolving.{graph_of, AreEntities, built, no_topic, same_kind}
-
--- the first that passes two tests passes the first of them, and stands there
-pub found_there : (test : EntityData → Bool) (also : EntityData → Bool) (entities : List EntityData) (number : ℕ) → position_from (λ entity. test entity && also entity) 0 entities ≡ Some number → option_map_or test (slice_get entities number) false ≡ true
-found_there test also entities number found =
-    let at = at_position (λ entity. test entity && also entity) 0 entities number found in
-    let same : number ≡ at.place = omega (arith, at.counted) in
-    let there : slice_get entities number ≡ Some at.element = ap (slice_get entities) same ∙ at.there in
-    rw there (and_parts (test at.element) (also at.element) at.passes).0
 
 -- a test that no topic passes is asked behind the topics
 skip_topics : (test : EntityData → Bool) (topics : List (List ℕ)) (entities : List EntityData) (first : ℕ) → ((name : List ℕ) → test (topic_in name) ≡ false)

@@ -3,7 +3,8 @@ use Rattle.std.proofs.Common.{◌≡◌, Bool, true, false, cond, not, ◌&&◌,
 use Rattle.std.specs.List.{list_all, list_any}
 use Rattle.std.proofs.lemmas.Bool.{and_parts, or_parts, not-false}
 use Rattle.exec_graph.specs.declared.draft.GraphDraft.{GraphDraft}
-use Rattle.exec_graph.specs.Entity.{is_within}
+use Rattle.exec_plan.proofs.NonePasses.{none_passes}
+use Rattle.exec_plan.specs.Entity.{is_within}
 use Rattle.exec_graph.specs.Numbers.{entities_of}
 use Rattle.exec_graph.specs.Faults.{are_names, has_named_groups, drafted_names, is_resolved, has_short_scripts, is_of_variable, has_faulty_script, shares_variables, is_well_named, is_small}
 use Rattle.exec_graph.specs.Refusals.{has_fault, faults_in_order, fault_in}
@@ -11,14 +12,6 @@ use Rattle.exec_graph.specs.Scripts.{script_faults}
 use Rattle.exec_msg.specs.declared.limits.TheConstants.{NODES, NAMED_GROUPS, TOPICS, ENTITIES}
 
 -- ---- a test that nothing passes
-
-none_here : {A : Type 0} (x : A) (rest : Option A) (b c : Bool) → cond b (Some x) rest ≡ None → (rest ≡ None → c ≡ false) → (b || c) ≡ false
-none_here x rest true c found others = absurd cc
-none_here x rest false c found others = others found
-
-pub none_passes : {A : Type 0} (test : A → Bool) (xs : List A) → find test xs ≡ None → list_any test xs ≡ false
-none_passes test [] found = refl
-none_passes test (x ∷ xs) found = none_here x (find test xs) (test x) (list_any test xs) found (none_passes test xs)
 
 -- a list of which some test and its contrary fail everywhere has nothing in it
 neither : {A : Type 0} (test : A → Bool) (xs : List A) → list_any (λ x. not (test x)) xs ≡ false → list_any test xs ≡ false → xs ≡ []

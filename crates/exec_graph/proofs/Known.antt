@@ -3,8 +3,8 @@ use Rattle.std.proofs.Common.{◌≡◌, ℕ, suc, true, length, pos, List, [], 
 use Rattle.std.specs.List.{list_all}
 use Rattle.std.proofs.lemmas.Bool.{and_from}
 use Rattle.exec_graph.proofs.Tables.{◌also◌, read_by_name}
-use Rattle.exec_graph.specs.Graph.{GraphData, is_topic, is_client, is_server, is_action_client}
-use Rattle.exec_graph.specs.Lawful.{is_at, is_at_node, is_known}
+use Rattle.exec_plan.specs.Graph.{GraphData, is_topic, is_client, is_server, is_action_client}
+use Rattle.exec_plan.specs.Lawful.{is_at, is_at_node, is_known}
 use Rattle.exec_script.specs.Spelling.{ScopeNames, ◌>>=◌, operand_of, destination_of, operation_of, count_of, text_in, or_wrong_operand, known, set_of, skip_of, operand_alone, of_operand, of_name_and_operand, execute_of, yield_of, cancel_all_of, cancel_before_of, cancel_goal_of, cancel_goal_before_of, cancel_forms, cancel_named, cancel_of, instructions, instruction_named, instruction_of, script_of}
 use Rattle.exec_script.specs.declared.fault.ScriptFault.{ScriptFault}
 use Rattle.exec_script.specs.declared.fault.ScriptFault.TheVariants as fault

@@ -8,21 +8,21 @@ use Rattle.std.proofs.lemmas.Option.{same_Some}
 use Rattle.exec_graph.specs.Resolved.{entity_in, topic_in, graph_in}
 use Rattle.exec_graph.specs.declared.draft.GraphDraft.{GraphDraft}
 use Rattle.exec_graph.specs.Numbers.{Placed, entities_of, groups_of}
-use Rattle.exec_graph.specs.Options.{each}
+use Rattle.exec_plan.specs.Options.{each}
 use Rattle.exec_graph.specs.Faults.{has_named_groups, drafted_names}
-use Rattle.exec_graph.specs.Graph as graph
-use Rattle.exec_graph.specs.Graph.{EntityData, GraphData, is_topic}
+use Rattle.exec_plan.specs.Graph as graph
+use Rattle.exec_plan.specs.Graph.{EntityData, GraphData, is_topic}
 use Rattle.exec_graph.specs.Refusals.{fault_in}
-use Rattle.exec_graph.specs.declared.entity.CallbackGroup.{CallbackGroup}
-use Rattle.exec_graph.specs.Lawful.{IsLawful, IsLawfulNode, block_of, is_ascending_from}
-use Rattle.exec_graph.specs.Names.{is_name, are_distinct}
+use Rattle.exec_plan.specs.declared.entity.CallbackGroup.{CallbackGroup}
+use Rattle.exec_plan.specs.Lawful.{IsLawful, IsLawfulNode, block_of, is_ascending_from}
+use Rattle.exec_plan.specs.Names.{is_name, are_distinct}
 use Rattle.exec_msg.specs.declared.limits.TheConstants.{NODES, NAMED_GROUPS, TOPICS, ENTITIES}
 use Rattle.exec_graph.proofs.Blocks.{block_before, all_mapped, rank_at, entities_ascend, lower_start}
 use Rattle.exec_graph.proofs.Entities.{entities_lawful}
 use Rattle.exec_graph.proofs.Groups.{filter_same, filter_none, named_groups, groups_within, has_groups, one_default, names_are}
 use Rattle.exec_graph.proofs.Kept.{IsKept, kept}
 use Rattle.exec_graph.proofs.Resolving.{graph_of, AreEntities, built, no_topic, same_block}
-use Rattle.exec_graph.proofs.Reading.{then_read, AreRead, are_read, as_many, seen_alike}
+use Rattle.exec_plan.proofs.Reading.{then_read, AreRead, are_read, as_many, seen_alike}
 
 -- ---- names
 

@@ -1,9 +1,7 @@
 pub mod Appended
 pub mod Assembled
 pub mod Blocks
-pub mod ByRound
 pub mod Complete
-pub mod Counting
 pub mod Declarations
 pub mod Directories
 pub mod Entities
@@ -17,16 +15,10 @@ pub mod Kept
 pub mod Known
 pub mod Lawful
 pub mod Linking
-pub mod Listed
-pub mod Looking
 pub mod Lookups
 pub mod Misspelt
 pub mod NameLists
-pub mod Positions
-pub mod Reading
 pub mod Resolving
-pub mod SameTexts
-pub mod Scheduled
 pub mod Tables
 pub mod TextPlaces
 pub mod WellNamed

@@ -4,12 +4,12 @@ use Rattle.std.proofs.lemmas.List.Elements.{All-nil, All-cons}
 use Rattle.std.proofs.lemmas.Option.{same_Some}
 use Rattle.exec_graph.specs.inner.Directory.{DirectoryData, Linked, IsLinked, directory_of, group_in, linked_in, referred, number_in}
 use Rattle.exec_graph.specs.declared.draft.GraphDraft.{GraphDraft}
-use Rattle.exec_graph.specs.Entity.{ReferenceData, Drafted, reference_of, if_there}
+use Rattle.exec_plan.specs.Entity.{ReferenceData, Drafted, reference_of, if_there}
 use Rattle.exec_graph.specs.Numbers.{Placed, groups_of, group_named, is_group}
-use Rattle.exec_graph.specs.Options.{each}
+use Rattle.exec_plan.specs.Options.{each}
 use Rattle.exec_graph.proofs.EntityResolving.{has_links}
 use Rattle.exec_graph.proofs.Lookups.{number_below}
-use Rattle.exec_graph.proofs.Reading.{AreRead, are_read}
+use Rattle.exec_plan.proofs.Reading.{AreRead, are_read}
 use Rattle.exec_graph.proofs.TextPlaces.{found_within}
 use Rattle.exec_graph.proofs.WellNamed.{group_same}
 

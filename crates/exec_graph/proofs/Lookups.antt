@@ -12,19 +12,19 @@ use Rattle.std.proofs.lemmas.Slice.Eq.{bytes_eq-Decides}
 use Rattle.exec_graph.specs.inner.Directory.{DirectoryData, position_of, placed_named, passing, topic_number, entity_number, number_in, scope_in, referred, resolved_by, directory_of}
 use Rattle.exec_graph.specs.inner.Directory as Directory
 use Rattle.exec_graph.specs.declared.draft.GraphDraft.{GraphDraft}
-use Rattle.exec_graph.specs.Entity.{Drafted, is_of, reference_of, if_there, read_by}
-use Rattle.exec_graph.specs.declared.entity.EntityOf.{EntityOf}
-use Rattle.exec_graph.specs.declared.entity.EntityOf.TheVariants.{Timer, Subscription, Service, Client, Server, ActionClient}
+use Rattle.exec_plan.specs.Entity.{Drafted, is_of, reference_of, if_there, read_by}
+use Rattle.exec_plan.specs.declared.entity.EntityOf.{EntityOf}
+use Rattle.exec_plan.specs.declared.entity.EntityOf.TheVariants.{Timer, Subscription, Service, Client, Server, ActionClient}
 use Rattle.exec_graph.specs.Faults.{drafted_names}
-use Rattle.exec_graph.specs.Names.{are_distinct}
+use Rattle.exec_plan.specs.Names.{are_distinct}
 use Rattle.exec_graph.specs.Numbers.{Placed, entities_of, topic_named, entity_named, named, scope_of}
 use Rattle.exec_graph.specs.Resolved.{script_in}
-use Rattle.exec_graph.specs.declared.entity.EntityKind.TheVariants as entity_kind
-use Rattle.exec_graph.specs.declared.entity.parts.Referent.{Referent}
-use Rattle.exec_graph.specs.declared.entity.parts.Referent.TheVariants as referent
+use Rattle.exec_plan.specs.declared.entity.EntityKind.TheVariants as entity_kind
+use Rattle.exec_plan.specs.declared.entity.parts.Referent.{Referent}
+use Rattle.exec_plan.specs.declared.entity.parts.Referent.TheVariants as referent
 use Rattle.exec_graph.proofs.Appended.{name_of}
-use Rattle.exec_graph.proofs.Reading.{then_read}
-use Rattle.exec_graph.proofs.SameTexts.{is_text}
+use Rattle.exec_plan.proofs.Reading.{then_read}
+use Rattle.exec_plan.proofs.SameTexts.{is_text}
 use Rattle.exec_graph.proofs.TextPlaces.{found_within}
 
 -- whether an entity passes and has this name

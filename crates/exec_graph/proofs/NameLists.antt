@@ -7,8 +7,8 @@ use Rattle.std.proofs.lemmas.List.{drop_all, drop_more}
 use Rattle.std.proofs.lemmas.List.Folds.{list_any-append}
 use Rattle.exec_graph.specs.inner.Directory.{names_from}
 use Rattle.exec_graph.specs.Faults.{are_names}
-use Rattle.exec_graph.specs.Names.{is_name, are_distinct}
-use Rattle.exec_graph.proofs.SameTexts.{bytes_sym}
+use Rattle.exec_plan.specs.Names.{is_name, are_distinct}
+use Rattle.exec_plan.proofs.SameTexts.{bytes_sym}
 
 -- ---- steps
 

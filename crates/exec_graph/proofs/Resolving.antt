@@ -5,22 +5,22 @@ use Rattle.std.proofs.lemmas.Bool.{eqb-true, and_parts, and_from}
 use Rattle.std.proofs.lemmas.List.{length-map}
 use Rattle.std.proofs.lemmas.Option.{same_Some}
 use Rattle.exec_graph.specs.declared.draft.GraphDraft.{GraphDraft}
-use Rattle.exec_graph.specs.Entity.{Resolved, kind_of_entity, rank_of, is_of, read_by}
-use Rattle.exec_graph.specs.Graph.{EntityData, GraphData, in_group, is_topic, is_a, is_server, group_of}
-use Rattle.exec_graph.specs.Lawful.{is_at, is_of_node, is_at_node, is_declared, block_of}
+use Rattle.exec_plan.specs.Entity.{Resolved, kind_of_entity, rank_of, is_of, read_by}
+use Rattle.exec_plan.specs.Graph.{EntityData, GraphData, in_group, is_topic, is_a, is_server, group_of}
+use Rattle.exec_plan.specs.Lawful.{is_at, is_of_node, is_at_node, is_declared, block_of}
 use Rattle.exec_graph.specs.Numbers.{Placed, entities_of, topic_named, entity_named, kind_named, server_named, named, named_in_node, scope_of, is_group, same_name, groups_of, group_named}
-use Rattle.exec_graph.specs.Options.{each}
+use Rattle.exec_plan.specs.Options.{each}
 use Rattle.exec_graph.specs.Resolved.{script_in, entity_in, topic_in, graph_in}
 use Rattle.exec_graph.specs.Scripts.{is_reentrant}
-use Rattle.exec_graph.specs.declared.entity.CallbackGroup.{CallbackGroup}
-use Rattle.exec_graph.specs.declared.entity.EntityKind.{EntityKind}
-use Rattle.exec_graph.specs.declared.entity.EntityKind.TheVariants as entity_kind
-use Rattle.exec_graph.specs.declared.entity.parts.Referent.{Referent}
-use Rattle.exec_graph.specs.declared.entity.parts.Referent.TheVariants as referent
+use Rattle.exec_plan.specs.declared.entity.CallbackGroup.{CallbackGroup}
+use Rattle.exec_plan.specs.declared.entity.EntityKind.{EntityKind}
+use Rattle.exec_plan.specs.declared.entity.EntityKind.TheVariants as entity_kind
+use Rattle.exec_plan.specs.declared.entity.parts.Referent.{Referent}
+use Rattle.exec_plan.specs.declared.entity.parts.Referent.TheVariants as referent
 use Rattle.exec_graph.proofs.EntityReading.{IsReadBy, read_has}
 use Rattle.exec_graph.proofs.Known.{Knows}
-use Rattle.exec_graph.proofs.Positions.{at_position, slice_get-map, slice_get-front, slice_get-behind}
-use Rattle.exec_graph.proofs.Reading.{then_read, AreRead, are_read, read_at}
+use Rattle.exec_plan.proofs.Positions.{at_position, slice_get-map, slice_get-front, slice_get-behind}
+use Rattle.exec_plan.proofs.Reading.{then_read, AreRead, are_read, read_at}
 
 -- the graph of a document, whose entities are these
 abbrev pub graph_of : GraphDraft → List EntityData → GraphData

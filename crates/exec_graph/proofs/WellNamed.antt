@@ -8,14 +8,14 @@ use Rattle.std.proofs.lemmas.Bool.{eq-eqb, and_parts, ne_eqb}
 use Rattle.std.proofs.lemmas.List.{length-map}
 use Rattle.exec_graph.specs.inner.Directory.{DirectoryData, Linked, names_of_groups, node_groups_from, number_among, number_in, group_in, referred, linked_in, directory_of}
 use Rattle.exec_graph.specs.declared.draft.GraphDraft.{GraphDraft}
-use Rattle.exec_graph.specs.Entity.{ReferenceData, Drafted, reference_of, refers, if_there}
+use Rattle.exec_plan.specs.Entity.{ReferenceData, Drafted, reference_of, refers, if_there}
 use Rattle.exec_graph.specs.Faults.{are_names, has_named_groups, drafted_names, is_resolved, is_well_named}
-use Rattle.exec_graph.specs.Names.{is_name, are_distinct}
+use Rattle.exec_plan.specs.Names.{is_name, are_distinct}
 use Rattle.exec_graph.specs.Numbers.{Placed, entities_of, groups_from, named_group, is_group, same_name, group_named}
-use Rattle.exec_graph.specs.Options.{◌>>=◌, each}
+use Rattle.exec_plan.specs.Options.{◌>>=◌, each}
 use Rattle.exec_graph.specs.declared.draft.GroupDraft.{GroupDraft}
 use Rattle.exec_graph.specs.declared.draft.NodeDraft.{NodeDraft}
-use Rattle.exec_graph.specs.declared.entity.CallbackGroup.{CallbackGroup}
+use Rattle.exec_plan.specs.declared.entity.CallbackGroup.{CallbackGroup}
 use Rattle.exec_graph.proofs.Lookups.{number_same}
 
 -- ---- groups

@@ -2,11 +2,11 @@
 use Rattle.std.specs.List.{list_all, list_any, sum_by}
 use Rattle.std.specs.Prelude.{ℕ, List, ◌++◌, length, map, Bool, true, false, not, ◌&&◌, nat_le, is_some}
 use Rattle.exec_graph.specs.declared.draft.GraphDraft.{GraphDraft}
-use Rattle.exec_graph.specs.Entity.{Drafted, refers, is_within, scripts_of}
+use Rattle.exec_plan.specs.Entity.{Drafted, refers, is_within, scripts_of}
 use Rattle.exec_graph.specs.declared.draft.NodeDraft.{NodeDraft}
 use Rattle.exec_graph.specs.Numbers.{Placed, entities_of, named, group_named}
 use Rattle.exec_graph.specs.Scripts.{script_faults}
-use Rattle.exec_graph.specs.Names.{is_name, are_distinct}
+use Rattle.exec_plan.specs.Names.{is_name, are_distinct}
 use Rattle.exec_msg.specs.declared.limits.TheConstants.{NODES, NAMED_GROUPS, TOPICS, ENTITIES, INSTRUCTIONS}
 use Rattle.exec_script.specs.declared.fault.ScriptFault.TheVariants as fault
 use Rattle.exec_script.specs.declared.fault.ScriptFault.{ScriptFault}

@@ -1,14 +1,6 @@
-pub mod Entity
 pub mod Faults
-pub mod Feeding
-pub mod Graph
-pub mod Lawful
-pub mod Names
 pub mod Numbers
-pub mod Options
-pub mod Plan
 pub mod Refusals
 pub mod Resolved
-pub mod Schedule
 pub mod Scripts
 pub mod inner

@@ -3,15 +3,15 @@ use Rattle.std.specs.Prelude.{ℕ, suc, List, [], ◌∷◌, ◌++◌, length, m
 use Rattle.std.specs.List.{filter, flat_map, position_from}
 use Rattle.std.specs.Str.{bytes_eq}
 use Rattle.exec_graph.specs.declared.draft.GraphDraft.{GraphDraft}
-use Rattle.exec_graph.specs.Entity.{EntityNo, entity_kinds, is_of}
+use Rattle.exec_plan.specs.Entity.{EntityNo, entity_kinds, is_of}
 use Rattle.exec_graph.specs.declared.draft.GroupDraft.{GroupDraft}
 use Rattle.exec_graph.specs.declared.draft.NodeDraft.{NodeDraft}
 use Rattle.exec_graph.specs.declared.draft.EntityDraft.{EntityDraft}
-use Rattle.exec_graph.specs.declared.entity.CallbackGroup.{CallbackGroup}
-use Rattle.exec_graph.specs.declared.entity.EntityKind.{EntityKind}
-use Rattle.exec_graph.specs.declared.entity.EntityKind.TheVariants as kind
-use Rattle.exec_graph.specs.declared.entity.parts.Referent.{Referent}
-use Rattle.exec_graph.specs.declared.entity.parts.Referent.TheVariants as referent
+use Rattle.exec_plan.specs.declared.entity.CallbackGroup.{CallbackGroup}
+use Rattle.exec_plan.specs.declared.entity.EntityKind.{EntityKind}
+use Rattle.exec_plan.specs.declared.entity.EntityKind.TheVariants as kind
+use Rattle.exec_plan.specs.declared.entity.parts.Referent.{Referent}
+use Rattle.exec_plan.specs.declared.entity.parts.Referent.TheVariants as referent
 use Rattle.exec_script.specs.Spelling.{ScopeNames}
 
 -- ---- entities

@@ -4,7 +4,7 @@ use Rattle.std.specs.List.{filter_map, flat_map}
 use Rattle.std.specs.Option.{option_map_or}
 use Rattle.std.specs.Result.{result_err}
 use Rattle.exec_graph.specs.declared.draft.GraphDraft.{GraphDraft}
-use Rattle.exec_graph.specs.Entity.{Spelled, RoleScriptData, scripts_of}
+use Rattle.exec_plan.specs.Entity.{Spelled, RoleScriptData, scripts_of}
 use Rattle.exec_graph.specs.Numbers.{Placed, entities_of, scope_of, is_group, groups_of}
 use Rattle.exec_script.specs.Legality.{legality_of}
 use Rattle.exec_script.specs.Spelling.{ScopeNames, script_of, ◌>>=◌}

@@ -1,4 +1,3 @@
 pub mod Directory
-pub mod Entries
 pub mod Gives
 pub mod Places

@@ -11,9 +11,9 @@ pub(crate) mod resolve;
 pub(crate) mod scope;
 pub(crate) mod texts;
 
-use crate::entity::EntityOf;
-use crate::script::Spelled;
+use crate::spelled::Spelled;
 use exec_msg::Items;
+use exec_plan::EntityOf;
 use exec_script::WordText;
 
 /// A named callback group, as its node declares it.

@@ -1,26 +1,20 @@
-//! Graphs of nodes with their topics, entities and callback groups, and plans of what is run on them.
+//! Drafts of graphs, and the builder that gives a graph or its least fault; graphs and plans are those of `exec_plan`.
 #![tactic(auto)]
 
 mod draft;
-mod entity;
 mod fault;
-mod graph;
 pub mod laws;
-mod plan;
-mod script;
+mod spelled;
 #[cfg(test)]
 mod tests;
 
 pub use draft::builder::GraphBuilder;
 pub use draft::named::NamedGraph;
 pub use draft::{Drafted, EntityDraft, GraphDraft, GroupDraft, NodeDraft};
-pub use entity::{
-    ActionClientEntity, CallbackGroup, ClientEntity, Declared, EntityKind, EntityOf, GraphEntity,
-    GroupNo, ServerEntity, ServiceEntity, SubscriptionEntity, TimerEntity,
+pub use exec_plan::{
+    ActionClientEntity, CallbackGroup, ClientEntity, Declared, EntityKind, EntityOf, Fed, Feed,
+    FeedByRound, Graph, GraphEntity, GroupNo, Plan, PlanFault, Script, ServerEntity, ServiceEntity,
+    SubscriptionEntity, TimerEntity, schedule_fits,
 };
-pub use fault::{GraphFault, PlanFault};
-pub use graph::Graph;
-pub use plan::feed_by_round::FeedByRound;
-pub use plan::schedule::schedule_fits;
-pub use plan::{Fed, Feed, Plan};
-pub use script::{Script, Spelled};
+pub use fault::GraphFault;
+pub use spelled::Spelled;

@@ -8,7 +8,7 @@ use Rattle.std.proofs.lemmas.List.{append_assoc, length-set, length_push, map-ap
 use Rattle.std.proofs.lemmas.List.Concat.{flat_map-append}
 use Rattle.std.proofs.lemmas.List.Sorted.{IsPermutation-append_comm, IsPermutation-append_right, IsPermutation-refl}
 use Rattle.std.proofs.lemmas.List.Sums.{fold-append}
-use Rattle.exec_graph.specs.Entity.{EntityNo}
+use Rattle.exec_plan.specs.Entity.{EntityNo}
 use Rattle.exec_lane.proofs.Putting.{put_past, task_put, variables_left, variables_put, variables_turned, variables_twice}
 use Rattle.exec_lane.specs.Gather.{ran_each}
 use Rattle.exec_lane.specs.Lane.{Done, Entry, LaneState, done_by, entry_in, goes_into, is_beside, opened, run_entry, task_home, tasks_home, variables_at, variables_home, with_callback}

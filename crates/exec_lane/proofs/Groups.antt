@@ -2,7 +2,7 @@
 use Rattle.std.proofs.Common.{◌≡◌, ℕ, Bool, true, false, not, cond, ◌&&◌, ◌||◌, ◌==◌, List, [], ◌∷◌, ◌++◌, map, refl, sym, ap, ◌∙◌, true≢false}
 use Rattle.std.specs.List.{AllByRecursion, filter, fold, list_any}
 use Rattle.std.proofs.lemmas.Bool.{and_parts, eqb-true, eq-eqb}
-use Rattle.exec_graph.specs.Graph.{GroupNo}
+use Rattle.exec_plan.specs.Graph.{GroupNo}
 use Rattle.exec_lane.specs.Lane.{as_lane, goes_into, has_exclusive, is_beside, is_of_exclusive, lanes_of, with_callback}
 use Rattle.exec_msg.specs.Lists.{change_first}
 use Rattle.exec_rules.specs.declared.ready.Ready.{Ready}

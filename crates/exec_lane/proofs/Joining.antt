@@ -3,7 +3,7 @@ use Rattle.std.proofs.Common.{◌≡◌, ℕ, zero, suc, ◌<◌, ◌&&◌, ◌|
 use Rattle.std.specs.List.{list_any}
 use Rattle.std.specs.Option.{option_map}
 use Rattle.std.proofs.lemmas.Bool.{and_parts, eqb-true, eq-eqb, both_ways}
-use Rattle.exec_graph.specs.Graph.{GroupNo}
+use Rattle.exec_plan.specs.Graph.{GroupNo}
 use Rattle.exec_lane.specs.inner.Cuts.{FindsLanes, is_lane_of, lane_with, place_for, takes, with_slot}
 use Rattle.exec_lane.specs.inner.Slots.{SlotState}
 use Rattle.exec_msg.specs.Lists.{change_first}

@@ -3,7 +3,7 @@ use Rattle.std.proofs.Common.{◌≡◌, ◌≢◌, ℕ, ◌<◌, ◌&&◌, ◌=
 use Rattle.std.specs.Option.{option_and_then, option_map, option_map_or}
 use Rattle.std.proofs.lemmas.Bool.{both_ways, eqb-true, eq-eqb}
 use Rattle.std.proofs.lemmas.List.{get_or-set_other, get_or-set_same, set-set, set_comm}
-use Rattle.exec_graph.specs.Entity.{EntityNo}
+use Rattle.exec_plan.specs.Entity.{EntityNo}
 use Rattle.exec_lane.specs.Lane.{is_beside, task_home, without_task}
 use Rattle.exec_msg.specs.Lists.{change_first}
 use Rattle.exec_script.specs.Zeros.{zeros}

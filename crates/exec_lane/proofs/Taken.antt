@@ -2,7 +2,7 @@
 use Rattle.std.proofs.Common.{◌≡◌, ◌&&◌, ◌||◌, ◌==◌, Bool, true, false, if◌then◌else◌, List, [], ◌∷◌, ◌++◌, None, map, slice_index_or, reverse, refl, sym, ap, subst, ◌∙◌, true≢false}
 use Rattle.std.specs.List.{AllByRecursion, IsDistinct, fold, list_any}
 use Rattle.std.proofs.lemmas.List.{reverse-append, reverse-reverse}
-use Rattle.exec_graph.specs.Entity.{EntityNo}
+use Rattle.exec_plan.specs.Entity.{EntityNo}
 use Rattle.exec_lane.proofs.Putting.{apart_work, left_by_put, out_is}
 use Rattle.exec_lane.specs.Lane.{Lane, entry_in, goes_into, lanes_of, opened, opened_lanes, tasks_out, variables_at, with_callback, without_task}
 use Rattle.exec_lane.specs.inner.Cuts.{callbacks_of, cut_from, lane_with, opened_slots, slot_in, takes, with_slot}

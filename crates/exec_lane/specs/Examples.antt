@@ -1,6 +1,6 @@
 -- A worked example: the lane of two timers of one callback group in their first round.
 use Rattle.std.specs.Prelude.{ℕ, ℤ, pos, List, [], ◌∷◌, map, true, None, Some}
-use Rattle.exec_graph.specs.Entity.{EntityNo, Script}
+use Rattle.exec_plan.specs.Entity.{EntityNo, Script}
 use Rattle.exec_lane.specs.Lane.{Entry, Done, LaneState}
 use Rattle.exec_script.specs.declared.effects.Close.TheVariants as close
 use Rattle.exec_script.specs.declared.effects.Effect.TheVariants as effect

@@ -1,7 +1,7 @@
 ghost use Rattle.std.specs.Prelude.{◌≡◌, ◌<◌};
 
 use crate::lane_box::Slot;
-use exec_graph::GroupNo;
+use exec_plan::GroupNo;
 use exec_msg::{Memory, PlaceTable};
 use std::alloc::Global;
 use std::marker::Model;

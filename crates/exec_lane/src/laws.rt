@@ -1,7 +1,7 @@
 //! Laws of lanes: each function's contract says one, and its body is empty or calls the law that it rests on.
 ghost use Rattle.std.specs.Prelude.{◌≡◌, ◌≢◌, ◌≤◌, ℕ, List, [], ◌∷◌, length, map, Bool, not, IsPermutation};
 ghost use Rattle.std.specs.List.{filter, flat_map, list_any};
-ghost use Rattle.exec_graph.specs.Plan.{PlanData};
+ghost use Rattle.exec_plan.specs.Plan.{PlanData};
 ghost use Rattle.exec_lane.specs.Gather.{all_ran, ran_in};
 ghost use Rattle.exec_lane.specs.Lane.{AreFinished, Lane, as_lane, has_exclusive, is_of_exclusive, lanes_home, lanes_of, opened_lanes, tasks_out};
 ghost use Rattle.exec_msg.specs.declared.kind.Kind.{Kind};

@@ -8,7 +8,7 @@ use Rattle.exec_goal.specs.State.{after, is_terminal, status_of}
 use Rattle.exec_goal.specs.Table.{GoalRecord, told, later, answer_to, has_id, moved_by, after_event, asked_by}
 use Rattle.exec_goal.specs.declared.state.State.{State}
 use Rattle.exec_goal.specs.declared.state.State.TheVariants as state
-use Rattle.exec_graph.specs.Entity.{EntityNo}
+use Rattle.exec_plan.specs.Entity.{EntityNo}
 use Rattle.exec_msg.specs.Lists.{change_first}
 use Rattle.exec_msg.specs.declared.goal.Event.{Event}
 use Rattle.exec_msg.specs.declared.goal.Event.TheVariants as event

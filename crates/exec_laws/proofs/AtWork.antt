@@ -7,7 +7,7 @@ use Rattle.exec_goal.specs.Cancel.{Decided, is_moved, table_after}
 use Rattle.exec_goal.specs.Table.{GoalRecord, has_id, moved_by, after_event, after_end, new_goal}
 use Rattle.exec_goal.specs.declared.state.State.{State}
 use Rattle.exec_goal.specs.declared.state.State.TheVariants as state
-use Rattle.exec_graph.specs.Entity.{EntityNo}
+use Rattle.exec_plan.specs.Entity.{EntityNo}
 use Rattle.exec_msg.specs.Lists.{change_first}
 use Rattle.exec_msg.specs.declared.goal.Event.{Event}
 use Rattle.exec_msg.specs.declared.goal.Event.TheVariants as event

@@ -3,12 +3,12 @@ use Rattle.std.proofs.Common.{◌≡◌, ℕ, zero, suc, ◌+◌, ◌≤◌, ◌
 use Rattle.std.specs.List.{AllByRecursion, filter}
 use Rattle.std.proofs.lemmas.Bool.{and_parts}
 use Rattle.std.proofs.lemmas.List.Elements.{recursion_from_All}
-use Rattle.exec_graph.specs.Entity.{Resolved, is_from_1, is_within}
-use Rattle.exec_graph.specs.Graph.{GraphData, EntityData, Waitable, in_group, wait_set, kinds, cons_if, numbers_where, entities_where, has_kind, declared_at, depth_of}
-use Rattle.exec_graph.specs.Lawful.{IsLawful, IsLawfulDeclared}
-use Rattle.exec_graph.specs.declared.entity.Declared.{Declared}
-use Rattle.exec_graph.specs.declared.entity.Declared.TheVariants as declared
-use Rattle.exec_graph.specs.declared.entity.EntityOf.TheVariants.{Timer, Subscription, Service, Client, Server, ActionClient}
+use Rattle.exec_plan.specs.Entity.{Resolved, is_from_1, is_within}
+use Rattle.exec_plan.specs.Graph.{GraphData, EntityData, Waitable, in_group, wait_set, kinds, cons_if, numbers_where, entities_where, has_kind, declared_at, depth_of}
+use Rattle.exec_plan.specs.Lawful.{IsLawful, IsLawfulDeclared}
+use Rattle.exec_plan.specs.declared.entity.Declared.{Declared}
+use Rattle.exec_plan.specs.declared.entity.Declared.TheVariants as declared
+use Rattle.exec_plan.specs.declared.entity.EntityOf.TheVariants.{Timer, Subscription, Service, Client, Server, ActionClient}
 use Rattle.exec_msg.specs.declared.kind.Kind.{Kind}
 use Rattle.exec_msg.specs.declared.kind.Kind.TheVariants as kind
 use Rattle.exec_rules.proofs.Pairs.{all_flat, all_mapped}

@@ -7,10 +7,10 @@ use Rattle.std.proofs.lemmas.List.Filters.{length-filter_both}
 use Rattle.exec_goal.specs.Cancel.{is_candidate}
 use Rattle.exec_goal.specs.Info.{info_of}
 use Rattle.exec_goal.specs.Table.{GoalRecord}
-use Rattle.exec_graph.specs.Entity.{EntityNo}
-use Rattle.exec_graph.specs.Graph.{EntityData, GraphData, Waitable, cons_if, entities_where, has_kind, is_server, is_timer, is_topic, kinds, numbers_where, wait_set}
-use Rattle.exec_graph.specs.Lawful.{IsLawful}
-use Rattle.exec_graph.specs.declared.entity.Declared.{Declared}
+use Rattle.exec_plan.specs.Entity.{EntityNo}
+use Rattle.exec_plan.specs.Graph.{EntityData, GraphData, Waitable, cons_if, entities_where, has_kind, is_server, is_timer, is_topic, kinds, numbers_where, wait_set}
+use Rattle.exec_plan.specs.Lawful.{IsLawful}
+use Rattle.exec_plan.specs.declared.entity.Declared.{Declared}
 use Rattle.exec_msg.specs.Timer.{is_due}
 use Rattle.exec_rules.proofs.Pairs.{all_flat_where, all_filter, all_map}
 use Rattle.exec_rules.proofs.ReadyLists.{all_ready}

@@ -3,13 +3,13 @@ use Rattle.std.proofs.Common.{ℕ, zero, suc, ◌<◌, ◌≤◌, [], get_or, dr
 use Rattle.std.specs.List.{All}
 use Rattle.std.proofs.lemmas.Bool.{leb-true}
 use Rattle.std.proofs.lemmas.List.Elements.{All-nil, All-cons}
-use Rattle.exec_graph.specs.Graph.{EntityData}
-use Rattle.exec_graph.specs.declared.entity.CallbackGroup.{CallbackGroup}
-use Rattle.exec_graph.specs.declared.entity.Declared.TheVariants.{Topic}
-use Rattle.exec_graph.specs.declared.entity.EntityOf.TheVariants.{Timer}
-use Rattle.exec_graph.specs.declared.entity.GraphEntity.{GraphEntity}
-use Rattle.exec_graph.specs.Entity.{Script, RoleScriptData, is_from_1, scripts_of}
-use Rattle.exec_graph.specs.Lawful.{IsLawfulPlan, IsLawfulNode, IsLawfulDeclared, IsLawfulEntity, IsLawfulScript, is_fed_well}
+use Rattle.exec_plan.specs.Graph.{EntityData}
+use Rattle.exec_plan.specs.declared.entity.CallbackGroup.{CallbackGroup}
+use Rattle.exec_plan.specs.declared.entity.Declared.TheVariants.{Topic}
+use Rattle.exec_plan.specs.declared.entity.EntityOf.TheVariants.{Timer}
+use Rattle.exec_plan.specs.declared.entity.GraphEntity.{GraphEntity}
+use Rattle.exec_plan.specs.Entity.{Script, RoleScriptData, is_from_1, scripts_of}
+use Rattle.exec_plan.specs.Lawful.{IsLawfulPlan, IsLawfulNode, IsLawfulDeclared, IsLawfulEntity, IsLawfulScript, is_fed_well}
 use Rattle.exec_script.specs.Instruction as instr
 use Rattle.exec_script.specs.declared.instr.Operand.TheVariants as operand
 use Rattle.exec_script.specs.declared.place.Role.TheVariants as role

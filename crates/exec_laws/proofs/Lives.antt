@@ -9,10 +9,10 @@ use Rattle.exec_goal.specs.Cancel.{Decided, moved, table_after}
 use Rattle.exec_goal.specs.State.{Transition, after, status_of}
 use Rattle.exec_goal.specs.Table.{GoalRecord, has_id, holds_id, after_event, after_end, expired, new_goal}
 use Rattle.exec_goal.specs.declared.state.State.{State}
-use Rattle.exec_graph.specs.Entity.{EntityNo}
-use Rattle.exec_graph.specs.Feeding.{fed_in}
-use Rattle.exec_graph.specs.Graph.{wait_set, entities_where, is_server}
-use Rattle.exec_graph.specs.Plan.{PlanData}
+use Rattle.exec_plan.specs.Entity.{EntityNo}
+use Rattle.exec_plan.specs.Feeding.{fed_in}
+use Rattle.exec_plan.specs.Graph.{wait_set, entities_where, is_server}
+use Rattle.exec_plan.specs.Plan.{PlanData}
 use Rattle.exec_msg.specs.Lists.{change_first}
 use Rattle.exec_msg.specs.declared.goal.Event.{Event}
 use Rattle.exec_msg.specs.declared.goal.Event.TheVariants as event

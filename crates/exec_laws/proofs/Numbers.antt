@@ -9,14 +9,14 @@ use Rattle.exec_goal.specs.State.{status_of}
 use Rattle.exec_goal.specs.Table.{Asked, GoalRecord, asked_for, later, told, unknown}
 use Rattle.exec_goal.specs.declared.info.GoalInfo.{GoalInfo}
 use Rattle.exec_goal.specs.declared.state.State.{State}
-use Rattle.exec_graph.specs.Entity.{EntityNo}
-use Rattle.exec_graph.specs.Graph.{GraphData, entities_where, is_action_client, is_client}
-use Rattle.exec_graph.specs.Feeding.{fed_in}
-use Rattle.exec_graph.specs.Lawful.{IsLawfulPlan}
-use Rattle.exec_graph.specs.Plan.{PlanData}
-use Rattle.exec_graph.specs.declared.plan.Fed.{Fed}
-use Rattle.exec_graph.specs.declared.plan.Fed.TheVariants as feeding
-use Rattle.exec_graph.specs.declared.plan.Feed.{Feed}
+use Rattle.exec_plan.specs.Entity.{EntityNo}
+use Rattle.exec_plan.specs.Graph.{GraphData, entities_where, is_action_client, is_client}
+use Rattle.exec_plan.specs.Feeding.{fed_in}
+use Rattle.exec_plan.specs.Lawful.{IsLawfulPlan}
+use Rattle.exec_plan.specs.Plan.{PlanData}
+use Rattle.exec_plan.specs.declared.plan.Fed.{Fed}
+use Rattle.exec_plan.specs.declared.plan.Fed.TheVariants as feeding
+use Rattle.exec_plan.specs.declared.plan.Feed.{Feed}
 use Rattle.exec_msg.specs.Lists.{change_first}
 use Rattle.exec_msg.specs.declared.goal.Event.{Event}
 use Rattle.exec_msg.specs.declared.line.Line.TheVariants as line

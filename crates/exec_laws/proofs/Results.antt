@@ -8,10 +8,10 @@ use Rattle.exec_goal.specs.State.{after, is_terminal, status_of}
 use Rattle.exec_goal.specs.Table.{GoalRecord, Asked, told, later, unknown, has_id, moved_by, after_end, new_goal, asked_for, asked_by, is_expired, expired}
 use Rattle.exec_goal.specs.declared.state.State.{State}
 use Rattle.exec_goal.specs.declared.state.State.TheVariants as state
-use Rattle.exec_graph.specs.Entity.{EntityNo}
-use Rattle.exec_graph.specs.Feeding.{fed_in}
-use Rattle.exec_graph.specs.Graph.{entities_where, is_server}
-use Rattle.exec_graph.specs.Plan.{PlanData}
+use Rattle.exec_plan.specs.Entity.{EntityNo}
+use Rattle.exec_plan.specs.Feeding.{fed_in}
+use Rattle.exec_plan.specs.Graph.{entities_where, is_server}
+use Rattle.exec_plan.specs.Plan.{PlanData}
 use Rattle.exec_msg.specs.Lists.{change_first}
 use Rattle.exec_msg.specs.declared.goal.Event.{Event}
 use Rattle.exec_msg.specs.declared.goal.GoalStatus.TheVariants as status

@@ -7,12 +7,12 @@ use Rattle.std.proofs.lemmas.List.{length-map}
 use Rattle.std.proofs.lemmas.List.Elements.{recursion_from_All}
 use Rattle.std.proofs.lemmas.List.Filters.{length-filter_both}
 use Rattle.exec_goal.specs.Table.{GoalRecord, holds_id, is_full, is_expired, new_goal}
-use Rattle.exec_graph.specs.Entity.{EntityNo, Resolved, Script, scripts_of, result_scripts}
-use Rattle.exec_graph.specs.Graph.{EntityData, GraphData, Waitable, callback_script, declared_at, entities_where, is_server, is_timer, script_for, wait_set}
-use Rattle.exec_graph.specs.Lawful.{IsLawful, IsLawfulDeclared, IsLawfulScript}
-use Rattle.exec_graph.specs.declared.entity.Declared.{Declared}
-use Rattle.exec_graph.specs.declared.entity.Declared.TheVariants as declared
-use Rattle.exec_graph.specs.declared.entity.EntityOf.TheVariants.{Timer, Subscription, Service, Client, Server, ActionClient}
+use Rattle.exec_plan.specs.Entity.{EntityNo, Resolved, Script, scripts_of, result_scripts}
+use Rattle.exec_plan.specs.Graph.{EntityData, GraphData, Waitable, callback_script, declared_at, entities_where, is_server, is_timer, script_for, wait_set}
+use Rattle.exec_plan.specs.Lawful.{IsLawful, IsLawfulDeclared, IsLawfulScript}
+use Rattle.exec_plan.specs.declared.entity.Declared.{Declared}
+use Rattle.exec_plan.specs.declared.entity.Declared.TheVariants as declared
+use Rattle.exec_plan.specs.declared.entity.EntityOf.TheVariants.{Timer, Subscription, Service, Client, Server, ActionClient}
 use Rattle.exec_msg.specs.Lists.{change_first}
 use Rattle.exec_msg.specs.Timer.{is_due}
 use Rattle.exec_msg.specs.declared.kind.Kind.{Kind}

@@ -4,11 +4,11 @@ use Rattle.std.specs.List.{AllByRecursion, Contains, filter, find, flat_map, lis
 use Rattle.std.specs.Option.{option_map_or}
 use Rattle.std.proofs.lemmas.Bool.{eqb-true, eq-eqb}
 use Rattle.std.proofs.lemmas.List.Folds.{list_any-append}
-use Rattle.exec_graph.specs.Entity.{EntityNo, Resolved}
-use Rattle.exec_graph.specs.Graph.{GraphData, EntityData, Waitable, of_entity, is_topic, declared_at, wait_set, cons_if, numbers_where, entities_where, has_kind}
-use Rattle.exec_graph.specs.declared.entity.Declared.{Declared}
-use Rattle.exec_graph.specs.declared.entity.Declared.TheVariants as declared
-use Rattle.exec_graph.specs.declared.entity.EntityOf.TheVariants.{Timer, Subscription, Service, Client, Server, ActionClient}
+use Rattle.exec_plan.specs.Entity.{EntityNo, Resolved}
+use Rattle.exec_plan.specs.Graph.{GraphData, EntityData, Waitable, of_entity, is_topic, declared_at, wait_set, cons_if, numbers_where, entities_where, has_kind}
+use Rattle.exec_plan.specs.declared.entity.Declared.{Declared}
+use Rattle.exec_plan.specs.declared.entity.Declared.TheVariants as declared
+use Rattle.exec_plan.specs.declared.entity.EntityOf.TheVariants.{Timer, Subscription, Service, Client, Server, ActionClient}
 use Rattle.exec_msg.specs.Kind.{ready_number}
 use Rattle.exec_msg.specs.declared.kind.Kind.{Kind}
 use Rattle.exec_msg.specs.declared.kind.Kind.TheVariants as kind

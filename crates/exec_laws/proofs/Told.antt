@@ -7,10 +7,10 @@ use Rattle.exec_goal.specs.Cancel.{moved, table_after}
 use Rattle.exec_goal.specs.State.{status_of}
 use Rattle.exec_goal.specs.Table.{GoalRecord, Asked, told, later, unknown, has_id, after_event, after_end, asked_for, asked_by, new_goal, expired}
 use Rattle.exec_goal.specs.declared.state.State.{State}
-use Rattle.exec_graph.specs.Entity.{EntityNo}
-use Rattle.exec_graph.specs.Feeding.{fed_in}
-use Rattle.exec_graph.specs.Graph.{GraphData, Waitable, entities_where, is_server, wait_set}
-use Rattle.exec_graph.specs.Plan.{PlanData}
+use Rattle.exec_plan.specs.Entity.{EntityNo}
+use Rattle.exec_plan.specs.Feeding.{fed_in}
+use Rattle.exec_plan.specs.Graph.{GraphData, Waitable, entities_where, is_server, wait_set}
+use Rattle.exec_plan.specs.Plan.{PlanData}
 use Rattle.exec_msg.specs.Lists.{change_first}
 use Rattle.exec_msg.specs.declared.goal.Event.{Event}
 use Rattle.exec_msg.specs.declared.goal.Event.TheVariants as event

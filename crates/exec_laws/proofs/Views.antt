@@ -26,7 +26,7 @@ use Rattle.exec_rules.specs.Close.{GoalRequest, accepted_lines, moved_lines}
 use Rattle.exec_rules.specs.Item.{GoalId}
 use Rattle.exec_rules.specs.Lines.{statuses_of}
 use Rattle.exec_rules.specs.World.{Moment}
-use Rattle.exec_graph.specs.Entity.{EntityNo}
+use Rattle.exec_plan.specs.Entity.{EntityNo}
 use Rattle.exec_rules.proofs.Running.{found_test}
 
 -- ---- one goal's statuses and state

@@ -3,7 +3,7 @@ use Rattle.std.specs.Prelude.{◌≡◌, ◌⊎◌, ℕ, Bool, List, [], ◌∷�
 use Rattle.exec_goal.specs.Cancel.{Decided}
 use Rattle.exec_goal.specs.State.{Transition, is_canceling, is_worked_on, status_of}
 use Rattle.exec_goal.specs.declared.state.State.{State}
-use Rattle.exec_graph.specs.Plan.{PlanData}
+use Rattle.exec_plan.specs.Plan.{PlanData}
 use Rattle.exec_msg.specs.declared.goal.Event.{Event}
 use Rattle.exec_msg.specs.declared.goal.GoalStatus.{GoalStatus}
 use Rattle.exec_msg.specs.declared.goal.GoalStatus.TheVariants as status

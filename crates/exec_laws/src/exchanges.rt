@@ -1,8 +1,8 @@
 //! What becomes of messages, calls, asks for results and their answers.
 ghost use Rattle.std.specs.Prelude.{◌≡◌, ℕ, ◌+◌, ◌≤◌, length, false, Some};
 ghost use Rattle.std.specs.List.{filter, list_any, Contains};
-ghost use Rattle.exec_graph.specs.Lawful.{IsLawfulPlan};
-ghost use Rattle.exec_graph.specs.Plan.{PlanData};
+ghost use Rattle.exec_plan.specs.Lawful.{IsLawfulPlan};
+ghost use Rattle.exec_plan.specs.Plan.{PlanData};
 ghost use Rattle.exec_laws.specs.Exchanges.{AreAnswered, IsDelivered, is_ask_taken, is_asked, is_result_taken, is_result_told, waiting_in};
 ghost use Rattle.exec_rules.specs.Lines.{is_loss};
 ghost use Rattle.exec_rules.specs.Transcript.{first_world, lines_of, last_world};

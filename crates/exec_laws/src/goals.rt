@@ -3,7 +3,7 @@ ghost use Rattle.std.specs.Prelude.{◌≡◌, ◌≢◌, ℕ, List, ◌∷◌, 
 ghost use Rattle.std.specs.List.{All, IsDistinct, fold};
 ghost use Rattle.exec_goal.specs.Calls.{end_state, state_in};
 ghost use Rattle.exec_goal.specs.declared.info.GoalInfo.{GoalInfo};
-ghost use Rattle.exec_graph.specs.Plan.{PlanData};
+ghost use Rattle.exec_plan.specs.Plan.{PlanData};
 ghost use Rattle.exec_msg.specs.declared.goal.Event.{Event};
 ghost use Rattle.exec_msg.specs.declared.goal.GoalStatus.{GoalStatus};
 ghost use Rattle.exec_msg.specs.declared.goal.GoalStatus.TheVariants as status;

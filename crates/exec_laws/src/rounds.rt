@@ -1,9 +1,9 @@
 //! What rounds keep.
 ghost use Rattle.std.specs.Prelude.{◌≡◌, ℕ, ◌+◌, ◌^◌, ◌<◌, ◌≤◌, List, ◌∷◌, [], ◌++◌, length, take};
 ghost use Rattle.std.specs.List.{All};
-ghost use Rattle.exec_graph.specs.Graph.{depth_of, declared_at};
-ghost use Rattle.exec_graph.specs.Lawful.{IsLawfulPlan};
-ghost use Rattle.exec_graph.specs.Plan.{PlanData};
+ghost use Rattle.exec_plan.specs.Graph.{depth_of, declared_at};
+ghost use Rattle.exec_plan.specs.Lawful.{IsLawfulPlan};
+ghost use Rattle.exec_plan.specs.Plan.{PlanData};
 ghost use Rattle.exec_msg.specs.declared.limits.TheConstants.{MOMENTS};
 ghost use Rattle.exec_msg.specs.declared.line.Line.TheVariants as line;
 ghost use Rattle.exec_rules.specs.Item.{taker_of};

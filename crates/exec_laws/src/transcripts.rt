@@ -1,6 +1,6 @@
 //! Worked transcripts: each function's contract says which transcript a plan has.
 ghost use Rattle.std.specs.Prelude.{◌≡◌};
-ghost use Rattle.exec_graph.specs.Lawful.{IsLawfulPlan};
+ghost use Rattle.exec_plan.specs.Lawful.{IsLawfulPlan};
 ghost use Rattle.exec_rules.specs.Transcript.{lines_of};
 ghost use Rattle.exec_laws.specs.Examples.Timers.{empty, empty_lines, late, late_lines, repeated, repeated_lines, shared, shared_lines, wrapped, wrapped_lines, full_queue, full_queue_lines, echo, echo_lines};
 ghost use Rattle.exec_laws.specs.Examples.Queues.{full_goal_queue, full_goal_queue_lines, full_cancel_queue, full_cancel_queue_lines, full_feedback_queue, full_feedback_queue_lines, full_result_queue, full_result_queue_lines};

@@ -1,8 +1,8 @@
 ghost use Rattle.std.specs.Prelude.{◌≡◌, ◌<◌, ◌≤◌, [], false, length, Some, IfOk, IfErr, OnOk};
 ghost use Rattle.std.specs.Arc.{arc_value};
 ghost use Rattle.exec_doc.specs.Document.{document_of};
-ghost use Rattle.exec_graph.specs.Graph.{names_of};
-ghost use Rattle.exec_graph.specs.Plan.{PlanData};
+ghost use Rattle.exec_plan.specs.Graph.{names_of};
+ghost use Rattle.exec_plan.specs.Plan.{PlanData};
 ghost use Rattle.exec_round.specs.Run.{IsRefusalOf};
 ghost use Rattle.exec_rules.specs.Calls.{new_world};
 ghost use Rattle.exec_rules.specs.Transcript.{lines_of, text_of};

@@ -1,7 +1,7 @@
 -- Rounds one after another.
 use Rattle.std.proofs.Common.{◌≡◌, ℕ, zero, suc, false, ◌+◌, ◌-◌, ◌<◌, List, [], ◌∷◌, length, take, slice_index_or, sym, ap, add-one, ◌∙◌, arith}
 use Rattle.std.proofs.lemmas.List.{take_all}
-use Rattle.exec_graph.specs.Plan.{PlanData}
+use Rattle.exec_plan.specs.Plan.{PlanData}
 use Rattle.exec_rules.specs.Calls.{after_finish, after_round, world_after}
 use Rattle.exec_rules.specs.Transcript.{finish, first_world, lines_of, round, rounds}
 use Rattle.exec_rules.specs.World.{Moment, WorldState}

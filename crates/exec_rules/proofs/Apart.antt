@@ -5,8 +5,8 @@ use Rattle.std.specs.Option.{option_map, option_map_or}
 use Rattle.exec_goal.specs.Cancel.{CancelRequest}
 use Rattle.exec_goal.specs.State.{is_accepted, status_of}
 use Rattle.exec_goal.specs.Table.{GoalRecord, has_id, after_event}
-use Rattle.exec_graph.specs.Entity.{EntityNo}
-use Rattle.exec_graph.specs.Graph.{GroupNo}
+use Rattle.exec_plan.specs.Entity.{EntityNo}
+use Rattle.exec_plan.specs.Graph.{GroupNo}
 use Rattle.exec_msg.specs.Lists.{change_first}
 use Rattle.exec_msg.specs.declared.goal.Event.TheVariants as event
 use Rattle.exec_msg.specs.declared.line.Line.{Line}

@@ -8,7 +8,7 @@ use Rattle.exec_goal.specs.Cancel.{CancelRequest, Decided, code_of, moved, table
 use Rattle.exec_goal.specs.State.{status_of}
 use Rattle.exec_goal.specs.Table.{Asked, GoalRecord, after_end, asked_by, asked_for, has_id, is_accepting, later, new_goal, told, unknown}
 use Rattle.exec_goal.specs.declared.state.State.{State}
-use Rattle.exec_graph.specs.Entity.{EntityNo}
+use Rattle.exec_plan.specs.Entity.{EntityNo}
 use Rattle.exec_msg.specs.Lists.{change_first}
 use Rattle.exec_msg.specs.declared.goal.Event.{Event}
 use Rattle.exec_msg.specs.declared.goal.GoalStatus.{GoalStatus}

@@ -1,6 +1,6 @@
 -- A call of a script whose effects go behind others.
 use Rattle.std.proofs.Common.{◌≡◌, ℤ, List, ◌++◌, Option, sym, ap, ◌∙◌}
-use Rattle.exec_graph.specs.Entity.{Script}
+use Rattle.exec_plan.specs.Entity.{Script}
 use Rattle.exec_script.proofs.Lasting.{called_after}
 use Rattle.exec_script.specs.Script.{CallInput, ScriptState, call_of, called, listed}
 use Rattle.exec_script.specs.declared.effects.Effect.{Effect}

@@ -4,9 +4,9 @@ use Rattle.std.specs.List.{AllByRecursion, IsDistinct, filter, list_any}
 use Rattle.std.specs.Option.{option_map}
 use Rattle.std.proofs.lemmas.Bool.{eqb-true, eq-eqb, or_parts, not-true}
 use Rattle.exec_goal.specs.Table.{GoalRecord, holds_id, has_id, is_full, is_expired, new_goal, unexpired}
-use Rattle.exec_graph.specs.Entity.{EntityNo}
-use Rattle.exec_graph.specs.Graph.{GraphData, entities_where, is_server}
-use Rattle.exec_graph.specs.Plan.{PlanData}
+use Rattle.exec_plan.specs.Entity.{EntityNo}
+use Rattle.exec_plan.specs.Graph.{GraphData, entities_where, is_server}
+use Rattle.exec_plan.specs.Plan.{PlanData}
 use Rattle.exec_msg.specs.Lists.{change_first}
 use Rattle.exec_task.specs.Task.{TaskState}
 use Rattle.exec_rules.proofs.Keeping.{ids}

@@ -5,10 +5,10 @@ use Rattle.exec_goal.specs.Cancel.{CancelRequest, Decided, moved, after_answer, 
 use Rattle.exec_goal.specs.State.{status_of}
 use Rattle.exec_goal.specs.Table.{GoalRecord, Asked, told, later, unknown, has_id, after_event, asked_by}
 use Rattle.exec_goal.specs.declared.info.GoalInfo.{GoalInfo}
-use Rattle.exec_graph.specs.Entity.{EntityNo, Script}
-use Rattle.exec_graph.specs.declared.plan.Feed.{Feed}
-use Rattle.exec_graph.specs.declared.plan.Fed.{Fed}
-use Rattle.exec_graph.specs.declared.plan.Fed.TheVariants as feeding
+use Rattle.exec_plan.specs.Entity.{EntityNo, Script}
+use Rattle.exec_plan.specs.declared.plan.Feed.{Feed}
+use Rattle.exec_plan.specs.declared.plan.Fed.{Fed}
+use Rattle.exec_plan.specs.declared.plan.Fed.TheVariants as feeding
 use Rattle.exec_msg.specs.Lists.{change_first}
 use Rattle.exec_msg.specs.declared.goal.Event.TheVariants as event
 use Rattle.exec_msg.specs.declared.goal.ReturnCode.{ReturnCode}

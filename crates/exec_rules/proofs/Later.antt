@@ -2,7 +2,7 @@
 use Rattle.std.proofs.Common.{◌≡◌, Bool, true, false, ℤ, List, [], ◌∷◌, Option, None, Some, refl, ap, ◌∙◌}
 use Rattle.std.specs.List.{fold}
 use Rattle.exec_goal.specs.declared.info.GoalInfo.{GoalInfo}
-use Rattle.exec_graph.specs.Entity.{Script}
+use Rattle.exec_plan.specs.Entity.{Script}
 use Rattle.exec_script.proofs.Lasting.{resumed_later}
 use Rattle.exec_script.specs.LawWords.{give_each}
 use Rattle.exec_script.specs.Script.{ScriptState, listed}

@@ -3,9 +3,9 @@ use Rattle.std.proofs.Common.{◌≡◌, ◌≢◌, ℕ, suc, ◌≤◌, Bool, t
 use Rattle.std.specs.List.{AllByRecursion, filter, flat_map}
 use Rattle.std.proofs.lemmas.Bool.{eqb-true, eq-eqb, and_parts, not-true}
 use Rattle.std.proofs.lemmas.List.Elements.{recursion_from_All}
-use Rattle.exec_graph.specs.Entity.{EntityNo}
-use Rattle.exec_graph.specs.Graph.{GraphData, wait_set, entities_where, is_server}
-use Rattle.exec_graph.specs.Plan.{PlanData}
+use Rattle.exec_plan.specs.Entity.{EntityNo}
+use Rattle.exec_plan.specs.Graph.{GraphData, wait_set, entities_where, is_server}
+use Rattle.exec_plan.specs.Plan.{PlanData}
 use Rattle.exec_msg.specs.Kind.{ready_number}
 use Rattle.exec_msg.specs.Timer.{is_due}
 use Rattle.exec_msg.specs.declared.kind.Kind.{Kind}

@@ -3,7 +3,7 @@ use Rattle.std.proofs.Common.{◌≡◌, ℕ, zero, suc, Bool, true, false, ◌+
 use Rattle.std.proofs.lemmas.List.Elements.{All-nil, All-push, All-weaker}
 use Rattle.std.proofs.lemmas.Option.{none-some, same_Some, slice_get-map}
 use Rattle.std.specs.Option.{option_map, option_map_or}
-use Rattle.exec_graph.specs.Entity.{Script}
+use Rattle.exec_plan.specs.Entity.{Script}
 use Rattle.exec_msg.specs.Places.{change_at}
 use Rattle.exec_msg.specs.Timer.{is_due}
 use Rattle.exec_rules.proofs.Running.{run_all_keeps}

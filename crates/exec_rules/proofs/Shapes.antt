@@ -2,8 +2,8 @@
 use Rattle.std.proofs.Common.{◌≡◌, ℕ, Bool, true, false, List, [], ◌∷◌, length, map, refl, ap, ◌∙◌}
 use Rattle.std.proofs.lemmas.List.{length-set}
 use Rattle.std.specs.List.{fold}
-use Rattle.exec_graph.specs.Entity.{EntityNo}
-use Rattle.exec_graph.specs.Plan.{PlanData}
+use Rattle.exec_plan.specs.Entity.{EntityNo}
+use Rattle.exec_plan.specs.Plan.{PlanData}
 use Rattle.exec_msg.specs.Timer.{is_due}
 use Rattle.exec_msg.specs.Lists.{change_first}
 use Rattle.exec_rules.proofs.Running.{KeptByRounds, rounds_keep}

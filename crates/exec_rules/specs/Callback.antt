@@ -5,7 +5,7 @@ use Rattle.std.specs.Option.{unwrap_or}
 use Rattle.exec_goal.specs.Cancel.{Decided}
 use Rattle.exec_goal.specs.State.{status_of}
 use Rattle.exec_goal.specs.declared.info.GoalInfo.{GoalInfo}
-use Rattle.exec_graph.specs.Entity.{Script}
+use Rattle.exec_plan.specs.Entity.{Script}
 use Rattle.exec_msg.specs.Goal.{status_number}
 use Rattle.exec_script.specs.Script.{CallInput, ScriptState, called, close_of, decision_within, listed}
 use Rattle.exec_script.specs.declared.effects.Close.{Close}

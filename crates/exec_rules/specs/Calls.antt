@@ -1,8 +1,8 @@
 -- A world as its calls see it.
 use Rattle.std.specs.Prelude.{◌≡◌, ⊤, ℕ, suc, ◌+◌, ◌-◌, ◌<◌, ◌≤◌, List, length, Bool, true, false, ◌&&◌, ◌==◌, if◌then◌else◌, Some, slice_index_or, take}
 use Rattle.std.specs.List.{AllByRecursion, IsDistinct}
-use Rattle.exec_graph.specs.Entity.{EntityNo}
-use Rattle.exec_graph.specs.Plan.{PlanData}
+use Rattle.exec_plan.specs.Entity.{EntityNo}
+use Rattle.exec_plan.specs.Plan.{PlanData}
 use Rattle.exec_script.specs.declared.effects.Effects.{Effects}
 use Rattle.exec_rules.specs.Item.{GoalId}
 use Rattle.exec_rules.specs.Ready.{ready_list, take_inputs}

@@ -6,7 +6,7 @@ use Rattle.exec_goal.specs.Cancel.{CancelRequest, Decided, moved, table_after, c
 use Rattle.exec_goal.specs.State.{status_of}
 use Rattle.exec_goal.specs.Table.{GoalRecord, Asked, told, later, unknown, has_id, is_accepting, with_accepted, after_end, asked_for, asked_by}
 use Rattle.exec_goal.specs.declared.state.State.{State}
-use Rattle.exec_graph.specs.Entity.{EntityNo, Script}
+use Rattle.exec_plan.specs.Entity.{EntityNo, Script}
 use Rattle.exec_msg.specs.declared.goal.Event.{Event}
 use Rattle.exec_msg.specs.declared.goal.GoalStatus.{GoalStatus}
 use Rattle.exec_msg.specs.declared.goal.GoalStatus.TheVariants as status

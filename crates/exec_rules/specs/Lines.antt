@@ -1,7 +1,7 @@
 -- What lines say of goals and of answers.
 use Rattle.std.specs.Prelude.{Bool, ◌&&◌, ◌==◌, if◌then◌else◌, List, [], ◌∷◌, true, false}
 use Rattle.std.specs.List.{flat_map}
-use Rattle.exec_graph.specs.Entity.{EntityNo}
+use Rattle.exec_plan.specs.Entity.{EntityNo}
 use Rattle.exec_msg.specs.declared.kind.Kind.{Kind}
 use Rattle.exec_msg.specs.declared.kind.Kind.TheVariants as kind
 use Rattle.exec_msg.specs.declared.goal.GoalStatus.{GoalStatus}

@@ -3,15 +3,15 @@ use Rattle.std.specs.Prelude.{ℕ, zero, suc, List, [], ◌∷◌, ◌++◌, len
 use Rattle.std.specs.List.{filter, flat_map, fold}
 use Rattle.std.specs.Option.{unwrap_or}
 use Rattle.exec_goal.specs.Table.{GoalRecord, holds_id, expired, unexpired}
-use Rattle.exec_graph.specs.Entity.{EntityNo, Resolved}
-use Rattle.exec_graph.specs.Feeding.{fed_in}
-use Rattle.exec_graph.specs.Graph.{GraphData, of_entity, is_topic, is_timer, is_client, is_server, is_action_client, wait_set, declared_at, group_of, is_exclusive, depth_of, script_for, entities_where, names_of, Waitable}
-use Rattle.exec_graph.specs.Plan.{PlanData}
-use Rattle.exec_graph.specs.declared.entity.Declared.{Declared}
-use Rattle.exec_graph.specs.declared.entity.EntityOf.TheVariants.{Timer, Subscription, Client, Server, ActionClient}
-use Rattle.exec_graph.specs.declared.plan.Fed.{Fed}
-use Rattle.exec_graph.specs.declared.plan.Fed.TheVariants.{Message, Goal, Cancel}
-use Rattle.exec_graph.specs.declared.plan.Feed.{Feed}
+use Rattle.exec_plan.specs.Entity.{EntityNo, Resolved}
+use Rattle.exec_plan.specs.Feeding.{fed_in}
+use Rattle.exec_plan.specs.Graph.{GraphData, of_entity, is_topic, is_timer, is_client, is_server, is_action_client, wait_set, declared_at, group_of, is_exclusive, depth_of, script_for, entities_where, names_of, Waitable}
+use Rattle.exec_plan.specs.Plan.{PlanData}
+use Rattle.exec_plan.specs.declared.entity.Declared.{Declared}
+use Rattle.exec_plan.specs.declared.entity.EntityOf.TheVariants.{Timer, Subscription, Client, Server, ActionClient}
+use Rattle.exec_plan.specs.declared.plan.Fed.{Fed}
+use Rattle.exec_plan.specs.declared.plan.Fed.TheVariants.{Message, Goal, Cancel}
+use Rattle.exec_plan.specs.declared.plan.Feed.{Feed}
 use Rattle.exec_msg.specs.Line.{transcript_text}
 use Rattle.exec_msg.specs.declared.kind.Kind.{Kind}
 use Rattle.exec_msg.specs.declared.kind.Kind.TheVariants as kind

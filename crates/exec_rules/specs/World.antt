@@ -3,8 +3,8 @@ use Rattle.std.specs.Prelude.{ℕ, ◌+◌, ℤ, List, [], ◌∷◌, ◌++◌, 
 use Rattle.std.specs.List.{find}
 use Rattle.std.specs.Option.{option_and_then, option_map, option_map_or}
 use Rattle.exec_goal.specs.Table.{GoalRecord, holds_id, is_full}
-use Rattle.exec_graph.specs.Entity.{EntityNo, Script}
-use Rattle.exec_graph.specs.Graph.{GroupNo}
+use Rattle.exec_plan.specs.Entity.{EntityNo, Script}
+use Rattle.exec_plan.specs.Graph.{GroupNo}
 use Rattle.exec_msg.specs.KeepLast.{sent, displaced}
 use Rattle.exec_msg.specs.Kind.{ready_number}
 use Rattle.exec_msg.specs.Lists.{change_first}

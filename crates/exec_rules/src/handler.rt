@@ -1,7 +1,7 @@
 use crate::ready::{Cause, Ready};
 use crate::shared::share;
 use exec_goal::GoalInfo;
-use exec_graph::{GroupNo, Script};
+use exec_plan::{GroupNo, Script};
 use exec_msg::{EntityNo, Items, Memory, Moment};
 use std::marker::Model;
 

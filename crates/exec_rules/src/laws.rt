@@ -1,7 +1,7 @@
 //! Laws of rounds that crates above rest on: each function's contract says one, and its body is empty.
 ghost use Rattle.std.specs.Prelude.{◌≡◌, ◌≢◌, ℕ, ◌+◌, ◌<◌, ◌≤◌, List, length};
 ghost use Rattle.std.specs.List.{AllByRecursion, filter};
-ghost use Rattle.exec_graph.specs.Plan.{PlanData};
+ghost use Rattle.exec_plan.specs.Plan.{PlanData};
 ghost use Rattle.exec_msg.specs.declared.kind.Kind.{Kind};
 ghost use Rattle.exec_msg.specs.declared.kind.Kind.TheVariants as kind;
 ghost use Rattle.exec_rules.specs.Calls.{IsHomeFor, after_finish, after_round, world_after};

@@ -3,7 +3,7 @@ ghost use Rattle.exec_rules.specs.Ready.{kind_of, id_for, input_at, input_of, ru
 
 use crate::item::Item;
 use exec_goal::GoalInfo;
-use exec_graph::{GroupNo, Script};
+use exec_plan::{GroupNo, Script};
 use exec_msg::{EntityNo, GoalId, Items, Kind, Line, Moment};
 use exec_script::Input;
 

@@ -5,7 +5,7 @@ ghost use Rattle.exec_rules.specs.inner.Homes.{without_script};
 
 use crate::homes::Home;
 use crate::ready::Ready;
-use exec_graph::Script;
+use exec_plan::Script;
 use exec_msg::Memory;
 use std::alloc::Global;
 use std::marker::Model;

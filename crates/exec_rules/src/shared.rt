@@ -1,6 +1,6 @@
 ghost use Rattle.std.specs.Prelude.{◌≡◌, IfOk};
 
-use exec_graph::Script;
+use exec_plan::Script;
 use exec_msg::Memory;
 
 /// The same script, which is shared.

@@ -8,7 +8,7 @@ use Rattle.exec_doc.specs.Document.{document_of}
 use Rattle.exec_doc.specs.Refusals.{number_of}
 use Rattle.exec_doc.specs.declared.refused.Refused.{Refused}
 use Rattle.exec_doc.specs.declared.refused.Refused.TheVariants as refused
-use Rattle.exec_graph.specs.Plan.{PlanData}
+use Rattle.exec_plan.specs.Plan.{PlanData}
 use Rattle.exec_msg.specs.declared.limits.TheConstants.{DOCUMENT}
 use Rattle.exec_round.specs.Run.{IsRefusalOf}
 use Rattle.exec_run.specs.Words.{AreSettings}

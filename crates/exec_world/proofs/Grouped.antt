@@ -4,9 +4,9 @@ use Rattle.std.specs.List.{AllByRecursion, filter, flat_map}
 use Rattle.std.specs.Option.{option_map_or}
 use Rattle.std.proofs.lemmas.List.{length-replicate}
 use Rattle.std.proofs.lemmas.Option.{slice_get_within}
-use Rattle.exec_graph.specs.Graph.{GraphData, GroupNo, group_of, declared_at, is_exclusive, is_server, is_timer, entities_where, wait_set}
-use Rattle.exec_graph.specs.Entity.{EntityNo}
-use Rattle.exec_graph.specs.declared.entity.CallbackGroup.{CallbackGroup}
+use Rattle.exec_plan.specs.Graph.{GraphData, GroupNo, group_of, declared_at, is_exclusive, is_server, is_timer, entities_where, wait_set}
+use Rattle.exec_plan.specs.Entity.{EntityNo}
+use Rattle.exec_plan.specs.declared.entity.CallbackGroup.{CallbackGroup}
 use Rattle.exec_msg.specs.Timer.{is_due}
 use Rattle.exec_msg.specs.declared.kind.Kind.{Kind}
 use Rattle.exec_msg.specs.declared.kind.Kind.TheVariants as kind

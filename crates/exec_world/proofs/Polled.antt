@@ -1,6 +1,6 @@
 -- The world behind a callback that ran with its group's variables and its goal's task where they stand.
 use Rattle.std.proofs.Common.{◌≡◌, Bool, true, false, List, [], if◌then◌else◌, Option, None, Some, Result, Ok, Err, slice_index_or, slice_set, OnOk, refl, ap, sym, ◌∙◌}
-use Rattle.exec_graph.specs.Entity.{EntityNo}
+use Rattle.exec_plan.specs.Entity.{EntityNo}
 use Rattle.exec_script.specs.Script.{listed}
 use Rattle.exec_script.specs.declared.effects.Effect.{Effect}
 use Rattle.exec_script.specs.Zeros.{zeros}

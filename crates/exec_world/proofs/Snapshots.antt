@@ -4,7 +4,7 @@ use Rattle.std.specs.List.{flat_map, fold}
 use Rattle.std.specs.Option.{option_map_or}
 use Rattle.std.proofs.lemmas.Bool.{eqb-true}
 use Rattle.exec_goal.specs.Table.{GoalRecord}
-use Rattle.exec_graph.specs.Entity.{EntityNo}
+use Rattle.exec_plan.specs.Entity.{EntityNo}
 use Rattle.exec_queue.proofs.Filled.{given_each}
 use Rattle.exec_rules.proofs.Listing.{listed_more}
 use Rattle.exec_rules.specs.Ready.{answered_by_first, due_ready, item_ready, placed_from, poll_ready, queue_ready, queues_before_polls, queues_behind_polls, ready_list, reply_taken}

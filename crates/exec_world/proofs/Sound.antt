@@ -8,9 +8,9 @@ use Rattle.std.specs.declared.result.Result.TheVariants.{Ok, Err}
 use Rattle.std.proofs.lemmas.Bool.{and_parts, eqb-true, eq-eqb}
 use Rattle.exec_goal.specs.State.{is_canceling, is_worked_on}
 use Rattle.exec_goal.specs.Table.{GoalRecord}
-use Rattle.exec_graph.specs.Entity.{EntityNo}
-use Rattle.exec_graph.specs.Graph.{GraphData, is_server}
-use Rattle.exec_graph.specs.declared.plan.Feed.{Feed}
+use Rattle.exec_plan.specs.Entity.{EntityNo}
+use Rattle.exec_plan.specs.Graph.{GraphData, is_server}
+use Rattle.exec_plan.specs.declared.plan.Feed.{Feed}
 use Rattle.exec_msg.specs.Lists.{change_first}
 use Rattle.exec_msg.specs.Timer.{is_due}
 use Rattle.exec_msg.specs.declared.line.Line.TheVariants as line

@@ -1,10 +1,10 @@
 //! Which script an entity's callbacks of a kind run.
 ghost use Rattle.std.specs.Prelude.{◌≡◌, [], IfOk};
 ghost use Rattle.std.specs.Option.{unwrap_or};
-ghost use Rattle.exec_graph.specs.Graph.{callback_script};
-ghost use Rattle.exec_graph.specs.declared.entity.EntityOf.TheVariants as resolved;
+ghost use Rattle.exec_plan.specs.Graph.{callback_script};
+ghost use Rattle.exec_plan.specs.declared.entity.EntityOf.TheVariants as resolved;
 
-use exec_graph::{
+use exec_plan::{
     ActionClientEntity, ClientEntity, EntityOf, Script, ServerEntity, ServiceEntity,
     SubscriptionEntity, TimerEntity,
 };

@@ -3,7 +3,7 @@ ghost use Rattle.std.specs.Arc.{arc_value};
 ghost use Rattle.exec_rules.specs.Transcript.{lines_of};
 
 use crate::state::State;
-use exec_graph::{FeedByRound, GroupNo, Plan};
+use exec_plan::{FeedByRound, GroupNo, Plan};
 use exec_msg::{EntityNo, GoalId, Line, LineList, Lines, Memory};
 use exec_rules::{Homes, Ready, ReadyList};
 use exec_script::{Bank, EffectList, Effects};
@@ -65,7 +65,7 @@ pub struct World<L: Lines = LineList> {
 impl<L: Lines> Model for World<L> {
     ghost use Rattle.std.specs.Prelude.{◌≡◌, false, length};
     ghost use Rattle.std.specs.Arc.{arc_value};
-    ghost use Rattle.exec_graph.specs.Feeding.{feeds_by_round};
+    ghost use Rattle.exec_plan.specs.Feeding.{feeds_by_round};
     ghost use Rattle.exec_rules.specs.Calls.{WorldData};
     ghost use Rattle.exec_world.specs.inner.Rounds.{HasBegun, rounds_in};
     ghost use Rattle.exec_world.specs.inner.Sound.{IsSound};

@@ -1,11 +1,11 @@
 -- Worked examples: documents of callback groups, and fields that are ignored, each with the plan that it says.
 use Rattle.std.specs.Prelude.{ℕ, List, [], ◌∷◌, codes, ◌++◌, pos, negsuc, true, false, None, Some}
 use Rattle.exec_doc.specs.Words.{one_node, value}
-use Rattle.exec_graph.specs.Graph.{in_group}
-use Rattle.exec_graph.specs.declared.entity.Declared.TheVariants.{Topic}
-use Rattle.exec_graph.specs.declared.entity.EntityOf.TheVariants.{Timer, Server}
-use Rattle.exec_graph.specs.Plan.{PlanData}
-use Rattle.exec_graph.specs.declared.plan.Fed.TheVariants.{Message, Goal}
+use Rattle.exec_plan.specs.Graph.{in_group}
+use Rattle.exec_plan.specs.declared.entity.Declared.TheVariants.{Topic}
+use Rattle.exec_plan.specs.declared.entity.EntityOf.TheVariants.{Timer, Server}
+use Rattle.exec_plan.specs.Plan.{PlanData}
+use Rattle.exec_plan.specs.declared.plan.Fed.TheVariants.{Message, Goal}
 use Rattle.exec_script.specs.declared.instr.Destination.TheVariants as destination
 use Rattle.exec_script.specs.Instruction as instr
 use Rattle.exec_script.specs.declared.instr.Operand.TheVariants as operand

@@ -1,8 +1,8 @@
 -- Worked examples: documents of services and their clients, each with the plan that it says.
 use Rattle.std.specs.Prelude.{ℕ, List, [], ◌∷◌, codes, ◌++◌, true, None}
-use Rattle.exec_graph.specs.Graph.{in_group}
-use Rattle.exec_graph.specs.declared.entity.EntityOf.TheVariants.{Service, Client}
-use Rattle.exec_graph.specs.Plan.{PlanData}
+use Rattle.exec_plan.specs.Graph.{in_group}
+use Rattle.exec_plan.specs.declared.entity.EntityOf.TheVariants.{Service, Client}
+use Rattle.exec_plan.specs.Plan.{PlanData}
 
 -- a client of a service of a later node: services come before clients, and each node has a default group of its own
 abbrev pub across_nodes_text : List ℕ

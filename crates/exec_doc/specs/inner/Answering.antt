@@ -6,13 +6,13 @@ use Rattle.exec_doc.specs.Refusals.{has_fault, codes_in_order}
 use Rattle.exec_doc.specs.declared.refused.Refused.{Refused}
 use Rattle.exec_doc.specs.declared.refused.Refused.TheVariants as refused
 use Rattle.exec_graph.specs.declared.draft.GraphDraft.{GraphDraft}
-use Rattle.exec_graph.specs.Graph.{GraphData}
+use Rattle.exec_plan.specs.Graph.{GraphData}
 use Rattle.exec_graph.specs.Refusals.{fault_in}
 use Rattle.exec_graph.specs.Resolved.{graph_in}
 use Rattle.exec_graph.specs.declared.fault.GraphFault.{GraphFault}
 use Rattle.exec_graph.specs.declared.fault.GraphFault.TheVariants as graph_fault
-use Rattle.exec_graph.specs.declared.fault.PlanFault.{PlanFault}
-use Rattle.exec_graph.specs.declared.fault.PlanFault.TheVariants as plan_fault
+use Rattle.exec_plan.specs.declared.fault.PlanFault.{PlanFault}
+use Rattle.exec_plan.specs.declared.fault.PlanFault.TheVariants as plan_fault
 use Rattle.exec_graph.specs.Faults.{has_faulty_script, shares_variables, is_small, is_well_named}
 
 -- the refusal of a draft: the first code that holds of it

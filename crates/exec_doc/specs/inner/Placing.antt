@@ -4,10 +4,10 @@ use Rattle.std.specs.Option.{option_map, unwrap_or}
 use Rattle.exec_doc.specs.declared.draft.FedDraft.{FedDraft}
 use Rattle.exec_doc.specs.declared.draft.FedDraft.TheVariants as draft
 use Rattle.exec_doc.specs.declared.draft.EntryDraft.{EntryDraft}
-use Rattle.exec_graph.specs.Graph.{GraphData, topic_at, server_at}
-use Rattle.exec_graph.specs.declared.plan.Feed.{Feed}
-use Rattle.exec_graph.specs.declared.plan.Fed.{Fed}
-use Rattle.exec_graph.specs.declared.plan.Fed.TheVariants.{Message, Goal, Cancel}
+use Rattle.exec_plan.specs.Graph.{GraphData, topic_at, server_at}
+use Rattle.exec_plan.specs.declared.plan.Feed.{Feed}
+use Rattle.exec_plan.specs.declared.plan.Fed.{Fed}
+use Rattle.exec_plan.specs.declared.plan.Fed.TheVariants.{Message, Goal, Cancel}
 
 -- an identifier, and 0 where there is none
 abbrev pub id_or_0 : Option ℕ → ℕ

@@ -1,7 +1,7 @@
 ghost use Rattle.std.specs.Prelude.{OnOk, IfErr, map};
 ghost use Rattle.serde_json.specs.View.{view};
 ghost use Rattle.exec_doc.specs.Forms.{depth_field, form_of, entity, list};
-ghost use Rattle.exec_graph.specs.Options.{each};
+ghost use Rattle.exec_plan.specs.Options.{each};
 ghost use Rattle.exec_doc.specs.inner.Reading.{ReadingGives, ReadingFails, IsAppended};
 
 use crate::forms::fields::{optional, required};

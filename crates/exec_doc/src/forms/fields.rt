@@ -4,8 +4,8 @@ ghost use Rattle.serde_json.specs.View.{view};
 ghost use Rattle.exec_doc.specs.Forms.{text, count, integer, list_of, needed, required, optional, list};
 ghost use Rattle.exec_doc.specs.inner.Picking.{found};
 ghost use Rattle.exec_doc.specs.inner.Reading.{ReadingGives};
-ghost use Rattle.exec_graph.specs.Entity.{if_there};
-ghost use Rattle.exec_graph.specs.Options.{each};
+ghost use Rattle.exec_plan.specs.Entity.{if_there};
+ghost use Rattle.exec_plan.specs.Options.{each};
 
 use crate::refused::Refused;
 use exec_script::WordText;

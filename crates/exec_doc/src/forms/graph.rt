@@ -1,9 +1,9 @@
 ghost use Rattle.std.specs.Prelude.{◌≡◌, [], ◌++◌, Some, map, option_map, OnOk, IfErr};
 ghost use Rattle.std.specs.Option.{unwrap_or};
 ghost use Rattle.serde_json.specs.View.{view};
-ghost use Rattle.exec_graph.specs.Options.{each};
+ghost use Rattle.exec_plan.specs.Options.{each};
 ghost use Rattle.exec_doc.specs.Forms.{text, list_of, declared};
-ghost use Rattle.exec_graph.specs.Entity.{if_there};
+ghost use Rattle.exec_plan.specs.Entity.{if_there};
 ghost use Rattle.exec_doc.specs.inner.Reading.{ReadingGives, ReadingFails, IsAppended};
 
 use crate::forms::fields::list;

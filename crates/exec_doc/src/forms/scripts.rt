@@ -1,6 +1,6 @@
 ghost use Rattle.std.specs.Prelude.{map};
 ghost use Rattle.serde_json.specs.View.{view};
-ghost use Rattle.exec_graph.specs.Options.{each};
+ghost use Rattle.exec_plan.specs.Options.{each};
 ghost use Rattle.exec_doc.specs.Forms.{list_of, word, script, script_field};
 ghost use Rattle.exec_doc.specs.inner.Reading.{ReadingGives};
 

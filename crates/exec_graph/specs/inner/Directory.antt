@@ -4,23 +4,23 @@ use Rattle.std.specs.Prelude.{◌≡◌, ℕ, suc, ◌+◌, ◌-◌, ◌<◌, Li
 use Rattle.std.specs.List.{filter_map, list_any, position_from}
 use Rattle.std.specs.Option.{option_map, option_map_or}
 use Rattle.std.specs.Result.{result_err}
-use Rattle.exec_graph.specs.declared.entity.CallbackGroup.{CallbackGroup}
-use Rattle.exec_graph.specs.declared.entity.Declared.{Declared}
-use Rattle.exec_graph.specs.declared.entity.Declared.TheVariants.{Topic, Entity}
-use Rattle.exec_graph.specs.declared.entity.GraphEntity.{GraphEntity}
-use Rattle.exec_graph.specs.declared.entity.EntityKind.TheVariants as kind
-use Rattle.exec_graph.specs.declared.entity.parts.Referent.{Referent}
-use Rattle.exec_graph.specs.declared.entity.parts.Referent.TheVariants as referent
+use Rattle.exec_plan.specs.declared.entity.CallbackGroup.{CallbackGroup}
+use Rattle.exec_plan.specs.declared.entity.Declared.{Declared}
+use Rattle.exec_plan.specs.declared.entity.Declared.TheVariants.{Topic, Entity}
+use Rattle.exec_plan.specs.declared.entity.GraphEntity.{GraphEntity}
+use Rattle.exec_plan.specs.declared.entity.EntityKind.TheVariants as kind
+use Rattle.exec_plan.specs.declared.entity.parts.Referent.{Referent}
+use Rattle.exec_plan.specs.declared.entity.parts.Referent.TheVariants as referent
 use Rattle.exec_script.specs.declared.fault.ScriptFault.{ScriptFault}
 use Rattle.std.specs.Str.{bytes_eq}
 use Rattle.exec_graph.specs.declared.draft.GraphDraft.{GraphDraft}
-use Rattle.exec_graph.specs.Entity.{Drafted, Script, Resolved, RoleScriptData, is_of, reference_of, scripts_of, if_there, read_by}
-use Rattle.exec_graph.specs.Graph.{EntityData, GroupNo}
+use Rattle.exec_plan.specs.Entity.{Drafted, Script, Resolved, RoleScriptData, is_of, reference_of, scripts_of, if_there, read_by}
+use Rattle.exec_plan.specs.Graph.{EntityData, GroupNo}
 use Rattle.exec_graph.specs.declared.draft.NodeDraft.{NodeDraft}
 use Rattle.exec_graph.specs.Faults.{drafted_names}
-use Rattle.exec_graph.specs.Names.{is_name}
+use Rattle.exec_plan.specs.Names.{is_name}
 use Rattle.exec_graph.specs.Numbers.{Placed, entities_of}
-use Rattle.exec_graph.specs.Options.{◌>>=◌}
+use Rattle.exec_plan.specs.Options.{◌>>=◌}
 use Rattle.exec_graph.specs.Resolved.{script_in}
 use Rattle.exec_script.specs.Legality.{legality_of}
 use Rattle.exec_script.specs.Spelling.{ScopeNames}

@@ -6,12 +6,12 @@ ghost use Rattle.std.specs.Option.{option_map};
 ghost use Rattle.std.specs.Str.{bytes_eq};
 ghost use Rattle.exec_graph.specs.inner.Directory.{IsLinked, directory_of, linked_in, titled};
 ghost use Rattle.exec_graph.specs.declared.draft.GraphDraft.{GraphDraft};
-ghost use Rattle.exec_graph.specs.inner.Entries.{entities_in as entries_of};
+ghost use Rattle.exec_plan.specs.inner.Entries.{entities_in as entries_of};
 ghost use Rattle.exec_graph.specs.Faults.{is_well_named};
 ghost use Rattle.exec_graph.specs.Faults as faults;
-ghost use Rattle.exec_graph.specs.Names.{are_distinct};
+ghost use Rattle.exec_plan.specs.Names.{are_distinct};
 ghost use Rattle.exec_graph.specs.Numbers as numbers;
-ghost use Rattle.exec_graph.specs.Options.{each};
+ghost use Rattle.exec_plan.specs.Options.{each};
 ghost use Rattle.exec_graph.specs.Refusals.{fault_in};
 ghost use Rattle.exec_graph.specs.Resolved.{entity_in, graph_in, topic_in};
 ghost use Rattle.exec_graph.specs.declared.fault.GraphFault.TheVariants as graph_fault;
@@ -25,10 +25,9 @@ use crate::draft::numbers::{LinkedEntity, PlacedEntity};
 use crate::draft::resolve::{Unread, resolved};
 use crate::draft::scope::NodeScope;
 use crate::draft::{GraphDraft, NodeDraft};
-use crate::entity::{Declared, GraphEntity, GroupNo};
 use crate::fault::GraphFault;
-use crate::graph::Graph;
 use exec_msg::{EntityNo, Memory, Names};
+use exec_plan::{Declared, Graph, GraphEntity, GroupNo};
 use exec_script::WordText;
 use indexmap::IndexMap;
 use std::alloc::Global;
@@ -62,12 +61,7 @@ pub(crate) fn graph_of(
     }
     let names = names_of(alloc, draft.topics.as_slice(), directory.entities())?;
     let nodes = node_names(alloc, draft.nodes.as_slice())?;
-    Ok(Graph {
-        nodes: Names::of(nodes),
-        groups,
-        entities,
-        names: Names::of(names),
-    })
+    Ok(Graph::from_parts(Names::of(nodes), groups, entities, Names::of(names)))
 }
 
 // What a draft declares, where all of it is well named.

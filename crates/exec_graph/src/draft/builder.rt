@@ -1,16 +1,15 @@
 ghost use Rattle.std.specs.Prelude.{◌≡◌, ◌&&◌};
 ghost use Rattle.std.specs.List.{list_any};
 ghost use Rattle.std.specs.Str.{bytes_eq};
-ghost use Rattle.exec_graph.specs.Entity.{is_of};
-ghost use Rattle.exec_graph.specs.declared.entity.EntityKind.TheVariants as kind;
+ghost use Rattle.exec_plan.specs.Entity.{is_of};
+ghost use Rattle.exec_plan.specs.declared.entity.EntityKind.TheVariants as kind;
 
 use crate::draft::assemble::well_named;
 use crate::draft::named::NamedGraph;
 use crate::draft::{EntityDraft, GraphDraft, NodeDraft};
-use crate::entity::EntityKind;
 use crate::fault::GraphFault;
-use crate::graph::Graph;
 use exec_msg::{Items, Memory};
+use exec_plan::{EntityKind, Graph};
 use exec_script::WordText;
 use std::alloc::Global;
 use std::marker::Model;

@@ -4,18 +4,17 @@ ghost use Rattle.std.specs.Prelude.{◌≡◌, ◌&&◌, ◌==◌, length, map, 
 ghost use Rattle.std.specs.List.{list_all};
 ghost use Rattle.std.specs.Option.{option_map};
 ghost use Rattle.exec_graph.specs.inner.Directory.{names_from, node_groups_from, topic_number, placed_named, entity_number, number_in, group_in, referred, linked_in, directory_of};
-ghost use Rattle.exec_graph.specs.Entity.{is_of};
+ghost use Rattle.exec_plan.specs.Entity.{is_of};
 ghost use Rattle.exec_graph.specs.Faults.{are_names, has_named_groups, drafted_names};
-ghost use Rattle.exec_graph.specs.Options.{each};
+ghost use Rattle.exec_plan.specs.Options.{each};
 
 use crate::draft::groups::NodeGroups;
 use crate::draft::naming::add_name;
 use crate::draft::numbers::{LinkedEntity, PlacedEntity, numbered};
 use crate::draft::texts::TextSet;
 use crate::draft::{Drafted, GraphDraft, GroupDraft, NodeDraft};
-use crate::entity::EntityKind;
-use crate::entity::parts::Referent;
 use exec_msg::Memory;
+use exec_plan::{EntityKind, Referent};
 use exec_script::WordText;
 use std::alloc::Global;
 use std::marker::Model;

@@ -6,10 +6,8 @@ ghost use Rattle.std.specs.Map.{values_of};
 ghost use Rattle.exec_graph.specs.inner.Directory.{fault_at, faults_at, faults_of, is_reentrant_at};
 ghost use Rattle.exec_graph.specs.Faults.{is_of_variable};
 
-use crate::entity::parts::RoleScript;
-use crate::entity::{CallbackGroup, Declared, GraphEntity, GroupNo};
-use crate::script::Script;
 use exec_msg::Memory;
+use exec_plan::{CallbackGroup, Declared, GraphEntity, GroupNo, RoleScript, Script};
 use exec_script::{Place, ScriptFault, check};
 use indexmap::IndexMap;
 use std::alloc::Global;

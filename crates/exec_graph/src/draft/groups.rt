@@ -4,8 +4,8 @@ ghost use Rattle.exec_graph.specs.Numbers.{groups_from, named_group};
 
 use crate::draft::texts::TextSet;
 use crate::draft::{GroupDraft, NodeDraft};
-use crate::entity::CallbackGroup;
 use exec_msg::Memory;
+use exec_plan::CallbackGroup;
 use exec_script::WordText;
 use std::alloc::Global;
 use std::marker::Model;

@@ -2,15 +2,15 @@
 ghost use Rattle.std.specs.Prelude.{◌≡◌, ◌&&◌, true, length, nat_le};
 ghost use Rattle.std.specs.List.{list_all, sum_by};
 ghost use Rattle.std.specs.Option.{option_map_or};
-ghost use Rattle.exec_graph.specs.Entity.{is_within};
+ghost use Rattle.exec_plan.specs.Entity.{is_within};
 ghost use Rattle.exec_graph.specs.Faults.{has_short_scripts, is_small};
 ghost use Rattle.exec_graph.specs.Numbers.{entities_of};
 
 use crate::draft::numbers::PlacedEntity;
 use crate::draft::{Drafted, GraphDraft, NodeDraft};
-use crate::entity::parts::RoleScript;
-use crate::script::Spelled;
+use crate::spelled::Spelled;
 use exec_msg::limits::{ENTITIES, INSTRUCTIONS, NAMED_GROUPS, NODES, TOPICS};
+use exec_plan::RoleScript;
 use exec_script::WordText;
 
 // Whether no number and no length of a graph is beyond its limit. The entities are those of the nodes in the order of

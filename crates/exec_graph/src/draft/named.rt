@@ -2,10 +2,8 @@ use crate::draft::GraphDraft;
 use crate::draft::assemble::graph_of;
 use crate::draft::directory::Directory;
 use crate::draft::numbers::LinkedEntity;
-use crate::entity::EntityKind;
-use crate::entity::parts::Referent;
 use crate::fault::GraphFault;
-use crate::graph::Graph;
+use exec_plan::{EntityKind, Graph, Referent};
 use std::alloc::Global;
 use std::marker::Model;
 
@@ -25,7 +23,7 @@ impl<'a> Model for NamedGraph<'a> {
     ghost use Rattle.exec_graph.specs.inner.Directory.{directory_of, linked_in};
     ghost use Rattle.exec_graph.specs.declared.draft.GraphDraft.{GraphDraft};
     ghost use Rattle.exec_graph.specs.Faults.{is_well_named};
-    ghost use Rattle.exec_graph.specs.Options.{each};
+    ghost use Rattle.exec_plan.specs.Options.{each};
 
     ghost Value = { GraphDraft };
 

@@ -2,7 +2,7 @@
 ghost use Rattle.std.specs.Prelude.{◌≡◌, [], ◌∷◌, ◌++◌, not, ◌&&◌, if◌then◌else◌, IfOk, OnErr};
 ghost use Rattle.std.specs.List.{list_all, list_any};
 ghost use Rattle.std.specs.Str.{bytes_eq};
-ghost use Rattle.exec_graph.specs.Names.{is_name_byte, is_name};
+ghost use Rattle.exec_plan.specs.Names.{is_name_byte, is_name};
 
 use crate::draft::texts::TextSet;
 use exec_msg::Memory;

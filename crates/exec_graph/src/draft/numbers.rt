@@ -1,12 +1,12 @@
 //! The entities of a graph in the order of their numbers.
 ghost use Rattle.std.specs.Prelude.{◌≡◌, ◌++◌, map, IfOk, OnOk};
 ghost use Rattle.std.specs.List.{filter};
-ghost use Rattle.exec_graph.specs.Entity.{is_of};
+ghost use Rattle.exec_plan.specs.Entity.{is_of};
 ghost use Rattle.exec_graph.specs.Numbers.{placed_in, entities_from, numbered};
 
 use crate::draft::{EntityDraft, NodeDraft};
-use crate::entity::EntityKind;
 use exec_msg::Memory;
+use exec_plan::EntityKind;
 use std::alloc::Global;
 use std::marker::Model;
 

@@ -1,19 +1,19 @@
 //! Entities of a graph, their references resolved and their scripts decoded.
 ghost use Rattle.std.specs.Prelude.{◌≡◌};
 ghost use Rattle.exec_graph.specs.inner.Directory.{scope_in, resolved_by};
-ghost use Rattle.exec_graph.specs.Entity.{if_there};
+ghost use Rattle.exec_plan.specs.Entity.{if_there};
 ghost use Rattle.exec_graph.specs.inner.Gives.{Gives};
 ghost use Rattle.exec_graph.specs.Resolved.{script_in};
 ghost use Rattle.exec_graph.specs.declared.draft.resolve.Unread.TheVariants as unread;
 
 use crate::draft::Drafted;
 use crate::draft::scope::NodeScope;
-use crate::entity::{
-    ActionClientEntity, ClientEntity, EntityOf, ServerEntity, ServiceEntity, SubscriptionEntity,
-    TimerEntity,
-};
-use crate::script::{Script, Spelled};
+use crate::spelled::Spelled;
 use exec_msg::EntityNo;
+use exec_plan::{
+    ActionClientEntity, ClientEntity, EntityOf, Script, ServerEntity, ServiceEntity,
+    SubscriptionEntity, TimerEntity,
+};
 use exec_script::{ScriptFault, decode};
 use std::alloc::{AllocFailed, Global};
 use std::sync::Arc;

@@ -1,11 +1,11 @@
 //! The names that the scripts of a node may use.
 ghost use Rattle.std.specs.Prelude.{◌≡◌, ◌&&◌, ◌==◌, ◌≤◌, length};
 ghost use Rattle.exec_graph.specs.inner.Directory.{entity_number};
-ghost use Rattle.exec_graph.specs.Entity.{is_of};
+ghost use Rattle.exec_plan.specs.Entity.{is_of};
 
 use crate::draft::directory::Directory;
-use crate::entity::EntityKind;
 use exec_msg::EntityNo;
+use exec_plan::EntityKind;
 use exec_script::Scope;
 use std::marker::Model;
 

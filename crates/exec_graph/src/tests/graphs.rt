@@ -1,7 +1,7 @@
 //! What a graph answers, with the numbers that docs/document.md gives.
 ghost use Rattle.std.specs.Prelude.{◌≡◌, ◌<◌, length, not};
-ghost use Rattle.exec_graph.specs.Graph.{is_topic};
-ghost use Rattle.exec_graph.specs.Lawful.{is_at};
+ghost use Rattle.exec_plan.specs.Graph.{is_topic};
+ghost use Rattle.exec_plan.specs.Lawful.{is_at};
 
 use super::drafts::builder_of;
 use super::same;

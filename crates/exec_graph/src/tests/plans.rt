@@ -1,9 +1,9 @@
 //! What a plan answers and what is refused of one, written from docs/document.md.
 ghost use Rattle.std.specs.Prelude.{◌≡◌};
 ghost use Rattle.std.specs.List.{list_all};
-ghost use Rattle.exec_graph.specs.Feeding.{goes_somewhere};
-ghost use Rattle.exec_graph.specs.Graph.{is_topic, is_server};
-ghost use Rattle.exec_graph.specs.Lawful.{is_at};
+ghost use Rattle.exec_plan.specs.Feeding.{goes_somewhere};
+ghost use Rattle.exec_plan.specs.Graph.{is_topic, is_server};
+ghost use Rattle.exec_plan.specs.Lawful.{is_at};
 
 use super::drafts::{Unread, builder_of};
 use super::same;

@@ -1,7 +1,7 @@
 -- Slots of a round, cut into lanes.
 use Rattle.std.specs.Prelude.{◌≡◌, ℕ, List, [], ◌∷◌, ◌++◌, map, Bool, false, ◌&&◌, ◌==◌, if◌then◌else◌, Option, None}
 use Rattle.std.specs.List.{list_any}
-use Rattle.exec_graph.specs.Graph.{GroupNo}
+use Rattle.exec_plan.specs.Graph.{GroupNo}
 use Rattle.exec_lane.specs.Lane.{Lane, goes_into, variables_at, without_task}
 use Rattle.exec_lane.specs.inner.Slots.{SlotState, entries_of}
 use Rattle.exec_msg.specs.Lists.{change_first}

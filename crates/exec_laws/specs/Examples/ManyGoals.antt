@@ -1,9 +1,9 @@
 -- A worked example: sixteen goals of one server, entity 3, that all end in one round, beside three timers.
 use Rattle.std.specs.Prelude.{pos, List, [], ◌∷◌, codes, true, false, None, Some}
-use Rattle.exec_graph.specs.Graph.{in_group}
-use Rattle.exec_graph.specs.declared.entity.EntityOf.TheVariants.{Timer, Server}
-use Rattle.exec_graph.specs.Plan.{PlanData}
-use Rattle.exec_graph.specs.declared.plan.Fed.TheVariants.{Goal}
+use Rattle.exec_plan.specs.Graph.{in_group}
+use Rattle.exec_plan.specs.declared.entity.EntityOf.TheVariants.{Timer, Server}
+use Rattle.exec_plan.specs.Plan.{PlanData}
+use Rattle.exec_plan.specs.declared.plan.Fed.TheVariants.{Goal}
 use Rattle.exec_msg.specs.declared.goal.GoalStatus.TheVariants as status
 use Rattle.exec_msg.specs.declared.kind.Kind.TheVariants as kind
 use Rattle.exec_msg.specs.declared.line.Line.{Line}

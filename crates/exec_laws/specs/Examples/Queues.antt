@@ -1,9 +1,9 @@
 -- Worked examples: full queues of actions.
 use Rattle.std.specs.Prelude.{pos, List, [], ◌∷◌, codes, true, None, Some}
-use Rattle.exec_graph.specs.Graph.{in_group}
-use Rattle.exec_graph.specs.declared.entity.EntityOf.TheVariants.{Timer, Server, ActionClient}
-use Rattle.exec_graph.specs.Plan.{PlanData}
-use Rattle.exec_graph.specs.declared.plan.Fed.TheVariants.{Goal}
+use Rattle.exec_plan.specs.Graph.{in_group}
+use Rattle.exec_plan.specs.declared.entity.EntityOf.TheVariants.{Timer, Server, ActionClient}
+use Rattle.exec_plan.specs.Plan.{PlanData}
+use Rattle.exec_plan.specs.declared.plan.Fed.TheVariants.{Goal}
 use Rattle.exec_msg.specs.declared.goal.GoalStatus.TheVariants as status
 use Rattle.exec_msg.specs.declared.goal.ReturnCode.TheVariants as code
 use Rattle.exec_msg.specs.declared.kind.Kind.TheVariants as kind

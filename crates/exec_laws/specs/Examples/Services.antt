@@ -1,8 +1,8 @@
 -- Worked examples: services and their clients.
 use Rattle.std.specs.Prelude.{pos, List, [], ◌∷◌, codes, true, None}
-use Rattle.exec_graph.specs.Graph.{in_group}
-use Rattle.exec_graph.specs.declared.entity.EntityOf.TheVariants.{Timer, Service, Client}
-use Rattle.exec_graph.specs.Plan.{PlanData}
+use Rattle.exec_plan.specs.Graph.{in_group}
+use Rattle.exec_plan.specs.declared.entity.EntityOf.TheVariants.{Timer, Service, Client}
+use Rattle.exec_plan.specs.Plan.{PlanData}
 use Rattle.exec_msg.specs.declared.kind.Kind.TheVariants as kind
 use Rattle.exec_msg.specs.declared.line.Line.{Line}
 use Rattle.exec_msg.specs.declared.line.Line.TheVariants as line

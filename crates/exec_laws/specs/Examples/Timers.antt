@@ -1,10 +1,10 @@
 -- Worked examples: timers, topics and services.
 use Rattle.std.specs.Prelude.{pos, negsuc, List, [], ◌∷◌, codes, true, None}
-use Rattle.exec_graph.specs.Graph.{in_group}
-use Rattle.exec_graph.specs.declared.entity.Declared.TheVariants.{Topic}
-use Rattle.exec_graph.specs.declared.entity.EntityOf.TheVariants.{Timer, Subscription}
-use Rattle.exec_graph.specs.Plan.{PlanData}
-use Rattle.exec_graph.specs.declared.plan.Fed.TheVariants.{Message}
+use Rattle.exec_plan.specs.Graph.{in_group}
+use Rattle.exec_plan.specs.declared.entity.Declared.TheVariants.{Topic}
+use Rattle.exec_plan.specs.declared.entity.EntityOf.TheVariants.{Timer, Subscription}
+use Rattle.exec_plan.specs.Plan.{PlanData}
+use Rattle.exec_plan.specs.declared.plan.Fed.TheVariants.{Message}
 use Rattle.exec_msg.specs.declared.kind.Kind.TheVariants as kind
 use Rattle.exec_msg.specs.declared.line.Line.{Line}
 use Rattle.exec_msg.specs.declared.line.Line.TheVariants as line

@@ -7,7 +7,7 @@ use super::State;
 use crate::mail::Mail;
 use exec_entity::{Client, Numbered};
 use exec_goal::CancelRequest;
-use exec_graph::{Fed, Feed};
+use exec_plan::{Fed, Feed};
 use exec_msg::{Line, Lines, Memory, Moment};
 use exec_queue::bring_home_to_timers;
 use exec_rules::{Homes, Item, Ready, ReadyList};

@@ -2,8 +2,8 @@ use Rattle.std.proofs.Common.{List, ap, sym, ◌∙◌, ◌++◌, Some}
 use Rattle.std.proofs.lemmas.List.{drop_all, append-nil}
 use Rattle.exec_doc.specs.inner.Placing.{entry_by}
 use Rattle.exec_doc.specs.declared.draft.EntryDraft.{EntryDraft}
-use Rattle.exec_graph.specs.Options.{◌>>=◌, each}
-use Rattle.exec_graph.specs.declared.plan.Feed.{Feed}
+use Rattle.exec_plan.specs.Options.{◌>>=◌, each}
+use Rattle.exec_plan.specs.declared.plan.Feed.{Feed}
 use Rattle.exec_doc.proofs.Placed.{goes}
 use Rattle.exec_doc.proofs.fed.feed_of.Goals as goal
 

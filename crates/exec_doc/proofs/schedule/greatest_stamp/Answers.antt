@@ -1,6 +1,6 @@
 use Rattle.std.proofs.Common.{ℕ, ◌+◌, ◌∙◌, ap, drop, map, max}
 use Rattle.exec_doc.specs.Refusals.{stamp_of}
-use Rattle.exec_graph.specs.Schedule.{greatest}
+use Rattle.exec_plan.specs.Schedule.{greatest}
 use Rattle.exec_doc.proofs.Scheduled.{greatest_at_end, greatest_next}
 use Rattle.exec_doc.proofs.schedule.greatest_stamp.Goals as goal
 

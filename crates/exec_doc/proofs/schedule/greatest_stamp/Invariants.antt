@@ -1,6 +1,6 @@
 use Rattle.std.proofs.Common.{◌≡◌, max, map, drop}
 use Rattle.exec_doc.specs.Refusals.{stamp_of}
-use Rattle.exec_graph.specs.Schedule.{greatest}
+use Rattle.exec_plan.specs.Schedule.{greatest}
 use Rattle.exec_doc.proofs.schedule.greatest_stamp.Given as goal
 
 -- the greatest stamp so far, and those that are left, have the greatest of all

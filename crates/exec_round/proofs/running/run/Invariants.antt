@@ -1,5 +1,5 @@
 use Rattle.std.specs.Arc.{arc_value}
-use Rattle.exec_graph.specs.Graph.{names_of}
+use Rattle.exec_plan.specs.Graph.{names_of}
 use Rattle.exec_round.proofs.running.run.Given as goal
 
 -- the names are those of the plan that was read

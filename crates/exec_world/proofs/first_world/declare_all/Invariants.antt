@@ -1,5 +1,5 @@
 use Rattle.std.proofs.Common.{◌≡◌, ◌++◌}
-use Rattle.exec_graph.specs.Graph.{has_kind}
+use Rattle.exec_plan.specs.Graph.{has_kind}
 use Rattle.exec_world.proofs.Wired.{made_from}
 use Rattle.exec_world.specs.inner.Parts.{new_queue_of}
 use Rattle.exec_world.proofs.first_world.declare_all.Given as goal

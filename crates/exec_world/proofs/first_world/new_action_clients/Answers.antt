@@ -1,6 +1,6 @@
 use Rattle.std.proofs.Common.{[], ◌++◌, length, ap, ◌∙◌, arith}
-use Rattle.exec_graph.specs.Graph.{cons_if, is_action_client}
-use Rattle.exec_graph.specs.declared.entity.Declared.{Declared}
+use Rattle.exec_plan.specs.Graph.{cons_if, is_action_client}
+use Rattle.exec_plan.specs.declared.entity.Declared.{Declared}
 use Rattle.exec_world.proofs.Wired.{few_clients, next_client}
 use Rattle.exec_rules.specs.Transcript.{action_client_for}
 use Rattle.exec_world.proofs.first_world.new_action_clients.Goals as goal

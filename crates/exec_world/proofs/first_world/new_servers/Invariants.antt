@@ -1,5 +1,5 @@
 use Rattle.std.proofs.Common.{◌≡◌, ◌++◌}
-use Rattle.exec_graph.specs.Graph.{is_server}
+use Rattle.exec_plan.specs.Graph.{is_server}
 use Rattle.exec_world.proofs.Wired.{made_from}
 use Rattle.exec_rules.specs.Transcript.{new_server}
 use Rattle.exec_world.proofs.first_world.new_servers.Given as goal

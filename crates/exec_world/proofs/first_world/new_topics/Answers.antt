@@ -1,6 +1,6 @@
 use Rattle.std.proofs.Common.{[], ◌++◌, ap, ◌∙◌, arith}
-use Rattle.exec_graph.specs.Graph.{cons_if, is_topic}
-use Rattle.exec_graph.specs.declared.entity.Declared.{Declared}
+use Rattle.exec_plan.specs.Graph.{cons_if, is_topic}
+use Rattle.exec_plan.specs.declared.entity.Declared.{Declared}
 use Rattle.exec_world.proofs.Wired.{next_made}
 use Rattle.exec_rules.specs.Transcript.{new_topic}
 use Rattle.exec_world.proofs.first_world.new_topics.Goals as goal

@@ -1,6 +1,6 @@
 use Rattle.std.proofs.Common.{false, [], ◌++◌, ap, ◌∙◌, arith}
-use Rattle.exec_graph.specs.Graph.{cons_if, entities_where, of_entity}
-use Rattle.exec_graph.specs.declared.entity.Declared.{Declared}
+use Rattle.exec_plan.specs.Graph.{cons_if, entities_where, of_entity}
+use Rattle.exec_plan.specs.declared.entity.Declared.{Declared}
 use Rattle.exec_world.proofs.Wired.{as_they_are, next_made}
 use Rattle.exec_rules.specs.Transcript.{subscribes_to}
 use Rattle.exec_world.proofs.first_world.subscribers_of.Goals as goal

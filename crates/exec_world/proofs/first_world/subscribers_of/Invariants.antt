@@ -1,5 +1,5 @@
 use Rattle.std.proofs.Common.{◌≡◌, false, ◌++◌}
-use Rattle.exec_graph.specs.Graph.{entities_where, of_entity}
+use Rattle.exec_plan.specs.Graph.{entities_where, of_entity}
 use Rattle.exec_world.proofs.Wired.{made_from}
 use Rattle.exec_rules.specs.Transcript.{subscribes_to}
 use Rattle.exec_world.proofs.first_world.subscribers_of.Given as goal

@@ -1,7 +1,7 @@
 use Rattle.std.proofs.Common.{List, map, drop, ap, ◌∙◌, ◌+◌}
 use Rattle.std.proofs.Math.ListN.{drop_of_length-le}
 use Rattle.exec_graph.specs.inner.Directory.{Linked}
-use Rattle.exec_graph.specs.inner.Entries.{entities_in as entries_of}
+use Rattle.exec_plan.specs.inner.Entries.{entities_in as entries_of}
 use Rattle.exec_graph.proofs.Appended.{starts, next_stands, all_stand}
 use Rattle.exec_graph.proofs.NameLists.{from_place}
 use Rattle.exec_graph.proofs.draft.assemble.entities_of.Goals as goal

@@ -1,5 +1,5 @@
 use Rattle.std.proofs.Common.{map, drop}
-use Rattle.exec_graph.specs.inner.Entries.{entities_in as entries_of}
+use Rattle.exec_plan.specs.inner.Entries.{entities_in as entries_of}
 use Rattle.exec_graph.proofs.Appended.{Stands}
 use Rattle.exec_graph.proofs.draft.assemble.entities_of.Given as goal
 

@@ -1,13 +1,13 @@
-use Rattle.std.proofs.Common.{ℕ, ◌==◌, inl, inr, ap, sym, ◌∙◌, ◌≡◌, ◌++◌, map, string_bytes, List, true}
+use Rattle.std.proofs.Common.{ℕ, Some, ◌==◌, inl, inr, ap, sym, ◌∙◌, ◌≡◌, ◌++◌, map, string_bytes, List, true}
 use Rattle.std.proofs.lemmas.Result.{err_from_is_err_and}
 use Rattle.exec_graph.specs.inner.Directory.{DirectoryData}
-use Rattle.exec_graph.specs.inner.Entries.{entities_in as entries_of}
+use Rattle.exec_plan.specs.inner.Entries.{entities_in as entries_of}
 use Rattle.exec_graph.specs.Faults.{is_small}
-use Rattle.exec_graph.specs.Graph.{GraphData}
+use Rattle.exec_plan.specs.Graph.{GraphData}
 use Rattle.exec_graph.specs.Numbers.{Placed, groups_from}
 use Rattle.exec_graph.proofs.Assembled.{few_names, few_nodes, few_groups, few_texts, directory_is, distinct, of_unread, of_script, of_variable, of_none, graph_with, graph_is, is_lawful, names_are, mapped_none, mapped_is}
 use Rattle.exec_graph.proofs.Linking.{are_linked, entities_linked}
-use Rattle.exec_graph.proofs.Reading.{nothing_else}
+use Rattle.exec_plan.proofs.Reading.{nothing_else}
 use Rattle.exec_graph.proofs.draft.assemble.graph_of.Goals as goal
 
 pub entities_of-requires-clause-links : goal.entities_of-requires-clause-links
@@ -57,8 +57,8 @@ of-requires c =
     let small : is_small draft ≡ true = sym c.is_small.ensures ∙ c.if-not-is_small.false in
     few_nodes draft c.args.directory.now c.requires.named small c.in_ok-nodes.nodes.items string_bytes (c.in_ok-nodes.ensures ∙ ap (map (λ node. node.name)) c.as_slice-4.ensures)
 
-pub invariant_of-result : goal.invariant_of-result
-invariant_of-result c =
+pub from_parts-requires-clause-lawful : goal.from_parts-requires-clause-lawful
+from_parts-requires-clause-lawful c =
     let draft = c.args.draft.now in
     let small : is_small draft ≡ true = sym c.is_small.ensures ∙ c.if-not-is_small.false in
     let found = c.in_ok-entities.ensures draft (distinct draft c.args.directory.now c.requires.named) c.as_slice-2.ensures (directory_is draft c.args.directory.now c.requires.named) in
@@ -66,11 +66,19 @@ invariant_of-result c =
     let made : GraphData = graph_with c.of.result c.in_ok-groups.groups.items (entries_of c.in-Some.entities.entries) in
     let nodes = c.of.ensures ∙ c.in_ok-nodes.ensures ∙ ap (map (λ node. node.name)) c.as_slice-4.ensures in
     let gathered = c.in_ok-groups.ensures ∙ ap (groups_from 0) c.as_slice.ensures in
+    is_lawful draft made nodes gathered (mapped_is _ _ _ _ found c.in-Some.is) faultless
+
+pub from_parts-requires-clause-names : goal.from_parts-requires-clause-names
+from_parts-requires-clause-names c =
+    let draft = c.args.draft.now in
+    let small : is_small draft ≡ true = sym c.is_small.ensures ∙ c.if-not-is_small.false in
+    let found = c.in_ok-entities.ensures draft (distinct draft c.args.directory.now c.requires.named) c.as_slice-2.ensures (directory_is draft c.args.directory.now c.requires.named) in
+    let made : GraphData = graph_with c.of.result c.in_ok-groups.groups.items (entries_of c.in-Some.entities.entries) in
+    let nodes = c.of.ensures ∙ c.in_ok-nodes.ensures ∙ ap (map (λ node. node.name)) c.as_slice-4.ensures in
+    let gathered = c.in_ok-groups.ensures ∙ ap (groups_from 0) c.as_slice.ensures in
     let placed = c.entities-3.ensures ∙ ap (λ (directory : DirectoryData). directory.entities) (directory_is draft c.args.directory.now c.requires.named) in
-    let names =
     c.of-2.ensures ∙ c.in_ok-names.ensures ∙ ap (λ (topics : List (List ℕ)). topics ++ map (λ placed. placed.entity.name) c.entities-3.result.now) c.as_slice-3.ensures ∙ ap (λ (placed : List Placed). c.args.draft.now.topics ++ map (λ placed. placed.entity.name) placed) placed
-    ∙ names_are draft made nodes gathered (mapped_is _ _ _ _ found c.in-Some.is) in
-    (is_lawful draft made nodes gathered (mapped_is _ _ _ _ found c.in-Some.is) faultless, names)
+    ∙ names_are draft made nodes gathered (mapped_is _ _ _ _ found c.in-Some.is)
 
 pub returns-clause-graph : goal.returns-clause-graph
 returns-clause-graph c =
@@ -79,4 +87,4 @@ returns-clause-graph c =
     let found = c.in_ok-entities.ensures draft (distinct draft c.args.directory.now c.requires.named) c.as_slice-2.ensures (directory_is draft c.args.directory.now c.requires.named) in
     let faultless = of_none draft c.args.directory.now c.requires.named small c.deref.result.now (c.deref.ensures.value ∙ c.in_ok-groups.ensures ∙ ap (groups_from 0) c.as_slice.ensures) c.in-Some.entities.entries (mapped_is _ _ _ _ found c.in-Some.is) c.deref-2.result.now (c.deref-2.ensures.value ∙ c.in_ok-faults.ensures) (sym c.if-is_any_faulty.false ∙ c.is_any_faulty.ensures) (ap (λ (n : ℕ). n == 0) c.deref-2.ensures.len ∙ sym c.is_empty.ensures ∙ c.if-not-is_empty.false) in
     let made : GraphData = graph_with c.of.result c.in_ok-groups.groups.items (entries_of c.in-Some.entities.entries) in
-    (faultless, graph_is draft made (c.of.ensures ∙ c.in_ok-nodes.ensures ∙ ap (map (λ node. node.name)) c.as_slice-4.ensures) (c.in_ok-groups.ensures ∙ ap (groups_from 0) c.as_slice.ensures) (mapped_is _ _ _ _ found c.in-Some.is))
+    (faultless, graph_is draft made (c.of.ensures ∙ c.in_ok-nodes.ensures ∙ ap (map (λ node. node.name)) c.as_slice-4.ensures) (c.in_ok-groups.ensures ∙ ap (groups_from 0) c.as_slice.ensures) (mapped_is _ _ _ _ found c.in-Some.is) ∙ sym (ap Some c.from_parts.ensures))

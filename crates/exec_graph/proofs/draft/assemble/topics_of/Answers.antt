@@ -1,7 +1,7 @@
 use Rattle.std.proofs.Common.{◌++◌, map, sym, ap, ◌∙◌, append-nil, List, ℕ}
 use Rattle.std.proofs.Math.ListN.{drop_of_length-le}
-use Rattle.exec_graph.specs.inner.Entries.{entities_in as entries_of}
-use Rattle.exec_graph.specs.Graph.{EntityData}
+use Rattle.exec_plan.specs.inner.Entries.{entities_in as entries_of}
+use Rattle.exec_plan.specs.Graph.{EntityData}
 use Rattle.exec_graph.specs.Resolved.{topic_in}
 use Rattle.exec_graph.proofs.Appended.{next_topic}
 use Rattle.exec_graph.proofs.draft.assemble.topics_of.Goals as goal

@@ -1,6 +1,6 @@
 use Rattle.std.proofs.Common.{◌≡◌, ◌++◌, map, drop, true}
-use Rattle.exec_graph.specs.inner.Entries.{entities_in as entries_of}
-use Rattle.exec_graph.specs.Names.{are_distinct}
+use Rattle.exec_plan.specs.inner.Entries.{entities_in as entries_of}
+use Rattle.exec_plan.specs.Names.{are_distinct}
 use Rattle.exec_graph.specs.Resolved.{topic_in}
 use Rattle.exec_graph.proofs.draft.assemble.topics_of.Given as goal
 

@@ -2,10 +2,10 @@ use Rattle.std.proofs.Common.{◌≡◌, ◌∙◌, sym, ap, Bool, true, None, S
 use Rattle.std.specs.Bool.{then_some}
 use Rattle.exec_graph.specs.inner.Directory.{linked_in}
 use Rattle.exec_graph.specs.Faults.{are_names, is_well_named}
-use Rattle.exec_graph.specs.Options.{each}
+use Rattle.exec_plan.specs.Options.{each}
 use Rattle.exec_graph.specs.declared.draft.NodeDraft.{NodeDraft}
 use Rattle.exec_graph.proofs.Assembled.{mapped_none, mapped_is}
-use Rattle.exec_graph.proofs.Reading.{nothing_else}
+use Rattle.exec_plan.proofs.Reading.{nothing_else}
 use Rattle.exec_graph.proofs.WellNamed.{is_named, is_misnamed, directory_there}
 use Rattle.exec_graph.proofs.draft.assemble.well_named.Goals as goal
 

@@ -1,6 +1,6 @@
 use Rattle.std.proofs.Common.{Bool, List, ◌++◌, filter_map, option_and_then, sym, ap, ◌∙◌, arith}
 use Rattle.exec_script.specs.declared.fault.ScriptFault.{ScriptFault}
-use Rattle.exec_graph.specs.Entity.{scripts_of}
+use Rattle.exec_plan.specs.Entity.{scripts_of}
 use Rattle.exec_graph.specs.inner.Directory.{fault_at}
 use Rattle.exec_graph.proofs.EntityOrder.{next_listed, listed_of_there}
 use Rattle.exec_graph.proofs.draft.faults.append_faults.Goals as goal

@@ -1,6 +1,6 @@
 use Rattle.std.proofs.Common.{◌≡◌, ◌&&◌, drop}
 use Rattle.std.specs.List.{list_all}
-use Rattle.exec_graph.specs.Entity.{is_within}
+use Rattle.exec_plan.specs.Entity.{is_within}
 use Rattle.exec_graph.specs.Faults.{has_short_scripts}
 use Rattle.exec_graph.proofs.draft.limits.are_small.Given as goal
 

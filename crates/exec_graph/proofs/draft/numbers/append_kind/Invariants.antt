@@ -1,6 +1,6 @@
 use Rattle.std.proofs.Common.{◌≡◌, ◌++◌, drop}
 use Rattle.std.specs.List.{filter}
-use Rattle.exec_graph.specs.Entity.{is_of}
+use Rattle.exec_plan.specs.Entity.{is_of}
 use Rattle.exec_graph.proofs.draft.numbers.append_kind.Given as goal
 
 -- the entities so far, and then those of what is left, are those before and those of all

@@ -1,6 +1,6 @@
 use Rattle.std.proofs.Common.{◌≡◌, ◌++◌, drop, flat_map}
 use Rattle.std.specs.List.{filter}
-use Rattle.exec_graph.specs.Entity.{is_of}
+use Rattle.exec_plan.specs.Entity.{is_of}
 use Rattle.exec_graph.specs.Numbers.{entities_from, numbered}
 use Rattle.exec_graph.proofs.draft.numbers.numbered.Given as goal
 

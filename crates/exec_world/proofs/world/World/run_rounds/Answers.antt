@@ -1,5 +1,5 @@
 use Rattle.std.proofs.Common.{◌≡◌, ℕ, ◌+◌, ◌<◌, length, ap, sym, ◌∙◌, arith}
-use Rattle.exec_graph.specs.Plan.{PlanData}
+use Rattle.exec_plan.specs.Plan.{PlanData}
 use Rattle.exec_rules.proofs.AllRounds.{next_round}
 use Rattle.exec_rules.specs.Calls.{WorldData, after_round, world_after}
 use Rattle.exec_world.proofs.world.World.run_rounds.Goals as goal

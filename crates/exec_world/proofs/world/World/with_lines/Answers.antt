@@ -1,8 +1,8 @@
 use Rattle.std.proofs.Common.{◌≡◌, length, rules, ap, subst, sym, ◌∙◌, true≢false}
 use Rattle.std.specs.Arc.{arc_value}
-use Rattle.exec_graph.specs.Feeding.{feeds_by_round}
-use Rattle.exec_graph.specs.Graph.{GraphData}
-use Rattle.exec_graph.specs.Plan.{PlanData}
+use Rattle.exec_plan.specs.Feeding.{feeds_by_round}
+use Rattle.exec_plan.specs.Graph.{GraphData}
+use Rattle.exec_plan.specs.Plan.{PlanData}
 use Rattle.exec_world.proofs.Sound.{first_sound}
 use Rattle.exec_rules.specs.Transcript.{first_world}
 use Rattle.exec_rules.specs.World.{WorldState}

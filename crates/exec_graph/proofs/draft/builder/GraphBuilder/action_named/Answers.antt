@@ -1,10 +1,10 @@
 use Rattle.std.proofs.Common.{◌∙◌, ◌&&◌, ap, sym, is_some, bytes_eq, List}
 use Rattle.std.specs.List.{list_any}
 use Rattle.exec_graph.specs.declared.draft.GraphDraft.{GraphDraft}
-use Rattle.exec_graph.specs.Entity.{is_of}
+use Rattle.exec_plan.specs.Entity.{is_of}
 use Rattle.exec_graph.specs.Numbers.{server_named}
 use Rattle.exec_graph.specs.declared.draft.NodeDraft.{NodeDraft}
-use Rattle.exec_graph.specs.declared.entity.EntityKind.TheVariants as kind
+use Rattle.exec_plan.specs.declared.entity.EntityKind.TheVariants as kind
 use Rattle.exec_graph.proofs.Declarations.{action_any}
 use Rattle.exec_graph.proofs.draft.builder.GraphBuilder.action_named.Goals as goal
 

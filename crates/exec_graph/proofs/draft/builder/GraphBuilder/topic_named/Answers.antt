@@ -2,7 +2,7 @@ use Rattle.std.proofs.Common.{◌∙◌, ap, sym, is_some, bytes_eq, List, ℕ}
 use Rattle.std.specs.List.{list_any}
 use Rattle.exec_graph.specs.declared.draft.GraphDraft.{GraphDraft}
 use Rattle.exec_graph.specs.Numbers.{topic_named}
-use Rattle.exec_graph.proofs.Positions.{found_any}
+use Rattle.exec_plan.proofs.Positions.{found_any}
 use Rattle.exec_graph.proofs.draft.builder.GraphBuilder.topic_named.Goals as goal
 
 pub returns : goal.returns

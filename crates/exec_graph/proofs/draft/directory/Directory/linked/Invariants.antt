@@ -1,6 +1,6 @@
 use Rattle.std.proofs.Common.{◌≡◌, ◌++◌, drop, option_map}
 use Rattle.exec_graph.specs.inner.Directory.{linked_in}
-use Rattle.exec_graph.specs.Options.{each}
+use Rattle.exec_plan.specs.Options.{each}
 use Rattle.exec_graph.proofs.draft.directory.Directory.linked.Given as goal
 
 -- those so far, and then those that are left, are all

@@ -2,8 +2,8 @@ use Rattle.std.proofs.Common.{◌∙◌, ap, is_some}
 use Rattle.exec_graph.specs.inner.Directory.{DirectoryData, number_in}
 use Rattle.exec_graph.specs.declared.draft.GraphDraft.{GraphDraft}
 use Rattle.exec_graph.specs.Numbers.{server_named}
-use Rattle.exec_graph.specs.declared.entity.EntityKind.TheVariants as kind
-use Rattle.exec_graph.specs.declared.entity.parts.Referent.TheVariants as referent
+use Rattle.exec_plan.specs.declared.entity.EntityKind.TheVariants as kind
+use Rattle.exec_plan.specs.declared.entity.parts.Referent.TheVariants as referent
 use Rattle.exec_graph.proofs.Assembled.{directory_is, distinct}
 use Rattle.exec_graph.proofs.Lookups.{number_same}
 use Rattle.exec_graph.proofs.draft.named.NamedGraph.action_named.Goals as goal

@@ -2,7 +2,7 @@ use Rattle.std.proofs.Common.{◌∙◌, ap, is_some}
 use Rattle.exec_graph.specs.inner.Directory.{DirectoryData, number_in}
 use Rattle.exec_graph.specs.declared.draft.GraphDraft.{GraphDraft}
 use Rattle.exec_graph.specs.Numbers.{topic_named}
-use Rattle.exec_graph.specs.declared.entity.parts.Referent.TheVariants as referent
+use Rattle.exec_plan.specs.declared.entity.parts.Referent.TheVariants as referent
 use Rattle.exec_graph.proofs.Assembled.{directory_is, distinct}
 use Rattle.exec_graph.proofs.Lookups.{number_same}
 use Rattle.exec_graph.proofs.draft.named.NamedGraph.topic_named.Goals as goal

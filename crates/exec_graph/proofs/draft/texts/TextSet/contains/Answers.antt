@@ -1,5 +1,5 @@
 use Rattle.std.proofs.Common.{◌∙◌, ap, is_some, bytes_eq}
-use Rattle.exec_graph.proofs.Positions.{found_any}
+use Rattle.exec_plan.proofs.Positions.{found_any}
 use Rattle.exec_graph.proofs.draft.texts.TextSet.contains.Goals as goal
 
 pub returns : goal.returns

@@ -1,5 +1,0 @@
-use Rattle.exec_graph.proofs.Scheduled.{plan_lawful}
-use Rattle.exec_graph.proofs.laws.plans_without_faults_are_lawful.Goals as goal
-
-pub returns : goal.returns
-returns c = λ graph moments feed lawful goes bits faultless. plan_lawful graph moments feed lawful goes bits faultless

@@ -1,0 +1,10 @@
+pub mod ByRound
+pub mod Counting
+pub mod FoundThere
+pub mod Listed
+pub mod Looking
+pub mod NonePasses
+pub mod Positions
+pub mod Reading
+pub mod SameTexts
+pub mod Scheduled

@@ -1,0 +1,9 @@
+pub mod Entity
+pub mod Feeding
+pub mod Graph
+pub mod Lawful
+pub mod Names
+pub mod Options
+pub mod Plan
+pub mod Schedule
+pub mod inner

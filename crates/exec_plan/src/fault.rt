@@ -1,0 +1,27 @@
+ghost use Rattle.std.specs.Prelude.{◌≡◌};
+ghost use Rattle.exec_plan.specs.Schedule.{plan_number_of};
+
+use thiserror::Error;
+
+/// Why a graph, moments and a feed are no plan, each with its number: the least that holds.
+#[derive(Clone, Copy, Debug, PartialEq, Eq, Error)]
+pub enum PlanFault {
+    /// A number or a length is beyond its limit.
+    #[error("beyond a limit")]
+    Limit = 5,
+    /// A moment is below the one before it, or a round of the feed isn't one of the plan.
+    #[error("out of order")]
+    Clock = 8,
+    /// The identifier of a goal that is fed is 0.
+    #[error("no identifier")]
+    Id = 9,
+}
+
+impl PlanFault {
+    /// The number of the fault, from 5 to 9.
+    pub fn number(self) -> u8
+        ensures { result ≡ plan_number_of self }
+    {
+        self as u8
+    }
+}

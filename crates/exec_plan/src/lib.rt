@@ -1,0 +1,21 @@
+//! Lawful graphs of topics, entities and callback groups, and plans of what is run on them.
+#![tactic(auto)]
+
+mod entity;
+mod fault;
+mod graph;
+pub mod laws;
+mod plan;
+mod script;
+
+pub use entity::parts::{Reference, Referent, RoleScript};
+pub use entity::{
+    ActionClientEntity, CallbackGroup, ClientEntity, Declared, EntityKind, EntityOf, GraphEntity,
+    GroupNo, ServerEntity, ServiceEntity, SubscriptionEntity, TimerEntity,
+};
+pub use fault::PlanFault;
+pub use graph::Graph;
+pub use plan::feed_by_round::FeedByRound;
+pub use plan::schedule::schedule_fits;
+pub use plan::{Fed, Feed, Plan};
+pub use script::Script;

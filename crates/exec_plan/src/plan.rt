@@ -1,0 +1,119 @@
+pub(crate) mod feed_by_round;
+pub(crate) mod schedule;
+
+use crate::fault::PlanFault;
+use crate::graph::Graph;
+use crate::plan::schedule::fault_of;
+use exec_msg::{EntityNo, GoalId, Moment};
+use std::marker::Model;
+
+/// What is fed.
+#[derive(Clone, Copy, Debug, PartialEq, Eq)]
+pub enum Fed {
+    /// A message to a topic.
+    Message {
+        /// The topic.
+        topic: EntityNo,
+        /// What it says.
+        value: i64,
+    },
+    /// A goal request to an action server.
+    Goal {
+        /// The action server.
+        server: EntityNo,
+        /// The goal's identifier, which isn't 0.
+        id: GoalId,
+        /// The goal.
+        value: i64,
+    },
+    /// A cancel request to an action server.
+    Cancel {
+        /// The action server.
+        server: EntityNo,
+        /// The identifier of the goal that is to be canceled, or 0 for none.
+        id: GoalId,
+        /// In ticks, at most [`TICKS`](exec_msg::limits::TICKS): the goals accepted up to it are to be canceled. 0 for none.
+        stamp: u64,
+    },
+}
+
+/// An entry of a feed.
+#[derive(Clone, Copy, Debug, PartialEq, Eq)]
+pub struct Feed {
+    /// The number of its round, from 1.
+    pub round: u64,
+    /// What is fed.
+    pub fed: Fed,
+}
+
+/// A lawful plan: a graph, the moment of each round, and what is fed to it. No moment is below the one before it, each
+/// round of the feed is one of the plan, and all limits hold.
+#[derive(Drop)]
+pub struct Plan {
+    graph: Graph,
+    moments: Vec<Moment>,
+    feed: Vec<Feed>,
+}
+
+impl Model for Plan {
+    ghost use Rattle.exec_plan.specs.Lawful.{IsLawfulPlan};
+    ghost use Rattle.exec_plan.specs.Plan.{PlanData};
+
+    ghost Value = { PlanData };
+
+    ghost view = { λ plan. record { graph = plan.graph; moments = plan.moments.items; feed = plan.feed.items } };
+
+    ghost invariant = { λ plan.
+        IsLawfulPlan (record { graph = plan.graph; moments = plan.moments.items; feed = plan.feed.items }) };
+}
+
+impl Plan {
+    ghost use Rattle.std.specs.Prelude.{◌≡◌, true, None, Some, IfOk, IfErr};
+    ghost use Rattle.std.specs.List.{list_all};
+    ghost use Rattle.exec_plan.specs.Feeding.{goes_somewhere};
+    ghost use Rattle.exec_plan.specs.Lawful.{IsLawfulPlan};
+    ghost use Rattle.exec_plan.specs.Schedule.{plan_fault_in};
+
+    /// The plan of a graph, the moment of each round, and what is fed to topics and servers of the graph. What was handed in
+    /// is given up on a fault. It takes no memory.
+    ///
+    /// # Errors
+    /// The least fault of moments and feed.
+    pub fn new(graph: Graph, moments: Vec<Moment>, feed: Vec<Feed>) -> Result<Plan, PlanFault>
+        requires { list_all (λ entry. goes_somewhere graph entry.fed) feed.items ≡ true }
+        ensures plan { IfOk result (λ plan. (plan_fault_in moments.items feed.items ≡ None) × (plan ≡ record { graph = graph; moments = moments.items; feed = feed.items })) }
+        ensures fault { IfErr result (λ fault. plan_fault_in moments.items feed.items ≡ Some fault) }
+    {
+        if let Some(fault) = fault_of(&moments, &feed) {
+            return Err(fault);
+        }
+        Ok(Plan {
+            graph,
+            moments,
+            feed,
+        })
+    }
+
+    /// The graph.
+    pub fn graph(&self) -> &Graph
+        ensures graph { result.now ≡ self.now.graph }
+        ensures lawful { IsLawfulPlan self.now }
+    {
+        &self.graph
+    }
+
+    /// The moment of each round, from the first.
+    pub fn moments(&self) -> &[Moment]
+        ensures { result.now ≡ self.now.moments }
+    {
+        self.moments.as_slice()
+    }
+
+    /// What is fed in all rounds, in the order in which it was declared.
+    pub fn feed(&self) -> &[Feed]
+        ensures feed { result.now ≡ self.now.feed }
+        ensures lawful { IsLawfulPlan self.now }
+    {
+        self.feed.as_slice()
+    }
+}

@@ -1,0 +1,126 @@
+//! What is asked of moments and of what is fed at them.
+ghost use Rattle.std.specs.Prelude.{◌≡◌, true, None, map, nat_le};
+ghost use Rattle.std.specs.List.{list_all};
+ghost use Rattle.exec_plan.specs.Feeding.{has_128_bits};
+ghost use Rattle.exec_plan.specs.Entity.{is_from_1};
+ghost use Rattle.exec_plan.specs.Lawful.{is_ascending_from};
+ghost use Rattle.exec_plan.specs.Schedule.{schedule_fits, greatest, stamp_of, is_in_order, is_identified, plan_fault_in};
+ghost use Rattle.exec_msg.specs.declared.limits.TheConstants.{TICKS};
+
+use crate::fault::PlanFault;
+use crate::plan::{Fed, Feed};
+use exec_msg::Moment;
+use exec_msg::limits::{FEED, MOMENTS, TICKS};
+
+/// Whether moments, the number of entries of a feed, and the greatest stamp in it (0 where there is none) are within
+/// their limits.
+pub fn schedule_fits(moments: &[Moment], entries: usize, stamp: u64) -> bool
+    ensures { result ≡ schedule_fits moments.now entries stamp }
+{
+    moments.len() <= MOMENTS && are_within(moments) && entries <= FEED && stamp <= TICKS
+}
+
+fn are_within(moments: &[Moment]) -> bool
+    ensures { result ≡ list_all (λ moment. nat_le moment TICKS) moments.now }
+{
+    moments.iter().all(is_within)
+}
+
+fn is_within(moment: &Moment) -> bool
+    ensures { result ≡ nat_le moment.now TICKS }
+{
+    moment.ticks() <= TICKS
+}
+
+// The least fault of moments and of what is fed at them.
+pub(crate) fn fault_of(moments: &[Moment], feed: &[Feed]) -> Option<PlanFault>
+    ensures fault { result ≡ plan_fault_in moments.now feed.now }
+    ensures bits { result ≡ None → list_all (λ entry. has_128_bits entry.fed) feed.now ≡ true }
+{
+    if !schedule_fits(moments, feed.len(), greatest_stamp(feed)) {
+        return Some(PlanFault::Limit);
+    }
+    if !is_in_order(moments, feed) {
+        return Some(PlanFault::Clock);
+    }
+    if !are_identified(feed) {
+        return Some(PlanFault::Id);
+    }
+    None
+}
+
+#[tactic(auto, using(crate::proofs::Scheduled::in_order))]
+fn is_in_order(moments: &[Moment], feed: &[Feed]) -> bool
+    ensures { result ≡ is_in_order moments.now (map (λ entry. entry.round) feed.now) }
+{
+    is_ascending(moments) && are_rounds(feed, moments.len())
+}
+
+// 0 where there is none.
+fn greatest_stamp(feed: &[Feed]) -> u64
+    ensures { result ≡ greatest (map (λ entry. stamp_of entry.fed) feed.now) }
+{
+    let mut greatest = 0;
+    for entry in feed {
+        greatest = greatest.max(stamp_of(&entry.fed));
+    }
+    greatest
+}
+
+fn stamp_of(fed: &Fed) -> u64
+    ensures { result ≡ stamp_of fed.now }
+{
+    match *fed {
+        Fed::Message { .. } | Fed::Goal { .. } => 0,
+        Fed::Cancel { stamp, .. } => stamp,
+    }
+}
+
+fn is_ascending(moments: &[Moment]) -> bool
+    ensures { result ≡ is_ascending_from 0 moments.now }
+{
+    let mut least = 0;
+    for moment in moments {
+        if moment.ticks() < least {
+            return false;
+        }
+        least = moment.ticks();
+    }
+    true
+}
+
+fn are_rounds(feed: &[Feed], most: usize) -> bool
+    ensures { result ≡ list_all (λ entry. is_from_1 most entry.round) feed.now }
+{
+    feed.iter().all(|entry| is_round(entry, most))
+}
+
+fn is_round(entry: &Feed, most: usize) -> bool
+    ensures { result ≡ is_from_1 most entry.now.round }
+{
+    entry.round >= 1 && entry.round <= most as u64
+}
+
+fn are_identified(feed: &[Feed]) -> bool
+    ensures identified { result ≡ list_all (λ entry. is_identified entry.fed) feed.now }
+    ensures bits { result ≡ true → list_all (λ entry. has_128_bits entry.fed) feed.now ≡ true }
+{
+    for entry in feed {
+        if !is_identified(entry) {
+            return false;
+        }
+    }
+    true
+}
+
+fn is_identified(entry: &Feed) -> bool
+    ensures identified { result ≡ is_identified entry.now.fed }
+    ensures bits { has_128_bits entry.now.fed ≡ true }
+{
+    match entry.fed {
+        Fed::Message { .. } => true,
+        Fed::Goal { id, .. } => id.number() >= 1,
+        // A cancel request may have any identifier: the comparison always holds, and tells the proof that it has 128 bits.
+        Fed::Cancel { id, .. } => id.number() <= u128::MAX,
+    }
+}
