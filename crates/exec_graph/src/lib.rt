@@ -8,8 +8,6 @@ mod graph;
 pub mod laws;
 mod plan;
 mod script;
-#[cfg(test)]
-mod tests;
 
 pub use draft::builder::GraphBuilder;
 pub use draft::named::NamedGraph;
