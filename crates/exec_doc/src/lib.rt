@@ -10,8 +10,6 @@ pub mod laws;
 pub mod refusals;
 mod refused;
 mod schedule;
-#[cfg(test)]
-mod tests;
 
 pub use document::read_document;
 pub use refused::Refused;

@@ -11,8 +11,6 @@ pub mod laws;
 mod refusals;
 mod state;
 mod tally;
-#[cfg(test)]
-mod tests;
 
 pub use asked::Asked;
 pub use cancel::{CancelAnswer, CancelRequest};

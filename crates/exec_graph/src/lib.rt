@@ -5,8 +5,6 @@ mod draft;
 mod fault;
 pub mod laws;
 mod spelled;
-#[cfg(test)]
-mod tests;
 
 pub use draft::builder::GraphBuilder;
 pub use draft::named::NamedGraph;

@@ -16,8 +16,6 @@ mod names;
 mod numbers;
 mod place;
 mod place_table;
-#[cfg(test)]
-mod tests;
 mod text;
 mod timer;
 mod transcript;

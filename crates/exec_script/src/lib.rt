@@ -14,8 +14,6 @@ mod run;
 mod scope;
 mod spelling;
 mod step;
-#[cfg(test)]
-mod tests;
 mod word;
 
 pub use cells::{Bank, Regs, Slot};

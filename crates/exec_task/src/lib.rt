@@ -7,8 +7,6 @@ mod goal;
 pub mod laws;
 mod poller;
 mod progress;
-#[cfg(test)]
-mod tests;
 mod wait;
 mod wake;
 

@@ -5,8 +5,8 @@
 use super::drafts::{builder_of, node_of};
 use super::graphs::{TWO_NODES, is_of_two_nodes};
 use super::plans::{TICKS, fed, is_as_fed, is_fed_by_round, planned};
-use super::same;
-use crate::{GraphBuilder, GraphFault};
+use crate::shared::same;
+use exec_graph::{GraphBuilder, GraphFault};
 use std::alloc::Global;
 use std::process::Abort;
 

@@ -6,8 +6,8 @@ ghost use Rattle.exec_plan.specs.Graph.{is_topic, is_server};
 ghost use Rattle.exec_plan.specs.Lawful.{is_at};
 
 use super::drafts::{Unread, builder_of};
-use super::same;
-use crate::{EntityKind, Fed, Feed, FeedByRound, Graph, GraphFault, Plan, PlanFault};
+use crate::shared::same;
+use exec_graph::{EntityKind, Fed, Feed, FeedByRound, Graph, GraphFault, Plan, PlanFault};
 use exec_msg::{EntityNo, GoalId, Memory, Moment};
 use std::alloc::Global;
 use std::process::Abort;

@@ -1,8 +1,8 @@
-use super::{
-    Already, Answer, Ending, GoalTask, PendingCall, Poller, Turn, Wait, is_awake, poll_goal,
-};
 use exec_msg::{Event, Memory, Moment};
 use exec_script::{Bank, Destination, Effect, Instr, Operand, Operation, Slot};
+use exec_task::{
+    Already, Answer, Ending, GoalTask, PendingCall, Poller, Turn, Wait, is_awake, poll_goal,
+};
 use futures::task::Poll;
 use futures::{Future, FutureExt};
 use std::alloc::Global;

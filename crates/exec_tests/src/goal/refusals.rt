@@ -1,8 +1,9 @@
 //! Refused memory: each call either answers as it does with ample memory, or answers Memory and
 //! leaves the goals as they were; asked again it succeeds. So these tests pass whichever
 //! allocation of a call is refused.
-use super::{id, moment, request, same};
-use crate::{Asked, GoalInfo, Goals, Reject};
+use super::{id, moment, request};
+use crate::shared::same;
+use exec_goal::{Asked, GoalInfo, Goals, Reject};
 use exec_msg::EntityNo;
 use std::process::Abort;
 use std::test::Fail;

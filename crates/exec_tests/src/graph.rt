@@ -3,7 +3,8 @@ mod graphs;
 mod plans;
 mod refused;
 
-use crate::{
+use crate::shared::same;
+use exec_graph::{
     EntityDraft, EntityOf, GraphBuilder, GraphFault, GroupDraft, NodeDraft, PlanFault, Script,
     ServerEntity, Spelled, schedule_fits,
 };
@@ -11,15 +12,8 @@ use exec_msg::limits::{FEED, TICKS};
 use exec_msg::{Items, Memory, Moment};
 use exec_script::{Instr, Word, WordText};
 use std::alloc::Global;
-use std::fmt::Debug;
-use std::process::Abort;
 use std::sync::Arc;
 use std::test::Fail;
-
-// A function of its own, since each assertion in a test makes the test's proof longer.
-fn same<T: PartialEq + Debug + Drop>(rt: &impl Abort, found: T, wanted: T) {
-    assert_eq!(rt; found, wanted);
-}
 
 fn nothing(alloc: Global) -> Spelled {
     Spelled::of(Vec::new(alloc))

@@ -1,7 +1,7 @@
 ghost use Rattle.std.specs.Prelude.{◌≡◌};
 
-use crate::limits::TICKS;
-use crate::{
+use exec_msg::limits::TICKS;
+use exec_msg::{
     EntityNo, GoalId, GoalStatus, KeepLast, Kind, LazyQueue, Line, LineList, Lines, Memory, Moment,
     Named, Names, ReturnCode, Text, Timer, write_line,
 };

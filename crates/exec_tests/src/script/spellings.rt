@@ -1,4 +1,4 @@
-use crate::{Role, ScriptFault};
+use exec_script::{Role, ScriptFault};
 
 /// Scripts, their instructions in lines, with what they are.
 pub const SPELLINGS: &[(&str, &str)] = &[

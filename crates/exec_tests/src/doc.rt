@@ -2,7 +2,7 @@
 //! memory may be refused at any point.
 mod memory;
 
-use crate::{Refused, read_document};
+use exec_doc::{Refused, read_document};
 use std::alloc::Global;
 use std::process::Abort;
 

@@ -4,8 +4,8 @@ ghost use Rattle.exec_plan.specs.Graph.{is_topic};
 ghost use Rattle.exec_plan.specs.Lawful.{is_at};
 
 use super::drafts::builder_of;
-use super::same;
-use crate::{CallbackGroup, Declared, EntityKind, Graph, GroupNo};
+use crate::shared::same;
+use exec_graph::{CallbackGroup, Declared, EntityKind, Graph, GroupNo};
 use exec_msg::EntityNo;
 use std::process::Abort;
 use std::test::Fail;

@@ -1,5 +1,6 @@
 //! Drafts of graphs, written as texts.
-use crate::{
+use crate::shared::word;
+use exec_graph::{
     ActionClientEntity, ClientEntity, Drafted, EntityDraft, EntityOf, GraphBuilder, GroupDraft,
     NodeDraft, ServerEntity, ServiceEntity, Spelled, SubscriptionEntity, TimerEntity,
 };
@@ -234,11 +235,4 @@ fn instruction_of(alloc: Global, text: &str) -> Result<Vec<Word>, Memory> {
         items.push(word(alloc, item)?)?;
     }
     Ok(items)
-}
-
-fn word(alloc: Global, item: &str) -> Result<Word, Memory> {
-    match item.parse::<i64>() {
-        Ok(value) => Ok(Word::Number(value)),
-        Err(_) => Ok(Word::Text(WordText::copy_of(alloc, item)?)),
-    }
 }

@@ -1,6 +1,7 @@
 //! The cancel policy over all kinds of requests, goals and decisions, against its text.
-use super::{id, moment, request, same};
-use crate::{GoalInfo, Goals, State};
+use super::{id, moment, request};
+use crate::shared::same;
+use exec_goal::{GoalInfo, Goals, State};
 use exec_msg::{Event, GoalId, Moment};
 use std::alloc::{AllocError, Global};
 use std::process::Abort;

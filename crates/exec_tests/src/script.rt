@@ -1,12 +1,13 @@
 mod arithmetic;
 mod spellings;
 
-use crate::{
+use crate::shared::word;
+use arithmetic::RESULTS;
+use exec_msg::{EntityNo, Event, GoalId, Memory, Moment};
+use exec_script::{
     Bank, Close, DecisionList, EffectList, Effects, Input, Instr, Place, Regs, Role, Scope,
     ScriptFault, Slot, Stop, Word, WordText, check, decode, run_call, run_call_into, run_from,
 };
-use arithmetic::RESULTS;
-use exec_msg::{EntityNo, Event, GoalId, Memory, Moment};
 use spellings::{LEGALITIES, SPELLINGS};
 use std::alloc::Global;
 use std::test::Fail;
@@ -51,13 +52,6 @@ impl Scope for Node {
             "a" => Some(EntityNo(5)),
             _ => None,
         }
-    }
-}
-
-fn word(alloc: Global, item: &str) -> Result<Word, Memory> {
-    match item.parse::<i64>() {
-        Ok(value) => Ok(Word::Number(value)),
-        Err(_) => Ok(Word::Text(WordText::copy_of(alloc, item)?)),
     }
 }
 

@@ -3,10 +3,10 @@ mod refusals;
 
 ghost use Rattle.std.specs.Prelude.{◌≤◌, ◌^◌};
 
-use crate::{Accepted, Asked, CancelRequest, Goals, Illegal, Reject, State};
+use crate::shared::same;
+use exec_goal::{Accepted, Asked, CancelRequest, Goals, Illegal, Reject, State};
 use exec_msg::limits::GOALS;
 use exec_msg::{EntityNo, Event, GoalId, GoalStatus, Memory, Moment, ReturnCode};
-use std::fmt::Debug;
 use std::process::Abort;
 use std::test::Fail;
 
@@ -35,11 +35,6 @@ fn request(number: u128, stamp: u64) -> CancelRequest {
         id: id(number),
         stamp,
     }
-}
-
-// A function of its own, since each assertion in a test makes the test's proof longer.
-fn same<T: PartialEq + Debug + Drop>(rt: &impl Abort, found: T, wanted: T) {
-    assert_eq!(rt; found, wanted);
 }
 
 #[test]
