@@ -33,5 +33,5 @@ pub fn plans_are_lawful()
 {
     exec_graph::laws::drafts_without_faults_have_lawful_graphs();
     exec_graph::laws::names_find_what_they_are_declared_as();
-    exec_graph::laws::plans_without_faults_are_lawful();
+    exec_plan::laws::plans_without_faults_are_lawful();
 }
