@@ -9,7 +9,8 @@ use Rattle.exec_doc.specs.declared.refused.Refused.{Refused}
 use Rattle.exec_doc.specs.declared.refused.Refused.TheVariants as refused
 use Rattle.exec_graph.specs.Faults.{has_faulty_script, shares_variables, is_well_named, is_small}
 use Rattle.exec_graph.specs.Refusals.{fault_in}
-use Rattle.exec_graph.proofs.Kept.{none_passes, without_fault}
+use Rattle.exec_graph.proofs.Kept.{without_fault}
+use Rattle.exec_plan.proofs.NonePasses.{none_passes}
 
 -- what each code leaves of a document that it doesn't refuse
 pub record IsKept (document : DocumentDraft) : Type 0 where

@@ -22,7 +22,8 @@ use Rattle.exec_plan.specs.Schedule.{stamp_of, is_identified}
 use Rattle.exec_plan.specs.declared.plan.Fed.{Fed}
 use Rattle.exec_plan.specs.declared.plan.Fed.TheVariants.{Goal, Cancel}
 use Rattle.exec_plan.specs.declared.plan.Feed.{Feed}
-use Rattle.exec_graph.proofs.Found.{found_there, Finds, finds}
+use Rattle.exec_graph.proofs.Found.{Finds, finds}
+use Rattle.exec_plan.proofs.FoundThere.{found_there}
 use Rattle.exec_plan.proofs.Reading.{AreRead, are_read, as_many, seen_alike, each_some, mapped_read, some_mapped}
 
 -- ---- what is found in a graph
