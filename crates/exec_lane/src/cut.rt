@@ -1,8 +1,8 @@
 ghost use Rattle.std.specs.Prelude.{◌≡◌, ◌<◌};
 
 use crate::lane_box::Slot;
-use exec_plan::GroupNo;
 use exec_msg::{Memory, PlaceTable};
+use exec_plan::GroupNo;
 use std::alloc::Global;
 use std::marker::Model;
 

@@ -21,8 +21,8 @@ ghost use Rattle.exec_queue.specs.inner.Queues.{slot_of, CoversFilled, has_item,
 mod entry;
 
 use entry::Entry;
-use exec_plan::Script;
 use exec_msg::{EntityNo, Kind, LazyQueue, Memory, PlaceTable};
+use exec_plan::Script;
 use exec_rules::{Handler, Home, Item, ReadyList};
 use std::alloc::Global;
 use std::marker::Model;

@@ -6,8 +6,8 @@ ghost use Rattle.exec_rules.specs.declared.homes.Home.{Home};
 ghost use Rattle.exec_rules.specs.inner.Homes.{AreHomes, IsHome};
 ghost use Rattle.exec_rules.specs.inner.Listing.{listed_behind};
 
-use exec_plan::Script;
 use exec_msg::{Items, Memory, Moment, Timer};
+use exec_plan::Script;
 use exec_rules::{Cause, Handler, Home, ReadyList};
 use std::alloc::Global;
 use std::marker::Model;

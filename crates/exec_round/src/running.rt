@@ -9,9 +9,9 @@ ghost use Rattle.exec_rules.specs.Transcript.{lines_of, text_of};
 
 use crate::rounds::{Sharing, run_round};
 use exec_doc::{Refused, read_document};
-use exec_plan::Plan;
 use exec_lane::Gate;
 use exec_msg::{Lines, Memory, Named, Text};
+use exec_plan::Plan;
 use exec_world::{World, run_plan};
 use std::alloc::Global;
 use std::marker::Brand;

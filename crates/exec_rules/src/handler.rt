@@ -1,8 +1,8 @@
 use crate::ready::{Cause, Ready};
 use crate::shared::share;
 use exec_goal::GoalInfo;
-use exec_plan::{GroupNo, Script};
 use exec_msg::{EntityNo, Items, Memory, Moment};
+use exec_plan::{GroupNo, Script};
 use std::marker::Model;
 
 /// Whose callback it is: an entity's, of a callback group that is mutually exclusive or not, and with which script.

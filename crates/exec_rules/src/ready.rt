@@ -3,8 +3,8 @@ ghost use Rattle.exec_rules.specs.Ready.{kind_of, id_for, input_at, input_of, ru
 
 use crate::item::Item;
 use exec_goal::GoalInfo;
-use exec_plan::{GroupNo, Script};
 use exec_msg::{EntityNo, GoalId, Items, Kind, Line, Moment};
+use exec_plan::{GroupNo, Script};
 use exec_script::Input;
 
 /// Why a callback is ready.

@@ -5,8 +5,8 @@ ghost use Rattle.exec_rules.specs.inner.Homes.{without_script};
 
 use crate::homes::Home;
 use crate::ready::Ready;
-use exec_plan::Script;
 use exec_msg::Memory;
+use exec_plan::Script;
 use std::alloc::Global;
 use std::marker::Model;
 

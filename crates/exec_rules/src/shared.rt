@@ -1,7 +1,7 @@
 ghost use Rattle.std.specs.Prelude.{◌≡◌, IfOk};
 
-use exec_plan::Script;
 use exec_msg::Memory;
+use exec_plan::Script;
 
 /// The same script, which is shared.
 ///

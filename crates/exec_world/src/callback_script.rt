@@ -4,11 +4,11 @@ ghost use Rattle.std.specs.Option.{unwrap_or};
 ghost use Rattle.exec_plan.specs.Graph.{callback_script};
 ghost use Rattle.exec_plan.specs.declared.entity.EntityOf.TheVariants as resolved;
 
+use exec_msg::{EntityNo, Kind, Memory};
 use exec_plan::{
     ActionClientEntity, ClientEntity, EntityOf, Script, ServerEntity, ServiceEntity,
     SubscriptionEntity, TimerEntity,
 };
-use exec_msg::{EntityNo, Kind, Memory};
 use exec_rules::share;
 use std::alloc::Global;
 use std::sync::Arc;

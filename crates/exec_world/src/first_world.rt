@@ -10,8 +10,8 @@ ghost use Rattle.exec_world.specs.inner.Parts.{new_queue_of, queues_of};
 
 use crate::callback_script::callback_script;
 use exec_entity::{ActionClient, ActionClients, Client, Clients, Server, Servers, Topic, Topics};
-use exec_plan::{Declared, EntityOf, Graph, GraphEntity, Script};
 use exec_msg::{EntityNo, Kind, Memory};
+use exec_plan::{Declared, EntityOf, Graph, GraphEntity, Script};
 use exec_queue::{EntityTimer, Queues};
 use exec_rules::{Handler, share};
 use exec_script::Bank;

@@ -8,8 +8,8 @@ ghost use Rattle.exec_world.specs.inner.Snapshots.{front_at, fronts_at};
 
 use crate::taken::{ready_for_item, runs_script};
 use exec_entity::{Server, Servers};
-use exec_plan::Script;
 use exec_msg::{Memory, Moment};
+use exec_plan::Script;
 use exec_queue::Queues;
 use exec_rules::{Home, Item, ReadyList};
 use std::alloc::Global;

@@ -8,8 +8,8 @@ ghost use Rattle.exec_rules.specs.declared.ready.Cause.TheVariants as cause;
 
 use exec_entity::Server;
 use exec_goal::GoalInfo;
-use exec_plan::Script;
 use exec_msg::{GoalId, Items, Memory, Moment};
+use exec_plan::Script;
 use exec_rules::{Cause, Handler, Item, Ready};
 use std::alloc::Global;
 

@@ -3,8 +3,8 @@ ghost use Rattle.std.specs.Arc.{arc_value};
 ghost use Rattle.exec_rules.specs.Transcript.{lines_of};
 
 use crate::state::State;
-use exec_plan::{FeedByRound, GroupNo, Plan};
 use exec_msg::{EntityNo, GoalId, Line, LineList, Lines, Memory};
+use exec_plan::{FeedByRound, GroupNo, Plan};
 use exec_rules::{Homes, Ready, ReadyList};
 use exec_script::{Bank, EffectList, Effects};
 use exec_task::{GoalTask, Poller};

@@ -4,8 +4,8 @@ ghost use Rattle.exec_rules.specs.Ready.{is_before_polls, queue_taken};
 ghost use Rattle.exec_rules.specs.World.{queue_after};
 
 use super::number;
-use exec_plan::Script;
 use exec_msg::{Kind, LazyQueue, Memory};
+use exec_plan::Script;
 use exec_rules::{Handler, Item};
 use std::marker::Model;
 
