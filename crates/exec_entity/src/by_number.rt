@@ -32,7 +32,7 @@ impl<E: Numbered> Model for ByNumber<E> {
 }
 
 impl<E: Numbered> ByNumber<E> {
-    ghost use Rattle.std.specs.Prelude.{◌≡◌, ◌==◌, [], ◌∷◌, ◌++◌, find, OnOk};
+    ghost use Rattle.std.specs.Prelude.{◌≡◌, ◌==◌, [], ◌∷◌, ◌++◌, find, OnOk, OnErr};
     ghost use Rattle.std.specs.Option.{option_copied};
     ghost use Rattle.exec_rules.specs.inner.Places.{place_in};
 
@@ -51,7 +51,8 @@ impl<E: Numbered> ByNumber<E> {
     /// # Errors
     /// [`Memory`] where a growth was refused.
     pub fn declare(&mut self, entry: E) -> Result<(), Memory>
-        ensures { OnOk result (self.new ≡ self.old ++ entry ∷ []) }
+        ensures declared { OnOk result (self.new ≡ self.old ++ entry ∷ []) }
+        ensures refused { OnErr result (self.new ≡ self.old) }
     {
         let number = entry.number().0 as usize;
         self.places.reserve(number)?;

@@ -26,7 +26,7 @@ impl Model for ReadyList {
 }
 
 impl ReadyList {
-    ghost use Rattle.std.specs.Prelude.{◌≡◌, [], ◌∷◌, List, None, slice_get, OnOk};
+    ghost use Rattle.std.specs.Prelude.{◌≡◌, [], ◌∷◌, List, None, slice_get, OnOk, OnErr};
     ghost use Rattle.std.specs.Option.{option_map_or};
     ghost use Rattle.exec_msg.specs.Places.{change_at};
     ghost use Rattle.exec_rules.specs.World.{Handler};
@@ -48,7 +48,8 @@ impl ReadyList {
     /// [`Memory`] where a growth was refused.
     #[inline(always)]
     pub fn push(&mut self, ready: Ready) -> Result<(), Memory>
-        ensures { OnOk result (self.new ≡ listed_behind self.old (ready ∷ [])) }
+        ensures listed { OnOk result (self.new ≡ listed_behind self.old (ready ∷ [])) }
+        ensures refused { OnErr result (self.new ≡ self.old) }
     {
         let position = self.items.len() + 1;
         self.items.push(Ready { position, ..ready })?;
@@ -68,6 +69,7 @@ impl ReadyList {
     ) -> Result<(), Memory>
         ensures listed { OnOk result (self.new ≡ listed_behind self.old (ready ∷ [])) }
         ensures homes { OnOk result ((handlers : List Handler) → HasScriptOf (slice_get handlers place) ready → AreHomes handlers self.old homes.old.items → AreHomes handlers self.new homes.new.items) }
+        ensures refused { OnErr result (self.new ≡ self.old) }
     {
         let at = self.as_slice().len();
         homes.push(Home { at, place })?;

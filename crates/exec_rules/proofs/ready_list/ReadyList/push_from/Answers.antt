@@ -14,4 +14,4 @@ returns-clause-homes c =
     (λ listed handlers has are. subst (λ (list : List Ready). AreHomes handlers list c.push.new.self.items) (sym listed)
     (subst (λ (homes : List Home). AreHomes handlers (listed_behind c.args.self.now (c.args.ready ∷ [])) homes) (sym c.in_ok-push.ensures.items)
     (pushed handlers c.args.self.now c.args.ready c.args.homes.now.items (length c.as_slice-at.result.now) c.args.place long has are)))
-    c.push-2.ensures
+    c.push-2.ensures.listed
