@@ -21,14 +21,20 @@ shared = record {
     nodes = codes "n" ∷ [];
     groups = record { node = 0; name = None; exclusive = true } ∷ [];
     entities =
-        record { name = codes "d"; is = in_group 0 (Timer (record {
-          period = 1;
-          script = instr.Set (destination.Variable 0) operation.Mul (operand.Variable 0) (operand.Value (pos 2)) ∷ instr.Log (operand.Variable 0) ∷ [];
-        })) }
-        ∷ record { name = codes "a"; is = in_group 0 (Timer (record {
-          period = 1;
-          script = instr.Set (destination.Variable 0) operation.Add (operand.Variable 0) (operand.Value (pos 1)) ∷ instr.Log (operand.Variable 0) ∷ [];
-        })) }
+        record {
+          name = codes "d";
+          is = in_group 0 (Timer (record {
+            period = 1;
+            script = instr.Set (destination.Variable 0) operation.Mul (operand.Variable 0) (operand.Value (pos 2)) ∷ instr.Log (operand.Variable 0) ∷ [];
+          }));
+        }
+        ∷ record {
+          name = codes "a";
+          is = in_group 0 (Timer (record {
+            period = 1;
+            script = instr.Set (destination.Variable 0) operation.Add (operand.Variable 0) (operand.Value (pos 1)) ∷ instr.Log (operand.Variable 0) ∷ [];
+          }));
+        }
         ∷ [];
   };
   moments = 1 ∷ [];
