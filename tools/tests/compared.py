@@ -81,6 +81,8 @@ WRONG = (
     ("count log s is ²", "is N, at least N or at most N"),
     ("count log s is " + "1" * 5000, "more digits than a number of a transcript"),
     ("never log s >-" + "1" * 5000, "more digits than a number of a transcript"),
+    ("never log s >5x", "'>5x' compares with no number"),
+    ("never log s <=", "'<=' compares with no number"),
 )
 
 

@@ -10,9 +10,12 @@ SECONDS = 60
 
 
 def run(tool, *words, given=None):
-    """The status and the output of a tool, and of standard error behind it."""
+    """The status and the output of a tool, and of standard error behind it; no status where it hadn't ended in time."""
     command = [sys.executable, "-B", str(TOOLS / tool), *map(str, words)]
-    ran = subprocess.run(command, input=given, stdout=subprocess.PIPE, stderr=subprocess.PIPE, timeout=SECONDS, cwd=TOP)
+    try:
+        ran = subprocess.run(command, input=given, stdout=subprocess.PIPE, stderr=subprocess.PIPE, timeout=SECONDS, cwd=TOP)
+    except subprocess.TimeoutExpired:
+        return None, f"no end after {SECONDS} seconds\n"
     return ran.returncode, ran.stdout.decode() + ran.stderr.decode()
 
 

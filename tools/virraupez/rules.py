@@ -75,6 +75,8 @@ def test_of(word):
     if bound:
         compare, number = COMPARED[bound[1]], number_of(bound[2])
         return lambda it: bool(NUMBER.fullmatch(it)) and compare(int(it), number)
+    if word[0] in "<>":
+        raise RuleError(f"{word[:30]!r} compares with no number")
     if word.startswith("="):
         return lambda it: it == word[1:]
     return frozenset(word.split("|")).__contains__
