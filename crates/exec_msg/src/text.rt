@@ -1,8 +1,7 @@
-ghost use Rattle.std.specs.Prelude.{◌≡◌, ◌+◌, ◌<◌, ◌≤◌, [], ◌∷◌, ◌++◌, length, take, codes, decimal, IfOk};
+ghost use Rattle.std.specs.Prelude.{◌≡◌, ◌+◌, ◌<◌, ◌≤◌, [], ◌∷◌, ◌++◌, length, take, codes, decimal, ◌^◌, vec_capacity, vec_len, IfOk, OnErr};
 ghost use Rattle.std.specs.Fmt.{signed_decimal};
 ghost use Rattle.exec_msg.specs.Goal.{status_number, code_number};
-ghost use Rattle.exec_msg.specs.Line.{IsAppended, spaced, joined, word_of, id_text, id_field, fields_of, line_text};
-ghost use Rattle.exec_msg.specs.inner.Text.{greatest_length};
+ghost use Rattle.exec_msg.specs.Line.{IsAppended, greatest_length, line_room, spaced, joined, word_of, id_text, id_field, fields_of, line_text};
 
 use crate::goal::{GoalStatus, ReturnCode};
 use crate::kind::Kind;
@@ -15,8 +14,13 @@ use crate::place::{
 };
 
 /// Appends the text of a line. Where memory is refused, `out` stays as it was.
+///
+/// # Errors
+/// [`Memory`] where a growth was refused, which can't be where the capacity has the room of a line.
 pub fn write_line(line: &Line, names: &Names, out: &mut Vec<u8>) -> Result<(), Memory>
-    ensures { IsAppended result out.old.items out.new.items (line_text names.now line.now) }
+    ensures text { IsAppended result out.old.items out.new.items (line_text names.now line.now) }
+    ensures capacity { vec_capacity out.old ≤ vec_capacity out.new }
+    ensures full { OnErr result (vec_capacity out.old < vec_len out.old + line_room names.now) }
 {
     let at = out.len();
     let room = room_behind(at, names)?;
@@ -31,7 +35,8 @@ const ROOM: usize = 128;
 
 /// How long the bytes are to be where a line is to stand at a place.
 pub fn room_behind(at: usize, names: &Names) -> Result<usize, Memory>
-    ensures { IfOk result (λ room. at + greatest_length names.now + 128 ≤ room) }
+    ensures room { IfOk result (λ room. room ≡ at + line_room names.now) }
+    ensures beyond { OnErr result (2 ^ 64 ≤ at + line_room names.now) }
 {
     let room = names.longest().checked_add(ROOM).ok_or(Memory)?;
     Ok(at.checked_add(room).ok_or(Memory)?)
@@ -40,9 +45,9 @@ pub fn room_behind(at: usize, names: &Names) -> Result<usize, Memory>
 /// Puts the text of a line at a place of bytes that have the room, and gives its end. What stands behind the end may change.
 #[inline(always)]
 pub fn place_line(line: &Line, names: &Names, bytes: &mut [u8], at: usize) -> usize
-    requires { at + greatest_length names.now + 128 ≤ length bytes.old }
+    requires { at + line_room names.now ≤ length bytes.old }
     ensures text { take result bytes.new ≡ take at bytes.old ++ line_text names.now line.now }
-    ensures within { result ≤ at + greatest_length names.now + 128 }
+    ensures within { result ≤ at + line_room names.now }
 {
     let end = place_fields(line, names, bytes, at);
     bytes[end] = b'\n';
