@@ -5,6 +5,7 @@ ghost use Rattle.std.specs.Prelude.{◌≡◌, ◌+◌, ◌<◌, ◌≤◌, [], 
 ghost use Rattle.std.specs.Fmt.{signed_decimal};
 ghost use Rattle.exec_msg.specs.Line.{spaced, joined, word_of, id_text, id_field};
 
+use crate::field_texts::FieldTexts;
 use crate::kind::Kind;
 use crate::numbers::GoalId;
 use itoa::write_digits;
@@ -20,6 +21,17 @@ pub(crate) fn place(bytes: &mut [u8], at: usize, text: &str) -> usize
     let end = at + text.len();
     bytes[at..end].copy_from_slice(text.as_bytes());
     end
+}
+
+// Bytes of a fixed number: a few loads and stores.
+#[inline(always)]
+pub(crate) fn place_cell<const N: usize>(bytes: &mut [u8], at: usize, cell: &[u8; N]) -> usize
+    requires { at + N ≤ length bytes.old }
+    ensures text { take result bytes.new ≡ take at bytes.old ++ cell.now }
+    ensures end { result ≡ at + N }
+{
+    bytes[at..at + N].copy_from_slice(cell);
+    at + N
 }
 
 // The first bytes of a text, so many: one load and one store.
@@ -127,13 +139,21 @@ fn place_kind(bytes: &mut [u8], at: usize, kind: Kind) -> usize
 }
 
 // A line's word, and the goal that it speaks of: the name of its server or client and its identifier.
-pub(crate) fn place_goal(bytes: &mut [u8], at: usize, word: &str, name: &str, id: GoalId) -> usize
-    requires { at + length word.now + length name.now + 38 ≤ length bytes.old }
+#[inline(always)]
+pub(crate) fn place_goal(
+    texts: &mut FieldTexts,
+    bytes: &mut [u8],
+    at: usize,
+    word: &str,
+    name: &str,
+    id: GoalId,
+) -> usize
+    requires { at + length word.now + length name.now + 49 ≤ length bytes.old }
     ensures text { take result bytes.new ≡ take at bytes.old ++ joined (word.now ∷ name.now ∷ id_text id ∷ []) }
     ensures within { result ≤ at + length word.now + length name.now + 38 }
 {
     let end = place_named(bytes, at, word, name);
-    place_id(bytes, end, id)
+    texts.ids.place(bytes, end, id)
 }
 
 // A count with a space before it.
@@ -240,10 +260,11 @@ fn count_digits(number: u64) -> usize
 }
 
 // An identifier with a space before it.
-fn place_id(bytes: &mut [u8], at: usize, id: GoalId) -> usize
+#[inline(always)]
+pub(crate) fn place_id(bytes: &mut [u8], at: usize, id: GoalId) -> usize
     requires { at + 37 ≤ length bytes.old }
     ensures text { take result bytes.new ≡ take at bytes.old ++ spaced (id_text id ∷ []) }
-    ensures within { result ≤ at + 37 }
+    ensures end { result ≡ at + 37 }
 {
     let mut buffer = Uuid::encode_buffer();
     let text = Uuid::from_u128(id.number()).hyphenated();
@@ -252,13 +273,18 @@ fn place_id(bytes: &mut [u8], at: usize, id: GoalId) -> usize
 
 // The identifier, where there is one.
 #[inline(always)]
-pub(crate) fn place_any_id(bytes: &mut [u8], at: usize, id: Option<GoalId>) -> usize
-    requires { at + 37 ≤ length bytes.old }
+pub(crate) fn place_any_id(
+    texts: &mut FieldTexts,
+    bytes: &mut [u8],
+    at: usize,
+    id: Option<GoalId>,
+) -> usize
+    requires { at + 48 ≤ length bytes.old }
     ensures text { take result bytes.new ≡ take at bytes.old ++ spaced (id_field id) }
     ensures within { result ≤ at + 37 }
 {
     match id {
-        Some(id) => place_id(bytes, at, id),
+        Some(id) => texts.ids.place(bytes, at, id),
         None => at,
     }
 }

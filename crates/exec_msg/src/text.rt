@@ -3,6 +3,7 @@ ghost use Rattle.std.specs.Fmt.{signed_decimal};
 ghost use Rattle.exec_msg.specs.Goal.{status_number, code_number};
 ghost use Rattle.exec_msg.specs.Line.{IsAppended, greatest_length, line_room, spaced, joined, word_of, id_text, id_field, fields_of, line_text};
 
+use crate::field_texts::FieldTexts;
 use crate::goal::{GoalStatus, ReturnCode};
 use crate::kind::Kind;
 use crate::line::Line;
@@ -25,7 +26,8 @@ pub fn write_line(line: &Line, names: &Names, out: &mut Vec<u8>) -> Result<(), M
     let at = out.len();
     let room = room_behind(at, names)?;
     out.resize(room, 0)?;
-    let end = place_line(line, names, out.as_mut_slice(), at);
+    let mut texts = FieldTexts::new(*out.allocator());
+    let end = place_line(line, names, &mut texts, out.as_mut_slice(), at);
     out.truncate(end);
     Ok(())
 }
@@ -44,19 +46,31 @@ pub fn room_behind(at: usize, names: &Names) -> Result<usize, Memory>
 
 /// Puts the text of a line at a place of bytes that have the room, and gives its end. What stands behind the end may change.
 #[inline(always)]
-pub fn place_line(line: &Line, names: &Names, bytes: &mut [u8], at: usize) -> usize
+pub(crate) fn place_line(
+    line: &Line,
+    names: &Names,
+    texts: &mut FieldTexts,
+    bytes: &mut [u8],
+    at: usize,
+) -> usize
     requires { at + line_room names.now ≤ length bytes.old }
     ensures text { take result bytes.new ≡ take at bytes.old ++ line_text names.now line.now }
     ensures within { result ≤ at + line_room names.now }
 {
-    let end = place_fields(line, names, bytes, at);
+    let end = place_fields(line, names, texts, bytes, at);
     bytes[end] = b'\n';
     end + 1
 }
 
 // The match goes where a line is made, and is decided there: for that it has to be small, and has but calls.
 #[inline(always)]
-fn place_fields(line: &Line, names: &Names, bytes: &mut [u8], at: usize) -> usize
+fn place_fields(
+    line: &Line,
+    names: &Names,
+    texts: &mut FieldTexts,
+    bytes: &mut [u8],
+    at: usize,
+) -> usize
     requires { at + greatest_length names.now + 127 ≤ length bytes.old }
     ensures text { take result bytes.new ≡ take at bytes.old ++ joined (fields_of names.now line.now) }
     ensures within { result ≤ at + greatest_length names.now + 127 }
@@ -64,6 +78,7 @@ fn place_fields(line: &Line, names: &Names, bytes: &mut [u8], at: usize) -> usiz
     match *line {
         Line::Round { number, moment } => place_round(bytes, at, number, moment.ticks()),
         Line::Expire { server, id } => place_goal(
+            texts,
             bytes,
             at,
             "expire",
@@ -76,7 +91,16 @@ fn place_fields(line: &Line, names: &Names, bytes: &mut [u8], at: usize) -> usiz
             input,
             aux,
             id,
-        } => place_run(bytes, at, names.bounded_name(entity), kind, input, aux, id),
+        } => place_run(
+            texts,
+            bytes,
+            at,
+            names.bounded_name(entity),
+            kind,
+            input,
+            aux,
+            id,
+        ),
         Line::Drop {
             entity,
             kind,
@@ -95,6 +119,7 @@ fn place_fields(line: &Line, names: &Names, bytes: &mut [u8], at: usize) -> usiz
             value,
         ),
         Line::Goal { client, id, value } => place_goal_value(
+            texts,
             bytes,
             at,
             "goal",
@@ -103,6 +128,7 @@ fn place_fields(line: &Line, names: &Names, bytes: &mut [u8], at: usize) -> usiz
             value,
         ),
         Line::Cancel { client, id, stamp } => place_goal_count(
+            texts,
             bytes,
             at,
             "cancel",
@@ -112,6 +138,7 @@ fn place_fields(line: &Line, names: &Names, bytes: &mut [u8], at: usize) -> usiz
         ),
         Line::Log { entity, value } => place_log(bytes, at, names.bounded_name(entity), value),
         Line::Feedback { server, id, value } => place_goal_value(
+            texts,
             bytes,
             at,
             "feedback",
@@ -124,6 +151,7 @@ fn place_fields(line: &Line, names: &Names, bytes: &mut [u8], at: usize) -> usiz
             id,
             decision,
         } => place_goal_count(
+            texts,
             bytes,
             at,
             "decide",
@@ -132,6 +160,7 @@ fn place_fields(line: &Line, names: &Names, bytes: &mut [u8], at: usize) -> usiz
             decision as u64,
         ),
         Line::State { server, id, status } => place_goal_count(
+            texts,
             bytes,
             at,
             "state",
@@ -144,13 +173,28 @@ fn place_fields(line: &Line, names: &Names, bytes: &mut [u8], at: usize) -> usiz
             code,
             moved,
         } => place_code(bytes, at, names.bounded_name(server), code, moved),
-        Line::Ask { client, id } => place_goal(bytes, at, "ask", names.bounded_name(client), id),
+        Line::Ask { client, id } => place_goal(
+            texts,
+            bytes,
+            at,
+            "ask",
+            names.bounded_name(client),
+            id,
+        ),
         Line::Result {
             server,
             id,
             status,
             value,
-        } => place_result(bytes, at, names.bounded_name(server), id, status, value),
+        } => place_result(
+            texts,
+            bytes,
+            at,
+            names.bounded_name(server),
+            id,
+            status,
+            value,
+        ),
         Line::Pending { client, calls } => place_named_count(
             bytes,
             at,
@@ -185,6 +229,7 @@ fn place_end(bytes: &mut [u8], at: usize, rounds: u64) -> usize
 
 #[inline(never)]
 fn place_run(
+    texts: &mut FieldTexts,
     bytes: &mut [u8],
     at: usize,
     name: &str,
@@ -193,14 +238,14 @@ fn place_run(
     aux: i64,
     id: Option<GoalId>,
 ) -> usize
-    requires { at + length name.now + 94 ≤ length bytes.old }
+    requires { at + length name.now + 105 ≤ length bytes.old }
     ensures text { take result bytes.new ≡ take at bytes.old ++ joined (codes "run" ∷ name.now ∷ word_of kind ∷ signed_decimal input ∷ signed_decimal aux ∷ id_field id) }
     ensures within { result ≤ at + length name.now + 94 }
 {
     let end = place_callback(bytes, at, "run", name, kind);
     let end = place_value(bytes, end, input);
     let end = place_value(bytes, end, aux);
-    place_any_id(bytes, end, id)
+    place_any_id(texts, bytes, end, id)
 }
 
 #[inline(never)]
@@ -262,6 +307,7 @@ fn place_code(bytes: &mut [u8], at: usize, name: &str, code: ReturnCode, moved: 
 
 #[inline(never)]
 fn place_result(
+    texts: &mut FieldTexts,
     bytes: &mut [u8],
     at: usize,
     name: &str,
@@ -269,11 +315,11 @@ fn place_result(
     status: GoalStatus,
     value: i64,
 ) -> usize
-    requires { at + length name.now + 88 ≤ length bytes.old }
+    requires { at + length name.now + 99 ≤ length bytes.old }
     ensures text { take result bytes.new ≡ take at bytes.old ++ joined (codes "result" ∷ name.now ∷ id_text id ∷ decimal (status_number status) ∷ signed_decimal value ∷ []) }
     ensures within { result ≤ at + length name.now + 88 }
 {
-    let end = place_goal_count(bytes, at, "result", name, id, status.number() as u64);
+    let end = place_goal_count(texts, bytes, at, "result", name, id, status.number() as u64);
     place_value(bytes, end, value)
 }
 
@@ -302,6 +348,7 @@ fn place_named_count(bytes: &mut [u8], at: usize, word: &str, name: &str, count:
 // A line's word, the goal that it speaks of, and a value.
 #[inline(never)]
 fn place_goal_value(
+    texts: &mut FieldTexts,
     bytes: &mut [u8],
     at: usize,
     word: &str,
@@ -309,17 +356,18 @@ fn place_goal_value(
     id: GoalId,
     value: i64,
 ) -> usize
-    requires { at + length word.now + length name.now + 60 ≤ length bytes.old }
+    requires { at + length word.now + length name.now + 71 ≤ length bytes.old }
     ensures text { take result bytes.new ≡ take at bytes.old ++ joined (word.now ∷ name.now ∷ id_text id ∷ signed_decimal value ∷ []) }
     ensures within { result ≤ at + length word.now + length name.now + 60 }
 {
-    let end = place_goal(bytes, at, word, name, id);
+    let end = place_goal(texts, bytes, at, word, name, id);
     place_value(bytes, end, value)
 }
 
 // A line's word, the goal that it speaks of, and a count.
 #[inline(never)]
 fn place_goal_count(
+    texts: &mut FieldTexts,
     bytes: &mut [u8],
     at: usize,
     word: &str,
@@ -327,10 +375,10 @@ fn place_goal_count(
     id: GoalId,
     count: u64,
 ) -> usize
-    requires { at + length word.now + length name.now + 59 ≤ length bytes.old }
+    requires { at + length word.now + length name.now + 70 ≤ length bytes.old }
     ensures text { take result bytes.new ≡ take at bytes.old ++ joined (word.now ∷ name.now ∷ id_text id ∷ decimal count ∷ []) }
     ensures within { result ≤ at + length word.now + length name.now + 59 }
 {
-    let end = place_goal(bytes, at, word, name, id);
+    let end = place_goal(texts, bytes, at, word, name, id);
     place_count(bytes, end, count)
 }
