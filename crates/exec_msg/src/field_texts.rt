@@ -2,12 +2,14 @@
 
 use crate::id_texts::IdTexts;
 use crate::memory::Memory;
+use crate::value_texts::ValueTexts;
 use std::alloc::Global;
 
 /// What is remembered of fields. No line depends on it.
 #[derive(Drop)]
 pub(crate) struct FieldTexts {
     pub(crate) ids: IdTexts,
+    pub(crate) values: ValueTexts,
 }
 
 impl FieldTexts {
@@ -15,11 +17,13 @@ impl FieldTexts {
     pub(crate) fn new(alloc: Global) -> FieldTexts {
         FieldTexts {
             ids: IdTexts::new(alloc),
+            values: ValueTexts::new(alloc),
         }
     }
 
     /// Remembers fields from then on.
     pub(crate) fn fill(&mut self) -> Result<(), Memory> {
-        self.ids.fill()
+        self.ids.fill()?;
+        self.values.fill()
     }
 }

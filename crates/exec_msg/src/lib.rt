@@ -21,6 +21,7 @@ mod place_table;
 mod text;
 mod timer;
 mod transcript;
+mod value_texts;
 
 pub use goal::{Event, GoalStatus, ReturnCode};
 pub use history::History;

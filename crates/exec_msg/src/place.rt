@@ -167,9 +167,23 @@ pub(crate) fn place_count(bytes: &mut [u8], at: usize, count: u64) -> usize
     place_digits(bytes, at + 1, count)
 }
 
-// A value with a space before it.
+// A value with a space before it. Most are small, and are written in place.
 #[inline(always)]
-pub(crate) fn place_value(bytes: &mut [u8], at: usize, value: i64) -> usize
+pub(crate) fn place_value(texts: &mut FieldTexts, bytes: &mut [u8], at: usize, value: i64) -> usize
+    requires { at + 24 ≤ length bytes.old }
+    ensures text { take result bytes.new ≡ take at bytes.old ++ spaced (signed_decimal value ∷ []) }
+    ensures within { result ≤ at + 22 }
+{
+    if value < 0 || value >= 10_000 {
+        return texts.values.place(bytes, at, value);
+    }
+    bytes[at] = b' ';
+    place_thousands(bytes, at + 1, value.unsigned_abs())
+}
+
+// A value with a space before it, with each of its digits made anew.
+#[inline(always)]
+pub(crate) fn place_signed(bytes: &mut [u8], at: usize, value: i64) -> usize
     requires { at + 22 ≤ length bytes.old }
     ensures text { take result bytes.new ≡ take at bytes.old ++ spaced (signed_decimal value ∷ []) }
     ensures within { result ≤ at + 22 }
@@ -287,4 +301,94 @@ pub(crate) fn place_any_id(
         Some(id) => texts.ids.place(bytes, at, id),
         None => at,
     }
+}
+
+// A line's word, the name of what it speaks of, and a value.
+#[inline(always)]
+pub(crate) fn place_named_value(
+    texts: &mut FieldTexts,
+    bytes: &mut [u8],
+    at: usize,
+    word: &str,
+    name: &str,
+    value: i64,
+) -> usize
+    requires { at + length word.now + length name.now + 25 ≤ length bytes.old }
+    ensures text { take result bytes.new ≡ take at bytes.old ++ joined (word.now ∷ name.now ∷ signed_decimal value ∷ []) }
+    ensures within { result ≤ at + length word.now + length name.now + 23 }
+{
+    let end = place_named(bytes, at, word, name);
+    place_value(texts, bytes, end, value)
+}
+
+// A line's word, the name of what it speaks of, and a count.
+#[inline(never)]
+pub(crate) fn place_named_count(
+    bytes: &mut [u8],
+    at: usize,
+    word: &str,
+    name: &str,
+    count: u64,
+) -> usize
+    requires { at + length word.now + length name.now + 22 ≤ length bytes.old }
+    ensures text { take result bytes.new ≡ take at bytes.old ++ joined (word.now ∷ name.now ∷ decimal count ∷ []) }
+    ensures within { result ≤ at + length word.now + length name.now + 22 }
+{
+    let end = place_named(bytes, at, word, name);
+    place_count(bytes, end, count)
+}
+
+// A line's word, and the goal that it speaks of.
+#[inline(never)]
+pub(crate) fn place_goal_line(
+    texts: &mut FieldTexts,
+    bytes: &mut [u8],
+    at: usize,
+    word: &str,
+    name: &str,
+    id: GoalId,
+) -> usize
+    requires { at + length word.now + length name.now + 49 ≤ length bytes.old }
+    ensures text { take result bytes.new ≡ take at bytes.old ++ joined (word.now ∷ name.now ∷ id_text id ∷ []) }
+    ensures within { result ≤ at + length word.now + length name.now + 38 }
+{
+    place_goal(texts, bytes, at, word, name, id)
+}
+
+// A line's word, the goal that it speaks of, and a value.
+#[inline(never)]
+pub(crate) fn place_goal_value(
+    texts: &mut FieldTexts,
+    bytes: &mut [u8],
+    at: usize,
+    word: &str,
+    name: &str,
+    id: GoalId,
+    value: i64,
+) -> usize
+    requires { at + length word.now + length name.now + 71 ≤ length bytes.old }
+    ensures text { take result bytes.new ≡ take at bytes.old ++ joined (word.now ∷ name.now ∷ id_text id ∷ signed_decimal value ∷ []) }
+    ensures within { result ≤ at + length word.now + length name.now + 60 }
+{
+    let end = place_goal(texts, bytes, at, word, name, id);
+    place_value(texts, bytes, end, value)
+}
+
+// A line's word, the goal that it speaks of, and a count.
+#[inline(never)]
+pub(crate) fn place_goal_count(
+    texts: &mut FieldTexts,
+    bytes: &mut [u8],
+    at: usize,
+    word: &str,
+    name: &str,
+    id: GoalId,
+    count: u64,
+) -> usize
+    requires { at + length word.now + length name.now + 70 ≤ length bytes.old }
+    ensures text { take result bytes.new ≡ take at bytes.old ++ joined (word.now ∷ name.now ∷ id_text id ∷ decimal count ∷ []) }
+    ensures within { result ≤ at + length word.now + length name.now + 59 }
+{
+    let end = place_goal(texts, bytes, at, word, name, id);
+    place_count(bytes, end, count)
 }

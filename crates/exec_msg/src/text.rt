@@ -11,7 +11,8 @@ use crate::memory::Memory;
 use crate::names::Names;
 use crate::numbers::GoalId;
 use crate::place::{
-    place, place_any_id, place_callback, place_count, place_goal, place_named, place_value,
+    place, place_any_id, place_callback, place_count, place_goal_count, place_goal_line,
+    place_goal_value, place_named_count, place_named_value, place_value,
 };
 
 /// Appends the text of a line. Where memory is refused, `out` stays as it was.
@@ -77,7 +78,7 @@ fn place_fields(
 {
     match *line {
         Line::Round { number, moment } => place_round(bytes, at, number, moment.ticks()),
-        Line::Expire { server, id } => place_goal(
+        Line::Expire { server, id } => place_goal_line(
             texts,
             bytes,
             at,
@@ -105,14 +106,15 @@ fn place_fields(
             entity,
             kind,
             input,
-        } => place_drop(bytes, at, names.bounded_name(entity), kind, input),
-        Line::Pub { topic, value } => place_pub(bytes, at, names.bounded_name(topic), value),
+        } => place_drop(texts, bytes, at, names.bounded_name(entity), kind, input),
+        Line::Pub { topic, value } => place_pub(texts, bytes, at, names.bounded_name(topic), value),
         Line::Call {
             client,
             number,
             value,
-        } => place_call(bytes, at, names.bounded_name(client), number, value),
+        } => place_call(texts, bytes, at, names.bounded_name(client), number, value),
         Line::Reply { service, value } => place_reply(
+            texts,
             bytes,
             at,
             names.bounded_name(service),
@@ -136,7 +138,13 @@ fn place_fields(
             id,
             stamp,
         ),
-        Line::Log { entity, value } => place_log(bytes, at, names.bounded_name(entity), value),
+        Line::Log { entity, value } => place_log(
+            texts,
+            bytes,
+            at,
+            names.bounded_name(entity),
+            value,
+        ),
         Line::Feedback { server, id, value } => place_goal_value(
             texts,
             bytes,
@@ -173,7 +181,7 @@ fn place_fields(
             code,
             moved,
         } => place_code(bytes, at, names.bounded_name(server), code, moved),
-        Line::Ask { client, id } => place_goal(
+        Line::Ask { client, id } => place_goal_line(
             texts,
             bytes,
             at,
@@ -243,56 +251,70 @@ fn place_run(
     ensures within { result ≤ at + length name.now + 94 }
 {
     let end = place_callback(bytes, at, "run", name, kind);
-    let end = place_value(bytes, end, input);
-    let end = place_value(bytes, end, aux);
+    let end = place_value(texts, bytes, end, input);
+    let end = place_value(texts, bytes, end, aux);
     place_any_id(texts, bytes, end, id)
 }
 
 #[inline(never)]
-fn place_drop(bytes: &mut [u8], at: usize, name: &str, kind: Kind, input: i64) -> usize
-    requires { at + length name.now + 36 ≤ length bytes.old }
+fn place_drop(
+    texts: &mut FieldTexts,
+    bytes: &mut [u8],
+    at: usize,
+    name: &str,
+    kind: Kind,
+    input: i64,
+) -> usize
+    requires { at + length name.now + 38 ≤ length bytes.old }
     ensures text { take result bytes.new ≡ take at bytes.old ++ joined (codes "drop" ∷ name.now ∷ word_of kind ∷ signed_decimal input ∷ []) }
     ensures within { result ≤ at + length name.now + 36 }
 {
     let end = place_callback(bytes, at, "drop", name, kind);
-    place_value(bytes, end, input)
+    place_value(texts, bytes, end, input)
 }
 
 #[inline(never)]
-fn place_pub(bytes: &mut [u8], at: usize, name: &str, value: i64) -> usize
-    requires { at + length name.now + 26 ≤ length bytes.old }
+fn place_pub(texts: &mut FieldTexts, bytes: &mut [u8], at: usize, name: &str, value: i64) -> usize
+    requires { at + length name.now + 28 ≤ length bytes.old }
     ensures text { take result bytes.new ≡ take at bytes.old ++ joined (codes "pub" ∷ name.now ∷ signed_decimal value ∷ []) }
     ensures within { result ≤ at + length name.now + 26 }
 {
-    place_named_value(bytes, at, "pub", name, value)
+    place_named_value(texts, bytes, at, "pub", name, value)
 }
 
 #[inline(never)]
-fn place_reply(bytes: &mut [u8], at: usize, name: &str, value: i64) -> usize
-    requires { at + length name.now + 28 ≤ length bytes.old }
+fn place_reply(texts: &mut FieldTexts, bytes: &mut [u8], at: usize, name: &str, value: i64) -> usize
+    requires { at + length name.now + 30 ≤ length bytes.old }
     ensures text { take result bytes.new ≡ take at bytes.old ++ joined (codes "reply" ∷ name.now ∷ signed_decimal value ∷ []) }
     ensures within { result ≤ at + length name.now + 28 }
 {
-    place_named_value(bytes, at, "reply", name, value)
+    place_named_value(texts, bytes, at, "reply", name, value)
 }
 
 #[inline(never)]
-fn place_log(bytes: &mut [u8], at: usize, name: &str, value: i64) -> usize
-    requires { at + length name.now + 26 ≤ length bytes.old }
+fn place_log(texts: &mut FieldTexts, bytes: &mut [u8], at: usize, name: &str, value: i64) -> usize
+    requires { at + length name.now + 28 ≤ length bytes.old }
     ensures text { take result bytes.new ≡ take at bytes.old ++ joined (codes "log" ∷ name.now ∷ signed_decimal value ∷ []) }
     ensures within { result ≤ at + length name.now + 26 }
 {
-    place_named_value(bytes, at, "log", name, value)
+    place_named_value(texts, bytes, at, "log", name, value)
 }
 
 #[inline(never)]
-fn place_call(bytes: &mut [u8], at: usize, name: &str, number: u64, value: i64) -> usize
-    requires { at + length name.now + 48 ≤ length bytes.old }
+fn place_call(
+    texts: &mut FieldTexts,
+    bytes: &mut [u8],
+    at: usize,
+    name: &str,
+    number: u64,
+    value: i64,
+) -> usize
+    requires { at + length name.now + 50 ≤ length bytes.old }
     ensures text { take result bytes.new ≡ take at bytes.old ++ joined (codes "call" ∷ name.now ∷ decimal number ∷ signed_decimal value ∷ []) }
     ensures within { result ≤ at + length name.now + 48 }
 {
     let end = place_named_count(bytes, at, "call", name, number);
-    place_value(bytes, end, value)
+    place_value(texts, bytes, end, value)
 }
 
 #[inline(never)]
@@ -320,65 +342,5 @@ fn place_result(
     ensures within { result ≤ at + length name.now + 88 }
 {
     let end = place_goal_count(texts, bytes, at, "result", name, id, status.number() as u64);
-    place_value(bytes, end, value)
-}
-
-// A line's word, the name of what it speaks of, and a value.
-#[inline(always)]
-fn place_named_value(bytes: &mut [u8], at: usize, word: &str, name: &str, value: i64) -> usize
-    requires { at + length word.now + length name.now + 23 ≤ length bytes.old }
-    ensures text { take result bytes.new ≡ take at bytes.old ++ joined (word.now ∷ name.now ∷ signed_decimal value ∷ []) }
-    ensures within { result ≤ at + length word.now + length name.now + 23 }
-{
-    let end = place_named(bytes, at, word, name);
-    place_value(bytes, end, value)
-}
-
-// A line's word, the name of what it speaks of, and a count.
-#[inline(never)]
-fn place_named_count(bytes: &mut [u8], at: usize, word: &str, name: &str, count: u64) -> usize
-    requires { at + length word.now + length name.now + 22 ≤ length bytes.old }
-    ensures text { take result bytes.new ≡ take at bytes.old ++ joined (word.now ∷ name.now ∷ decimal count ∷ []) }
-    ensures within { result ≤ at + length word.now + length name.now + 22 }
-{
-    let end = place_named(bytes, at, word, name);
-    place_count(bytes, end, count)
-}
-
-// A line's word, the goal that it speaks of, and a value.
-#[inline(never)]
-fn place_goal_value(
-    texts: &mut FieldTexts,
-    bytes: &mut [u8],
-    at: usize,
-    word: &str,
-    name: &str,
-    id: GoalId,
-    value: i64,
-) -> usize
-    requires { at + length word.now + length name.now + 71 ≤ length bytes.old }
-    ensures text { take result bytes.new ≡ take at bytes.old ++ joined (word.now ∷ name.now ∷ id_text id ∷ signed_decimal value ∷ []) }
-    ensures within { result ≤ at + length word.now + length name.now + 60 }
-{
-    let end = place_goal(texts, bytes, at, word, name, id);
-    place_value(bytes, end, value)
-}
-
-// A line's word, the goal that it speaks of, and a count.
-#[inline(never)]
-fn place_goal_count(
-    texts: &mut FieldTexts,
-    bytes: &mut [u8],
-    at: usize,
-    word: &str,
-    name: &str,
-    id: GoalId,
-    count: u64,
-) -> usize
-    requires { at + length word.now + length name.now + 70 ≤ length bytes.old }
-    ensures text { take result bytes.new ≡ take at bytes.old ++ joined (word.now ∷ name.now ∷ id_text id ∷ decimal count ∷ []) }
-    ensures within { result ≤ at + length word.now + length name.now + 59 }
-{
-    let end = place_goal(texts, bytes, at, word, name, id);
-    place_count(bytes, end, count)
+    place_value(texts, bytes, end, value)
 }
