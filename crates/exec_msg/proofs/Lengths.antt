@@ -4,7 +4,7 @@ use Rattle.std.proofs.Math.Nat.{pow-suc, one-le-pow}
 use Rattle.std.proofs.lemmas.Fmt.{decimal_by_steps, length-decimal-le}
 use Rattle.std.specs.Fmt.{decimal}
 use Rattle.uuid.specs.Text.{by_index, hyphenated_text, lower}
-use Rattle.exec_msg.specs.inner.Text.{greatest_length}
+use Rattle.exec_msg.specs.Line.{greatest_length}
 
 -- no name is longer than the longest
 pub name_within : (names : List (List ℕ)) (number : ℕ) → length (get_or names number []) ≤ greatest_length names

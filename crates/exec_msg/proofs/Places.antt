@@ -27,15 +27,21 @@ digits_written before after digits at start end starts ends front rest =
     ∙ ap (λ (xs : List ℕ). take start before ++ xs) (take_at digits (drop end before) (length digits) refl)
     ∙ ap (λ (n : ℕ). take n before ++ digits) starts
 
+-- the front of what was written at a place
+pub written_front : (before after text : List ℕ) (at most few end : ℕ) → at ≤ length before → few ≤ most → end ≡ at + most → take end after ≡ take at before ++ text →
+    take (at + few) after ≡ take at before ++ take few text
+written_front before after text at most few end within fewer end_is written =
+    let long : length (take at before) ≡ at = length-take-le at before within in
+    sym (take-take (at + few) end after (omega arith))
+    ∙ ap (take (at + few)) written
+    ∙ ap (λ (n : ℕ). take (n + few) (take at before ++ text)) (sym long)
+    ∙ take-append-add (take at before) text few
+
 -- the front of a text, where more of it was written
 pub front_written : (before after text : List ℕ) (at most few end : ℕ) → at ≤ length before → few ≤ most → end ≡ at + most → take end after ≡ take at before ++ take most text →
     take (at + few) after ≡ take at before ++ take few text
 front_written before after text at most few end within fewer end_is written =
-    let long : length (take at before) ≡ at = length-take-le at before within in
-    sym (take-take (at + few) end after (omega arith))
-    ∙ ap (take (at + few)) written
-    ∙ ap (λ (n : ℕ). take (n + few) (take at before ++ take most text)) (sym long)
-    ∙ take-append-add (take at before) (take most text) few
+    written_front before after (take most text) at most few end within fewer end_is written
     ∙ ap (λ (xs : List ℕ). take at before ++ xs) (take-take few most text (omega arith))
 
 -- the first and the last bytes of a text, so many, laid over each other

@@ -1,5 +1,5 @@
 -- The text of a transcript, line by line.
-use Rattle.std.specs.Prelude.{◌≡◌, ℕ, List, [], ◌∷◌, ◌++◌, codes, decimal, Option, None, Some, slice_index_or, Result, OnOk, OnErr}
+use Rattle.std.specs.Prelude.{◌≡◌, ℕ, ◌+◌, max, List, [], ◌∷◌, ◌++◌, codes, decimal, length, Option, None, Some, slice_index_or, Result, OnOk, OnErr}
 use Rattle.std.specs.Int.{to_be_bytes, w128}
 use Rattle.std.specs.Fmt.{signed_decimal}
 use Rattle.std.specs.List.{flat_map}
@@ -72,6 +72,15 @@ fields_of names (line.End rounds) = codes "end" ∷ decimal rounds ∷ []
 -- the text of a line: its fields with one space between them, and a line feed
 abbrev pub line_text : List (List ℕ) → Line → List ℕ
 line_text names line = joined (fields_of names line) ++ 10 ∷ []
+
+-- the length of the longest of some texts, 0 for none
+abbrev pub greatest_length : List (List ℕ) → ℕ
+greatest_length [] = 0
+greatest_length (text ∷ texts) = max (length text) (greatest_length texts)
+
+-- the room of a line: the text of none with these names is longer
+abbrev pub line_room : List (List ℕ) → ℕ
+line_room names = greatest_length names + 128
 
 -- the text of a transcript
 abbrev pub transcript_text : List (List ℕ) → List Line → List ℕ

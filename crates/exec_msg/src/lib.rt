@@ -1,8 +1,10 @@
 //! What the executor's callbacks and its transcript are made of: moments, names, timers and lines.
 #![tactic(auto)]
 
+mod field_texts;
 mod goal;
 mod history;
+mod id_texts;
 mod items;
 mod keep_last;
 mod kind;
@@ -19,6 +21,7 @@ mod place_table;
 mod text;
 mod timer;
 mod transcript;
+mod value_texts;
 
 pub use goal::{Event, GoalStatus, ReturnCode};
 pub use history::History;

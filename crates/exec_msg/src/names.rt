@@ -1,6 +1,5 @@
 ghost use Rattle.std.specs.Prelude.{◌≡◌, ℕ, ◌≤◌, List, map, length, string_bytes};
-ghost use Rattle.exec_msg.specs.Line.{name_at};
-ghost use Rattle.exec_msg.specs.inner.Text.{greatest_length};
+ghost use Rattle.exec_msg.specs.Line.{greatest_length, name_at};
 
 use crate::numbers::EntityNo;
 use std::marker::Model;
@@ -15,7 +14,7 @@ pub struct Names {
 
 impl Model for Names {
     ghost use Rattle.std.specs.Prelude.{◌≡◌, ℕ, List, map, string_bytes};
-    ghost use Rattle.exec_msg.specs.inner.Text.{greatest_length};
+    ghost use Rattle.exec_msg.specs.Line.{greatest_length};
 
     ghost Value = { List (List ℕ) };
 

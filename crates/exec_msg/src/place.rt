@@ -5,6 +5,7 @@ ghost use Rattle.std.specs.Prelude.{◌≡◌, ◌+◌, ◌<◌, ◌≤◌, [], 
 ghost use Rattle.std.specs.Fmt.{signed_decimal};
 ghost use Rattle.exec_msg.specs.Line.{spaced, joined, word_of, id_text, id_field};
 
+use crate::field_texts::FieldTexts;
 use crate::kind::Kind;
 use crate::numbers::GoalId;
 use itoa::write_digits;
@@ -20,6 +21,17 @@ pub(crate) fn place(bytes: &mut [u8], at: usize, text: &str) -> usize
     let end = at + text.len();
     bytes[at..end].copy_from_slice(text.as_bytes());
     end
+}
+
+// Bytes of a fixed number: a few loads and stores.
+#[inline(always)]
+pub(crate) fn place_cell<const N: usize>(bytes: &mut [u8], at: usize, cell: &[u8; N]) -> usize
+    requires { at + N ≤ length bytes.old }
+    ensures text { take result bytes.new ≡ take at bytes.old ++ cell.now }
+    ensures end { result ≡ at + N }
+{
+    bytes[at..at + N].copy_from_slice(cell);
+    at + N
 }
 
 // The first bytes of a text, so many: one load and one store.
@@ -127,13 +139,21 @@ fn place_kind(bytes: &mut [u8], at: usize, kind: Kind) -> usize
 }
 
 // A line's word, and the goal that it speaks of: the name of its server or client and its identifier.
-pub(crate) fn place_goal(bytes: &mut [u8], at: usize, word: &str, name: &str, id: GoalId) -> usize
-    requires { at + length word.now + length name.now + 38 ≤ length bytes.old }
+#[inline(always)]
+pub(crate) fn place_goal(
+    texts: &mut FieldTexts,
+    bytes: &mut [u8],
+    at: usize,
+    word: &str,
+    name: &str,
+    id: GoalId,
+) -> usize
+    requires { at + length word.now + length name.now + 49 ≤ length bytes.old }
     ensures text { take result bytes.new ≡ take at bytes.old ++ joined (word.now ∷ name.now ∷ id_text id ∷ []) }
     ensures within { result ≤ at + length word.now + length name.now + 38 }
 {
     let end = place_named(bytes, at, word, name);
-    place_id(bytes, end, id)
+    texts.ids.place(bytes, end, id)
 }
 
 // A count with a space before it.
@@ -147,9 +167,23 @@ pub(crate) fn place_count(bytes: &mut [u8], at: usize, count: u64) -> usize
     place_digits(bytes, at + 1, count)
 }
 
-// A value with a space before it.
+// A value with a space before it. Most are small, and are written in place.
 #[inline(always)]
-pub(crate) fn place_value(bytes: &mut [u8], at: usize, value: i64) -> usize
+pub(crate) fn place_value(texts: &mut FieldTexts, bytes: &mut [u8], at: usize, value: i64) -> usize
+    requires { at + 24 ≤ length bytes.old }
+    ensures text { take result bytes.new ≡ take at bytes.old ++ spaced (signed_decimal value ∷ []) }
+    ensures within { result ≤ at + 22 }
+{
+    if value < 0 || value >= 10_000 {
+        return texts.values.place(bytes, at, value);
+    }
+    bytes[at] = b' ';
+    place_thousands(bytes, at + 1, value.unsigned_abs())
+}
+
+// A value with a space before it, with each of its digits made anew.
+#[inline(always)]
+pub(crate) fn place_signed(bytes: &mut [u8], at: usize, value: i64) -> usize
     requires { at + 22 ≤ length bytes.old }
     ensures text { take result bytes.new ≡ take at bytes.old ++ spaced (signed_decimal value ∷ []) }
     ensures within { result ≤ at + 22 }
@@ -240,10 +274,11 @@ fn count_digits(number: u64) -> usize
 }
 
 // An identifier with a space before it.
-fn place_id(bytes: &mut [u8], at: usize, id: GoalId) -> usize
+#[inline(always)]
+pub(crate) fn place_id(bytes: &mut [u8], at: usize, id: GoalId) -> usize
     requires { at + 37 ≤ length bytes.old }
     ensures text { take result bytes.new ≡ take at bytes.old ++ spaced (id_text id ∷ []) }
-    ensures within { result ≤ at + 37 }
+    ensures end { result ≡ at + 37 }
 {
     let mut buffer = Uuid::encode_buffer();
     let text = Uuid::from_u128(id.number()).hyphenated();
@@ -252,13 +287,108 @@ fn place_id(bytes: &mut [u8], at: usize, id: GoalId) -> usize
 
 // The identifier, where there is one.
 #[inline(always)]
-pub(crate) fn place_any_id(bytes: &mut [u8], at: usize, id: Option<GoalId>) -> usize
-    requires { at + 37 ≤ length bytes.old }
+pub(crate) fn place_any_id(
+    texts: &mut FieldTexts,
+    bytes: &mut [u8],
+    at: usize,
+    id: Option<GoalId>,
+) -> usize
+    requires { at + 48 ≤ length bytes.old }
     ensures text { take result bytes.new ≡ take at bytes.old ++ spaced (id_field id) }
     ensures within { result ≤ at + 37 }
 {
     match id {
-        Some(id) => place_id(bytes, at, id),
+        Some(id) => texts.ids.place(bytes, at, id),
         None => at,
     }
+}
+
+// A line's word, the name of what it speaks of, and a value.
+#[inline(always)]
+pub(crate) fn place_named_value(
+    texts: &mut FieldTexts,
+    bytes: &mut [u8],
+    at: usize,
+    word: &str,
+    name: &str,
+    value: i64,
+) -> usize
+    requires { at + length word.now + length name.now + 25 ≤ length bytes.old }
+    ensures text { take result bytes.new ≡ take at bytes.old ++ joined (word.now ∷ name.now ∷ signed_decimal value ∷ []) }
+    ensures within { result ≤ at + length word.now + length name.now + 23 }
+{
+    let end = place_named(bytes, at, word, name);
+    place_value(texts, bytes, end, value)
+}
+
+// A line's word, the name of what it speaks of, and a count.
+#[inline(never)]
+pub(crate) fn place_named_count(
+    bytes: &mut [u8],
+    at: usize,
+    word: &str,
+    name: &str,
+    count: u64,
+) -> usize
+    requires { at + length word.now + length name.now + 22 ≤ length bytes.old }
+    ensures text { take result bytes.new ≡ take at bytes.old ++ joined (word.now ∷ name.now ∷ decimal count ∷ []) }
+    ensures within { result ≤ at + length word.now + length name.now + 22 }
+{
+    let end = place_named(bytes, at, word, name);
+    place_count(bytes, end, count)
+}
+
+// A line's word, and the goal that it speaks of.
+#[inline(never)]
+pub(crate) fn place_goal_line(
+    texts: &mut FieldTexts,
+    bytes: &mut [u8],
+    at: usize,
+    word: &str,
+    name: &str,
+    id: GoalId,
+) -> usize
+    requires { at + length word.now + length name.now + 49 ≤ length bytes.old }
+    ensures text { take result bytes.new ≡ take at bytes.old ++ joined (word.now ∷ name.now ∷ id_text id ∷ []) }
+    ensures within { result ≤ at + length word.now + length name.now + 38 }
+{
+    place_goal(texts, bytes, at, word, name, id)
+}
+
+// A line's word, the goal that it speaks of, and a value.
+#[inline(never)]
+pub(crate) fn place_goal_value(
+    texts: &mut FieldTexts,
+    bytes: &mut [u8],
+    at: usize,
+    word: &str,
+    name: &str,
+    id: GoalId,
+    value: i64,
+) -> usize
+    requires { at + length word.now + length name.now + 71 ≤ length bytes.old }
+    ensures text { take result bytes.new ≡ take at bytes.old ++ joined (word.now ∷ name.now ∷ id_text id ∷ signed_decimal value ∷ []) }
+    ensures within { result ≤ at + length word.now + length name.now + 60 }
+{
+    let end = place_goal(texts, bytes, at, word, name, id);
+    place_value(texts, bytes, end, value)
+}
+
+// A line's word, the goal that it speaks of, and a count.
+#[inline(never)]
+pub(crate) fn place_goal_count(
+    texts: &mut FieldTexts,
+    bytes: &mut [u8],
+    at: usize,
+    word: &str,
+    name: &str,
+    id: GoalId,
+    count: u64,
+) -> usize
+    requires { at + length word.now + length name.now + 70 ≤ length bytes.old }
+    ensures text { take result bytes.new ≡ take at bytes.old ++ joined (word.now ∷ name.now ∷ id_text id ∷ decimal count ∷ []) }
+    ensures within { result ≤ at + length word.now + length name.now + 59 }
+{
+    let end = place_goal(texts, bytes, at, word, name, id);
+    place_count(bytes, end, count)
 }

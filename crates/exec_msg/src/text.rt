@@ -1,9 +1,9 @@
-ghost use Rattle.std.specs.Prelude.{◌≡◌, ◌+◌, ◌<◌, ◌≤◌, [], ◌∷◌, ◌++◌, length, take, codes, decimal, IfOk};
+ghost use Rattle.std.specs.Prelude.{◌≡◌, ◌+◌, ◌<◌, ◌≤◌, [], ◌∷◌, ◌++◌, length, take, codes, decimal, ◌^◌, vec_capacity, vec_len, IfOk, OnErr};
 ghost use Rattle.std.specs.Fmt.{signed_decimal};
 ghost use Rattle.exec_msg.specs.Goal.{status_number, code_number};
-ghost use Rattle.exec_msg.specs.Line.{IsAppended, spaced, joined, word_of, id_text, id_field, fields_of, line_text};
-ghost use Rattle.exec_msg.specs.inner.Text.{greatest_length};
+ghost use Rattle.exec_msg.specs.Line.{IsAppended, greatest_length, line_room, spaced, joined, word_of, id_text, id_field, fields_of, line_text};
 
+use crate::field_texts::FieldTexts;
 use crate::goal::{GoalStatus, ReturnCode};
 use crate::kind::Kind;
 use crate::line::Line;
@@ -11,17 +11,24 @@ use crate::memory::Memory;
 use crate::names::Names;
 use crate::numbers::GoalId;
 use crate::place::{
-    place, place_any_id, place_callback, place_count, place_goal, place_named, place_value,
+    place, place_any_id, place_callback, place_count, place_goal_count, place_goal_line,
+    place_goal_value, place_named_count, place_named_value, place_value,
 };
 
 /// Appends the text of a line. Where memory is refused, `out` stays as it was.
+///
+/// # Errors
+/// [`Memory`] where a growth was refused, which can't be where the capacity has the room of a line.
 pub fn write_line(line: &Line, names: &Names, out: &mut Vec<u8>) -> Result<(), Memory>
-    ensures { IsAppended result out.old.items out.new.items (line_text names.now line.now) }
+    ensures text { IsAppended result out.old.items out.new.items (line_text names.now line.now) }
+    ensures capacity { vec_capacity out.old ≤ vec_capacity out.new }
+    ensures full { OnErr result (vec_capacity out.old < vec_len out.old + line_room names.now) }
 {
     let at = out.len();
     let room = room_behind(at, names)?;
     out.resize(room, 0)?;
-    let end = place_line(line, names, out.as_mut_slice(), at);
+    let mut texts = FieldTexts::new(*out.allocator());
+    let end = place_line(line, names, &mut texts, out.as_mut_slice(), at);
     out.truncate(end);
     Ok(())
 }
@@ -31,7 +38,8 @@ const ROOM: usize = 128;
 
 /// How long the bytes are to be where a line is to stand at a place.
 pub fn room_behind(at: usize, names: &Names) -> Result<usize, Memory>
-    ensures { IfOk result (λ room. at + greatest_length names.now + 128 ≤ room) }
+    ensures room { IfOk result (λ room. room ≡ at + line_room names.now) }
+    ensures beyond { OnErr result (2 ^ 64 ≤ at + line_room names.now) }
 {
     let room = names.longest().checked_add(ROOM).ok_or(Memory)?;
     Ok(at.checked_add(room).ok_or(Memory)?)
@@ -39,26 +47,39 @@ pub fn room_behind(at: usize, names: &Names) -> Result<usize, Memory>
 
 /// Puts the text of a line at a place of bytes that have the room, and gives its end. What stands behind the end may change.
 #[inline(always)]
-pub fn place_line(line: &Line, names: &Names, bytes: &mut [u8], at: usize) -> usize
-    requires { at + greatest_length names.now + 128 ≤ length bytes.old }
+pub(crate) fn place_line(
+    line: &Line,
+    names: &Names,
+    texts: &mut FieldTexts,
+    bytes: &mut [u8],
+    at: usize,
+) -> usize
+    requires { at + line_room names.now ≤ length bytes.old }
     ensures text { take result bytes.new ≡ take at bytes.old ++ line_text names.now line.now }
-    ensures within { result ≤ at + greatest_length names.now + 128 }
+    ensures within { result ≤ at + line_room names.now }
 {
-    let end = place_fields(line, names, bytes, at);
+    let end = place_fields(line, names, texts, bytes, at);
     bytes[end] = b'\n';
     end + 1
 }
 
 // The match goes where a line is made, and is decided there: for that it has to be small, and has but calls.
 #[inline(always)]
-fn place_fields(line: &Line, names: &Names, bytes: &mut [u8], at: usize) -> usize
+fn place_fields(
+    line: &Line,
+    names: &Names,
+    texts: &mut FieldTexts,
+    bytes: &mut [u8],
+    at: usize,
+) -> usize
     requires { at + greatest_length names.now + 127 ≤ length bytes.old }
     ensures text { take result bytes.new ≡ take at bytes.old ++ joined (fields_of names.now line.now) }
     ensures within { result ≤ at + greatest_length names.now + 127 }
 {
     match *line {
         Line::Round { number, moment } => place_round(bytes, at, number, moment.ticks()),
-        Line::Expire { server, id } => place_goal(
+        Line::Expire { server, id } => place_goal_line(
+            texts,
             bytes,
             at,
             "expire",
@@ -71,25 +92,36 @@ fn place_fields(line: &Line, names: &Names, bytes: &mut [u8], at: usize) -> usiz
             input,
             aux,
             id,
-        } => place_run(bytes, at, names.bounded_name(entity), kind, input, aux, id),
+        } => place_run(
+            texts,
+            bytes,
+            at,
+            names.bounded_name(entity),
+            kind,
+            input,
+            aux,
+            id,
+        ),
         Line::Drop {
             entity,
             kind,
             input,
-        } => place_drop(bytes, at, names.bounded_name(entity), kind, input),
-        Line::Pub { topic, value } => place_pub(bytes, at, names.bounded_name(topic), value),
+        } => place_drop(texts, bytes, at, names.bounded_name(entity), kind, input),
+        Line::Pub { topic, value } => place_pub(texts, bytes, at, names.bounded_name(topic), value),
         Line::Call {
             client,
             number,
             value,
-        } => place_call(bytes, at, names.bounded_name(client), number, value),
+        } => place_call(texts, bytes, at, names.bounded_name(client), number, value),
         Line::Reply { service, value } => place_reply(
+            texts,
             bytes,
             at,
             names.bounded_name(service),
             value,
         ),
         Line::Goal { client, id, value } => place_goal_value(
+            texts,
             bytes,
             at,
             "goal",
@@ -98,6 +130,7 @@ fn place_fields(line: &Line, names: &Names, bytes: &mut [u8], at: usize) -> usiz
             value,
         ),
         Line::Cancel { client, id, stamp } => place_goal_count(
+            texts,
             bytes,
             at,
             "cancel",
@@ -105,8 +138,15 @@ fn place_fields(line: &Line, names: &Names, bytes: &mut [u8], at: usize) -> usiz
             id,
             stamp,
         ),
-        Line::Log { entity, value } => place_log(bytes, at, names.bounded_name(entity), value),
+        Line::Log { entity, value } => place_log(
+            texts,
+            bytes,
+            at,
+            names.bounded_name(entity),
+            value,
+        ),
         Line::Feedback { server, id, value } => place_goal_value(
+            texts,
             bytes,
             at,
             "feedback",
@@ -119,6 +159,7 @@ fn place_fields(line: &Line, names: &Names, bytes: &mut [u8], at: usize) -> usiz
             id,
             decision,
         } => place_goal_count(
+            texts,
             bytes,
             at,
             "decide",
@@ -127,6 +168,7 @@ fn place_fields(line: &Line, names: &Names, bytes: &mut [u8], at: usize) -> usiz
             decision as u64,
         ),
         Line::State { server, id, status } => place_goal_count(
+            texts,
             bytes,
             at,
             "state",
@@ -139,13 +181,28 @@ fn place_fields(line: &Line, names: &Names, bytes: &mut [u8], at: usize) -> usiz
             code,
             moved,
         } => place_code(bytes, at, names.bounded_name(server), code, moved),
-        Line::Ask { client, id } => place_goal(bytes, at, "ask", names.bounded_name(client), id),
+        Line::Ask { client, id } => place_goal_line(
+            texts,
+            bytes,
+            at,
+            "ask",
+            names.bounded_name(client),
+            id,
+        ),
         Line::Result {
             server,
             id,
             status,
             value,
-        } => place_result(bytes, at, names.bounded_name(server), id, status, value),
+        } => place_result(
+            texts,
+            bytes,
+            at,
+            names.bounded_name(server),
+            id,
+            status,
+            value,
+        ),
         Line::Pending { client, calls } => place_named_count(
             bytes,
             at,
@@ -180,6 +237,7 @@ fn place_end(bytes: &mut [u8], at: usize, rounds: u64) -> usize
 
 #[inline(never)]
 fn place_run(
+    texts: &mut FieldTexts,
     bytes: &mut [u8],
     at: usize,
     name: &str,
@@ -188,61 +246,75 @@ fn place_run(
     aux: i64,
     id: Option<GoalId>,
 ) -> usize
-    requires { at + length name.now + 94 ≤ length bytes.old }
+    requires { at + length name.now + 105 ≤ length bytes.old }
     ensures text { take result bytes.new ≡ take at bytes.old ++ joined (codes "run" ∷ name.now ∷ word_of kind ∷ signed_decimal input ∷ signed_decimal aux ∷ id_field id) }
     ensures within { result ≤ at + length name.now + 94 }
 {
     let end = place_callback(bytes, at, "run", name, kind);
-    let end = place_value(bytes, end, input);
-    let end = place_value(bytes, end, aux);
-    place_any_id(bytes, end, id)
+    let end = place_value(texts, bytes, end, input);
+    let end = place_value(texts, bytes, end, aux);
+    place_any_id(texts, bytes, end, id)
 }
 
 #[inline(never)]
-fn place_drop(bytes: &mut [u8], at: usize, name: &str, kind: Kind, input: i64) -> usize
-    requires { at + length name.now + 36 ≤ length bytes.old }
+fn place_drop(
+    texts: &mut FieldTexts,
+    bytes: &mut [u8],
+    at: usize,
+    name: &str,
+    kind: Kind,
+    input: i64,
+) -> usize
+    requires { at + length name.now + 38 ≤ length bytes.old }
     ensures text { take result bytes.new ≡ take at bytes.old ++ joined (codes "drop" ∷ name.now ∷ word_of kind ∷ signed_decimal input ∷ []) }
     ensures within { result ≤ at + length name.now + 36 }
 {
     let end = place_callback(bytes, at, "drop", name, kind);
-    place_value(bytes, end, input)
+    place_value(texts, bytes, end, input)
 }
 
 #[inline(never)]
-fn place_pub(bytes: &mut [u8], at: usize, name: &str, value: i64) -> usize
-    requires { at + length name.now + 26 ≤ length bytes.old }
+fn place_pub(texts: &mut FieldTexts, bytes: &mut [u8], at: usize, name: &str, value: i64) -> usize
+    requires { at + length name.now + 28 ≤ length bytes.old }
     ensures text { take result bytes.new ≡ take at bytes.old ++ joined (codes "pub" ∷ name.now ∷ signed_decimal value ∷ []) }
     ensures within { result ≤ at + length name.now + 26 }
 {
-    place_named_value(bytes, at, "pub", name, value)
+    place_named_value(texts, bytes, at, "pub", name, value)
 }
 
 #[inline(never)]
-fn place_reply(bytes: &mut [u8], at: usize, name: &str, value: i64) -> usize
-    requires { at + length name.now + 28 ≤ length bytes.old }
+fn place_reply(texts: &mut FieldTexts, bytes: &mut [u8], at: usize, name: &str, value: i64) -> usize
+    requires { at + length name.now + 30 ≤ length bytes.old }
     ensures text { take result bytes.new ≡ take at bytes.old ++ joined (codes "reply" ∷ name.now ∷ signed_decimal value ∷ []) }
     ensures within { result ≤ at + length name.now + 28 }
 {
-    place_named_value(bytes, at, "reply", name, value)
+    place_named_value(texts, bytes, at, "reply", name, value)
 }
 
 #[inline(never)]
-fn place_log(bytes: &mut [u8], at: usize, name: &str, value: i64) -> usize
-    requires { at + length name.now + 26 ≤ length bytes.old }
+fn place_log(texts: &mut FieldTexts, bytes: &mut [u8], at: usize, name: &str, value: i64) -> usize
+    requires { at + length name.now + 28 ≤ length bytes.old }
     ensures text { take result bytes.new ≡ take at bytes.old ++ joined (codes "log" ∷ name.now ∷ signed_decimal value ∷ []) }
     ensures within { result ≤ at + length name.now + 26 }
 {
-    place_named_value(bytes, at, "log", name, value)
+    place_named_value(texts, bytes, at, "log", name, value)
 }
 
 #[inline(never)]
-fn place_call(bytes: &mut [u8], at: usize, name: &str, number: u64, value: i64) -> usize
-    requires { at + length name.now + 48 ≤ length bytes.old }
+fn place_call(
+    texts: &mut FieldTexts,
+    bytes: &mut [u8],
+    at: usize,
+    name: &str,
+    number: u64,
+    value: i64,
+) -> usize
+    requires { at + length name.now + 50 ≤ length bytes.old }
     ensures text { take result bytes.new ≡ take at bytes.old ++ joined (codes "call" ∷ name.now ∷ decimal number ∷ signed_decimal value ∷ []) }
     ensures within { result ≤ at + length name.now + 48 }
 {
     let end = place_named_count(bytes, at, "call", name, number);
-    place_value(bytes, end, value)
+    place_value(texts, bytes, end, value)
 }
 
 #[inline(never)]
@@ -257,6 +329,7 @@ fn place_code(bytes: &mut [u8], at: usize, name: &str, code: ReturnCode, moved: 
 
 #[inline(never)]
 fn place_result(
+    texts: &mut FieldTexts,
     bytes: &mut [u8],
     at: usize,
     name: &str,
@@ -264,68 +337,10 @@ fn place_result(
     status: GoalStatus,
     value: i64,
 ) -> usize
-    requires { at + length name.now + 88 ≤ length bytes.old }
+    requires { at + length name.now + 99 ≤ length bytes.old }
     ensures text { take result bytes.new ≡ take at bytes.old ++ joined (codes "result" ∷ name.now ∷ id_text id ∷ decimal (status_number status) ∷ signed_decimal value ∷ []) }
     ensures within { result ≤ at + length name.now + 88 }
 {
-    let end = place_goal_count(bytes, at, "result", name, id, status.number() as u64);
-    place_value(bytes, end, value)
-}
-
-// A line's word, the name of what it speaks of, and a value.
-#[inline(always)]
-fn place_named_value(bytes: &mut [u8], at: usize, word: &str, name: &str, value: i64) -> usize
-    requires { at + length word.now + length name.now + 23 ≤ length bytes.old }
-    ensures text { take result bytes.new ≡ take at bytes.old ++ joined (word.now ∷ name.now ∷ signed_decimal value ∷ []) }
-    ensures within { result ≤ at + length word.now + length name.now + 23 }
-{
-    let end = place_named(bytes, at, word, name);
-    place_value(bytes, end, value)
-}
-
-// A line's word, the name of what it speaks of, and a count.
-#[inline(never)]
-fn place_named_count(bytes: &mut [u8], at: usize, word: &str, name: &str, count: u64) -> usize
-    requires { at + length word.now + length name.now + 22 ≤ length bytes.old }
-    ensures text { take result bytes.new ≡ take at bytes.old ++ joined (word.now ∷ name.now ∷ decimal count ∷ []) }
-    ensures within { result ≤ at + length word.now + length name.now + 22 }
-{
-    let end = place_named(bytes, at, word, name);
-    place_count(bytes, end, count)
-}
-
-// A line's word, the goal that it speaks of, and a value.
-#[inline(never)]
-fn place_goal_value(
-    bytes: &mut [u8],
-    at: usize,
-    word: &str,
-    name: &str,
-    id: GoalId,
-    value: i64,
-) -> usize
-    requires { at + length word.now + length name.now + 60 ≤ length bytes.old }
-    ensures text { take result bytes.new ≡ take at bytes.old ++ joined (word.now ∷ name.now ∷ id_text id ∷ signed_decimal value ∷ []) }
-    ensures within { result ≤ at + length word.now + length name.now + 60 }
-{
-    let end = place_goal(bytes, at, word, name, id);
-    place_value(bytes, end, value)
-}
-
-// A line's word, the goal that it speaks of, and a count.
-#[inline(never)]
-fn place_goal_count(
-    bytes: &mut [u8],
-    at: usize,
-    word: &str,
-    name: &str,
-    id: GoalId,
-    count: u64,
-) -> usize
-    requires { at + length word.now + length name.now + 59 ≤ length bytes.old }
-    ensures text { take result bytes.new ≡ take at bytes.old ++ joined (word.now ∷ name.now ∷ id_text id ∷ decimal count ∷ []) }
-    ensures within { result ≤ at + length word.now + length name.now + 59 }
-{
-    let end = place_goal(bytes, at, word, name, id);
-    place_count(bytes, end, count)
+    let end = place_goal_count(texts, bytes, at, "result", name, id, status.number() as u64);
+    place_value(texts, bytes, end, value)
 }

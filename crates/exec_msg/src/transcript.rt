@@ -1,6 +1,7 @@
 ghost use Rattle.std.specs.Prelude.{◌≡◌, ℕ, ◌≤◌, List, [], take, vec_len, OnOk};
 ghost use Rattle.exec_msg.specs.Line.{transcript_text};
 
+use crate::field_texts::FieldTexts;
 use crate::history::History;
 use crate::line::Line;
 use crate::lines::Lines;
@@ -26,6 +27,7 @@ pub struct Text<'a, K: Named> {
     bytes: Vec<u8>,
     // Where the text ends. What stands behind is room for the next line.
     end: usize,
+    texts: FieldTexts,
     lines: History<Line>,
     of: PhantomData<K>,
 }
@@ -52,6 +54,7 @@ impl<'a, K: Named> Text<'a, K> {
             names,
             bytes: Vec::new(alloc),
             end: 0,
+            texts: FieldTexts::new(alloc),
             lines: History::new(),
             of: PhantomData,
         }
@@ -74,9 +77,18 @@ impl<'a, K: Named> Lines for Text<'a, K> {
     fn add(&mut self, line: &Line) -> Result<(), Memory> {
         let room = room_behind(self.end, self.names)?;
         if self.bytes.len() < room {
+            if self.end > 0 {
+                self.texts.fill()?;
+            }
             lengthen(&mut self.bytes, room)?;
         }
-        self.end = place_line(line, self.names, self.bytes.as_mut_slice(), self.end);
+        self.end = place_line(
+            line,
+            self.names,
+            &mut self.texts,
+            self.bytes.as_mut_slice(),
+            self.end,
+        );
         self.lines = self.lines.and(line);
         Ok(())
     }

@@ -1,5 +1,5 @@
 use Rattle.std.proofs.Common.{◌≡◌, drop, map, max, string_bytes}
-use Rattle.exec_msg.specs.inner.Text.{greatest_length}
+use Rattle.exec_msg.specs.Line.{greatest_length}
 use Rattle.exec_msg.proofs.names.length_of_longest.Given as goal
 
 -- the longest so far, or one that is left, is the longest

@@ -14,7 +14,7 @@ unfolding id_text
 returns-clause-text c =
     rw (← c.number.ensures, ← c.from_u128.ensures, ← c.hyphenated-text.ensures, ← c.encode_lower.ensures.text) c.place_field.ensures.text
 
-pub returns-clause-within : goal.returns-clause-within
-returns-clause-within c =
+pub returns-clause-end : goal.returns-clause-end
+returns-clause-end c =
     let long : length c.encode_lower.result.now ≡ 36 = ap length c.encode_lower.ensures.text ∙ hyphenated_length c.hyphenated-text.result in
     omega (arith, long)

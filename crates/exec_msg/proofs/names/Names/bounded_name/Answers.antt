@@ -1,5 +1,5 @@
 use Rattle.std.proofs.Common.{◌≤◌, ℕ, List, length, subst, sym}
-use Rattle.exec_msg.specs.inner.Text.{greatest_length}
+use Rattle.exec_msg.specs.Line.{greatest_length}
 use Rattle.exec_msg.proofs.Lengths.{name_within}
 use Rattle.exec_msg.proofs.names.Names.bounded_name.Goals as goal
 
