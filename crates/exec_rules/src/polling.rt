@@ -25,6 +25,7 @@ fn close_of(answer: Answer) -> Close
 ///
 /// # Errors
 /// [`Memory`] where a growth was refused. The task and the variables stay as they were.
+#[inline(always)]
 pub fn poll_any(
     task: &mut Option<GoalTask>,
     turn: &Turn,
@@ -48,6 +49,7 @@ pub fn poll_any(
 }
 
 // Polls a task where it is awake.
+#[inline(always)]
 fn poll_task(
     task: &mut GoalTask,
     turn: &Turn,
