@@ -147,6 +147,7 @@ pub fn poll_goal(
 
 /// Polls a goal as [`poll_goal`] does. The list then has its effects, and these alone: one that is used again and again has
 /// room already. Where memory is refused, the list is empty.
+#[inline(always)]
 pub fn poll_goal_into(
     task: &mut GoalTask,
     bank: &mut Bank,
