@@ -25,6 +25,7 @@ fn close_of(answer: Answer) -> Close
 ///
 /// # Errors
 /// [`Memory`] where a growth was refused. The task and the variables stay as they were.
+#[inline(always)]
 pub fn poll_any(
     task: &mut Option<GoalTask>,
     turn: &Turn,
@@ -48,6 +49,7 @@ pub fn poll_any(
 }
 
 // Polls a task where it is awake.
+#[inline(always)]
 fn poll_task(
     task: &mut GoalTask,
     turn: &Turn,
@@ -62,8 +64,9 @@ fn poll_task(
     ensures refused { OnErr result (work_of task.new ≡ work_of task.old) }
     ensures refused_variables { OnErr result (bank.new ≡ bank.old) }
 {
+    // Emptied before the test, and not behind it, so that the compiler drops the same two steps of the poll.
+    effects.clear();
     if !is_awake(task, turn.moment, turn.canceling) {
-        effects.clear();
         return Ok(Close::Pending);
     }
     let answer = poll_goal_into(task, bank, turn, cx, effects)?;

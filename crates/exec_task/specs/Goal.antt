@@ -11,6 +11,8 @@ use Rattle.exec_task.specs.declared.wait.Answer.TheVariants as answer
 use Rattle.exec_task.specs.declared.wait.Source.{Source}
 use Rattle.exec_task.specs.declared.wait.Source.TheVariants as source
 use Rattle.exec_task.specs.declared.wait.Turn.{Turn}
+use Rattle.exec_task.specs.declared.wait.Wait.{Wait}
+use Rattle.exec_task.specs.declared.wait.Wait.TheVariants as wait
 use Rattle.futures.specs.Task.{Covers}
 use Rattle.futures.specs.declared.task.context.Context.{Context}
 
@@ -72,6 +74,11 @@ pub record LeftWakers (before after : Context) (goal : GoalTaskState) : Type 0 w
   pub clock : LeftWhere (list_any is_clock (sources_of goal.task)) before after goal.clock
   pub cancellation : LeftWhere (list_any is_cancellation (sources_of goal.task)) before after goal.cancellation
 
+-- a task that waits for the next round alone has yielded
+abbrev pub HasYielded : Wait → Context → Type 0
+HasYielded wait.NextRound ended = ended.is_woken ≡ true
+HasYielded (wait.Until time) ended = ⊤
+
 -- no waker stands at a source of the task
 abbrev pub HoldsNoWaker : GoalTaskState → Type 0
 HoldsNoWaker goal = (goal.clock.waker ≡ None) × (goal.cancellation.waker ≡ None)
@@ -83,6 +90,7 @@ pub record IsPolled (turn : Turn) (before after : GoalTaskState) (bank left : Li
   pub task : after.task ≡ (poll_of before bank turn).task
   pub variables : left ≡ (poll_of before bank turn).variables
   pub registered : IfPending answered (Covers ended (GoalNeeds after))
+  pub yielded : IfPending answered (HasYielded after.task.waits ended)
   pub wakers : IfPending answered (LeftWakers begun ended after)
   pub ending : has_ended before.task ≡ false → has_ended after.task ≡ true → HoldsNoWaker after
   pub unfailed : after.failed ≡ false

@@ -1,7 +1,7 @@
 ghost use Rattle.std.specs.Prelude.{◌≡◌, [], true, false, None, IsOk, IsErr, IfOk, OnOk, OnErr};
 ghost use Rattle.std.specs.Arc.{arc_value};
 ghost use Rattle.futures.specs.Task.{Covers, Keeps};
-ghost use Rattle.exec_task.specs.Goal.{poll_of, IsSameGoal, IsPolled, IsRefused, GoalNeeds, LeftWakers, HoldsNoWaker};
+ghost use Rattle.exec_task.specs.Goal.{poll_of, IsSameGoal, IsPolled, IsRefused, GoalNeeds, LeftWakers, HasYielded, HoldsNoWaker};
 ghost use Rattle.exec_task.specs.Task.{new_task, has_ended, is_awake, ran, run_of};
 ghost use Rattle.exec_script.specs.Script.{listed};
 
@@ -87,6 +87,7 @@ impl GoalTask {
         ensures failed { self.new.failed ≡ self.old.failed }
         ensures ended { has_ended self.old.task ≡ true → self.new ≡ self.old }
         ensures registered { has_ended self.old.task ≡ false → Covers cx.new (GoalNeeds self.new) }
+        ensures yielded { has_ended self.old.task ≡ false → HasYielded self.new.task.waits cx.new }
         ensures wakers { has_ended self.old.task ≡ false → LeftWakers cx.old cx.new self.new }
         ensures kept { Keeps cx.old cx.new }
     {
@@ -146,6 +147,7 @@ pub fn poll_goal(
 
 /// Polls a goal as [`poll_goal`] does. The list then has its effects, and these alone: one that is used again and again has
 /// room already. Where memory is refused, the list is empty.
+#[inline(always)]
 pub fn poll_goal_into(
     task: &mut GoalTask,
     bank: &mut Bank,

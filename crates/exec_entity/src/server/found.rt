@@ -160,6 +160,7 @@ impl ByNumber<Server> {
     ///
     /// # Errors
     /// [`Memory`] where a growth was refused.
+    #[inline(always)]
     pub fn poll(
         &mut self,
         server: EntityNo,

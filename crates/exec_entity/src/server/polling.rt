@@ -128,6 +128,7 @@ impl Server {
     // Polls a goal in a turn, with the variables of its callback group, in a context that the caller has made, and answers what
     // closes the poll. The list then has its effects, and these alone. A goal that isn't held or isn't awake, or whose task is
     // out, isn't polled, and pends. Where memory is refused, the server and the bank stay as they were.
+    #[inline(always)]
     pub(crate) fn poll(
         &mut self,
         id: GoalId,
