@@ -10,18 +10,19 @@ ghost use Rattle.exec_msg.specs.Kind.{ready_number};
 ghost use Rattle.exec_msg.specs.Lists.{change_first};
 ghost use Rattle.exec_msg.specs.declared.limits.TheConstants.{DEPTH};
 ghost use Rattle.exec_rules.specs.Item.{taker_of};
-ghost use Rattle.exec_rules.specs.Ready.{queue_taken};
+ghost use Rattle.exec_rules.specs.Ready.{item_ready, queue_taken};
 ghost use Rattle.exec_rules.specs.World.{Handler, Queue, is_queue, queue_after, lost_from};
 ghost use Rattle.exec_rules.specs.declared.homes.Home.{Home as HomeAt};
 ghost use Rattle.exec_rules.specs.inner.Homes.{AreHomes, IsHome, handlers_of};
+ghost use Rattle.exec_rules.specs.inner.Listing.{listed_behind};
 ghost use Rattle.exec_msg.specs.Places.{change_at};
 ghost use Rattle.exec_rules.specs.inner.Places.{change_each, places_where};
 ghost use Rattle.exec_queue.specs.inner.Queues.{slot_of, CoversFilled, has_item, is_filled_at, is_in_part, is_in_part_at};
 
 mod entry;
 
-use entry::Entry;
-use exec_msg::{EntityNo, Kind, LazyQueue, Memory, PlaceTable};
+use entry::{Entry, list_plain_at};
+use exec_msg::{EntityNo, Kind, LazyQueue, Memory, Moment, PlaceTable};
 use exec_plan::Script;
 use exec_rules::{Handler, Home, Item, ReadyList};
 use std::alloc::Global;
@@ -134,6 +135,28 @@ impl Queues {
         take_each(&mut self.entries, &self.filled);
         // So that no place is noted twice, and fewer are sorted in the next round.
         keep_filled(&mut self.filled, &self.entries);
+    }
+
+    /// Lists the callback that takes from the queue at a place, where there is one and it has an item, unless that asks about a
+    /// server's goals: says whether it does not. Most items don't, and are copied where they are listed, with one look-up.
+    ///
+    /// # Errors
+    /// [`Memory`] where a growth was refused. The queues stay as they were.
+    #[inline(always)]
+    pub fn list_plain(
+        &mut self,
+        alloc: Global,
+        moment: Moment,
+        place: usize,
+        list: &mut ReadyList,
+        homes: &mut Vec<Home>,
+    ) -> Result<bool, Memory>
+        ensures same { self.new ≡ self.old }
+        ensures listed { IfOk result (λ done. done ≡ true → (goals : Handler → List _) → list.new ≡ listed_behind list.old (option_map_or (λ queue. item_ready moment queue.handler (goals queue.handler) queue.items) (slice_get self.old place) [])) }
+        ensures left { IfOk result (λ done. done ≡ false → list.new ≡ list.old) }
+        ensures homes { OnOk result (AreHomes (handlers_of self.old) list.old homes.old.items → AreHomes (handlers_of self.old) list.new homes.new.items) }
+    {
+        list_plain_at(&mut self.entries, alloc, moment, place, list, homes)
     }
 
     /// Whose callback takes from the queue at a place.

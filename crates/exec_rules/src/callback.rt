@@ -4,7 +4,7 @@ ghost use Rattle.std.specs.Option.{option_map};
 ghost use Rattle.exec_script.specs.Script.{called, listed};
 ghost use Rattle.exec_rules.specs.Callback.{call_in, candidate_input, decision_by, handle_all, instructions_of, take_item};
 ghost use Rattle.exec_rules.specs.Close.{decision_in};
-ghost use Rattle.exec_rules.specs.Ready.{turn_at};
+ghost use Rattle.exec_rules.specs.Ready.{input_of, turn_at};
 ghost use Rattle.exec_rules.specs.Run.{apart_with, effects_of, work_after};
 ghost use Rattle.exec_rules.specs.World.{work_of};
 ghost use Rattle.exec_rules.specs.Callback.{poll_listed};
@@ -15,7 +15,8 @@ use crate::ready::{Cause, Ready};
 use exec_goal::GoalInfo;
 use exec_msg::{Memory, Moment};
 use exec_script::{
-    Bank, Close, DecisionList, EffectList, Effects, Input, Instr, Role, run_call_into,
+    Bank, Close, DecisionList, EffectList, Effects, Input, Instr, Role, run_call_closing,
+    run_call_into,
 };
 use exec_task::{GoalTask, Poller, Turn};
 use std::alloc::Global;
@@ -41,13 +42,30 @@ impl Ready {
     {
         let mut effects = EffectList::new(alloc);
         let mut after = *bank;
-        let close = match &self.cause {
-            Cause::Due => call_in(Role::Callback, self, &mut after, &mut effects)?,
-            Cause::Took(item) => take_item(alloc, item, self, &mut after, &mut effects)?,
+        let input = self.input();
+        let mut close = Close::Nothing;
+        match &self.cause {
+            Cause::Due => call_in(
+                Role::Callback,
+                self,
+                &input,
+                &mut after,
+                &mut effects,
+                &mut close,
+            )?,
+            Cause::Took(item) => take_item(
+                alloc,
+                item,
+                self,
+                &input,
+                &mut after,
+                &mut effects,
+                &mut close,
+            )?,
             Cause::Woke { canceling, .. } => {
-                self.poll_apart(*canceling, task, &mut after, poller, &mut effects)?
+                close = self.poll_apart(*canceling, task, &mut after, poller, &mut effects)?;
             }
-        };
+        }
         *bank = after;
         Ok(Effects {
             list: effects,
@@ -82,7 +100,8 @@ impl Ready {
     }
 }
 
-/// Runs a callback that took an item, and puts its effects behind those that are listed.
+/// Runs a callback that took an item, where this is its input; puts its effects behind those that are listed, and leaves what
+/// closes it where it is told.
 ///
 /// # Errors
 /// [`Memory`] where a growth was refused. The variables and the effects may have changed.
@@ -91,28 +110,34 @@ pub fn take_item(
     alloc: Global,
     item: &Item,
     one: &Ready,
+    input: &Input,
     bank: &mut Bank,
     effects: &mut EffectList,
-) -> Result<Close, Memory>
-    ensures variables { OnOk result (bank.new ≡ (take_item item.now listed one.now bank.old effects.old).variables) }
-    ensures effects { OnOk result (effects.new ≡ (take_item item.now listed one.now bank.old effects.old).given) }
-    ensures close { IfOk result (λ close. close ≡ (take_item item.now listed one.now bank.old effects.old).close) }
+    close: &mut Close,
+) -> Result<(), Memory>
+    ensures variables { OnOk result (input.now ≡ input_of one.now → bank.new ≡ (take_item item.now listed one.now bank.old effects.old).variables) }
+    ensures effects { OnOk result (input.now ≡ input_of one.now → effects.new ≡ (take_item item.now listed one.now bank.old effects.old).given) }
+    ensures close { OnOk result (input.now ≡ input_of one.now → close.new ≡ (take_item item.now listed one.now bank.old effects.old).close) }
 {
     match item {
-        Item::Cancel { .. } => handle_all(alloc, one, bank, effects),
-        Item::Request { .. } => call_in(Role::Service, one, bank, effects),
-        Item::Goal { .. } => call_in(Role::GoalHandler, one, bank, effects),
+        Item::Cancel { .. } => {
+            *close = handle_all(alloc, one, bank, effects)?;
+            Ok(())
+        }
+        Item::Request { .. } => call_in(Role::Service, one, input, bank, effects, close),
+        Item::Goal { .. } => call_in(Role::GoalHandler, one, input, bank, effects, close),
         Item::Message { .. }
         | Item::Reply { .. }
         | Item::Ask { .. }
         | Item::Response { .. }
         | Item::Code { .. }
         | Item::Feedback { .. }
-        | Item::Result { .. } => call_in(Role::Callback, one, bank, effects),
+        | Item::Result { .. } => call_in(Role::Callback, one, input, bank, effects, close),
     }
 }
 
-/// Runs a callback's script once in a role, and puts its effects behind those that are listed.
+/// Runs a callback's script once in a role, where this is the callback's input; puts its effects behind those that are listed,
+/// and leaves what closes it where it is told.
 ///
 /// # Errors
 /// [`Memory`] where a growth was refused. The variables and the effects may have changed.
@@ -120,14 +145,16 @@ pub fn take_item(
 pub fn call_in(
     role: Role,
     one: &Ready,
+    input: &Input,
     bank: &mut Bank,
     effects: &mut EffectList,
-) -> Result<Close, Memory>
-    ensures variables { OnOk result (bank.new ≡ (call_in role listed one.now bank.old effects.old).variables) }
-    ensures effects { OnOk result (effects.new ≡ (call_in role listed one.now bank.old effects.old).given) }
-    ensures close { IfOk result (λ close. close ≡ (call_in role listed one.now bank.old effects.old).close) }
+    close: &mut Close,
+) -> Result<(), Memory>
+    ensures variables { OnOk result (input.now ≡ input_of one.now → bank.new ≡ (call_in role listed one.now bank.old effects.old).variables) }
+    ensures effects { OnOk result (input.now ≡ input_of one.now → effects.new ≡ (call_in role listed one.now bank.old effects.old).given) }
+    ensures close { OnOk result (input.now ≡ input_of one.now → close.new ≡ (call_in role listed one.now bank.old effects.old).close) }
 {
-    run_call_into(instructions_of(one), role, bank, &one.input(), effects)
+    run_call_closing(instructions_of(one), role, bank, input, effects, close)
 }
 
 // The instructions of a callback's script; none is empty.

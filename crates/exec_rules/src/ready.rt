@@ -1,5 +1,5 @@
 ghost use Rattle.std.specs.Prelude.{◌≡◌};
-ghost use Rattle.exec_rules.specs.Ready.{kind_of, id_for, input_at, input_of, run_line};
+ghost use Rattle.exec_rules.specs.Ready.{kind_of, id_for, input_at, input_of, line_of};
 
 use crate::item::Item;
 use exec_goal::GoalInfo;
@@ -93,12 +93,11 @@ impl Ready {
         self.cause.id()
     }
 
-    /// The line with which the callback begins.
+    /// The line with which the callback begins, where it is handed this.
     #[inline(always)]
-    pub fn run_line(&self) -> Line
-        ensures { result ≡ run_line self.now }
+    pub fn run_line(&self, input: &Input) -> Line
+        ensures { result ≡ line_of self.now.entity self.now.cause input.now }
     {
-        let input = self.input();
         Line::Run {
             entity: self.entity,
             kind: self.kind(),

@@ -21,7 +21,7 @@ pub use effects::{Close, DecisionList, Effect, EffectList, Effects};
 pub use fault::ScriptFault;
 pub use instr::{Destination, Instr, Operand, Operation};
 pub use place::{Place, Role, check};
-pub use run::{Input, run_call, run_call_into, run_from};
+pub use run::{Input, run_call, run_call_closing, run_call_into, run_from};
 pub use scope::Scope;
 pub use spelling::decode;
 pub use step::Stop;

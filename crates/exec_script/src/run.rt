@@ -54,7 +54,6 @@ pub fn run_call(
 
 /// Runs a script as [`run_call`] does, and puts its effects behind those that are listed: a list that is used again and
 /// again has room already. Where memory is refused, the bank and the effects stay as they were.
-#[inline(always)]
 pub fn run_call_into(
     script: &[Instr],
     role: Role,
@@ -66,8 +65,29 @@ pub fn run_call_into(
     ensures err_variables { OnErr result (bank.new ≡ bank.old) }
     ensures err_effects { OnErr result (effects.new ≡ effects.old) }
 {
+    let mut close = Close::Nothing;
+    run_call_closing(script, role, bank, input, effects, &mut close)?;
+    Ok(close)
+}
+
+/// Runs a script as [`run_call_into`] does, and leaves what closes it where it is told: one that is answered is copied by each
+/// function that hands it on.
+#[inline(always)]
+pub fn run_call_closing(
+    script: &[Instr],
+    role: Role,
+    bank: &mut Bank,
+    input: &Input,
+    effects: &mut EffectList,
+    close: &mut Close,
+) -> Result<(), Memory>
+    ensures called { OnOk result (HasCalled script.now role input.now bank.old bank.new effects.old effects.new close.new) }
+    ensures err_variables { OnErr result (bank.new ≡ bank.old) }
+    ensures err_effects { OnErr result (effects.new ≡ effects.old) }
+{
     if script.is_empty() {
-        return Ok(close_of(role, None));
+        *close = close_of(role, None);
+        return Ok(());
     }
     effects.items.reserve(script.len())?;
     let mut frame = Frame::new();
@@ -75,7 +95,8 @@ pub fn run_call_into(
     let mut answer = None;
     follow(script, 0, &mut frame, &mut answer, &mut effects.items);
     frame.put_bank(bank);
-    Ok(close_of(role, answer))
+    *close = close_of(role, answer);
+    Ok(())
 }
 
 /// Goes on with a script at a place, from these registers, until it stops, and says where. Its effects go behind

@@ -49,6 +49,26 @@ fn list_front(
     ensures same { queues.new ≡ queues.old }
     ensures homes { OnOk result (AreHomes (handlers_of queues.old) list.old homes.old.items → AreHomes (handlers_of queues.old) list.new homes.new.items) }
 {
+    if queues.list_plain(alloc, moment, place, list, homes)? {
+        return Ok(());
+    }
+    list_served(alloc, moment, place, queues, servers, list, homes)
+}
+
+// The same, where the callback may ask about a server's goals.
+fn list_served(
+    alloc: Global,
+    moment: Moment,
+    place: usize,
+    queues: &mut Queues,
+    servers: &Servers,
+    list: &mut ReadyList,
+    homes: &mut Vec<Home>,
+) -> Result<(), Memory>
+    ensures list { OnOk result (list.new ≡ listed_behind list.old (front_at moment servers.now queues.old place)) }
+    ensures same { queues.new ≡ queues.old }
+    ensures homes { OnOk result (AreHomes (handlers_of queues.old) list.old homes.old.items → AreHomes (handlers_of queues.old) list.new homes.new.items) }
+{
     let Some(item) = queues.front(place) else {
         return Ok(());
     };

@@ -1,12 +1,17 @@
-ghost use Rattle.std.specs.Prelude.{◌≡◌, ◌==◌, ◌≤◌, length, slice_get, OnOk, OnErr, IfOk};
+ghost use Rattle.std.specs.Prelude.{◌≡◌, ◌==◌, ◌≤◌, List, [], Some, false, true, length, slice_get, OnOk, OnErr, IfOk};
 ghost use Rattle.exec_msg.specs.KeepLast.{displaced};
-ghost use Rattle.exec_rules.specs.Ready.{is_before_polls, queue_taken};
-ghost use Rattle.exec_rules.specs.World.{queue_after};
+ghost use Rattle.exec_plan.specs.Entity.{Script};
+ghost use Rattle.exec_rules.specs.Ready.{candidates_for, is_before_polls, item_ready, queue_taken, script_to_take};
+ghost use Rattle.exec_rules.specs.World.{Handler, queue_after};
+ghost use Rattle.exec_rules.specs.inner.Homes.{AreHomes, handlers_of};
+ghost use Rattle.std.specs.Option.{option_map_or};
+ghost use Rattle.exec_rules.specs.inner.Listing.{listed_behind};
 
 use super::number;
-use exec_msg::{Kind, LazyQueue, Memory};
+use exec_msg::{Items, Kind, LazyQueue, Memory, Moment};
 use exec_plan::Script;
-use exec_rules::{Handler, Item};
+use exec_rules::{Cause, Handler, Home, Item, ReadyList};
+use std::alloc::Global;
 use std::marker::Model;
 
 // The queue of an entity from which its callback of a kind takes.
@@ -77,9 +82,79 @@ impl Entry {
         self.handler.bring_home(script);
     }
 
+    // Lists the callback that takes its first item, where there is one, unless that asks about a server's goals: says whether it
+    // does not. The queue stands at a place.
+    #[inline(always)]
+    pub(super) fn list_plain(
+        &mut self,
+        alloc: Global,
+        moment: Moment,
+        place: usize,
+        list: &mut ReadyList,
+        homes: &mut Vec<Home>,
+    ) -> Result<bool, Memory>
+        ensures same { self.new ≡ self.old }
+        ensures listed { IfOk result (λ done. done ≡ true → (goals : List _) → list.new ≡ listed_behind list.old (item_ready moment self.old.handler goals self.old.items)) }
+        ensures left { IfOk result (λ done. done ≡ false → list.new ≡ list.old) }
+        ensures homes { OnOk result ((handlers : List Handler) → slice_get handlers place ≡ Some self.old.handler → AreHomes handlers list.old homes.old.items → AreHomes handlers list.new homes.new.items) }
+    {
+        let Some(item) = self.queue.front() else {
+            return Ok(true);
+        };
+        if asks_server(item) {
+            return Ok(false);
+        }
+        let script = self.handler.take_script()?;
+        let ready = self.handler.ready(moment, Cause::Took(*item), Items::new(alloc), Some(script));
+        list.push_from(ready, place, homes)?;
+        Ok(true)
+    }
+
     pub(super) fn is_before_polls(&self) -> bool
         ensures { result ≡ is_before_polls self.now.kind }
     {
         number(self.kind) <= number(Kind::Poll)
+    }
+}
+
+// Lists the callback that takes from the queue at a place, where there is one, as `list_plain` does.
+#[inline(always)]
+pub(super) fn list_plain_at(
+    entries: &mut Vec<Entry>,
+    alloc: Global,
+    moment: Moment,
+    place: usize,
+    list: &mut ReadyList,
+    homes: &mut Vec<Home>,
+) -> Result<bool, Memory>
+    ensures same { entries.new.items ≡ entries.old.items }
+    ensures listed { IfOk result (λ done. done ≡ true → (goals : Handler → List _) → list.new ≡ listed_behind list.old (option_map_or (λ queue. item_ready moment queue.handler (goals queue.handler) queue.items) (slice_get entries.old.items place) [])) }
+    ensures left { IfOk result (λ done. done ≡ false → list.new ≡ list.old) }
+    ensures homes { OnOk result (AreHomes (handlers_of entries.old.items) list.old homes.old.items → AreHomes (handlers_of entries.old.items) list.new homes.new.items) }
+{
+    match entries.get_mut(place) {
+        None => Ok(true),
+        Some(entry) => {
+            let done = entry.list_plain(alloc, moment, place, list, homes)?;
+            Ok(done)
+        }
+    }
+}
+
+// Whether the callback that takes an item depends on a server's goals, or runs no script.
+#[inline(always)]
+fn asks_server(item: &Item) -> bool
+    ensures script { result ≡ false → (goals : List _) → (script : Script) → script_to_take item.now goals script ≡ Some script }
+    ensures candidates { result ≡ false → (goals : List _) → candidates_for item.now goals ≡ [] }
+{
+    match item {
+        Item::Goal { .. } | Item::Cancel { .. } | Item::Ask { .. } => true,
+        Item::Message { .. }
+        | Item::Request { .. }
+        | Item::Reply { .. }
+        | Item::Response { .. }
+        | Item::Code { .. }
+        | Item::Feedback { .. }
+        | Item::Result { .. } => false,
     }
 }

@@ -3,6 +3,7 @@ ghost use Rattle.std.specs.Prelude.{◌≡◌, [], slice_index_or, slice_set, If
 ghost use Rattle.exec_script.specs.Script.{listed};
 ghost use Rattle.exec_script.specs.Zeros.{zeros};
 ghost use Rattle.exec_rules.specs.Callback.{callback};
+ghost use Rattle.exec_rules.specs.Ready.{input_of};
 ghost use Rattle.exec_entity.specs.inner.Polling.{polled_by};
 ghost use Rattle.exec_rules.specs.Run.{work_by};
 
@@ -10,7 +11,7 @@ use super::State;
 use exec_entity::Servers;
 use exec_msg::{Lines, Memory};
 use exec_rules::{Cause, Ready, call_in, take_item};
-use exec_script::{Bank, Close, Effect, EffectList, Role};
+use exec_script::{Bank, Close, Effect, EffectList, Input, Role};
 use exec_task::Turn;
 use futures::task::Context;
 use std::alloc::Global;
@@ -29,14 +30,13 @@ impl<L: Lines> State<L> {
     ) -> Result<(), Memory>
         ensures { OnOk result (self.new ≡ run one.now self.old) }
     {
+        let input = one.input();
         let mut close = Close::Nothing;
-        self.run_apart(one, effects, &mut close, cx)?;
-        self.commit(one, effects.as_slice(), &close)?;
-        Ok(())
+        self.run_apart(one, &input, effects, &mut close, cx)?;
+        self.commit_with(one, &input, effects.as_slice(), &close)
     }
 
     // Gives what a ready callback did apart to the world.
-    #[inline(always)]
     pub(crate) fn commit(
         &mut self,
         one: &Ready,
@@ -45,21 +45,39 @@ impl<L: Lines> State<L> {
     ) -> Result<(), Memory>
         ensures { OnOk result (self.new ≡ commit one.now (record { list = effects.now; close = close.now }) self.old) }
     {
-        self.add_line(one.run_line())?;
+        let input = one.input();
+        self.commit_with(one, &input, effects, close)
+    }
+
+    // The same, where this is what it was handed.
+    #[inline(always)]
+    fn commit_with(
+        &mut self,
+        one: &Ready,
+        input: &Input,
+        effects: &[Effect],
+        close: &Close,
+    ) -> Result<(), Memory>
+        requires { input.now ≡ input_of one.now }
+        ensures { OnOk result (self.new ≡ commit one.now (record { list = effects.now; close = close.now }) self.old) }
+    {
+        self.add_line(one.run_line(input))?;
         self.give_all(one, effects)?;
         self.close(one, close)
     }
 
-    // Runs a ready callback apart from the world, with its group's variables and its goal's task where they stand. The list then
-    // has its effects, and these alone.
+    // Runs a ready callback apart from the world, with its group's variables and its goal's task where they stand, where this is
+    // what it is handed. The list then has its effects, and these alone.
     #[inline(always)]
     fn run_apart(
         &mut self,
         one: &Ready,
+        input: &Input,
         effects: &mut EffectList,
         close: &mut Close,
         cx: &mut Context<'_>,
     ) -> Result<(), Memory>
+        requires { input.now ≡ input_of one.now }
         ensures effects { OnOk result (effects.new ≡ (apart one.now self.old).given) }
         ensures close { OnOk result (close.new ≡ (apart one.now self.old).close) }
         ensures home { OnOk result (self.new ≡ brought_home one.now (apart one.now self.old) self.old) }
@@ -71,12 +89,21 @@ impl<L: Lines> State<L> {
                 &mut self.banks,
                 &mut self.servers,
                 one,
+                input,
                 effects,
                 close,
                 cx,
             );
         }
-        act_for_nobody(self.alloc, &mut self.servers, one, effects, close, cx)
+        act_for_nobody(
+            self.alloc,
+            &mut self.servers,
+            one,
+            input,
+            effects,
+            close,
+            cx,
+        )
     }
 }
 
@@ -88,19 +115,21 @@ fn act_in(
     banks: &mut Vec<Bank>,
     servers: &mut Servers,
     one: &Ready,
+    input: &Input,
     effects: &mut EffectList,
     close: &mut Close,
     cx: &mut Context<'_>,
 ) -> Result<(), Memory>
-    requires { effects.old ≡ [] }
+    requires none { effects.old ≡ [] }
+    requires handed { input.now ≡ input_of one.now }
     ensures variables { OnOk result (banks.new.items ≡ slice_set banks.old.items one.now.group (callback listed one.now (work_by one.now.entity one.now.cause servers.old) (slice_index_or banks.old.items one.now.group zeros) []).variables) }
     ensures effects { OnOk result (effects.new ≡ (callback listed one.now (work_by one.now.entity one.now.cause servers.old) (slice_index_or banks.old.items one.now.group zeros) []).given) }
     ensures close { OnOk result (close.new ≡ (callback listed one.now (work_by one.now.entity one.now.cause servers.old) (slice_index_or banks.old.items one.now.group zeros) []).close) }
     ensures task { OnOk result (servers.new ≡ polled_by one.now.entity one.now.cause (callback listed one.now (work_by one.now.entity one.now.cause servers.old) (slice_index_or banks.old.items one.now.group zeros) []).task servers.old) }
 {
     match banks.get_mut(one.group.0 as usize) {
-        Some(bank) => act(alloc, servers, one, bank, effects, close, cx),
-        None => act_for_nobody(alloc, servers, one, effects, close, cx),
+        Some(bank) => act(alloc, servers, one, input, bank, effects, close, cx),
+        None => act_for_nobody(alloc, servers, one, input, effects, close, cx),
     }
 }
 
@@ -110,20 +139,22 @@ fn act(
     alloc: Global,
     servers: &mut Servers,
     one: &Ready,
+    input: &Input,
     bank: &mut Bank,
     effects: &mut EffectList,
     close: &mut Close,
     cx: &mut Context<'_>,
 ) -> Result<(), Memory>
-    requires { effects.old ≡ [] }
+    requires none { effects.old ≡ [] }
+    requires handed { input.now ≡ input_of one.now }
     ensures variables { OnOk result (bank.new ≡ (callback listed one.now (work_by one.now.entity one.now.cause servers.old) bank.old []).variables) }
     ensures effects { OnOk result (effects.new ≡ (callback listed one.now (work_by one.now.entity one.now.cause servers.old) bank.old []).given) }
     ensures close { OnOk result (close.new ≡ (callback listed one.now (work_by one.now.entity one.now.cause servers.old) bank.old []).close) }
     ensures task { OnOk result (servers.new ≡ polled_by one.now.entity one.now.cause (callback listed one.now (work_by one.now.entity one.now.cause servers.old) bank.old []).task servers.old) }
 {
     match &one.cause {
-        Cause::Due => *close = call_in(Role::Callback, one, bank, effects)?,
-        Cause::Took(item) => *close = take_item(alloc, item, one, bank, effects)?,
+        Cause::Due => call_in(Role::Callback, one, input, bank, effects, close)?,
+        Cause::Took(item) => take_item(alloc, item, one, input, bank, effects, close)?,
         Cause::Woke { id, canceling, .. } => {
             let turn = Turn {
                 moment: one.moment,
@@ -141,15 +172,17 @@ fn act_for_nobody(
     alloc: Global,
     servers: &mut Servers,
     one: &Ready,
+    input: &Input,
     effects: &mut EffectList,
     close: &mut Close,
     cx: &mut Context<'_>,
 ) -> Result<(), Memory>
-    requires { effects.old ≡ [] }
+    requires none { effects.old ≡ [] }
+    requires handed { input.now ≡ input_of one.now }
     ensures effects { OnOk result (effects.new ≡ (callback listed one.now (work_by one.now.entity one.now.cause servers.old) zeros []).given) }
     ensures close { OnOk result (close.new ≡ (callback listed one.now (work_by one.now.entity one.now.cause servers.old) zeros []).close) }
     ensures task { OnOk result (servers.new ≡ polled_by one.now.entity one.now.cause (callback listed one.now (work_by one.now.entity one.now.cause servers.old) zeros []).task servers.old) }
 {
     let mut bank = Bank::new();
-    act(alloc, servers, one, &mut bank, effects, close, cx)
+    act(alloc, servers, one, input, &mut bank, effects, close, cx)
 }

@@ -3,7 +3,7 @@ use Rattle.exec_script.specs.Script.{ScriptState, close_of}
 use Rattle.exec_script.specs.Zeros.{zeros}
 use Rattle.exec_script.specs.declared.effects.Effect.{Effect}
 use Rattle.exec_script.proofs.Lasting.{call_ends}
-use Rattle.exec_script.proofs.run.run_call_into.Goals as goal
+use Rattle.exec_script.proofs.run.run_call_closing.Goals as goal
 
 pub returns : goal.returns
 returns c =
