@@ -77,6 +77,7 @@ impl<'a, K: Named> Lines for Text<'a, K> {
     fn add(&mut self, line: &Line) -> Result<(), Memory> {
         let room = room_behind(self.end, self.names)?;
         if self.bytes.len() < room {
+            // A short transcript keeps no texts: to make their room would take longer than its lines.
             if self.end > 0 {
                 self.texts.fill()?;
             }
