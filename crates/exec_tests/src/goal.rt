@@ -1,12 +1,9 @@
-mod policy;
 mod refusals;
 
-ghost use Rattle.std.specs.Prelude.{◌≤◌, ◌^◌};
-
-use crate::shared::same;
-use exec_goal::{Accepted, Asked, CancelRequest, Goals, Illegal, Reject, State};
+use crate::shared::{moment, same};
+use exec_goal::{Accepted, Asked, CancelRequest, GoalInfo, Goals, Illegal, Reject, State};
 use exec_msg::limits::GOALS;
-use exec_msg::{EntityNo, Event, GoalId, GoalStatus, Memory, Moment, ReturnCode};
+use exec_msg::{EntityNo, Event, GoalId, GoalStatus, Memory, ReturnCode};
 use std::process::Abort;
 use std::test::Fail;
 
@@ -22,12 +19,6 @@ const ENDED: [State; 3] = [State::Succeeded, State::Canceled, State::Aborted];
 
 fn id(number: u128) -> GoalId {
     GoalId::new(number)
-}
-
-fn moment(ticks: u64) -> Moment
-    requires { ticks ≤ 2 ^ 62 }
-{
-    Moment::new(ticks).unwrap()
 }
 
 fn request(number: u128, stamp: u64) -> CancelRequest {
@@ -62,7 +53,6 @@ fn states_tell_what_is_done_with_a_goal(rt: HostRuntime) {
     for state in [State::Executing, State::Canceling] {
         same(&rt, state.is_worked_on(), true);
     }
-    same(&rt, State::Accepted.is_worked_on(), false);
     for state in ENDED {
         same(&rt, state.is_worked_on(), false);
     }
@@ -70,22 +60,27 @@ fn states_tell_what_is_done_with_a_goal(rt: HostRuntime) {
 
 #[test]
 fn refusals_have_numbers(rt: HostRuntime) {
-    same(&rt, Reject::Held.number(), 1);
-    same(&rt, Reject::Full.number(), 2);
-    same(&rt, Reject::Memory.number(), 3);
-    same(&rt, Reject::from(Memory), Reject::Memory);
+    let numbers = (Reject::Held.number(), Reject::Full.number());
+    same(&rt, numbers, (1, 2));
+    same(&rt, Reject::from(Memory).number(), 3);
 }
 
+// A function that owns goals is proved over all that they drop, once for each way out: so a test makes them, and hands them
+// on at once.
 #[test]
 fn a_table_of_three_goals(rt: HostRuntime) -> Result<(), Fail> {
     let mut goals = Goals::new(rt.alloc());
-    accepts_three(&rt, &mut goals);
-    cancels_until_20(&rt, &mut goals)?;
-    answers_of_one_goal(&rt, &mut goals)?;
-    ends_goal_1(&rt, &mut goals)?;
-    tells_results(&rt, &mut goals)?;
-    reads_goals(&rt, &goals);
-    forgets_goal_1(&rt, &mut goals);
+    serves_three(&rt, &mut goals)
+}
+
+fn serves_three(rt: &impl Abort, goals: &mut Goals) -> Result<(), Fail> {
+    accepts_three(rt, goals);
+    cancels_until_20(rt, goals)?;
+    answers_of_one_goal(rt, goals)?;
+    ends_goal_1(rt, goals)?;
+    tells_results(rt, goals)?;
+    reads_goals(rt, goals);
+    forgets_goal_1(rt, goals);
     Ok(())
 }
 
@@ -111,30 +106,46 @@ fn accepts_three(rt: &impl Abort, goals: &mut Goals) {
     same(rt, goals.working(), 1);
 }
 
+// Whether a request selects goals 1, 2 and 3.
+fn selected(goals: &Goals, number: u128, stamp: u64) -> Result<[bool; 3], Memory> {
+    let infos = goals.candidates(&request(number, stamp))?;
+    let infos = infos.as_slice();
+    Ok([has(infos, 1), has(infos, 2), has(infos, 3)])
+}
+
+fn has(infos: &[GoalInfo], number: u128) -> bool {
+    infos.iter().any(|info| info.id.number() == number)
+}
+
+// The return code of an answer, and the goals that moved: the first of them, and how many.
+type Answered = (ReturnCode, Option<GoalId>, usize);
+
+fn answered(
+    goals: &mut Goals,
+    number: u128,
+    stamp: u64,
+    decisions: &[(GoalId, u8)],
+) -> Result<Answered, Memory> {
+    let answer = goals.answer(&request(number, stamp), decisions)?;
+    let moved = answer.moved.as_slice();
+    Ok((answer.code, moved.first().copied(), moved.len()))
+}
+
 fn cancels_until_20(rt: &impl Abort, goals: &mut Goals) -> Result<(), Fail> {
-    let until_20 = request(0, 20);
-    let candidates = goals.candidates(&until_20)?;
-    let mut infos = candidates.as_slice().iter().map(|info| info.id);
-    same(rt, infos.next(), Some(id(1)));
-    same(rt, infos.next(), Some(id(2)));
-    same(rt, infos.next(), None);
-    let answer = goals.answer(&until_20, &[(id(1), 2), (id(2), 1)])?;
-    same(rt, answer.code, ReturnCode::None);
-    same(rt, answer.moved.as_slice().first().copied(), Some(id(1)));
-    same(rt, answer.moved.as_slice().len(), 1);
+    same(rt, selected(goals, 0, 20)?, [true, true, false]);
+    let answer = answered(goals, 0, 20, &[(id(1), 2), (id(2), 1)])?;
+    same(rt, answer, (ReturnCode::None, Some(id(1)), 1));
     same(rt, goals.working(), 2);
     Ok(())
 }
 
 // Goal 1 is CANCELING, and so no candidate; goal 9 isn't held.
 fn answers_of_one_goal(rt: &impl Abort, goals: &mut Goals) -> Result<(), Fail> {
-    let candidates = goals.candidates(&request(1, 0))?;
-    same(rt, candidates.as_slice().len(), 0);
-    let answer = goals.answer(&request(1, 0), &[])?;
-    same(rt, answer.code, ReturnCode::Rejected);
-    same(rt, answer.moved.as_slice().len(), 0);
-    let answer = goals.answer(&request(9, 0), &[])?;
-    same(rt, answer.code, ReturnCode::UnknownGoalId);
+    same(rt, selected(goals, 1, 0)?, [false, false, false]);
+    let answer = answered(goals, 1, 0, &[])?;
+    same(rt, answer, (ReturnCode::Rejected, None, 0));
+    let answer = answered(goals, 9, 0, &[])?;
+    same(rt, answer, (ReturnCode::UnknownGoalId, None, 0));
     Ok(())
 }
 
@@ -146,8 +157,8 @@ fn ends_goal_1(rt: &impl Abort, goals: &mut Goals) -> Result<(), Fail> {
         Ok(State::Canceled),
     );
     same(rt, goals.working(), 1);
-    let answer = goals.answer(&request(1, 0), &[])?;
-    same(rt, answer.code, ReturnCode::GoalTerminated);
+    let answer = answered(goals, 1, 0, &[])?;
+    same(rt, answer, (ReturnCode::GoalTerminated, None, 0));
     Ok(())
 }
 
@@ -155,106 +166,81 @@ fn tells_results(rt: &impl Abort, goals: &mut Goals) -> Result<(), Fail> {
     let told = Asked::Now(GoalStatus::Canceled, 7);
     same(rt, goals.ask_result(id(1), EntityNo(4))?, told);
     same(rt, goals.ask_result(id(2), EntityNo(5))?, Asked::Later);
+    same(rt, goals.ask_result(id(2), EntityNo(3))?, Asked::Later);
     same(rt, goals.ask_result(id(9), EntityNo(6))?, Asked::Unknown);
     Ok(())
 }
 
+// Goal 2 was asked for by 5 and then by 3.
 fn reads_goals(rt: &impl Abort, goals: &Goals) {
-    same(rt, goals.asker(id(2), 0), Some(EntityNo(5)));
-    same(rt, goals.asker(id(2), 1), None);
+    let askers = [goals.asker(id(2), 0), goals.asker(id(2), 1)];
+    same(rt, askers, [Some(EntityNo(5)), Some(EntityNo(3))]);
+    same(rt, goals.asker(id(2), 2), None);
     assert_eq!(rt; goals.len(), 3);
     let second = goals.at(1);
-    same(rt, second.id, id(2));
-    same(rt, second.state, State::Accepted);
+    same(rt, (second.id, second.state), (id(2), State::Accepted));
 }
 
 fn forgets_goal_1(rt: &impl Abort, goals: &mut Goals) {
-    same(rt, goals.expire(moment(49), 10), None);
-    same(rt, goals.expire(moment(50), 10), Some(id(1)));
-    same(rt, goals.expire(moment(50), 10), None);
-    same(rt, goals.holds(id(1)), false);
+    let forgotten = [
+        goals.expire(moment(49), 10),
+        goals.expire(moment(50), 10),
+        goals.expire(moment(50), 10),
+    ];
+    same(rt, forgotten, [None, Some(id(1)), None]);
+    same(rt, (goals.holds(id(1)), goals.holds(id(2))), (false, true));
+    same(rt, goals.apply(id(2), Event::Execute), Ok(State::Executing));
 }
+
+// A request's identifier and stamp, and whether it selects goals 1, 2 and 3 of those above: all of them, those accepted up
+// to the stamp, the named one whenever it was accepted, and both.
+const SELECTED: &[(u128, u64, [bool; 3])] = &[
+    (0, 0, [true, true, true]),
+    (0, 9, [false, false, false]),
+    (0, 29, [true, true, false]),
+    (0, 30, [true, true, true]),
+    (2, 0, [false, true, false]),
+    (3, 10, [true, false, true]),
+    (3, 9, [false, false, true]),
+    (9, 20, [true, true, false]),
+];
 
 #[test]
-fn ends_and_results(rt: HostRuntime) -> Result<(), Fail> {
+fn requests_select_by_identifier_and_stamp(rt: HostRuntime) -> Result<(), Fail> {
     let mut goals = Goals::new(rt.alloc());
-    for number in [1, 2, 3] {
-        goals.accept(id(number), 5, moment(10), 2)?;
+    accepts_three(&rt, &mut goals);
+    selects(&rt, &goals)
+}
+
+fn selects(rt: &impl Abort, goals: &Goals) -> Result<(), Fail> {
+    for (number, stamp, wanted) in SELECTED {
+        same(rt, selected(goals, *number, *stamp)?, *wanted);
     }
-    ends_only_by_endings(&rt, &mut goals);
-    same(
-        &rt,
-        goals.ask_result(id(1), EntityNo(0))?,
-        Asked::Now(GoalStatus::Aborted, -7),
-    );
-    // An end that keeps no result: the result is 0, and the end is the stamp.
-    same(
-        &rt,
-        goals.ask_result(id(2), EntityNo(0))?,
-        Asked::Now(GoalStatus::Succeeded, 0),
-    );
-    for client in [3, 1, 3] {
-        same(
-            &rt,
-            goals.ask_result(id(3), EntityNo(client))?,
-            Asked::Later,
-        );
-    }
-    for (place, client) in [(0, 3), (1, 1), (2, 3)] {
-        same(&rt, goals.asker(id(3), place), Some(EntityNo(client)));
-    }
-    forgets_in_order(&rt, &mut goals);
     Ok(())
-}
-
-fn ends_only_by_endings(rt: &impl Abort, goals: &mut Goals) {
-    same(
-        rt,
-        goals.end(id(1), Event::CancelGoal, 7, moment(20)),
-        Err(Illegal),
-    );
-    same(
-        rt,
-        goals.end(id(9), Event::Succeed, 7, moment(20)),
-        Err(Illegal),
-    );
-    same(
-        rt,
-        goals.apply(id(1), Event::CancelGoal),
-        Ok(State::Canceling),
-    );
-    same(
-        rt,
-        goals.end(id(1), Event::Abort, -7, moment(20)),
-        Ok(State::Aborted),
-    );
-    same(rt, goals.apply(id(2), Event::Succeed), Ok(State::Succeeded));
-    same(rt, goals.state(id(3)), Some(State::Executing));
-}
-
-// Goal 2 ended first, at its stamp 10, and goal 1 at 20.
-fn forgets_in_order(rt: &impl Abort, goals: &mut Goals) {
-    same(rt, goals.expire(moment(9), 0), None);
-    same(rt, goals.expire(moment(20), 0), Some(id(1)));
-    same(rt, goals.expire(moment(20), 0), Some(id(2)));
-    same(rt, goals.expire(moment(exec_msg::limits::TICKS), 0), None);
-    same(rt, goals.state(id(1)), None);
-    same(rt, goals.len(), 1);
 }
 
 #[test]
 fn a_full_table(rt: HostRuntime) -> Result<(), Fail> {
     let mut goals = Goals::new(rt.alloc());
+    fills(&rt, &mut goals)?;
+    frees_a_place(&rt, &mut goals)
+}
+
+fn fills(rt: &impl Abort, goals: &mut Goals) -> Result<(), Fail> {
     for number in 0..GOALS as u64 {
-        same(&rt, goals.is_full(), false);
+        same(rt, goals.is_full(), false);
         goals.accept(id(number as u128 + 1), 0, moment(0), 2)?;
     }
-    same(&rt, goals.is_full(), true);
-    refuses_more(&rt, &mut goals);
+    same(rt, goals.is_full(), true);
+    Ok(())
+}
+
+// A goal that has ended takes up its place until it is forgotten.
+fn frees_a_place(rt: &impl Abort, goals: &mut Goals) -> Result<(), Fail> {
+    refuses_more(rt, goals);
     goals.end(id(7), Event::Succeed, 1, moment(1))?;
-    // A goal that has ended takes up its place until it is forgotten.
-    refuses_more(&rt, &mut goals);
-    same(&rt, goals.expire(moment(1), 0), Some(id(7)));
+    refuses_more(rt, goals);
+    same(rt, goals.expire(moment(1), 0), Some(id(7)));
     goals.accept(id(65), 0, moment(2), 3)?;
     Ok(())
 }

@@ -1,5 +1,6 @@
 ghost use Rattle.std.specs.Prelude.{◌≡◌};
 
+use crate::shared::{moment, same};
 use exec_msg::limits::TICKS;
 use exec_msg::{
     EntityNo, GoalId, GoalStatus, KeepLast, Kind, LazyQueue, Line, LineList, Lines, Memory, Moment,
@@ -7,6 +8,7 @@ use exec_msg::{
 };
 use std::alloc::{AllocError, Global};
 use std::marker::Brand;
+use std::process::Abort;
 use std::test::Fail;
 
 const TOPIC: EntityNo = EntityNo(0);
@@ -82,329 +84,341 @@ fn added<K: Named>(alloc: Global, names: &Names, lines: &[Line]) -> Result<Vec<u
     Ok(text.into_bytes())
 }
 
-fn put_round(lines: &mut LineList) -> Result<(), Memory> {
-    if let Some(moment) = Moment::new(TICKS) {
-        lines.add(&Line::Round { number: 1, moment })?;
-    }
-    lines.add(&Line::Expire {
-        server: SERVER,
-        id: GoalId::new(u128::MAX),
-    })?;
-    lines.add(&Line::Run {
-        entity: TIMER,
-        kind: Kind::Timer,
-        input: 4_611_686_018_427_387_904,
-        aux: 0,
-        id: None,
-    })?;
-    lines.add(&Line::Run {
-        entity: SERVER,
-        kind: Kind::Poll,
-        input: i64::MIN,
-        aux: 1,
-        id: Some(GoalId::new(0x1_0000_0000_0000_0001)),
-    })?;
-    lines.add(&Line::Drop {
-        entity: SERVICE,
-        kind: Kind::Request,
-        input: -7,
-    })
+fn round_lines() -> [Line; 5] {
+    [
+        Line::Round {
+            number: 1,
+            moment: moment(TICKS),
+        },
+        Line::Expire {
+            server: SERVER,
+            id: GoalId::new(u128::MAX),
+        },
+        Line::Run {
+            entity: TIMER,
+            kind: Kind::Timer,
+            input: 4_611_686_018_427_387_904,
+            aux: 0,
+            id: None,
+        },
+        Line::Run {
+            entity: SERVER,
+            kind: Kind::Poll,
+            input: i64::MIN,
+            aux: 1,
+            id: Some(GoalId::new(0x1_0000_0000_0000_0001)),
+        },
+        Line::Drop {
+            entity: SERVICE,
+            kind: Kind::Request,
+            input: -7,
+        },
+    ]
 }
 
-fn put_values(lines: &mut LineList) -> Result<(), Memory> {
-    lines.add(&Line::Pub {
-        topic: TOPIC,
-        value: i64::MAX,
-    })?;
-    lines.add(&Line::Call {
-        client: CLIENT,
-        number: 12,
-        value: -1,
-    })?;
-    lines.add(&Line::Reply {
-        service: SERVICE,
-        value: 0,
-    })?;
-    lines.add(&Line::Goal {
-        client: ACTION_CLIENT,
-        id: GoalId::new(0x1_0000_0000_0000_000a),
-        value: 5,
-    })?;
-    lines.add(&Line::Cancel {
-        client: ACTION_CLIENT,
-        id: GoalId::new(0),
-        stamp: u64::MAX,
-    })?;
-    lines.add(&Line::Log {
-        entity: TIMER,
-        value: 100,
-    })
+fn value_lines() -> [Line; 6] {
+    [
+        Line::Pub {
+            topic: TOPIC,
+            value: i64::MAX,
+        },
+        Line::Call {
+            client: CLIENT,
+            number: 12,
+            value: -1,
+        },
+        Line::Reply {
+            service: SERVICE,
+            value: 0,
+        },
+        Line::Goal {
+            client: ACTION_CLIENT,
+            id: GoalId::new(0x1_0000_0000_0000_000a),
+            value: 5,
+        },
+        Line::Cancel {
+            client: ACTION_CLIENT,
+            id: GoalId::new(0),
+            stamp: u64::MAX,
+        },
+        Line::Log {
+            entity: TIMER,
+            value: 100,
+        },
+    ]
 }
 
-fn put_goal(lines: &mut LineList, id: GoalId) -> Result<(), Memory> {
-    lines.add(&Line::Feedback {
-        server: SERVER,
-        id,
-        value: 99,
-    })?;
-    lines.add(&Line::Decide {
-        server: SERVER,
-        id,
-        decision: 3,
-    })?;
-    lines.add(&Line::State {
-        server: SERVER,
-        id,
-        status: GoalStatus::Canceled,
-    })?;
-    lines.add(&Line::Code {
-        server: SERVER,
-        code: ReturnCode::GoalTerminated,
-        moved: 0,
-    })?;
-    lines.add(&Line::Ask {
-        client: ACTION_CLIENT,
-        id,
-    })?;
-    lines.add(&Line::Result {
-        server: SERVER,
-        id,
-        status: GoalStatus::Aborted,
-        value: -10,
-    })
+fn goal_lines(id: GoalId) -> [Line; 6] {
+    [
+        Line::Feedback {
+            server: SERVER,
+            id,
+            value: 99,
+        },
+        Line::Decide {
+            server: SERVER,
+            id,
+            decision: 3,
+        },
+        Line::State {
+            server: SERVER,
+            id,
+            status: GoalStatus::Canceled,
+        },
+        Line::Code {
+            server: SERVER,
+            code: ReturnCode::GoalTerminated,
+            moved: 0,
+        },
+        Line::Ask {
+            client: ACTION_CLIENT,
+            id,
+        },
+        Line::Result {
+            server: SERVER,
+            id,
+            status: GoalStatus::Aborted,
+            value: -10,
+        },
+    ]
 }
 
-fn each_line(alloc: Global) -> Result<LineList, Memory> {
-    let mut lines = LineList::new(alloc);
-    let id = GoalId::new(0x0123_4567_89ab_cdef_fedc_ba98_7654_3210);
-    put_round(&mut lines)?;
-    put_values(&mut lines)?;
-    put_goal(&mut lines, id)?;
-    lines.add(&Line::Pending {
+const LAST_LINES: [Line; 2] = [
+    Line::Pending {
         client: CLIENT,
         calls: 3,
-    })?;
-    lines.add(&Line::End { rounds: 65_536 })?;
+    },
+    Line::End { rounds: 65_536 },
+];
+
+// Adds lines to a list. Where memory is refused, it is as it was, and the call is made once more.
+fn lists(lines: &mut LineList, more: &[Line]) -> Result<(), Fail> {
+    for line in more {
+        let before = lines.as_slice().len();
+        if lines.add(line).is_err() {
+            if lines.as_slice().len() != before {
+                return Err(Fail::new("a refused line was listed"));
+            }
+            lines.add(line)?;
+        }
+    }
+    Ok(())
+}
+
+fn each_line(alloc: Global) -> Result<LineList, Fail> {
+    let mut lines = LineList::new(alloc);
+    let id = GoalId::new(0x0123_4567_89ab_cdef_fedc_ba98_7654_3210);
+    lists(&mut lines, &round_lines())?;
+    lists(&mut lines, &value_lines())?;
+    lists(&mut lines, &goal_lines(id))?;
+    lists(&mut lines, &LAST_LINES)?;
     Ok(lines)
 }
 
+// Numbers of the least and the greatest lengths, and at the ends of some between.
+const ENDS: [Line; 8] = [
+    Line::End { rounds: 0 },
+    Line::End { rounds: 9 },
+    Line::End { rounds: 10 },
+    Line::End { rounds: 999 },
+    Line::End { rounds: 10_000 },
+    Line::End {
+        rounds: 9_999_999_999_999_999,
+    },
+    Line::End {
+        rounds: 10_000_000_000_000_000_000,
+    },
+    Line::End { rounds: u64::MAX },
+];
+
+const THEIR_TEXT: &str = "end 0
+end 9
+end 10
+end 999
+end 10000
+end 9999999999999999
+end 10000000000000000000
+end 18446744073709551615
+";
+
 #[test]
-fn writes_each_line(rt: HostRuntime) -> Result<(), Fail> {
+fn writes_and_adds_each_line(rt: HostRuntime) -> Result<(), Fail> {
     let names = names(rt.alloc())?;
-    let lines = each_line(rt.alloc())?;
-    let text = written(rt.alloc(), &names, lines.as_slice())?;
-    let found = str::from_utf8(text.as_slice());
-    assert!(rt; text.as_slice() == TRANSCRIPT.as_bytes(), "{found:?}");
+    writes_each_line(&rt, rt.alloc(), &names)
+}
+
+fn writes_each_line(rt: &impl Abort, alloc: Global, names: &Names) -> Result<(), Fail> {
+    let lines = each_line(alloc)?;
+    writes(rt, alloc, names, lines.as_slice(), TRANSCRIPT)?;
+    writes(rt, alloc, names, &ENDS, THEIR_TEXT)?;
+    adds_each_line(rt, alloc, names, lines.as_slice())
+}
+
+fn writes(
+    rt: &impl Abort,
+    alloc: Global,
+    names: &Names,
+    lines: &[Line],
+    wanted: &str,
+) -> Result<(), Fail> {
+    let text = written(alloc, names, lines)?;
+    same(rt, str::from_utf8(&text), Ok(wanted));
     Ok(())
 }
 
-#[test]
-fn adds_each_line(rt: HostRuntime) -> Result<(), Fail> {
-    let names = names(rt.alloc())?;
-    let lines = each_line(rt.alloc())?;
-    let text = added::<Brand>(rt.alloc(), &names, lines.as_slice())?;
-    let found = str::from_utf8(text.as_slice());
-    assert!(rt; text.as_slice() == TRANSCRIPT.as_bytes(), "{found:?}");
-    Ok(())
-}
-
-// Numbers of each length, at both its ends.
-#[test]
-fn writes_numbers_of_each_length(rt: HostRuntime) -> Result<(), Fail> {
-    let names = names(rt.alloc())?;
-    let mut power: u64 = 1;
-    for _ in 0..19 {
-        power = power.wrapping_mul(10);
-        for rounds in [power.wrapping_sub(1), power, power.wrapping_add(1)] {
-            let text = written(rt.alloc(), &names, &[Line::End { rounds }])?;
-            let wanted = format!(in rt.alloc(); "end {rounds}\n")?;
-            assert_eq!(rt; text.as_slice(), wanted.as_bytes());
-        }
-    }
+fn adds_each_line(
+    rt: &impl Abort,
+    alloc: Global,
+    names: &Names,
+    lines: &[Line],
+) -> Result<(), Fail> {
+    let text = added::<Brand>(alloc, names, lines)?;
+    same(rt, str::from_utf8(&text), Ok(TRANSCRIPT));
     Ok(())
 }
 
 #[test]
 fn reads_names_at_their_numbers(rt: HostRuntime) -> Result<(), Fail> {
     let names = names(rt.alloc())?;
-    assert_eq!(rt; names.name(TOPIC), "x");
-    assert_eq!(rt; names.name(ACTION_CLIENT), "n/ac_1");
-    assert_eq!(rt; names.name(EntityNo(6)), "");
+    reads_names(&rt, &names);
     Ok(())
 }
 
-#[test]
-fn lists_lines(rt: HostRuntime) -> Result<(), Fail> {
-    let mut lines = LineList::new(rt.alloc());
-    for rounds in 0..10 {
-        if lines.add(&Line::End { rounds }).is_err() {
-            assert_eq!(rt; lines.as_slice().len() as u64, rounds);
-            lines.add(&Line::End { rounds })?;
-        }
-    }
-    for (rounds, line) in lines.as_slice().iter().enumerate() {
-        assert_eq!(rt;
-            *line,
-            Line::End {
-                rounds: rounds as u64
-            }
-        );
-    }
-    assert_eq!(rt; lines.as_slice().len(), 10);
-    Ok(())
+fn reads_names(rt: &impl Abort, names: &Names) {
+    let found = (names.name(TOPIC), names.name(ACTION_CLIENT));
+    same(rt, found, ("x", "n/ac_1"));
+    same(rt, names.name(EntityNo(6)), "");
 }
+
+const KINDS: &[(Kind, &str)] = &[
+    (Kind::Timer, "timer"),
+    (Kind::Message, "message"),
+    (Kind::Request, "request"),
+    (Kind::Reply, "reply"),
+    (Kind::Goal, "goal"),
+    (Kind::Cancel, "cancel"),
+    (Kind::Ask, "ask"),
+    (Kind::Poll, "poll"),
+    (Kind::Response, "response"),
+    (Kind::Code, "code"),
+    (Kind::Feedback, "feedback"),
+    (Kind::Result, "result"),
+];
 
 #[test]
 fn names_each_kind(rt: HostRuntime) {
-    for (kind, word) in [
-        (Kind::Timer, "timer"),
-        (Kind::Message, "message"),
-        (Kind::Request, "request"),
-        (Kind::Reply, "reply"),
-        (Kind::Goal, "goal"),
-        (Kind::Cancel, "cancel"),
-        (Kind::Ask, "ask"),
-        (Kind::Poll, "poll"),
-        (Kind::Response, "response"),
-        (Kind::Code, "code"),
-        (Kind::Feedback, "feedback"),
-        (Kind::Result, "result"),
-    ] {
-        assert_eq!(rt; kind.word(), word);
+    for (kind, word) in KINDS {
+        same(&rt, kind.word(), *word);
     }
 }
 
 #[test]
 fn keeps_the_last_items(rt: HostRuntime) -> Result<(), Fail> {
     let mut queue = KeepLast::new(rt.alloc(), 2)?;
-    assert_eq!(rt; queue.take(), None::<i64>);
-    assert_eq!(rt; queue.push(1), None);
-    assert_eq!(rt; queue.push(2), None);
-    assert_eq!(rt; queue.push(3), Some(1));
-    assert_eq!(rt; queue.len(), 2);
-    assert_eq!(rt; queue.front().copied(), Some(2));
-    assert_eq!(rt; queue.take(), Some(2));
-    assert_eq!(rt; queue.take(), Some(3));
-    assert_eq!(rt; queue.take(), None);
-    assert_eq!(rt; queue.len(), 0);
+    keeps_two(&rt, &mut queue);
     Ok(())
+}
+
+fn keeps_two(rt: &impl Abort, queue: &mut KeepLast<i64>) {
+    same(rt, queue.take(), None);
+    let displaced = [queue.push(1), queue.push(2), queue.push(3)];
+    same(rt, displaced, [None, None, Some(1)]);
+    same(rt, (queue.len(), queue.front().copied()), (2, Some(2)));
+    let taken = [queue.take(), queue.take(), queue.take()];
+    same(rt, taken, [Some(2), Some(3), None]);
+    same(rt, queue.len(), 0);
 }
 
 // A send that is refused leaves the queue as it was, and the next one makes its room.
 #[test]
 fn makes_room_with_the_first_item(rt: HostRuntime) -> Result<(), Fail> {
     let mut queue = LazyQueue::new(rt.alloc(), 2);
-    assert_eq!(rt; queue.front(), None::<&i64>);
-    assert_eq!(rt; queue.take(), None);
-    if queue.send(1).is_err() {
-        assert_eq!(rt; queue.len(), 0);
-        queue.send(1)?;
-    }
-    assert!(rt; queue.send(2) == Ok(None));
-    assert!(rt; queue.send(3) == Ok(Some(1)));
-    assert_eq!(rt; queue.len(), 2);
-    assert_eq!(rt; queue.front().copied(), Some(2));
-    assert_eq!(rt; queue.take(), Some(2));
-    assert_eq!(rt; queue.take(), Some(3));
-    assert_eq!(rt; queue.len(), 0);
+    sends_the_first(&rt, &mut queue)?;
+    sends_two_more(&rt, &mut queue);
     Ok(())
 }
 
-// A queue of the greatest depth goes round its room more than once.
-#[test]
-fn keeps_the_last_of_many(rt: HostRuntime) -> Result<(), Fail> {
-    let mut queue = KeepLast::new(rt.alloc(), 1024)?;
-    for item in 0..3000u64 {
-        let displaced = queue.push(item);
-        assert_eq!(rt; displaced, item.checked_sub(1024), "at {item}");
+fn sends_the_first(rt: &impl Abort, queue: &mut LazyQueue<i64>) -> Result<(), Memory> {
+    same(rt, (queue.front().copied(), queue.take()), (None, None));
+    if queue.send(1).is_err() {
+        same(rt, queue.len(), 0);
+        queue.send(1)?;
     }
-    for item in 1976..3000u64 {
-        assert_eq!(rt; queue.take(), Some(item));
-    }
-    assert_eq!(rt; queue.len(), 0);
     Ok(())
+}
+
+fn sends_two_more(rt: &impl Abort, queue: &mut LazyQueue<i64>) {
+    let displaced = [queue.send(2), queue.send(3)];
+    same(rt, displaced, [Ok(None), Ok(Some(1))]);
+    same(rt, (queue.len(), queue.front().copied()), (2, Some(2)));
+    same(
+        rt,
+        [queue.take(), queue.take(), queue.take()],
+        [Some(2), Some(3), None],
+    );
+}
+
+// A timer behind a moment, at which it is called if it is due.
+fn after(timer: Timer, now: Moment) -> Timer {
+    let mut timer = timer;
+    if timer.due(now) {
+        timer.call(now);
+    }
+    timer
 }
 
 // A timer moves on from its old time, by whole periods, and the greatest period doesn't overflow.
 #[test]
-fn calls_timers(rt: HostRuntime) -> Result<(), Fail> {
-    for (period, calls, next) in [
-        (10, [10, 11, 19], 20),
-        (10, [10, 35, 40], 50),
-        (7, [7, 7, 100], 105),
-        (1, [1, 2, 3], 4),
-    ] {
-        assert!(rt; (1..=TICKS).contains(&period));
-        let mut timer = Timer::new(period);
-        for ticks in calls {
-            let now = moment(ticks)?;
-            if timer.due(now) {
-                timer.call(now);
-            }
-        }
-        assert!(rt; !timer.due(moment(next - 1)?), "{timer:?}");
-        assert!(rt; timer.due(moment(next)?), "{timer:?}");
-    }
-    let mut timer = Timer::new(TICKS);
-    let last = moment(TICKS)?;
-    assert!(rt; timer.due(last));
-    timer.call(last);
-    assert!(rt; !timer.due(last));
-    Ok(())
-}
-
-fn moment(ticks: u64) -> Result<Moment, Fail> {
-    Moment::new(ticks).ok_or_else(|| Fail::new("beyond the latest moment"))
+fn calls_timers(rt: HostRuntime) {
+    let timer = after(after(Timer::new(10), moment(10)), moment(35));
+    same(
+        &rt,
+        (timer.due(moment(39)), timer.due(moment(40))),
+        (false, true),
+    );
+    let timer = after(Timer::new(TICKS), moment(TICKS));
+    same(&rt, timer.due(moment(TICKS)), false);
 }
 
 #[test]
 fn bounds_moments(rt: HostRuntime) {
-    assert!(rt; Moment::new(TICKS + 1).is_none());
-    assert_eq!(rt;
-        Moment::new(TICKS).map(|moment| moment.ticks()),
-        Some(TICKS)
-    );
+    same(&rt, Moment::new(TICKS + 1), None);
+    same(&rt, moment(TICKS).ticks(), TICKS);
 }
+
+const STATUSES: &[(GoalStatus, u8)] = &[
+    (GoalStatus::Unknown, 0),
+    (GoalStatus::Accepted, 1),
+    (GoalStatus::Executing, 2),
+    (GoalStatus::Canceling, 3),
+    (GoalStatus::Succeeded, 4),
+    (GoalStatus::Canceled, 5),
+    (GoalStatus::Aborted, 6),
+];
+
+const CODES: &[(ReturnCode, u8)] = &[
+    (ReturnCode::None, 0),
+    (ReturnCode::Rejected, 1),
+    (ReturnCode::UnknownGoalId, 2),
+    (ReturnCode::GoalTerminated, 3),
+];
 
 #[test]
 fn numbers_as_ros_does(rt: HostRuntime) {
-    for (status, number) in [
-        (GoalStatus::Unknown, 0),
-        (GoalStatus::Accepted, 1),
-        (GoalStatus::Executing, 2),
-        (GoalStatus::Canceling, 3),
-        (GoalStatus::Succeeded, 4),
-        (GoalStatus::Canceled, 5),
-        (GoalStatus::Aborted, 6),
-    ] {
-        assert_eq!(rt; status.number(), number);
+    for (status, number) in STATUSES {
+        same(&rt, status.number(), *number);
     }
-    for (code, number) in [
-        (ReturnCode::None, 0),
-        (ReturnCode::Rejected, 1),
-        (ReturnCode::UnknownGoalId, 2),
-        (ReturnCode::GoalTerminated, 3),
-    ] {
-        assert_eq!(rt; code.number(), number);
+    for (code, number) in CODES {
+        same(&rt, code.number(), *number);
     }
 }
 
 #[test]
 fn orders_identifiers_by_their_numbers(rt: HostRuntime) {
-    let numbers = [
-        0,
-        1,
-        0xffff_ffff_ffff_ffff,
-        0x1_0000_0000_0000_0000,
-        u128::MAX,
-    ];
-    for number in numbers {
-        assert_eq!(rt; GoalId::new(number).number(), number);
-    }
-    for (lesser, greater) in numbers.iter().zip(numbers.iter().skip(1)) {
-        assert!(rt;
-            GoalId::new(*lesser) < GoalId::new(*greater),
-            "{lesser} {greater}"
-        );
+    let mut last = GoalId::new(0);
+    for number in [1, 0xffff_ffff_ffff_ffff, 0x1_0000_0000_0000_0000, u128::MAX] {
+        let id = GoalId::new(number);
+        same(&rt, (id.number(), last < id), (number, true));
+        last = id;
     }
 }

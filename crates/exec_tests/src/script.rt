@@ -1,15 +1,19 @@
 mod arithmetic;
 mod spellings;
 
-use crate::shared::word;
+ghost use Rattle.std.specs.Prelude.{◌≤◌, ◌^◌};
+
+use crate::shared::{moment, same};
 use arithmetic::RESULTS;
-use exec_msg::{EntityNo, Event, GoalId, Memory, Moment};
+use exec_msg::{EntityNo, Event, Memory};
 use exec_script::{
-    Bank, Close, DecisionList, EffectList, Effects, Input, Instr, Place, Regs, Role, Scope,
-    ScriptFault, Slot, Stop, Word, WordText, check, decode, run_call, run_call_into, run_from,
+    Bank, Close, Destination, Effect, EffectList, Effects, Input, Instr, Operand, Operation, Place,
+    Regs, Role, Scope, ScriptFault, Slot, Stop, Word, WordText, check, decode, run_call,
+    run_call_into, run_from,
 };
 use spellings::{LEGALITIES, SPELLINGS};
 use std::alloc::Global;
+use std::process::Abort;
 use std::test::Fail;
 
 /// A topic `x`, and a node with a service client `c`, an action server `a` and an action client `ac`.
@@ -59,52 +63,75 @@ impl Scope for Node {
 fn words(alloc: Global, script: &str) -> Result<Vec<Vec<Word>>, Memory> {
     let mut spelled = Vec::new(alloc);
     for line in script.split('\n') {
-        let mut items = Vec::new(alloc);
-        for item in line.split_ascii_whitespace() {
-            items.push(word(alloc, item)?)?;
-        }
-        spelled.push(items)?;
+        spelled.push(items(alloc, line)?)?;
     }
     Ok(spelled)
 }
 
-// Where memory is refused, the call is made once more.
-fn decoded(alloc: Global, script: &str) -> Result<Result<Vec<Instr>, ScriptFault>, Memory> {
-    let spelled = words(alloc, script)?;
-    match decode(alloc, spelled.as_slice(), &Node) {
-        Err(ScriptFault::Memory) => Ok(decode(alloc, spelled.as_slice(), &Node)),
-        result => Ok(result),
+fn items(alloc: Global, line: &str) -> Result<Vec<Word>, Memory> {
+    let mut items = Vec::new(alloc);
+    for item in line.split_ascii_whitespace() {
+        items.push(word(alloc, item)?)?;
     }
+    Ok(items)
+}
+
+fn word(alloc: Global, item: &str) -> Result<Word, Memory> {
+    match item.parse::<i64>() {
+        Ok(value) => Ok(Word::Number(value)),
+        Err(_) => Ok(Word::Text(WordText::copy_of(alloc, item)?)),
+    }
+}
+
+// Where memory is refused, the call is made once more.
+fn decoded(alloc: Global, script: &str) -> Result<Vec<Instr>, ScriptFault> {
+    let Ok(spelled) = words(alloc, script) else {
+        return Err(ScriptFault::Memory);
+    };
+    match decode(alloc, spelled.as_slice(), &Node) {
+        Err(ScriptFault::Memory) => decode(alloc, spelled.as_slice(), &Node),
+        result => result,
+    }
+}
+
+// What a script is, as it prints.
+fn printed(alloc: Global, script: &str) -> Result<String, Memory> {
+    let result = decoded(alloc, script);
+    Ok(format!(in alloc; "{result:?}")?)
 }
 
 #[test]
 fn decodes_what_the_rules_spell(rt: HostRuntime) -> Result<(), Fail> {
     for (script, wanted) in SPELLINGS {
-        let result = decoded(rt.alloc(), script)?;
-        let found = format!(in rt.alloc(); "{result:?}")?;
-        assert_eq!(rt; found.as_str(), *wanted, "at {script}");
+        let found = printed(rt.alloc(), script)?;
+        same(&rt, found.as_str(), *wanted);
     }
     Ok(())
 }
 
+fn legality(alloc: Global, place: Place, script: &str) -> Result<(), ScriptFault> {
+    let instrs = decoded(alloc, script)?;
+    check(instrs.as_slice(), place)
+}
+
 #[test]
-fn checks_what_the_rules_allow(rt: HostRuntime) -> Result<(), Fail> {
+fn checks_what_the_rules_allow(rt: HostRuntime) {
     for (reentrant, role, script, wanted) in LEGALITIES {
-        let instrs = decoded(rt.alloc(), script)??;
         let place = Place {
             reentrant: *reentrant,
             role: *role,
         };
-        let found = check(instrs.as_slice(), place);
-        assert_eq!(rt; found, *wanted, "at {script} in {place:?}");
+        same(&rt, legality(rt.alloc(), place, script), *wanted);
     }
-    Ok(())
 }
 
-fn input(first: i64, aux: i64, ticks: u64) -> Result<Input, Fail> {
-    match Moment::new(ticks) {
-        Some(moment) => Ok(Input { first, aux, moment }),
-        None => Err(Fail::new("beyond the latest moment")),
+fn input(first: i64, aux: i64, ticks: u64) -> Input
+    requires { ticks ≤ 2 ^ 62 }
+{
+    Input {
+        first,
+        aux,
+        moment: moment(ticks),
     }
 }
 
@@ -116,7 +143,7 @@ fn called(
     bank: &mut Bank,
     input: &Input,
 ) -> Result<Effects, Fail> {
-    let instrs = decoded(alloc, script)??;
+    let instrs = decoded(alloc, script)?;
     let before = *bank;
     match run_call(alloc, instrs.as_slice(), role, bank, input) {
         Ok(effects) => Ok(effects),
@@ -131,23 +158,42 @@ fn called(
     }
 }
 
+// Whether a call gives these effects and is closed by nothing.
+fn gives(
+    alloc: Global,
+    script: &str,
+    bank: &mut Bank,
+    input: &Input,
+    wanted: &[Effect],
+) -> Result<bool, Fail> {
+    let effects = called(alloc, script, Role::Callback, bank, input)?;
+    Ok(effects.list.as_slice() == wanted && matches!(effects.close, Close::Nothing))
+}
+
+// What closes a call of values 5 and 6, as it prints.
+fn closed(alloc: Global, role: Role, script: &str) -> Result<String, Fail> {
+    let effects = called(alloc, script, role, &mut Bank::new(), &input(5, 6, 7))?;
+    Ok(format!(in alloc; "{:?}", effects.close)?)
+}
+
+// What an operation gives for two values.
+fn result_of(alloc: Global, operation: &str, left: i64, right: i64) -> Result<i64, Fail> {
+    let script = format!(in alloc; "set r0 {operation} in aux\nreply r0")?;
+    let input = input(left, right, 0);
+    match called(alloc, &script, Role::Service, &mut Bank::new(), &input)?.close {
+        Close::Reply(value) => Ok(value),
+        _ => Err(Fail::new("no reply")),
+    }
+}
+
 #[test]
 fn wraps_at_64_bits(rt: HostRuntime) -> Result<(), Fail> {
     for (operation, left, right, wanted) in RESULTS {
-        let script = format!(in rt.alloc(); "set r0 {operation} in aux\nreply r0")?;
-        let input = input(*left, *right, 0)?;
-        let effects = called(
-            rt.alloc(),
-            script.as_str(),
-            Role::Service,
-            &mut Bank::new(),
-            &input,
-        )?;
-        let is_wanted = matches!(effects.close, Close::Reply(value) if value == *wanted);
-        assert!(rt;
-            is_wanted,
-            "{:?} of {left} {operation} {right}",
-            effects.close
+        let found = result_of(rt.alloc(), operation, *left, *right)?;
+        same(
+            &rt,
+            (*operation, *left, *right, found),
+            (*operation, *left, *right, *wanted),
         );
     }
     Ok(())
@@ -168,55 +214,58 @@ cancel ac goal-before 3 9
 execute a
 log g1";
 
-const ITS_EFFECTS: &str = "[Publish { topic: EntityNo(0), value: 7 }, \
-    Call { client: EntityNo(3), value: -8 }, \
-    SendGoal { client: EntityNo(6), value: 40 }, \
-    CancelAll { client: EntityNo(6), stamp: 0 }, \
-    CancelAll { client: EntityNo(6), stamp: 0 }, \
-    CancelAll { client: EntityNo(6), stamp: 20 }, \
-    CancelGoal { client: EntityNo(6), goal: 0, stamp: 0 }, \
-    CancelGoal { client: EntityNo(6), goal: 3, stamp: 9 }, \
-    Execute { server: EntityNo(5) }, \
-    Log(41)]";
+const ITS_EFFECTS: [Effect; 10] = [
+    Effect::Publish {
+        topic: EntityNo(0),
+        value: 7,
+    },
+    Effect::Call {
+        client: EntityNo(3),
+        value: -8,
+    },
+    Effect::SendGoal {
+        client: EntityNo(6),
+        value: 40,
+    },
+    Effect::CancelAll {
+        client: EntityNo(6),
+        stamp: 0,
+    },
+    Effect::CancelAll {
+        client: EntityNo(6),
+        stamp: 0,
+    },
+    Effect::CancelAll {
+        client: EntityNo(6),
+        stamp: 20,
+    },
+    Effect::CancelGoal {
+        client: EntityNo(6),
+        goal: 0,
+        stamp: 0,
+    },
+    Effect::CancelGoal {
+        client: EntityNo(6),
+        goal: 3,
+        stamp: 9,
+    },
+    Effect::Execute {
+        server: EntityNo(5),
+    },
+    Effect::Log(41),
+];
 
 #[test]
 fn gives_each_effect(rt: HostRuntime) -> Result<(), Fail> {
     let mut bank = Bank::new();
-    let input = input(7, -8, 40)?;
-    let effects = called(rt.alloc(), EVERY_EFFECT, Role::Callback, &mut bank, &input)?;
-    let found = format!(in rt.alloc(); "{:?}", effects.list.as_slice())?;
-    assert_eq!(rt; found.as_str(), ITS_EFFECTS);
-    assert!(rt;
-        matches!(effects.close, Close::Nothing),
-        "{:?}",
-        effects.close
-    );
+    let input = input(7, -8, 40);
+    let is_given = gives(rt.alloc(), EVERY_EFFECT, &mut bank, &input, &ITS_EFFECTS)?;
+    same(&rt, is_given, true);
     Ok(())
 }
 
-// Calls into one list put their effects behind one another, until it is cleared.
-#[test]
-fn calls_into_one_list(rt: HostRuntime) -> Result<(), Fail> {
-    let script = decoded(rt.alloc(), "set g0 add g0 1\nlog g0\ndecide in")??;
-    let mut bank = Bank::new();
-    let mut effects = EffectList::new(rt.alloc());
-    for (candidate, wanted) in [(1, "Decide(1)"), (2, "Decide(2)"), (3, "Decide(1)")] {
-        let input = input(candidate, 0, 0)?;
-        let close = run_call_into(
-            script.as_slice(),
-            Role::CancelHandler,
-            &mut bank,
-            &input,
-            &mut effects,
-        )?;
-        let found = format!(in rt.alloc(); "{close:?}")?;
-        assert_eq!(rt; found.as_str(), wanted);
-    }
-    let found = format!(in rt.alloc(); "{:?}", effects.as_slice())?;
-    assert_eq!(rt; found.as_str(), "[Log(1), Log(2), Log(3)]");
-    effects.clear();
-    assert_eq!(rt; effects.len(), 0);
-    Ok(())
+fn slot_0() -> Slot {
+    Slot::new(0).unwrap()
 }
 
 // Registers are 0 at each call, and variables are kept from call to call.
@@ -224,39 +273,76 @@ fn calls_into_one_list(rt: HostRuntime) -> Result<(), Fail> {
 fn keeps_variables_alone(rt: HostRuntime) -> Result<(), Fail> {
     let script = "set r0 add r0 1\nset g0 add g0 1\nlog r0\nlog g0";
     let mut bank = Bank::new();
-    let input = input(0, 0, 0)?;
-    for wanted in ["[Log(1), Log(1)]", "[Log(1), Log(2)]", "[Log(1), Log(3)]"] {
-        let effects = called(rt.alloc(), script, Role::Callback, &mut bank, &input)?;
-        let found = format!(in rt.alloc(); "{:?}", effects.list.as_slice())?;
-        assert_eq!(rt; found.as_str(), wanted);
+    for count in [1, 2, 3] {
+        let logged = [Effect::Log(1), Effect::Log(count)];
+        let is_given = gives(rt.alloc(), script, &mut bank, &input(0, 0, 0), &logged)?;
+        same(&rt, (is_given, bank.get(slot_0())), (true, count));
     }
-    let slot = Slot::new(0).ok_or_else(|| Fail::new("no slot"))?;
-    assert_eq!(rt; bank.get(slot), 3);
     Ok(())
 }
 
+// Calls into one list put their effects behind one another, until it is cleared.
+#[test]
+fn calls_into_one_list(rt: HostRuntime) -> Result<(), Fail> {
+    let mut effects = EffectList::new(rt.alloc());
+    decides_thrice(&rt, &mut effects)?;
+    let logged = [Effect::Log(1), Effect::Log(2), Effect::Log(3)];
+    same(&rt, effects.as_slice(), logged.as_slice());
+    effects.clear();
+    same(&rt, effects.len(), 0);
+    Ok(())
+}
+
+fn decides_thrice(rt: &impl Abort, effects: &mut EffectList) -> Result<(), Fail> {
+    let mut bank = Bank::new();
+    for (candidate, wanted) in [(1, 1), (2, 2), (3, 1)] {
+        same(rt, decides(&mut bank, candidate, effects)?, wanted);
+    }
+    Ok(())
+}
+
+// Counts and logs the calls in `g0`, and decides by what comes in.
+fn decides(bank: &mut Bank, candidate: i64, effects: &mut EffectList) -> Result<u8, Fail> {
+    let script = [
+        Instr::set(
+            Destination::Variable(slot_0()),
+            Operation::Add,
+            Operand::Variable(slot_0()),
+            Operand::Value(1),
+        ),
+        Instr::log(Operand::Variable(slot_0())),
+        Instr::decide(Operand::In),
+    ];
+    let input = input(candidate, 0, 0);
+    match run_call_into(&script, Role::CancelHandler, bank, &input, effects)? {
+        Close::Decide(decision) => Ok(decision),
+        _ => Err(Fail::new("no decision")),
+    }
+}
+
+// A role, a script, and what closes its call.
+const CLOSES: &[(Role, &str, &str)] = &[
+    (Role::Callback, "log 1", "Nothing"),
+    (Role::Service, "log 1", "Reply(0)"),
+    (Role::Service, "reply in\nreply aux", "Reply(6)"),
+    (Role::Service, "reply 9\nskip 1 1\nreply 1", "Reply(9)"),
+    (Role::GoalHandler, "log 1", "Decide(1)"),
+    (Role::GoalHandler, "decide 2", "Decide(2)"),
+    (Role::GoalHandler, "decide 2\ndecide 3", "Decide(3)"),
+    (Role::GoalHandler, "decide 4", "Decide(1)"),
+    (Role::GoalHandler, "decide 0", "Decide(1)"),
+    (Role::GoalHandler, "decide 258", "Decide(1)"),
+    (Role::CancelHandler, "log 1", "Decide(1)"),
+    (Role::CancelHandler, "decide 2", "Decide(2)"),
+    (Role::CancelHandler, "decide 3", "Decide(1)"),
+    (Role::CancelHandler, "decide -2", "Decide(1)"),
+];
+
 #[test]
 fn closes_by_the_role(rt: HostRuntime) -> Result<(), Fail> {
-    for (role, script, wanted) in [
-        (Role::Callback, "log 1", "Nothing"),
-        (Role::Service, "log 1", "Reply(0)"),
-        (Role::Service, "reply in\nreply aux", "Reply(6)"),
-        (Role::Service, "reply 9\nskip 1 1\nreply 1", "Reply(9)"),
-        (Role::GoalHandler, "log 1", "Decide(1)"),
-        (Role::GoalHandler, "decide 2", "Decide(2)"),
-        (Role::GoalHandler, "decide 2\ndecide 3", "Decide(3)"),
-        (Role::GoalHandler, "decide 4", "Decide(1)"),
-        (Role::GoalHandler, "decide 0", "Decide(1)"),
-        (Role::GoalHandler, "decide 258", "Decide(1)"),
-        (Role::CancelHandler, "log 1", "Decide(1)"),
-        (Role::CancelHandler, "decide 2", "Decide(2)"),
-        (Role::CancelHandler, "decide 3", "Decide(1)"),
-        (Role::CancelHandler, "decide -2", "Decide(1)"),
-    ] {
-        let input = input(5, 6, 7)?;
-        let effects = called(rt.alloc(), script, role, &mut Bank::new(), &input)?;
-        let found = format!(in rt.alloc(); "{:?}", effects.close)?;
-        assert_eq!(rt; found.as_str(), wanted, "at {script}");
+    for (role, script, wanted) in CLOSES {
+        let found = closed(rt.alloc(), *role, script)?;
+        same(&rt, found.as_str(), *wanted);
     }
     Ok(())
 }
@@ -269,72 +355,81 @@ struct Work {
     effects: EffectList,
 }
 
-// Goes on with a script. Where memory is refused, all is as it was, and the call is made once more.
-fn goes_on(script: &[Instr], place: usize, work: &mut Work) -> Result<Stop, Fail> {
-    let input = input(5, 0, 10)?;
-    let (regs, bank, count) = (work.regs, work.bank, work.effects.len());
-    let stop = run_from(
-        script,
-        place,
-        &mut work.regs,
-        &mut work.bank,
-        &input,
-        &mut work.effects,
-    );
-    match stop {
-        Ok(stop) => Ok(stop),
-        Err(Memory) if work.regs == regs && work.bank == bank && work.effects.len() == count => {
-            Ok(run_from(
-                script,
-                place,
-                &mut work.regs,
-                &mut work.bank,
-                &input,
-                &mut work.effects,
-            )?)
+impl Work {
+    fn new(alloc: Global) -> Work {
+        Work {
+            regs: Regs::new(),
+            bank: Bank::new(),
+            effects: EffectList::new(alloc),
         }
-        Err(Memory) => Err(Fail::new("a refused poll left something else")),
+    }
+
+    fn run(&mut self, script: &[Instr], place: usize) -> Result<Stop, Memory> {
+        run_from(
+            script,
+            place,
+            &mut self.regs,
+            &mut self.bank,
+            &input(5, 0, 10),
+            &mut self.effects,
+        )
+    }
+
+    // Goes on with a script. Where memory is refused, all is as it was, and the call is made once more.
+    fn goes_on(&mut self, script: &[Instr], place: usize) -> Result<Stop, Fail> {
+        let (regs, bank, count) = (self.regs, self.bank, self.effects.len());
+        match self.run(script, place) {
+            Ok(stop) => Ok(stop),
+            Err(Memory) if self.regs == regs && self.bank == bank && self.effects.len() == count =>
+                { Ok(self.run(script, place)?) }
+            Err(Memory) => Err(Fail::new("a refused poll left something else")),
+        }
+    }
+
+    // Where a script stops first, and where it does then.
+    fn stops(&mut self, script: &[Instr]) -> Result<[Stop; 2], Fail> {
+        let first = self.goes_on(script, 0)?;
+        let place = match first {
+            Stop::Wait(_, next) | Stop::Yield(next) => next,
+            Stop::Ended(..) | Stop::End => script.len(),
+        };
+        Ok([first, self.goes_on(script, place)?])
     }
 }
 
+// Where a script stops first, and where it does then.
+fn stops(alloc: Global, script: &str) -> Result<[Stop; 2], Fail> {
+    let instrs = decoded(alloc, script)?;
+    Work::new(alloc).stops(instrs.as_slice())
+}
+
+// A script, and where it stops first and then.
+const STOPS: &[(&str, [Stop; 2])] = &[
+    (
+        "yield\nsucceed 9",
+        [Stop::Yield(1), Stop::Ended(Event::Succeed, 9)],
+    ),
+    (
+        "wait 5\nabort in",
+        [Stop::Wait(5, 1), Stop::Ended(Event::Abort, 5)],
+    ),
+    (
+        "wait -3\ncanceled now",
+        [Stop::Wait(0, 1), Stop::Ended(Event::Canceled, 10)],
+    ),
+    (
+        "set r0 add r0 3\nwait in\nwait r0",
+        [Stop::Wait(5, 2), Stop::Wait(3, 3)],
+    ),
+    ("skip 1 1\nyield\nyield", [Stop::Yield(3), Stop::End]),
+    ("wait 1", [Stop::Wait(1, 1), Stop::End]),
+    ("log 1", [Stop::End, Stop::End]),
+];
+
 #[test]
 fn stops_and_goes_on(rt: HostRuntime) -> Result<(), Fail> {
-    for (script, stops) in [
-        (
-            "yield\nsucceed 9",
-            [Stop::Yield(1), Stop::Ended(Event::Succeed, 9)],
-        ),
-        (
-            "wait 5\nabort in",
-            [Stop::Wait(5, 1), Stop::Ended(Event::Abort, 5)],
-        ),
-        (
-            "wait -3\ncanceled now",
-            [Stop::Wait(0, 1), Stop::Ended(Event::Canceled, 10)],
-        ),
-        (
-            "set r0 add r0 3\nwait in\nwait r0",
-            [Stop::Wait(5, 2), Stop::Wait(3, 3)],
-        ),
-        ("skip 1 1\nyield\nyield", [Stop::Yield(3), Stop::End]),
-        ("wait 1", [Stop::Wait(1, 1), Stop::End]),
-        ("log 1", [Stop::End, Stop::End]),
-    ] {
-        let instrs = decoded(rt.alloc(), script)??;
-        let mut work = Work {
-            regs: Regs::new(),
-            bank: Bank::new(),
-            effects: EffectList::new(rt.alloc()),
-        };
-        let mut place = 0;
-        for wanted in stops {
-            let stop = goes_on(instrs.as_slice(), place, &mut work)?;
-            assert_eq!(rt; stop, wanted, "at {script}");
-            place = match stop {
-                Stop::Wait(_, next) | Stop::Yield(next) => next,
-                Stop::Ended(..) | Stop::End => instrs.len(),
-            };
-        }
+    for (script, wanted) in STOPS {
+        same(&rt, stops(rt.alloc(), script)?, *wanted);
     }
     Ok(())
 }
@@ -342,51 +437,35 @@ fn stops_and_goes_on(rt: HostRuntime) -> Result<(), Fail> {
 // A poll's effects go behind those that are listed, and registers are kept over the polls.
 #[test]
 fn adds_to_the_effects(rt: HostRuntime) -> Result<(), Fail> {
-    let script =
-        "set r0 add r0 1\nfeedback r0\nlog in\nyield\nset g0 add r0 1\nfeedback g0\nlog r0";
-    let instrs = decoded(rt.alloc(), script)??;
-    let mut work = Work {
-        regs: Regs::new(),
-        bank: Bank::new(),
-        effects: EffectList::new(rt.alloc()),
-    };
-    assert_eq!(rt; goes_on(instrs.as_slice(), 0, &mut work)?, Stop::Yield(4));
-    assert_eq!(rt; goes_on(instrs.as_slice(), 4, &mut work)?, Stop::End);
-    let found = format!(in rt.alloc(); "{:?}", work.effects.as_slice())?;
-    assert_eq!(rt;
-        found.as_str(),
-        "[Feedback(1), Log(5), Feedback(2), Log(1)]"
-    );
-    Ok(())
+    let instrs = decoded(
+        rt.alloc(),
+        "set r0 add r0 1\nfeedback r0\nlog in\nyield\nset g0 add r0 1\nfeedback g0\nlog r0",
+    )?;
+    let mut work = Work::new(rt.alloc());
+    goes_to_its_end(&rt, instrs.as_slice(), &mut work)
 }
 
-// A list of decisions is made of a vector.
-#[test]
-fn makes_decisions_of_a_vector(rt: HostRuntime) -> Result<(), Fail> {
-    for count in 0..5u8 {
-        let mut decided = Vec::new(rt.alloc());
-        for i in 0..count {
-            decided.push((GoalId::new(u128::from(i)), 2))?;
-        }
-        let decisions = DecisionList::of(decided);
-        assert_eq!(rt; decisions.as_slice().len(), usize::from(count));
-    }
+fn goes_to_its_end(rt: &impl Abort, script: &[Instr], work: &mut Work) -> Result<(), Fail> {
+    same(rt, work.stops(script)?, [Stop::Yield(4), Stop::End]);
+    let wanted = [
+        Effect::Feedback(1),
+        Effect::Log(5),
+        Effect::Feedback(2),
+        Effect::Log(1),
+    ];
+    same(rt, work.effects.as_slice(), wanted.as_slice());
     Ok(())
 }
 
 // A word has its text, whether it holds 24 bytes in place or has memory for more.
 #[test]
 fn holds_short_and_long_texts(rt: HostRuntime) -> Result<(), Fail> {
-    for text in [
-        "",
-        "in",
-        "a_topic_of_24_characters",
-        "a_topic_of_25_characters_",
-    ] {
-        let copy = WordText::copy_of(rt.alloc(), text)?;
-        assert_eq!(rt; copy.as_str(), text);
-        let word = WordText::of(String::from_str(rt.alloc(), text)?);
-        assert_eq!(rt; word.as_str(), text);
+    for text in ["", "a_topic_of_24_characters", "a_topic_of_25_characters_"] {
+        same(&rt, is_copied(rt.alloc(), text)?, true);
     }
     Ok(())
+}
+
+fn is_copied(alloc: Global, text: &str) -> Result<bool, Memory> {
+    Ok(WordText::copy_of(alloc, text)?.as_str() == text)
 }

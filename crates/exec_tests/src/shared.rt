@@ -1,7 +1,7 @@
 //! What the tests of more than one crate call.
-use exec_msg::Memory;
-use exec_script::{Word, WordText};
-use std::alloc::Global;
+ghost use Rattle.std.specs.Prelude.{◌≤◌, ◌^◌};
+
+use exec_msg::Moment;
 use std::fmt::Debug;
 use std::process::Abort;
 
@@ -10,9 +10,8 @@ pub(crate) fn same<T: PartialEq + Debug + Drop>(rt: &impl Abort, found: T, wante
     assert_eq!(rt; found, wanted);
 }
 
-pub(crate) fn word(alloc: Global, item: &str) -> Result<Word, Memory> {
-    match item.parse::<i64>() {
-        Ok(value) => Ok(Word::Number(value)),
-        Err(_) => Ok(Word::Text(WordText::copy_of(alloc, item)?)),
-    }
+pub(crate) fn moment(ticks: u64) -> Moment
+    requires { ticks ≤ 2 ^ 62 }
+{
+    Moment::new(ticks).unwrap()
 }

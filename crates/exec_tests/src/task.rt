@@ -1,3 +1,4 @@
+use crate::shared::same;
 use exec_msg::{Event, Memory, Moment};
 use exec_script::{Bank, Destination, Effect, Instr, Operand, Operation, Slot};
 use exec_task::{
@@ -29,6 +30,10 @@ fn ended(event: Event, value: i64) -> Answer {
     Answer::Ready(Ending { event, value })
 }
 
+fn succeeded_9() -> Answer {
+    ended(Event::Succeed, 9)
+}
+
 fn wait(ticks: i64) -> Instr {
     Instr::wait(Operand::Value(ticks))
 }
@@ -55,6 +60,50 @@ fn variable_0() -> Operand {
 // `destination` becomes `operand` and 1.
 fn one_more(destination: Destination, operand: Operand) -> Instr {
     Instr::set(destination, Operation::Add, operand, Operand::Value(1))
+}
+
+// A poll of a goal in a round: whether the goal is awake then, what the poll answers, and the value that it logs, if any.
+#[derive(Clone, Copy)]
+struct Step {
+    ticks: u64,
+    canceling: bool,
+    awake: bool,
+    answer: Answer,
+    logged: Option<i64>,
+}
+
+impl Step {
+    fn canceling(self) -> Step {
+        Step {
+            canceling: true,
+            ..self
+        }
+    }
+
+    fn asleep(self) -> Step {
+        Step {
+            awake: false,
+            ..self
+        }
+    }
+
+    fn logs(self, value: i64) -> Step {
+        Step {
+            logged: Some(value),
+            ..self
+        }
+    }
+}
+
+// The poll of a goal that is awake and isn't being canceled.
+fn at(ticks: u64, answer: Answer) -> Step {
+    Step {
+        ticks,
+        canceling: false,
+        awake: true,
+        answer,
+        logged: None,
+    }
 }
 
 // A goal of value 5, with the variables of its group.
@@ -109,124 +158,128 @@ impl Trial {
             None => false,
         }
     }
+
+    // Whether a poll is as it is said to be.
+    fn takes(&mut self, step: Step) -> Result<bool, Memory> {
+        if self.is_awake(step.ticks, step.canceling) != step.awake {
+            return Ok(false);
+        }
+        match step.logged {
+            None => self.gives(step.ticks, step.canceling, step.answer, &[]),
+            Some(value) => {
+                let logged = [Effect::Log(value)];
+                self.gives(step.ticks, step.canceling, step.answer, &logged)
+            }
+        }
+    }
 }
 
-// A function that owns a goal's task is proved over all that a task drops, once for each way out: so a test's goal is made
-// here, and lent to the test once.
-fn with_goal<F>(alloc: Global, script: &[Instr], test: F) -> Result<(), Fail>
-where
-    F: FnOnce(&mut Trial) -> Result<(), Fail>,
-    requires { F.IsAlwaysCallable test }
-{
-    lend(Trial::of(alloc, script)?, test)
+// A function that owns a goal's task is proved over all that a task drops, once for each way out: so a goal is made here for
+// the tests, and lent once.
+fn goes(rt: &impl Abort, alloc: Global, script: &[Instr], steps: &[Step]) -> Result<(), Fail> {
+    let mut goal = Trial::of(alloc, script)?;
+    takes_all(rt, &mut goal, steps)
 }
 
-fn lend<F>(mut goal: Trial, test: F) -> Result<(), Fail>
-where
-    F: FnOnce(&mut Trial) -> Result<(), Fail>,
-    requires { F.IsAlwaysCallable test }
-{
-    test(&mut goal)
+fn takes_all(rt: &impl Abort, goal: &mut Trial, steps: &[Step]) -> Result<(), Fail> {
+    for (number, step) in steps.iter().enumerate() {
+        let is_as_said = goal.takes(*step)?;
+        assert!(rt; is_as_said, "at poll {number}");
+    }
+    Ok(())
 }
 
 #[test]
 fn a_goal_that_yields_goes_on_behind_it(rt: HostRuntime) -> Result<(), Fail> {
-    with_goal(rt.alloc(), &[Instr::pend(), succeed_9()], |goal| {
-        assert!(rt; goal.gives(10, false, NEXT_ROUND, &[])?);
-        assert!(rt; goal.gives(10, false, ended(Event::Succeed, 9), &[])?);
-        assert!(rt; goal.gives(11, true, ended(Event::Succeed, 9), &[])?);
-        Ok(())
-    })
+    let steps = [
+        at(10, NEXT_ROUND),
+        at(10, succeeded_9()),
+        at(11, succeeded_9()).canceling().asleep(),
+    ];
+    goes(&rt, rt.alloc(), &[Instr::pend(), succeed_9()], &steps)
 }
 
 #[test]
 fn a_goal_that_waits_goes_on_at_its_time(rt: HostRuntime) -> Result<(), Fail> {
-    with_goal(rt.alloc(), &[wait(5), succeed_9()], |goal| {
-        assert!(rt; goal.gives(10, false, until(15), &[])?);
-        assert!(rt; goal.gives(12, false, until(15), &[])?);
-        assert!(rt; goal.gives(15, false, ended(Event::Succeed, 9), &[])?);
-        Ok(())
-    })
+    let steps = [
+        at(10, until(15)),
+        at(12, until(15)).asleep(),
+        at(15, succeeded_9()),
+    ];
+    goes(&rt, rt.alloc(), &[wait(5), succeed_9()], &steps)
 }
 
+// Its registers are kept.
 #[test]
 fn a_goal_that_falls_off_its_end_starts_again(rt: HostRuntime) -> Result<(), Fail> {
-    let count = one_more(Destination::Register(slot_0()), register_0());
-    with_goal(rt.alloc(), &[count, Instr::log(register_0())], |goal| {
-        assert!(rt; goal.gives(10, false, NEXT_ROUND, &[Effect::Log(1)])?);
-        assert!(rt; goal.gives(10, false, NEXT_ROUND, &[Effect::Log(2)])?);
-        Ok(())
-    })?;
-    with_goal(rt.alloc(), &[], |idle| {
-        assert!(rt; idle.gives(10, false, NEXT_ROUND, &[])?);
-        assert!(rt; idle.gives(11, true, NEXT_ROUND, &[])?);
-        Ok(())
-    })
+    let script = [
+        one_more(Destination::Register(slot_0()), register_0()),
+        Instr::log(register_0()),
+    ];
+    let steps = [at(10, NEXT_ROUND).logs(1), at(10, NEXT_ROUND).logs(2)];
+    goes(&rt, rt.alloc(), &script, &steps)?;
+    let idle = [at(10, NEXT_ROUND), at(11, NEXT_ROUND).canceling()];
+    goes(&rt, rt.alloc(), &[], &idle)
 }
 
 // One poll that does nothing comes between the stop and the top.
 #[test]
 fn a_stop_that_stands_last_ends_the_script(rt: HostRuntime) -> Result<(), Fail> {
-    let input = Instr::log(Operand::In);
-    with_goal(rt.alloc(), &[input, wait(5)], |waits| {
-        assert!(rt; waits.gives(10, false, until(15), &[Effect::Log(5)])?);
-        assert!(rt; waits.gives(15, false, NEXT_ROUND, &[])?);
-        assert!(rt; waits.gives(15, false, until(20), &[Effect::Log(5)])?);
-        Ok(())
-    })?;
-    with_goal(rt.alloc(), &[input, Instr::pend()], |yields| {
-        assert!(rt; yields.gives(10, false, NEXT_ROUND, &[Effect::Log(5)])?);
-        assert!(rt; yields.gives(11, false, NEXT_ROUND, &[])?);
-        assert!(rt; yields.gives(12, false, NEXT_ROUND, &[Effect::Log(5)])?);
-        Ok(())
-    })
+    let log_in = Instr::log(Operand::In);
+    let waits = [
+        at(10, until(15)).logs(5),
+        at(15, NEXT_ROUND),
+        at(15, until(20)).logs(5),
+    ];
+    goes(&rt, rt.alloc(), &[log_in, wait(5)], &waits)?;
+    let yields = [
+        at(10, NEXT_ROUND).logs(5),
+        at(11, NEXT_ROUND),
+        at(12, NEXT_ROUND).logs(5),
+    ];
+    goes(&rt, rt.alloc(), &[log_in, Instr::pend()], &yields)
 }
 
 #[test]
 fn waits_end_at_their_time(rt: HostRuntime) -> Result<(), Fail> {
     for ticks in [0, -1, i64::MIN] {
-        with_goal(rt.alloc(), &[wait(ticks), succeed_9()], |goal| {
-            assert!(rt; goal.gives(10, false, until(10), &[])?, "{ticks}");
-            assert!(rt; goal.is_awake(10, false), "{ticks}");
-            assert!(rt;
-                goal.gives(10, false, ended(Event::Succeed, 9), &[])?,
-                "{ticks}"
-            );
-            Ok(())
-        })?;
+        let steps = [at(10, until(10)), at(10, succeeded_9())];
+        goes(&rt, rt.alloc(), &[wait(ticks), succeed_9()], &steps)?;
     }
-    let last = 1 << 62;
-    with_goal(rt.alloc(), &[wait(i64::MAX), succeed_9()], |goal| {
-        assert!(rt; goal.gives(last, false, until((1 << 62) + (1 << 63) - 1), &[])?);
-        assert!(rt; !goal.is_awake(last, false));
-        Ok(())
-    })
+    let (last, beyond) = (1 << 62, (1 << 62) + (1 << 63) - 1);
+    let steps = [at(last, until(beyond)), at(last, until(beyond)).asleep()];
+    goes(&rt, rt.alloc(), &[wait(i64::MAX), succeed_9()], &steps)
+}
+
+// An ending, and the event by which a goal ends that isn't being canceled, and one that is.
+fn endings() -> [(Instr, Event, Event); 3] {
+    [
+        (Instr::succeed(value_7()), Event::Succeed, Event::Succeed),
+        (Instr::abort(value_7()), Event::Abort, Event::Abort),
+        (Instr::canceled(value_7()), Event::Abort, Event::Canceled),
+    ]
 }
 
 #[test]
 fn an_ending_is_as_the_script_says(rt: HostRuntime) -> Result<(), Fail> {
-    let endings = [
-        (Instr::succeed(value_7()), Event::Succeed, Event::Succeed),
-        (Instr::abort(value_7()), Event::Abort, Event::Abort),
-        (Instr::canceled(value_7()), Event::Abort, Event::Canceled),
-    ];
-    for (ending, unasked, asked) in endings {
+    for (ending, unasked, asked) in endings() {
         let script = [log_aux(), ending, Instr::log(value_7())];
-        for (canceling, event) in [(false, unasked), (true, asked)] {
-            with_goal(rt.alloc(), &script, |goal| {
-                let effects = [Effect::Log(canceling as i64)];
-                assert!(rt;
-                    goal.gives(10, canceling, ended(event, 7), &effects)?,
-                    "{ending:?}"
-                );
-                assert!(rt;
-                    goal.gives(11, canceling, ended(event, 7), &[])?,
-                    "{ending:?}"
-                );
-                assert!(rt; !goal.is_awake(11, canceling), "{ending:?}");
-                Ok(())
-            })?;
-        }
+        let (left, canceled) = (ended(unasked, 7), ended(asked, 7));
+        goes(
+            &rt,
+            rt.alloc(),
+            &script,
+            &[at(10, left).logs(0), at(11, left).asleep()],
+        )?;
+        goes(
+            &rt,
+            rt.alloc(),
+            &script,
+            &[
+                at(10, canceled).canceling().logs(1),
+                at(11, canceled).canceling().asleep(),
+            ],
+        )?;
     }
     Ok(())
 }
@@ -234,17 +287,14 @@ fn an_ending_is_as_the_script_says(rt: HostRuntime) -> Result<(), Fail> {
 #[test]
 fn a_canceling_goal_is_told_once(rt: HostRuntime) -> Result<(), Fail> {
     let script = [wait(100), log_aux(), wait(100), log_aux(), succeed_9()];
-    with_goal(rt.alloc(), &script, |goal| {
-        assert!(rt; goal.is_awake(10, false));
-        assert!(rt; goal.gives(10, false, until(110), &[])?);
-        assert!(rt; !goal.is_awake(20, false) && goal.is_awake(20, true));
-        assert!(rt; goal.gives(20, false, until(110), &[])?);
-        assert!(rt; goal.gives(30, true, until(130), &[Effect::Log(1)])?);
-        assert!(rt; !goal.is_awake(40, true) && goal.is_awake(130, true));
-        assert!(rt; goal.gives(40, true, until(130), &[])?);
-        assert!(rt; goal.gives(130, true, ended(Event::Succeed, 9), &[Effect::Log(1)])?);
-        Ok(())
-    })
+    let steps = [
+        at(10, until(110)),
+        at(20, until(110)).asleep(),
+        at(30, until(130)).canceling().logs(1),
+        at(40, until(130)).canceling().asleep(),
+        at(130, succeeded_9()).canceling().logs(1),
+    ];
+    goes(&rt, rt.alloc(), &script, &steps)
 }
 
 // Registers are the goal's own, and variables its group's.
@@ -260,25 +310,28 @@ fn a_goal_keeps_its_registers_while_it_pends(rt: HostRuntime) -> Result<(), Fail
         Instr::feedback(register_0()),
         succeed_9(),
     ];
-    with_goal(rt.alloc(), &script, |goal| {
-        assert!(rt; goal.gives(10, false, until(15), &[])?);
-        assert!(rt; goal.bank.get(slot_0()) == 1);
-        goal.bank.set(slot_0(), 40);
-        let effects = [
-            Effect::Log(6),
-            Effect::Log(40),
-            Effect::Log(16),
-            Effect::Feedback(6),
-        ];
-        assert!(rt; goal.gives(16, false, ended(Event::Succeed, 9), &effects)?);
-        assert!(rt; goal.bank.get(slot_0()) == 40);
-        Ok(())
-    })
+    let mut goal = Trial::of(rt.alloc(), &script)?;
+    keeps_registers(&rt, &mut goal)
+}
+
+fn keeps_registers(rt: &impl Abort, goal: &mut Trial) -> Result<(), Fail> {
+    same(rt, goal.gives(10, false, until(15), &[])?, true);
+    same(rt, goal.bank.get(slot_0()), 1);
+    goal.bank.set(slot_0(), 40);
+    let effects = [
+        Effect::Log(6),
+        Effect::Log(40),
+        Effect::Log(16),
+        Effect::Feedback(6),
+    ];
+    same(rt, goal.gives(16, false, succeeded_9(), &effects)?, true);
+    same(rt, goal.bank.get(slot_0()), 40);
+    Ok(())
 }
 
 // Run with each allocation refused in turn, too. What is refused before the first poll leaves nothing to look at.
 #[test]
-fn a_refused_poll_leaves_all_as_it_was(rt: HostRuntime) -> Result<(), Fail> {
+fn a_refused_poll_leaves_all_as_it_was(rt: HostRuntime) {
     let script = [
         one_more(Destination::Variable(slot_0()), variable_0()),
         Instr::log(variable_0()),
@@ -287,34 +340,34 @@ fn a_refused_poll_leaves_all_as_it_was(rt: HostRuntime) -> Result<(), Fail> {
         wait(5),
         succeed_9(),
     ];
-    let Ok(goal) = Trial::of(rt.alloc(), &script) else {
-        return Ok(());
-    };
-    lend(goal, |goal| {
-        let logged = [Effect::Log(1), Effect::Log(1), Effect::Log(1)];
-        let Ok(is_given) = goal.gives(10, true, until(15), &logged) else {
-            assert!(rt; goal.bank.get(slot_0()) == 0);
-            assert!(rt; goal.is_awake(10, false));
-            assert!(rt; goal.gives(11, false, NEXT_ROUND, &[]) == Err(Memory));
-            assert!(rt; goal.gives(11, true, until(15), &logged) == Err(Memory));
-            assert!(rt; goal.bank.get(slot_0()) == 0);
-            return Ok(());
-        };
-        assert!(rt; is_given && goal.bank.get(slot_0()) == 1);
-        assert!(rt; goal.gives(15, true, ended(Event::Succeed, 9), &[]) == Ok(true));
-        Ok(())
-    })
+    if let Ok(mut goal) = Trial::of(rt.alloc(), &script) {
+        polls_or_lacks_memory(&rt, &mut goal);
+    }
+}
+
+fn polls_or_lacks_memory(rt: &impl Abort, goal: &mut Trial) {
+    let logged = [Effect::Log(1), Effect::Log(1), Effect::Log(1)];
+    match goal.gives(10, true, until(15), &logged) {
+        Ok(is_given) => {
+            same(rt, (is_given, goal.bank.get(slot_0())), (true, 1));
+            same(rt, goal.gives(15, true, succeeded_9(), &[]), Ok(true));
+        }
+        Err(Memory) => {
+            same(rt, goal.is_awake(10, false), true);
+            same(rt, goal.gives(11, false, NEXT_ROUND, &[]), Err(Memory));
+            same(rt, goal.gives(11, true, until(15), &logged), Err(Memory));
+            same(rt, goal.bank.get(slot_0()), 0);
+        }
+    }
 }
 
 #[test]
 fn a_pending_goal_goes_on_in_another_thread(rt: HostRuntime) -> Result<(), Fail> {
-    with_goal(rt.alloc(), &[wait(5), succeed_9()], |goal| {
-        assert!(rt; goal.gives(10, false, until(15), &[])?);
-        let poll = || goal.gives(15, false, ended(Event::Succeed, 9), &[]);
-        let (polled, ()) = thread::join(&rt, poll, || ());
-        assert!(rt; polled == Ok(true));
-        Ok(())
-    })
+    let mut goal = Trial::of(rt.alloc(), &[wait(5), succeed_9()])?;
+    let here = goal.takes(at(10, until(15)));
+    let (there, ()) = thread::join(&rt, || goal.takes(at(15, succeeded_9())), || ());
+    same(&rt, (here, there), (Ok(true), Ok(true)));
+    Ok(())
 }
 
 #[test]
@@ -326,11 +379,11 @@ fn a_call_keeps_its_first_reply(rt: HostRuntime) -> Result<(), Fail> {
 }
 
 fn reply_twice(rt: &impl Abort, poller: &Poller, call: &mut PendingCall) {
-    assert!(rt; poll(poller, call) == Ok(Poll::Pending));
-    assert!(rt; call.complete(8).is_ok());
-    assert!(rt; call.complete(9) == Err(Already));
-    assert!(rt; poll(poller, call) == Ok(Poll::Ready(8)));
-    assert!(rt; poll(poller, call) == Ok(Poll::Ready(8)));
+    same(rt, poll(poller, call) == Ok(Poll::Pending), true);
+    same(rt, call.complete(8), Ok(()));
+    same(rt, call.complete(9), Err(Already));
+    same(rt, poll(poller, call) == Ok(Poll::Ready(8)), true);
+    same(rt, poll(poller, call) == Ok(Poll::Ready(8)), true);
 }
 
 fn poll(poller: &Poller, call: &mut PendingCall) -> Result<Poll<i64>, Memory> {
@@ -343,9 +396,7 @@ fn poll(poller: &Poller, call: &mut PendingCall) -> Result<Poll<i64>, Memory> {
 #[test]
 fn a_call_is_a_future(rt: HostRuntime) -> Result<(), Fail> {
     let (before, completed, after) = reply_and_map(&Poller::new(rt.alloc())?);
-    assert!(rt; before == Poll::Pending);
-    assert!(rt; completed.is_ok());
-    assert!(rt; after == Poll::Ready(9));
+    assert!(rt; before == Poll::Pending && completed.is_ok() && after == Poll::Ready(9));
     Ok(())
 }
 

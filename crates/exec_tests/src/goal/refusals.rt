@@ -1,10 +1,10 @@
 //! Refused memory: each call either answers as it does with ample memory, or answers Memory and
 //! leaves the goals as they were; asked again it succeeds. So these tests pass whichever
 //! allocation of a call is refused.
-use super::{id, moment, request};
-use crate::shared::same;
+use super::{id, request};
+use crate::shared::{moment, same};
 use exec_goal::{Asked, GoalInfo, Goals, Reject};
-use exec_msg::EntityNo;
+use exec_msg::{EntityNo, Memory};
 use std::process::Abort;
 use std::test::Fail;
 
@@ -44,44 +44,50 @@ fn ask(rt: &impl Abort, goals: &mut Goals, client: u16) -> Result<(), Fail> {
     Ok(())
 }
 
+fn candidates(goals: &Goals) -> Result<usize, Memory> {
+    Ok(goals.candidates(&request(0, 0))?.as_slice().len())
+}
+
 fn look(rt: &impl Abort, goals: &Goals) -> Result<(), Fail> {
-    if let Ok(candidates) = goals.candidates(&request(0, 0)) {
-        same(rt, candidates.as_slice().len(), 3);
+    if let Ok(count) = candidates(goals) {
+        same(rt, count, 3);
         return Ok(());
     }
-    same(rt, goals.candidates(&request(0, 0))?.as_slice().len(), 3);
+    same(rt, candidates(goals)?, 3);
     Ok(())
+}
+
+// How many goals an answer moves.
+fn moved(goals: &mut Goals) -> Result<usize, Memory> {
+    let decisions = [(id(1), 2), (id(2), 1), (id(3), 2)];
+    let answer = goals.answer(&request(0, 0), &decisions)?;
+    Ok(answer.moved.as_slice().len())
 }
 
 fn answer(rt: &impl Abort, goals: &mut Goals) -> Result<(), Fail> {
     let before = read_all(goals);
-    let decisions = [(id(1), 2), (id(2), 1), (id(3), 2)];
-    if let Ok(answer) = goals.answer(&request(0, 0), &decisions) {
-        same(rt, answer.moved.as_slice().len(), 2);
+    if let Ok(count) = moved(goals) {
+        same(rt, count, 2);
         return Ok(());
     }
     same(rt, read_all(goals), before);
-    same(
-        rt,
-        goals
-            .answer(&request(0, 0), &decisions)?
-            .moved
-            .as_slice()
-            .len(),
-        2,
-    );
+    same(rt, moved(goals)?, 2);
     Ok(())
 }
 
 #[test]
 fn refused_memory_leaves_the_goals(rt: HostRuntime) -> Result<(), Fail> {
     let mut goals = Goals::new(rt.alloc());
+    serves(&rt, &mut goals)
+}
+
+fn serves(rt: &impl Abort, goals: &mut Goals) -> Result<(), Fail> {
     for number in [1, 2, 3] {
-        accept(&rt, &mut goals, number)?;
+        accept(rt, goals, number)?;
     }
     for client in [7, 8] {
-        ask(&rt, &mut goals, client)?;
+        ask(rt, goals, client)?;
     }
-    look(&rt, &goals)?;
-    answer(&rt, &mut goals)
+    look(rt, goals)?;
+    answer(rt, goals)
 }

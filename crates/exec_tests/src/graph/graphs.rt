@@ -3,38 +3,39 @@ ghost use Rattle.std.specs.Prelude.{◌≡◌, ◌<◌, length, not};
 ghost use Rattle.exec_plan.specs.Graph.{is_topic};
 ghost use Rattle.exec_plan.specs.Lawful.{is_at};
 
-use super::drafts::builder_of;
+use crate::doc::plan_of;
 use crate::shared::same;
-use exec_graph::{CallbackGroup, Declared, EntityKind, Graph, GroupNo};
+use exec_graph::{Declared, EntityKind, Graph, GroupNo};
 use exec_msg::EntityNo;
 use std::process::Abort;
 use std::test::Fail;
 
-// Two nodes with groups of both kinds, and in each node the kinds of entities from last to first.
-pub(super) const TWO_NODES: &str = "x y
-# n; exclusive g; reentrant r;
-  action_client ask r 3 act | log in | log aux | log now | pub x in;
-  server act g 5 100 | decide g0 | decide 1 | wait 2, succeed 9;
-  client c - 7 srv | log in;
-  service srv g 1 | reply in;
-  subscription s r 2 x | pub y in;
-  timer t - 10 | call c 1, goal ask 5, execute act
-# m; reentrant r; exclusive h;
-  action_client a r 1 act | | |;
-  server b - 1 -;
-  action_client l - 1024 b | | | |;
-  client d h 1 srv2;
-  client e - 1 srv;
-  service srv2 r 10;
-  subscription w - 1024 y;
-  timer u h 4611686018427387904;
-  timer v r 1 | log now";
+// Two nodes with groups of both kinds and entities of each kind.
+const TWO_NODES: &str = r#"{"version":1,"topics":["x","y"],"nodes":[
+  {"name":"n","groups":[{"name":"g","kind":"exclusive"},{"name":"r","kind":"reentrant"}],
+   "action_clients":[{"name":"ask","group":"r","depth":3,"action":"act","on_response":[["log","in"]],
+     "on_code":[["log","aux"]],"on_feedback":[["log","now"]],"on_result":[["pub","x","in"]]}],
+   "actions":[{"name":"act","group":"g","depth":5,"result_timeout":100,"on_goal":[["decide","g0"]],
+     "on_cancel":[["decide",1]],"script":[["wait",2],["succeed",9]]}],
+   "clients":[{"name":"c","depth":7,"service":"srv","script":[["log","in"]]}],
+   "services":[{"name":"srv","group":"g","depth":1,"script":[["reply","in"]]}],
+   "subscriptions":[{"name":"s","group":"r","depth":2,"topic":"x","script":[["pub","y","in"]]}],
+   "timers":[{"name":"t","period":10,"script":[["call","c",1],["goal","ask",5],["execute","act"]]}]},
+  {"name":"m","groups":[{"name":"r","kind":"reentrant"},{"name":"h","kind":"exclusive"}],
+   "action_clients":[{"name":"a","group":"r","depth":1,"action":"act"},
+     {"name":"l","depth":1024,"action":"b","on_result":[]}],
+   "actions":[{"name":"b","depth":1}],
+   "clients":[{"name":"d","group":"h","depth":1,"service":"srv2"},{"name":"e","depth":1,"service":"srv"}],
+   "services":[{"name":"srv2","group":"r"}],
+   "subscriptions":[{"name":"w","depth":1024,"topic":"y"}],
+   "timers":[{"name":"u","group":"h","period":4611686018427387904},
+     {"name":"v","group":"r","period":1,"script":[["log","now"]]}]}]}"#;
 
 // A name, its callback group and whether that is exclusive, and its kind; a topic has none.
 type Row = (&'static str, Option<(u16, bool)>, Option<EntityKind>);
 
 // The topics and entities of the two nodes at their numbers.
-const AT_THEIR_NUMBERS: [Row; 17] = [
+const AT_THEIR_NUMBERS: &[Row] = &[
     ("x", None, None),
     ("y", None, None),
     ("t", Some((0, true)), Some(EntityKind::Timer)),
@@ -55,13 +56,13 @@ const AT_THEIR_NUMBERS: [Row; 17] = [
 ];
 
 // The callback groups of the two nodes at their numbers: the name of the node, and the group's own.
-const GROUPS: [(&str, Option<&str>, bool); 6] = [
-    ("n", None, true),
-    ("n", Some("g"), true),
-    ("n", Some("r"), false),
-    ("m", None, true),
-    ("m", Some("r"), false),
-    ("m", Some("h"), true),
+const GROUPS: &[(u16, &str, Option<&str>, bool)] = &[
+    (0, "n", None, true),
+    (1, "n", Some("g"), true),
+    (2, "n", Some("r"), false),
+    (3, "m", None, true),
+    (4, "m", Some("r"), false),
+    (5, "m", Some("h"), true),
 ];
 
 // The kind of what stands at a number; a topic has none.
@@ -94,14 +95,14 @@ fn group(graph: &Graph, no: EntityNo) -> Option<(u16, bool)>
 }
 
 // The name of a callback group's node.
-fn node_of<'a>(graph: &'a Graph, group: usize) -> Option<&'a str> {
-    let group = graph.groups().get(group)?;
+fn node_of<'a>(graph: &'a Graph, group: GroupNo) -> Option<&'a str> {
+    let group = graph.groups().get(group.0 as usize)?;
     let _count = graph.len();
     Some(graph.nodes().name(EntityNo(group.node as u16)))
 }
 
-fn name_of(group: &CallbackGroup) -> Option<&str> {
-    match &group.name {
+fn name_of<'a>(graph: &'a Graph, group: GroupNo) -> Option<&'a str> {
+    match &graph.groups().get(group.0 as usize)?.name {
         None => None,
         Some(name) => Some(name.as_str()),
     }
@@ -116,57 +117,47 @@ fn has_row(rt: &impl Abort, graph: &Graph, number: usize, row: &Row) {
     same(rt, kind(graph, no), is);
 }
 
-// Whether it is the graph of the two nodes.
-pub(super) fn is_of_two_nodes(rt: &impl Abort, graph: &Graph) {
+fn has_entities(rt: &impl Abort, graph: &Graph) {
     same(rt, graph.len(), AT_THEIR_NUMBERS.len());
     for (number, row) in AT_THEIR_NUMBERS.iter().enumerate() {
         has_row(rt, graph, number, row);
     }
-    has_groups(rt, graph);
 }
 
 fn has_groups(rt: &impl Abort, graph: &Graph) {
     same(rt, graph.groups().len(), GROUPS.len());
-    for (number, group) in graph.groups().iter().enumerate() {
-        let found = (node_of(graph, number), name_of(group), group.exclusive);
-        let wanted = GROUPS.get(number);
-        assert!(rt;
-            wanted.is_some_and(|wanted| found == (Some(wanted.0), wanted.1, wanted.2)),
-            "at {number}"
-        );
+    for (number, node, name, exclusive) in GROUPS {
+        let group = GroupNo(*number);
+        same(rt, node_of(graph, group), Some(*node));
+        same(rt, name_of(graph, group), *name);
+        same(rt, graph.is_exclusive(group), *exclusive);
     }
+}
+
+fn number(no: Option<EntityNo>) -> Option<u16> {
+    Some(no?.0)
+}
+
+// No group but the graph's is exclusive.
+fn finds_by_name(rt: &impl Abort, graph: &Graph) {
+    for (name, topic, server) in FOUND {
+        let found = (number(graph.topic_at(name)), number(graph.server_at(name)));
+        same(rt, found, (*topic, *server));
+    }
+    same(rt, graph.is_exclusive(GroupNo(6)), false);
 }
 
 #[test]
 fn a_graph_is_as_declared(rt: HostRuntime) -> Result<(), Fail> {
-    let graph = builder_of(rt.alloc(), TWO_NODES)?.finish()?;
-    is_of_two_nodes(&rt, &graph);
-    Ok(())
-}
-
-#[test]
-fn no_group_but_the_graphs_is_exclusive(rt: HostRuntime) -> Result<(), Fail> {
-    let graph = builder_of(rt.alloc(), TWO_NODES)?.finish()?;
-    for (number, wanted) in GROUPS.iter().enumerate() {
-        same(&rt, graph.is_exclusive(GroupNo(number as u16)), wanted.2);
-    }
-    same(&rt, graph.is_exclusive(GroupNo(6)), false);
-    same(&rt, graph.is_exclusive(GroupNo(u16::MAX)), false);
-    Ok(())
-}
-
-#[test]
-fn topics_and_servers_are_found(rt: HostRuntime) -> Result<(), Fail> {
-    let graph = builder_of(rt.alloc(), TWO_NODES)?.finish()?;
-    for (name, topic, server) in FOUND {
-        same(&rt, graph.topic_at(name), topic.map(|no| EntityNo(no)));
-        same(&rt, graph.server_at(name), server.map(|no| EntityNo(no)));
-    }
+    let plan = plan_of(rt.alloc(), TWO_NODES)?;
+    has_entities(&rt, plan.graph());
+    has_groups(&rt, plan.graph());
+    finds_by_name(&rt, plan.graph());
     Ok(())
 }
 
 // A name, and its number where it is a topic's and where it is a server's.
-const FOUND: [(&str, Option<u16>, Option<u16>); 8] = [
+const FOUND: &[(&str, Option<u16>, Option<u16>)] = &[
     ("x", Some(0), None),
     ("y", Some(1), None),
     ("act", None, Some(12)),
