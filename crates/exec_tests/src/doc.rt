@@ -1,7 +1,7 @@
 //! What the documents of `cases/` don't show: a plan is answered where a document is read, whatever it declares; and where
 //! memory is refused, a document is answered as with ample memory, or with 10, and read again as ever. So these tests pass
 //! whichever allocation is refused.
-use crate::shared::same;
+use crate::shared::{same, same_at};
 use exec_doc::{Refused, read_document};
 use exec_graph::Plan;
 use std::alloc::Global;
@@ -40,16 +40,16 @@ const DOCUMENTS: &[(&str, u8)] = &[
         5,
     ),
     (
+        r#"{"version":1,"nodes":[{"name":"n","actions":[{"name":"a"}]}],"moments":[1],"feed":[{"round":1,"action":"a","cancel":"00000000-0000-0000-0000-000000000000","stamp":4611686018427387905}]}"#,
+        5,
+    ),
+    (
         r#"{"version":1,"nodes":[{"name":"n","groups":[{"name":"r","kind":"reentrant"}],"timers":[{"name":"t","group":"r","period":1,"script":[["log","g0"]]},{"name":"u","period":1,"script":[["log"]]}]}]}"#,
         6,
     ),
     (
         r#"{"version":1,"nodes":[{"name":"n","groups":[{"name":"r","kind":"reentrant"}],"timers":[{"name":"t","group":"r","period":1,"script":[["log","g0"]]}]}]}"#,
         7,
-    ),
-    (
-        r#"{"version":1,"nodes":[{"name":"n","actions":[{"name":"a"}]}],"moments":[1],"feed":[{"round":1,"action":"a","cancel":"00000000-0000-0000-0000-000000000000","stamp":4611686018427387905}]}"#,
-        5,
     ),
     (r#"{"version":1,"moments":[5,4]}"#, 8),
     (
@@ -61,8 +61,7 @@ const DOCUMENTS: &[(&str, u8)] = &[
 #[test]
 fn documents_are_read_or_refused(rt: HostRuntime) {
     for (document, code) in DOCUMENTS {
-        let found = code_of(rt.alloc(), document);
-        same(&rt, (*document, found), (*document, *code));
+        same_at(&rt, document, code_of(rt.alloc(), document), *code);
     }
 }
 

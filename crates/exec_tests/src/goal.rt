@@ -190,6 +190,7 @@ fn forgets_goal_1(rt: &impl Abort, goals: &mut Goals) {
     same(rt, forgotten, [None, Some(id(1)), None]);
     same(rt, (goals.holds(id(1)), goals.holds(id(2))), (false, true));
     same(rt, goals.apply(id(2), Event::Execute), Ok(State::Executing));
+    same(rt, goals.state(id(2)), Some(State::Executing));
 }
 
 // A request's identifier and stamp, and whether it selects goals 1, 2 and 3 of those above: all of them, those accepted up
@@ -216,6 +217,25 @@ fn selects(rt: &impl Abort, goals: &Goals) -> Result<(), Fail> {
     for (number, stamp, wanted) in SELECTED {
         same(rt, selected(goals, *number, *stamp)?, *wanted);
     }
+    Ok(())
+}
+
+// A candidate that ended before the answer isn't moved, whatever was decided of it.
+#[test]
+fn answers_move_what_still_may_move(rt: HostRuntime) -> Result<(), Fail> {
+    let mut goals = Goals::new(rt.alloc());
+    answers_behind_an_end(&rt, &mut goals)
+}
+
+fn answers_behind_an_end(rt: &impl Abort, goals: &mut Goals) -> Result<(), Fail> {
+    accepts_three(rt, goals);
+    goals.end(id(3), Event::Succeed, 1, moment(31))?;
+    let answer = answered(goals, 3, 0, &[(id(3), 2)])?;
+    same(rt, answer, (ReturnCode::GoalTerminated, None, 0));
+    let answer = answered(goals, 0, 0, &[(id(3), 2)])?;
+    same(rt, answer, (ReturnCode::Rejected, None, 0));
+    let answer = answered(goals, 0, 0, &[(id(1), 1), (id(2), 2), (id(3), 2)])?;
+    same(rt, answer, (ReturnCode::None, Some(id(2)), 1));
     Ok(())
 }
 

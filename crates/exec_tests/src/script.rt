@@ -3,7 +3,7 @@ mod spellings;
 
 ghost use Rattle.std.specs.Prelude.{◌≤◌, ◌^◌};
 
-use crate::shared::{moment, same};
+use crate::shared::{moment, same, same_at};
 use arithmetic::RESULTS;
 use exec_msg::{EntityNo, Event, Memory};
 use exec_script::{
@@ -104,7 +104,7 @@ fn printed(alloc: Global, script: &str) -> Result<String, Memory> {
 fn decodes_what_the_rules_spell(rt: HostRuntime) -> Result<(), Fail> {
     for (script, wanted) in SPELLINGS {
         let found = printed(rt.alloc(), script)?;
-        same(&rt, found.as_str(), *wanted);
+        same_at(&rt, script, found.as_str(), *wanted);
     }
     Ok(())
 }
@@ -121,7 +121,7 @@ fn checks_what_the_rules_allow(rt: HostRuntime) {
             reentrant: *reentrant,
             role: *role,
         };
-        same(&rt, legality(rt.alloc(), place, script), *wanted);
+        same_at(&rt, script, legality(rt.alloc(), place, script), *wanted);
     }
 }
 
@@ -190,10 +190,11 @@ fn result_of(alloc: Global, operation: &str, left: i64, right: i64) -> Result<i6
 fn wraps_at_64_bits(rt: HostRuntime) -> Result<(), Fail> {
     for (operation, left, right, wanted) in RESULTS {
         let found = result_of(rt.alloc(), operation, *left, *right)?;
-        same(
+        same_at(
             &rt,
-            (*operation, *left, *right, found),
-            (*operation, *left, *right, *wanted),
+            operation,
+            (*left, *right, found),
+            (*left, *right, *wanted),
         );
     }
     Ok(())
@@ -342,7 +343,7 @@ const CLOSES: &[(Role, &str, &str)] = &[
 fn closes_by_the_role(rt: HostRuntime) -> Result<(), Fail> {
     for (role, script, wanted) in CLOSES {
         let found = closed(rt.alloc(), *role, script)?;
-        same(&rt, found.as_str(), *wanted);
+        same_at(&rt, script, found.as_str(), *wanted);
     }
     Ok(())
 }
@@ -378,12 +379,13 @@ impl Work {
     // Goes on with a script. Where memory is refused, all is as it was, and the call is made once more.
     fn goes_on(&mut self, script: &[Instr], place: usize) -> Result<Stop, Fail> {
         let (regs, bank, count) = (self.regs, self.bank, self.effects.len());
-        match self.run(script, place) {
-            Ok(stop) => Ok(stop),
-            Err(Memory) if self.regs == regs && self.bank == bank && self.effects.len() == count =>
-                { Ok(self.run(script, place)?) }
-            Err(Memory) => Err(Fail::new("a refused poll left something else")),
+        if let Ok(stop) = self.run(script, place) {
+            return Ok(stop);
         }
+        if self.regs != regs || self.bank != bank || self.effects.len() != count {
+            return Err(Fail::new("a refused poll left something else"));
+        }
+        Ok(self.run(script, place)?)
     }
 
     // Where a script stops first, and where it does then.
@@ -429,7 +431,7 @@ const STOPS: &[(&str, [Stop; 2])] = &[
 #[test]
 fn stops_and_goes_on(rt: HostRuntime) -> Result<(), Fail> {
     for (script, wanted) in STOPS {
-        same(&rt, stops(rt.alloc(), script)?, *wanted);
+        same_at(&rt, script, stops(rt.alloc(), script)?, *wanted);
     }
     Ok(())
 }
@@ -461,7 +463,7 @@ fn goes_to_its_end(rt: &impl Abort, script: &[Instr], work: &mut Work) -> Result
 #[test]
 fn holds_short_and_long_texts(rt: HostRuntime) -> Result<(), Fail> {
     for text in ["", "a_topic_of_24_characters", "a_topic_of_25_characters_"] {
-        same(&rt, is_copied(rt.alloc(), text)?, true);
+        same_at(&rt, text, is_copied(rt.alloc(), text)?, true);
     }
     Ok(())
 }

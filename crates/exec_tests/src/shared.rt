@@ -10,6 +10,16 @@ pub(crate) fn same<T: PartialEq + Debug + Drop>(rt: &impl Abort, found: T, wante
     assert_eq!(rt; found, wanted);
 }
 
+// As `same`, and tells where.
+pub(crate) fn same_at<T: PartialEq + Debug + Drop>(
+    rt: &impl Abort,
+    place: &str,
+    found: T,
+    wanted: T,
+) {
+    assert_eq!(rt; found, wanted, "at {place}");
+}
+
 pub(crate) fn moment(ticks: u64) -> Moment
     requires { ticks ≤ 2 ^ 62 }
 {

@@ -4,7 +4,7 @@ ghost use Rattle.exec_plan.specs.Graph.{is_topic};
 ghost use Rattle.exec_plan.specs.Lawful.{is_at};
 
 use crate::doc::plan_of;
-use crate::shared::same;
+use crate::shared::{same, same_at};
 use exec_graph::{Declared, EntityKind, Graph, GroupNo};
 use exec_msg::EntityNo;
 use std::process::Abort;
@@ -55,7 +55,7 @@ const AT_THEIR_NUMBERS: &[Row] = &[
     ("l", Some((3, true)), Some(EntityKind::ActionClient)),
 ];
 
-// The callback groups of the two nodes at their numbers: the name of the node, and the group's own.
+// The callback groups of the two nodes: the number, the name of the node, the group's own, and whether it is exclusive.
 const GROUPS: &[(u16, &str, Option<&str>, bool)] = &[
     (0, "n", None, true),
     (1, "n", Some("g"), true),
@@ -124,6 +124,7 @@ fn has_entities(rt: &impl Abort, graph: &Graph) {
     }
 }
 
+// No group but these is exclusive.
 fn has_groups(rt: &impl Abort, graph: &Graph) {
     same(rt, graph.groups().len(), GROUPS.len());
     for (number, node, name, exclusive) in GROUPS {
@@ -132,19 +133,18 @@ fn has_groups(rt: &impl Abort, graph: &Graph) {
         same(rt, name_of(graph, group), *name);
         same(rt, graph.is_exclusive(group), *exclusive);
     }
+    same(rt, graph.is_exclusive(GroupNo(6)), false);
 }
 
 fn number(no: Option<EntityNo>) -> Option<u16> {
     Some(no?.0)
 }
 
-// No group but the graph's is exclusive.
 fn finds_by_name(rt: &impl Abort, graph: &Graph) {
     for (name, topic, server) in FOUND {
         let found = (number(graph.topic_at(name)), number(graph.server_at(name)));
-        same(rt, found, (*topic, *server));
+        same_at(rt, name, found, (*topic, *server));
     }
-    same(rt, graph.is_exclusive(GroupNo(6)), false);
 }
 
 #[test]
