@@ -1,6 +1,6 @@
 pub mod FirstPlaces
 pub mod Lengths
+mod Cells
 pub mod Places
 pub mod Queues
-pub mod Walks
 pub mod NextCall

@@ -1,6 +1,7 @@
 pub mod Goal
 pub mod KeepLast
 pub mod Kind
+pub mod Left
 pub mod Line
 pub mod Lists
 pub mod Places

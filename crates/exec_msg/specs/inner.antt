@@ -1,2 +1,2 @@
 pub mod Lazy
-pub mod Text
+pub mod Packed

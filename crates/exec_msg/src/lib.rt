@@ -3,7 +3,6 @@
 
 mod field_texts;
 mod goal;
-mod history;
 mod id_texts;
 mod items;
 mod keep_last;
@@ -16,6 +15,7 @@ mod lines;
 mod memory;
 mod names;
 mod numbers;
+mod packed;
 mod place;
 mod place_table;
 mod text;
@@ -24,7 +24,6 @@ mod transcript;
 mod value_texts;
 
 pub use goal::{Event, GoalStatus, ReturnCode};
-pub use history::History;
 pub use items::Items;
 pub use keep_last::KeepLast;
 pub use kind::Kind;
@@ -37,4 +36,4 @@ pub use numbers::{EntityNo, GoalId, Moment};
 pub use place_table::PlaceTable;
 pub use text::write_line;
 pub use timer::Timer;
-pub use transcript::{Named, Text};
+pub use transcript::{TextReader, Transcript};

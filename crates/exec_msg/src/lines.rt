@@ -64,7 +64,7 @@ impl Lines for LineList {
 // A line is pushed behind a reference, and is written field by field so: one that is handed on as a
 // slice of its own is copied as a whole just after it was made, for which a processor waits.
 #[inline(always)]
-fn push_copy<T: Copy + Drop>(items: &mut Vec<T>, item: &T) -> Result<(), Memory>
+pub(crate) fn push_copy<T: Copy + Drop>(items: &mut Vec<T>, item: &T) -> Result<(), Memory>
     ensures ok { OnOk result (items.new.items ≡ items.old.items ++ item.now ∷ []) }
     ensures err { OnErr result (items.new.items ≡ items.old.items) }
 {

@@ -1,4 +1,4 @@
-ghost use Rattle.std.specs.Prelude.{◌≡◌, ℕ, ◌≤◌, ◌^◌, SomeIff};
+ghost use Rattle.std.specs.Prelude.{◌≡◌, ℕ, ◌+◌, ◌*◌, ◌≤◌, ◌^◌, SomeIff};
 
 use crate::limits::TICKS;
 use std::marker::Model;
@@ -80,6 +80,22 @@ impl GoalId {
         ensures { result ≡ self }
     {
         self.high as u128 * 0x1_0000_0000_0000_0000 + self.low as u128
+    }
+
+    // Its upper and its lower half.
+    #[inline(always)]
+    pub(crate) fn halves(self) -> (u64, u64)
+        ensures { result.0 * 2 ^ 64 + result.1 ≡ self }
+    {
+        (self.high, self.low)
+    }
+
+    // The identifier of these halves.
+    #[inline(always)]
+    pub(crate) fn of_halves(high: u64, low: u64) -> GoalId
+        ensures { result ≡ high * 2 ^ 64 + low }
+    {
+        GoalId { high, low }
     }
 
     // A number in whose upper bits identifiers differ, by which they are spread over a table.

@@ -1,112 +1,254 @@
-ghost use Rattle.std.specs.Prelude.{◌≡◌, ℕ, ◌≤◌, List, [], take, vec_len, OnOk};
-ghost use Rattle.exec_msg.specs.Line.{transcript_text};
+//! A transcript's lines, kept in few bytes each, and its text, which is made of them piece by piece.
+ghost use Rattle.std.specs.Prelude.{◌≡◌, ◌≤◌, take, vec_len, OnOk};
 
 use crate::field_texts::FieldTexts;
-use crate::history::History;
 use crate::line::Line;
-use crate::lines::Lines;
+use crate::lines::{Lines, push_copy};
 use crate::memory::Memory;
 use crate::names::Names;
+use crate::numbers::GoalId;
+use crate::packed::{Cell, push_line, skip_goals};
 use crate::text::{place_line, room_behind};
 use std::alloc::Global;
-use std::marker::{Brand, Model, PhantomData};
+use std::marker::Model;
 
-/// The names of a graph, for proofs alone: a call that passes [`Brand`] picks them.
-pub trait Named {
-    ghost names: { List (List ℕ) };
-}
-
-impl Named for Brand {
-    ghost names = { [] };
-}
-
-/// The lines of a transcript as their text alone, with the names of `K`.
+/// The lines of a transcript in their order. Most take sixteen bytes each.
 #[derive(Drop)]
-pub struct Text<'a, K: Named> {
-    names: &'a Names,
-    bytes: Vec<u8>,
-    // Where the text ends. What stands behind is room for the next line.
-    end: usize,
-    texts: FieldTexts,
-    lines: History<Line>,
-    of: PhantomData<K>,
+pub struct Transcript {
+    cells: Vec<Cell>,
+    // The lines that have no form in cells.
+    wholes: Vec<Line>,
+    // The goal that the last lines are on.
+    goal: GoalId,
 }
 
-impl<'a, K: Named> Model for Text<'a, K> {
-    ghost use Rattle.std.specs.Prelude.{List};
+impl Model for Transcript {
+    ghost use Rattle.std.specs.Prelude.{◌≡◌, List};
     ghost use Rattle.exec_msg.specs.declared.line.Line.{Line};
-    ghost use Rattle.exec_msg.specs.inner.Text.{IsTextOf};
+    ghost use Rattle.exec_msg.specs.inner.Packed.{goal_behind, lines_in, AreTold};
 
     ghost Value = { List Line };
 
-    ghost view = { λ text. text.lines.items };
+    ghost view = { λ transcript. lines_in transcript.cells.items 0 transcript.wholes.items };
 
-    ghost invariant = { λ text. IsTextOf K.names text.names.now text.bytes.items text.end text.lines.items };
+    ghost invariant = { λ transcript. AreTold transcript.cells.items 0 transcript.wholes.items × (goal_behind transcript.cells.items 0 ≡ transcript.goal) };
 }
 
-impl<'a, K: Named> Text<'a, K> {
+impl Transcript {
+    ghost use Rattle.std.specs.Prelude.{◌≡◌, [], IfOk};
+    ghost use Rattle.exec_msg.specs.Line.{transcript_text};
+
     /// No lines. It takes no memory.
-    pub fn new(alloc: Global, names: &'a Names) -> Text<'a, K>
-        requires { names.now ≡ K.names }
+    pub fn new(alloc: Global) -> Transcript
         ensures { result ≡ [] }
     {
-        Text {
-            names,
-            bytes: Vec::new(alloc),
-            end: 0,
-            texts: FieldTexts::new(alloc),
-            lines: History::new(),
-            of: PhantomData,
+        Transcript {
+            cells: Vec::new(alloc),
+            wholes: Vec::new(alloc),
+            goal: GoalId::of_halves(0, 0),
         }
     }
 
-    /// The text of the lines. It takes no memory.
-    pub fn into_bytes(self) -> Vec<u8>
-        ensures { result.items ≡ transcript_text K.names self.entry }
+    /// A reader of its text, with the names of a graph.
+    ///
+    /// # Errors
+    /// [`Memory`] where a growth was refused.
+    pub fn reader<'a>(&'a self, alloc: Global, names: &'a Names) -> Result<TextReader<'a>, Memory>
+        ensures { IfOk result (λ reader. reader ≡ record { names = names.now; lines = self.now }) }
     {
-        let Text { mut bytes, end, .. } = self;
-        bytes.truncate(end);
-        bytes
-    }
-}
-
-impl<'a, K: Named> Lines for Text<'a, K> {
-    ghost lines = { λ lines. lines };
-
-    #[inline(always)]
-    fn add(&mut self, line: &Line) -> Result<(), Memory> {
-        let room = room_behind(self.end, self.names)?;
-        if self.bytes.len() < room {
-            // A short transcript keeps no texts: to make their room would take longer than its lines.
-            if self.end > 0 {
-                self.texts.fill()?;
-            }
-            lengthen(&mut self.bytes, room)?;
+        let mut texts = FieldTexts::new(alloc);
+        if self.cells.len() >= MANY_LINES {
+            texts.fill()?;
         }
-        self.end = place_line(
-            line,
-            self.names,
-            &mut self.texts,
-            self.bytes.as_mut_slice(),
-            self.end,
-        );
-        self.lines = self.lines.and(line);
-        Ok(())
+        Ok(TextReader {
+            names,
+            texts,
+            cells: self.cells.as_slice(),
+            wholes: self.wholes.as_slice(),
+            goal: GoalId::of_halves(0, 0),
+        })
+    }
+
+    /// Its text, with the names of a graph.
+    ///
+    /// # Errors
+    /// [`Memory`] where a growth was refused.
+    pub fn text(&self, alloc: Global, names: &Names) -> Result<Vec<u8>, Memory>
+        ensures { IfOk result (λ text. text.items ≡ transcript_text names.now self.now) }
+    {
+        let mut reader = self.reader(alloc, names)?;
+        let mut text = Vec::new(alloc);
+        let mut end = 0;
+        loop {
+            lengthen(&mut text, room_behind(end, names)?)?;
+            let Some(next) = reader.fill(text.as_mut_slice(), end) else {
+                break;
+            };
+            end = next;
+        }
+        text.truncate(end);
+        Ok(text)
     }
 }
+
+// From so many lines on the texts of identifiers and long numbers are kept for the lines that follow: to make their room takes
+// longer than fewer lines do.
+const MANY_LINES: usize = 1_024;
 
 // Bytes are made longer by so many more than asked.
 const MORE: usize = 65_536;
 
 // Makes bytes at least so long, with zeros behind them. Where memory is refused, they stay as they were.
-#[cold]
-#[inline(never)]
 fn lengthen(bytes: &mut Vec<u8>, length: usize) -> Result<(), Memory>
-    requires { vec_len bytes.old ≤ length }
     ensures ok { OnOk result (length ≤ vec_len bytes.new) }
     ensures front { take (vec_len bytes.old) bytes.new.items ≡ bytes.old.items }
     ensures kept { vec_len bytes.old ≤ vec_len bytes.new }
 {
-    bytes.resize(length.saturating_add(MORE), 0)?;
+    let longer = length.saturating_add(MORE);
+    if bytes.len() < longer {
+        bytes.resize(longer, 0)?;
+    }
     Ok(())
+}
+
+impl Lines for Transcript {
+    ghost lines = { λ transcript. transcript };
+
+    #[inline(always)]
+    fn add(&mut self, line: &Line) -> Result<(), Memory> {
+        self.cells.reserve(2)?;
+        if push_line(&mut self.cells, &mut self.goal, line) {
+            return Ok(());
+        }
+        push_copy(&mut self.wholes, line)?;
+        self.cells.push_reserved(Cell::Whole);
+        Ok(())
+    }
+}
+
+/// A transcript whose text is read piece by piece.
+#[derive(Drop)]
+pub struct TextReader<'a> {
+    names: &'a Names,
+    texts: FieldTexts,
+    cells: &'a [Cell],
+    wholes: &'a [Line],
+    // The goal that the next lines are on.
+    goal: GoalId,
+}
+
+impl<'a> Model for TextReader<'a> {
+    ghost use Rattle.exec_msg.specs.Left.{LinesLeft};
+    ghost use Rattle.exec_msg.specs.inner.Packed.{lines_in};
+
+    ghost Value = { LinesLeft };
+
+    ghost view = { λ reader. record { names = reader.names.now; lines = lines_in reader.cells.now reader.goal reader.wholes.now } };
+}
+
+impl<'a> TextReader<'a> {
+    ghost use Rattle.std.specs.Prelude.{◌≡◌, ◌++◌, ◌∷◌, ◌+◌, ◌<◌, ◌≤◌, [], true, length, take, option_to_list, IfSome, IfNone, IfOk};
+    ghost use Rattle.exec_msg.specs.Line.{line_room, line_text, transcript_text};
+
+    /// Bytes that have the room of some lines.
+    ///
+    /// # Errors
+    /// [`Memory`] where a growth was refused.
+    pub fn buffer(&self, alloc: Global) -> Result<Vec<u8>, Memory>
+        ensures { IfOk result (λ buffer. line_room self.now.names ≤ length buffer.items) }
+    {
+        let mut buffer = Vec::new(alloc);
+        lengthen(&mut buffer, room_behind(0, self.names)?)?;
+        Ok(buffer)
+    }
+
+    /// Puts the text of the next lines, as many as there is room for, at a place of a buffer that has the room of one, and gives
+    /// its end, or `None` where no line is left. What stands behind the end may change.
+    pub fn fill(&mut self, buffer: &mut [u8], at: usize) -> Option<usize>
+        requires { at + line_room self.old.names ≤ length buffer.old }
+        ensures text { IfSome result (λ end. take at buffer.old ++ transcript_text self.old.names self.old.lines ≡ take end buffer.new ++ transcript_text self.old.names self.new.lines) }
+        ensures within { IfSome result (λ end. end ≤ length buffer.new) }
+        ensures shorter { IfSome result (λ _. length self.new.lines < length self.old.lines) }
+        ensures none { IfNone result (self.old.lines ≡ []) }
+        ensures same_buffer { IfNone result (buffer.new ≡ buffer.old) }
+        ensures names { self.new.names ≡ self.old.names }
+        ensures same_length { length buffer.new ≡ length buffer.old }
+    {
+        let mut end = self.place_next(buffer, at)?;
+        while self.has_room(buffer, end) {
+            let Some(next) = self.place_next(buffer, end) else {
+                break;
+            };
+            end = next;
+        }
+        Some(end)
+    }
+
+    // Whether there is room for a line at a place.
+    fn has_room(&self, buffer: &[u8], at: usize) -> bool
+        ensures { result ≡ true → at + line_room self.now.names ≤ length buffer.now }
+    {
+        match room_behind(at, self.names) {
+            Ok(room) => room <= buffer.len(),
+            Err(_) => false,
+        }
+    }
+
+    // Puts the text of the next line at a place, and gives its end, where a line is left.
+    #[inline(always)]
+    fn place_next(&mut self, buffer: &mut [u8], at: usize) -> Option<usize>
+        requires { at + line_room self.old.names ≤ length buffer.old }
+        ensures text { IfSome result (λ end. take at buffer.old ++ transcript_text self.old.names self.old.lines ≡ take end buffer.new ++ transcript_text self.old.names self.new.lines) }
+        ensures within { IfSome result (λ end. end ≤ length buffer.new) }
+        ensures shorter { IfSome result (λ _. length self.new.lines + 1 ≡ length self.old.lines) }
+        ensures none { IfNone result (self.old.lines ≡ []) }
+        ensures same { IfNone result (self.new ≡ self.old) }
+        ensures same_buffer { IfNone result (buffer.new ≡ buffer.old) }
+        ensures names { self.new.names ≡ self.old.names }
+        ensures same_length { length buffer.new ≡ length buffer.old }
+    {
+        match self.next() {
+            None => None,
+            Some(line) => Some(self.place(&line, buffer, at)),
+        }
+    }
+
+    #[inline(always)]
+    fn place(&mut self, line: &Line, buffer: &mut [u8], at: usize) -> usize
+        requires { at + line_room self.old.names ≤ length buffer.old }
+        ensures text { take result buffer.new ≡ take at buffer.old ++ line_text self.old.names line.now }
+        ensures within { result ≤ length buffer.new }
+        ensures same { self.new ≡ self.old }
+        ensures same_length { length buffer.new ≡ length buffer.old }
+    {
+        place_line(line, self.names, &mut self.texts, buffer, at)
+    }
+
+    // Takes the next line, where one is left.
+    #[inline(always)]
+    fn next(&mut self) -> Option<Line>
+        ensures lines { self.old.lines ≡ option_to_list result ++ self.new.lines }
+        ensures none { IfNone result (self.old.lines ≡ []) }
+        ensures same { IfNone result (self.new ≡ self.old) }
+        ensures names { self.new.names ≡ self.old.names }
+    {
+        let (cells, goal) = skip_goals(self.cells, self.goal);
+        self.cells = cells;
+        self.goal = goal;
+        let [cell, cells @ ..] = cells else {
+            return None;
+        };
+        let line = match cell.line(goal) {
+            Some(line) => line,
+            None => {
+                let [whole, wholes @ ..] = self.wholes else {
+                    return None;
+                };
+                self.wholes = wholes;
+                *whole
+            }
+        };
+        self.cells = cells;
+        Some(line)
+    }
 }

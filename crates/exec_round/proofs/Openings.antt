@@ -1,6 +1,5 @@
 -- Lanes are those that were opened, whatever ran of them.
-use Rattle.std.proofs.Common.{◌≡◌, List, [], ◌∷◌, length, refl, sym, ap, ◌∙◌, arith, Bool, true, false, true≢false}
-use Rattle.std.specs.Prelude.{◌&&◌}
+use Rattle.std.proofs.Common.{◌≡◌, List, [], ◌∷◌, length, ap, ◌∙◌, arith, true}
 use Rattle.std.proofs.lemmas.Bool.{eqb-true, and_parts}
 use Rattle.exec_lane.specs.Lane.{AreFinished, Lane}
 use Rattle.exec_round.specs.inner.Running.{are_done, is_done, openings_of}

@@ -10,4 +10,4 @@ mod weighing;
 mod workers;
 
 pub use rounds::{round_claimed, round_forked};
-pub use running::run;
+pub use running::{PlanTranscript, run, transcribe};

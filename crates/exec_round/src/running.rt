@@ -1,7 +1,6 @@
 ghost use Rattle.std.specs.Prelude.{◌≡◌, ◌<◌, ◌≤◌, [], false, length, Some, IfOk, IfErr, OnOk};
 ghost use Rattle.std.specs.Arc.{arc_value};
 ghost use Rattle.exec_doc.specs.Document.{document_of};
-ghost use Rattle.exec_plan.specs.Graph.{names_of};
 ghost use Rattle.exec_plan.specs.Plan.{PlanData};
 ghost use Rattle.exec_round.specs.Run.{IsRefusalOf};
 ghost use Rattle.exec_rules.specs.Calls.{new_world};
@@ -10,13 +9,55 @@ ghost use Rattle.exec_rules.specs.Transcript.{lines_of, text_of};
 use crate::rounds::{Sharing, run_round};
 use exec_doc::{Refused, read_document};
 use exec_lane::Gate;
-use exec_msg::{Lines, Memory, Named, Text};
+use exec_msg::{Lines, Memory, TextReader, Transcript};
 use exec_plan::Plan;
 use exec_world::{World, run_plan};
 use std::alloc::Global;
-use std::marker::Brand;
+use std::marker::Model;
 use std::sync::Arc;
 use std::thread::Threads;
+
+/// The transcript of a plan that was run.
+#[derive(Drop)]
+pub struct PlanTranscript {
+    plan: Arc<Plan>,
+    lines: Transcript,
+}
+
+impl Model for PlanTranscript {
+    ghost use Rattle.std.specs.Arc.{arc_value};
+    ghost use Rattle.exec_round.specs.Run.{RunPlan};
+
+    ghost Value = { RunPlan };
+
+    ghost view = { λ transcript. record { plan = arc_value transcript.plan; lines = transcript.lines } };
+}
+
+impl PlanTranscript {
+    ghost use Rattle.std.specs.Prelude.{◌≡◌, IfOk};
+    ghost use Rattle.exec_msg.specs.Line.{transcript_text};
+    ghost use Rattle.exec_plan.specs.Graph.{names_of};
+
+    /// A reader of its text, which takes little memory beside it.
+    ///
+    /// # Errors
+    /// [`Memory`] where a growth was refused.
+    pub fn reader(&self, alloc: Global) -> Result<TextReader<'_>, Memory>
+        ensures { IfOk result (λ reader. reader ≡ record { names = names_of self.now.plan.graph; lines = self.now.lines }) }
+    {
+        self.lines.reader(alloc, self.plan.graph().names())
+    }
+
+    /// Its text.
+    ///
+    /// # Errors
+    /// [`Memory`] where a growth was refused.
+    pub fn text(&self, alloc: Global) -> Result<Vec<u8>, Memory>
+        ensures { IfOk result (λ text. text.items ≡ transcript_text (names_of self.now.plan.graph) self.now.lines) }
+    {
+        self.lines.text(alloc, self.plan.graph().names())
+    }
+}
 
 /// Runs a document by so many workers, 1 to 64, and gives the text of its transcript. The quantum, 1 to 1,024, is how many
 /// callbacks a worker claims at a time at most; the text depends on neither.
@@ -37,27 +78,40 @@ pub fn run<R: Threads + Sync, G: Gate>(
     ensures text { IfOk result (λ text. (plan : PlanData) × (document_of document.now ≡ Some plan) × (text.items ≡ text_of plan)) }
     ensures refused { IfErr result (λ code. IsRefusalOf document.now code) }
 {
-    let plan = Arc::new(alloc, read_document(alloc, document)?)?;
-    Ok(text_by::<Brand, R, G>(rt, alloc, &plan, workers, quantum, gate)?)
+    let transcript = transcribe(rt, alloc, document, workers, quantum, gate)?;
+    Ok(transcript.text(alloc)?)
 }
 
-// The text of a plan's transcript; `K` has the names of its graph.
-fn text_by<K: Named, R: Threads + Sync, G: Gate>(
+/// Runs a document as [`run`] does, and gives its transcript, of which the text may be read piece by piece: its lines take
+/// less memory than their text.
+///
+/// # Errors
+/// As of [`run`].
+pub fn transcribe<R: Threads + Sync, G: Gate>(
     rt: &R,
     alloc: Global,
-    plan: &Arc<Plan>,
+    document: &[u8],
     workers: usize,
     quantum: usize,
     gate: &G,
-) -> Result<Vec<u8>, Memory>
-    requires names { names_of (arc_value plan.now).graph ≡ K.names }
-    requires workers { 0 < workers }
-    requires quantum { 0 < quantum }
-    ensures { IfOk result (λ text. text.items ≡ text_of (arc_value plan.now)) }
+) -> Result<PlanTranscript, Refused>
+    requires workers { (0 < workers) × (workers ≤ 64) }
+    requires quantum { (0 < quantum) × (quantum ≤ 1024) }
+    ensures plan { IfOk result (λ transcript. document_of document.now ≡ Some transcript.plan) }
+    ensures lines { IfOk result (λ transcript. transcript.lines ≡ lines_of transcript.plan) }
+    ensures refused { IfErr result (λ code. IsRefusalOf document.now code) }
 {
-    let lines = Text::<K>::new(alloc, plan.graph().names());
-    let lines = run_by(rt, alloc, plan.clone()?, lines, workers, quantum, gate)?;
-    Ok(lines.into_bytes())
+    let plan = Arc::new(alloc, read_document(alloc, document)?)?;
+    let lines = run_by(
+        rt,
+        alloc,
+        plan.clone()?,
+        Transcript::new(alloc),
+        workers,
+        quantum,
+        gate,
+    )?;
+    Ok(PlanTranscript { plan, lines })
 }
 
 // Runs all rounds of a plan by so many workers. One alone that nobody watches runs them where they stand.

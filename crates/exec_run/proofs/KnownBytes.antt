@@ -1,7 +1,8 @@
 -- Known bytes that are read or written one piece after another.
-use Rattle.std.proofs.Common.{◌≡◌, ℕ, ◌+◌, List, ◌++◌, take, drop, Option, Some, None, sym, ap, subst, ◌∙◌, append_assoc}
-use Rattle.std.proofs.Math.Seq.{take-add}
-use Rattle.std.specs.Io.KnownBytes.{Appends, Consumes}
+use Rattle.std.proofs.Common.{◌≡◌, ℕ, ◌+◌, ◌≤◌, length, List, ◌++◌, take, drop, Option, Some, None, sym, ap, subst, ◌∙◌, append_assoc}
+use Rattle.std.proofs.Math.Seq.{take-add, take-append-add, take-append_seam}
+use Rattle.std.proofs.lemmas.List.{take-append-le}
+use Rattle.std.specs.Io.KnownBytes.{Appends, Consumes, Keeps}
 
 Appends-then : (a b c : Option (List ℕ)) (xs ys : List ℕ) → Appends a b xs → Appends b c ys → Appends a c (xs ++ ys)
 Appends-then None b c xs ys p q = tt
@@ -24,3 +25,23 @@ pub Consumes-more : (a b c : Option (List ℕ)) (before buffer : List ℕ) (i n 
     → Consumes a b (take i before) → Consumes b c (take n (drop i buffer)) → Consumes a c (take (i + n) buffer)
 Consumes-more a b c before buffer i n e p q =
     subst (Consumes a c) (sym (take-add i n buffer ∙ ap (λ (l : List ℕ). l ++ take n (drop i buffer)) e)) (Consumes-then a b c _ _ p q)
+
+-- a writer that took what comes before a piece of a text, and a front of the piece
+pub Appends-front : (a b c : Option (List ℕ)) (before piece behind text : List ℕ) (n : ℕ) → before ++ (piece ++ behind) ≡ text → n ≤ length piece → Appends a b before → Appends b c (take n piece)
+    → Appends a c (take (length before + n) text)
+Appends-front a b c before piece behind text n is within p q =
+    subst (Appends a c) (ap (λ (l : List ℕ). before ++ l) (sym (take-append-le n piece behind within)) ∙ sym (take-append-add before (piece ++ behind) n) ∙ ap (take (length before + n)) is) (Appends-then a b c before (take n piece) p q)
+
+-- one that took all of it
+pub Appends-piece : (a b c : Option (List ℕ)) (before piece : List ℕ) → Appends a b before → Appends b c piece → Appends a c (before ++ piece)
+Appends-piece a b c before piece p q = Appends-then a b c before piece p q
+
+Appends-still : (a b c : Option (List ℕ)) (xs : List ℕ) → Appends a b xs → Keeps b c → Appends a c xs
+Appends-still None b c xs p kept = tt
+Appends-still (Some u) None c xs p kept = absurd p
+Appends-still (Some u) (Some v) None xs p kept = absurd kept
+Appends-still (Some u) (Some v) (Some w) xs p kept = kept ∙ p
+
+-- a writer that took the front of a text, and keeps it
+pub Appends-kept : (a b c : Option (List ℕ)) (written rest text : List ℕ) → written ++ rest ≡ text → Appends a b written → Keeps b c → Appends a c (take (length written) text)
+Appends-kept a b c written rest text is p kept = subst (Appends a c) (sym (ap (take (length written)) (sym is) ∙ take-append_seam written rest)) (Appends-still a b c written p kept)

@@ -1,5 +1,5 @@
 -- What a run of the program comes to once its document was read.
-use Rattle.std.proofs.Common.{◌≡◌, ◌≢◌, ℕ, ◌+◌, ◌<◌, ◌≤◌, List, length, take, Bool, true, Option, None, Some, Result, Ok, Err, IfSome, refl, sym, ap, subst, arith, rules}
+use Rattle.std.proofs.Common.{◌≡◌, ◌≢◌, ℕ, ◌+◌, ◌<◌, ◌≤◌, List, length, take, Bool, true, Option, None, Some, Result, Ok, Err, IfSome, OnOk, OnErr, ◌⊎◌, inl, inr, refl, sym, ap, subst, arith, rules}
 use Rattle.std.specs.declared.alloc.Global.{Global}
 use Rattle.std.specs.Global.{Vec}
 use Rattle.std.specs.Prelude.{String}
@@ -114,3 +114,18 @@ after_all words input output flushed document text plan unit read says is_text g
       write_failed = search rules;
       unwritten = tt;
     }
+
+after_failure : (words : Result (Vec (String Global)) WordsFault) (input output : StreamRun) (flushed : Bool) (outcome : Result (Unit {0}) Failure) (document text : List ℕ) (plan : PlanData)
+    → HasRead words input document → document_of document ≡ Some plan → text ≡ text_of plan
+    → ((outcome ≡ Err (failure.Refused refused.Memory)) × Left output) ⊎ ((outcome ≡ Err failure.WriteFailed) × (output.failed ≡ true) × ((count : ℕ) × Gave output (take count text)))
+    → HasRun words input output flushed outcome
+after_failure words input output flushed outcome document text plan read says is_text (inl refused_so) = after_refusal words input output flushed outcome document refused.Memory refused_so.0 read refused_so.1 (inl refl)
+after_failure words input output flushed outcome document text plan read says is_text (inr cut) = after_cut_off words input output flushed outcome document text plan cut.2.0 cut.0 read says is_text cut.2.1 cut.1
+
+-- a run that came to write the text of a plan's transcript
+pub after_writing : (words : Result (Vec (String Global)) WordsFault) (input output : StreamRun) (flushed : Bool) (outcome : Result (Unit {0}) Failure) (document text : List ℕ) (plan : PlanData)
+    → HasRead words input document → document_of document ≡ Some plan → text ≡ text_of plan → OnOk outcome (Gave output text) → OnOk outcome (flushed ≡ true)
+    → OnErr outcome (((outcome ≡ Err (failure.Refused refused.Memory)) × Left output) ⊎ ((outcome ≡ Err failure.WriteFailed) × (output.failed ≡ true) × ((count : ℕ) × Gave output (take count text))))
+    → HasRun words input output flushed outcome
+after_writing words input output flushed (Ok unit) document text plan read says is_text gave is_flushed failed = after_all words input output flushed document text plan unit read says is_text gave is_flushed
+after_writing words input output flushed (Err told) document text plan read says is_text gave is_flushed failed = after_failure words input output flushed (Err told) document text plan read says is_text failed

@@ -3,18 +3,25 @@ mod streams;
 mod tests;
 mod words;
 
-ghost use Rattle.std.specs.Prelude.{◌≡◌, Result};
+ghost use Rattle.std.specs.Prelude.{◌≡◌, ◌⊎◌, ℕ, true, take, Result, Err, OnOk, OnErr};
+ghost use Rattle.std.specs.Io.KnownBytes.{Appends, Keeps};
+ghost use Rattle.exec_doc.specs.declared.refused.Refused.TheVariants as refused;
+ghost use Rattle.exec_msg.specs.Line.{transcript_text};
+ghost use Rattle.exec_plan.specs.Graph.{names_of};
 ghost use Rattle.exec_run.specs.Program.{HasRun, IsTold, failure_line, failure_status, exit_number, failure_of_words, failure_of_read, outcome_status, refused_line};
 ghost use Rattle.exec_run.specs.declared.program.Failure.{Failure};
 ghost use Rattle.exec_run.specs.declared.program.Failure.TheVariants.{Refused, WriteFailed};
 
 use exec_doc::Refused;
 use exec_lane::Open;
-use exec_round::run;
+use exec_msg::Memory;
+use exec_round::PlanTranscript;
 use std::alloc::Global;
 use std::io::{Read, Write};
 use std::thread::Threads;
-pub use streams::{InputStream, OutputStream, ReadFault, WriteFault, read_document, write_text};
+pub use streams::{
+    InputStream, OutputStream, ReadFault, WriteFault, read_document, write_pieces, write_text,
+};
 pub use words::{Settings, WordsFault, read_words};
 
 /// What the program's run came to, each with its exit status.
@@ -110,6 +117,14 @@ impl From<Refused> for Failure {
     }
 }
 
+impl From<Memory> for Failure {
+    ghost from_gives = { λ _ failure. failure ≡ Refused refused.Memory };
+
+    fn from(_fault: Memory) -> Failure {
+        Failure::Refused(Refused::Memory)
+    }
+}
+
 impl From<WriteFault> for Failure {
     ghost from_gives = { λ _ failure. failure ≡ WriteFailed };
 
@@ -162,7 +177,7 @@ fn transcribe<H: Threads + Sync, R: Read, O: Write>(
     let words = words?;
     let settings = Settings::from_words(&words).ok_or(Failure::Usage)?;
     let document = read_document(alloc, input)?;
-    let text = run(
+    let transcript = exec_round::transcribe(
         rt,
         alloc,
         &document,
@@ -170,7 +185,24 @@ fn transcribe<H: Threads + Sync, R: Read, O: Write>(
         settings.quantum as usize,
         &Open,
     )?;
-    write_text(output, &text)?;
+    write_transcript(alloc, output, &transcript)
+}
+
+// Writes the text of a transcript, piece by piece. The room for that is asked for before the first.
+fn write_transcript<O: Write>(
+    alloc: Global,
+    output: &mut OutputStream<O>,
+    transcript: &PlanTranscript,
+) -> Result<(), Failure>
+    ensures ok { OnOk result (Appends (O.contents output.old.writer) (O.contents output.new.writer) (transcript_text (names_of transcript.now.plan.graph) transcript.now.lines)) }
+    ensures flushed { OnOk result (output.new.flushed ≡ true) }
+    ensures err { OnErr result (((result ≡ Err (Failure.Refused Refused.Memory)) × Keeps (O.contents output.old.writer) (O.contents output.new.writer))
+        ⊎ ((result ≡ Err Failure.WriteFailed) × (output.new.failed ≡ true) × ((count : ℕ)
+        × Appends (O.contents output.old.writer) (O.contents output.new.writer) (take count (transcript_text (names_of transcript.now.plan.graph) transcript.now.lines))))) }
+{
+    let mut reader = transcript.reader(alloc)?;
+    let mut buffer = reader.buffer(alloc)?;
+    write_pieces(output, &mut reader, buffer.as_mut_slice())?;
     Ok(())
 }
 

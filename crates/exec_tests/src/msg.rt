@@ -4,10 +4,9 @@ use crate::shared::{moment, same};
 use exec_msg::limits::TICKS;
 use exec_msg::{
     EntityNo, GoalId, GoalStatus, KeepLast, Kind, LazyQueue, Line, LineList, Lines, Memory, Moment,
-    Named, Names, ReturnCode, Text, Timer, write_line,
+    Names, ReturnCode, Timer, Transcript, write_line,
 };
 use std::alloc::{AllocError, Global};
-use std::marker::Brand;
 use std::process::Abort;
 use std::test::Fail;
 
@@ -71,17 +70,15 @@ fn written(alloc: Global, names: &Names, lines: &[Line]) -> Result<Vec<u8>, Fail
     Ok(text)
 }
 
-// A line is added whole, or is refused and leaves the text as it was.
-fn added<K: Named>(alloc: Global, names: &Names, lines: &[Line]) -> Result<Vec<u8>, Memory>
-    requires { names.now ≡ K.names }
-{
-    let mut text = Text::<K>::new(alloc, names);
+// A line is added whole, or is refused and leaves the lines as they were.
+fn added(alloc: Global, names: &Names, lines: &[Line]) -> Result<Vec<u8>, Memory> {
+    let mut transcript = Transcript::new(alloc);
     for line in lines {
-        if text.add(line).is_err() {
-            text.add(line)?;
+        if transcript.add(line).is_err() {
+            transcript.add(line)?;
         }
     }
-    Ok(text.into_bytes())
+    transcript.text(alloc, names)
 }
 
 fn round_lines() -> [Line; 5] {
@@ -272,7 +269,7 @@ fn adds_each_line(
     names: &Names,
     lines: &[Line],
 ) -> Result<(), Fail> {
-    let text = added::<Brand>(alloc, names, lines)?;
+    let text = added(alloc, names, lines)?;
     same(rt, str::from_utf8(&text), Ok(TRANSCRIPT));
     Ok(())
 }

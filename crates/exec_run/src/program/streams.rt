@@ -1,6 +1,8 @@
 ghost use Rattle.std.specs.Prelude.{◌≡◌, ◌≢◌, ℕ, List, ◌+◌, ◌<◌, ◌≤◌, true, false, length, take, drop, vec_len, OnOk, OnErr, IfOk, IfSome};
 ghost use Rattle.std.specs.Io.KnownBytes.{Keeps, Appends, Consumes, IsAtEnd};
+ghost use Rattle.exec_msg.specs.Line.{line_room, transcript_text};
 
+use exec_msg::TextReader;
 use exec_msg::limits::DOCUMENT;
 use std::alloc::{AllocError, Global};
 use std::io::{Read, Write};
@@ -179,9 +181,40 @@ pub fn write_text<W: Write>(output: &mut OutputStream<W>, text: &[u8]) -> Result
     ensures front { (count : ℕ)
         × Appends (W.contents output.old.writer) (W.contents output.new.writer) (take count text.now) }
 {
+    write_all(output, text)?;
+    output.flush()
+}
+
+// Writes all of a text.
+fn write_all<W: Write>(output: &mut OutputStream<W>, text: &[u8]) -> Result<(), WriteFault>
+    ensures ok { OnOk result (Appends (W.contents output.old.writer) (W.contents output.new.writer) text.now) }
+    ensures failed { OnErr result (output.new.failed ≡ true) }
+    ensures front { (count : ℕ) × (count ≤ length text.now)
+        × Appends (W.contents output.old.writer) (W.contents output.new.writer) (take count text.now) }
+{
     let mut written = 0;
     while written < text.len() {
         written += output.write(&text[written..])?;
+    }
+    Ok(())
+}
+
+/// Writes the text of the lines that a reader has left, one filling of a buffer after another, and
+/// flushes the writer. The buffer has the room of a line; errors are as in [`write_text`].
+pub fn write_pieces<W: Write>(
+    output: &mut OutputStream<W>,
+    reader: &mut TextReader<'_>,
+    buffer: &mut [u8],
+) -> Result<(), WriteFault>
+    requires { line_room reader.old.names ≤ length buffer.old }
+    ensures ok { OnOk result (Appends (W.contents output.old.writer) (W.contents output.new.writer) (transcript_text reader.old.names reader.old.lines)) }
+    ensures flushed { OnOk result (output.new.flushed ≡ true) }
+    ensures failed { OnErr result (output.new.failed ≡ true) }
+    ensures front { (count : ℕ)
+        × Appends (W.contents output.old.writer) (W.contents output.new.writer) (take count (transcript_text reader.old.names reader.old.lines)) }
+{
+    while let Some(end) = reader.fill(buffer, 0) {
+        write_all(output, &buffer[..end])?;
     }
     output.flush()
 }

@@ -1,7 +1,7 @@
 -- What is written so far is the front of the text.
 use Rattle.std.proofs.Common.{length, ◌-◌, ◌≤◌, take}
 use Rattle.std.specs.Io.KnownBytes.{Appends}
-use Rattle.exec_run.proofs.program.streams.write_text.Given as goal
+use Rattle.exec_run.proofs.program.streams.write_all.Given as goal
 
 abbrev pub invariant-loop-written : goal.invariant-loop-written
 invariant-loop-written g l = record {
