@@ -6,5 +6,6 @@ pub mod FoundEntries
 pub mod FoundServers
 pub mod HeldEntries
 pub mod Pending
+pub mod Placed
 pub mod Polls
 pub mod Serving

@@ -8,7 +8,7 @@ use std::marker::Model;
 pub trait Numbered: Drop {
     ghost number_of: { Self → ℕ };
 
-    // The entity's number.
+    /// The entity's number.
     fn number(&self) -> EntityNo
         ensures { result ≡ number_of self.now };
 }
@@ -16,6 +16,7 @@ pub trait Numbered: Drop {
 /// Entries in the order in which they were declared, each found by its entity's number without a walk over others.
 #[derive(Drop)]
 pub struct ByNumber<E: Numbered> {
+    /// All of them.
     pub entries: Vec<E>,
     places: PlaceTable,
 }

@@ -22,8 +22,11 @@ use std::marker::Model;
 /// A request for a goal: its identifier, the action client that sent it, if one did, and its value.
 #[derive(Clone, Copy, Debug, PartialEq, Eq)]
 pub struct GoalRequest {
+    /// The goal's identifier.
     pub id: GoalId,
+    /// The action client that sent it, if one did.
     pub client: Option<EntityNo>,
+    /// Its value.
     pub value: i64,
 }
 
@@ -37,12 +40,12 @@ impl Model for GoalRequest {
     ghost inverse = { λ request. record { id = request.id; client = request.client; value = request.value } };
 }
 
-// What a server keeps beside a goal's record: the action client that sent the goal, if one did, and its task, `None` while
-// that is out.
+// What a server keeps beside a goal's record: its task, `None` while that is out, and the action client that sent the goal,
+// if one did.
 #[derive(Drop)]
 pub(crate) struct Held {
-    pub(crate) client: Option<EntityNo>,
     pub(crate) task: Option<GoalTask>,
+    pub(crate) client: Option<EntityNo>,
 }
 
 /// A server: the callback that polls its goals, for how many ticks it keeps a result (without end where there is none), its
@@ -53,6 +56,8 @@ pub struct Server {
     timeout: Option<u64>,
     goals: Goals,
     held: IndexMap<GoalId, Held>,
+    // The place behind the goal that was polled last: goals are polled in their order, so that the next one stands there.
+    next: usize,
 }
 
 impl Model for Server {
@@ -90,6 +95,7 @@ impl Server {
             timeout,
             goals: Goals::new(alloc),
             held: IndexMap::new(alloc),
+            next: 0,
         }
     }
 

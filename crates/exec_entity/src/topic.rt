@@ -5,7 +5,9 @@ use std::marker::Model;
 /// A topic with its subscriptions, in the order of declaration.
 #[derive(Drop)]
 pub struct Topic {
+    /// The topic's number.
     pub entity: EntityNo,
+    /// The numbers of its subscriptions.
     pub subscribers: Vec<EntityNo>,
 }
 

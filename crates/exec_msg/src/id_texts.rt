@@ -66,8 +66,8 @@ impl IdField {
     }
 }
 
-// So many fields take 128 KiB.
-const FIELDS: usize = 2_048;
+// So many fields take 1 MiB.
+const FIELDS: usize = 16_384;
 
 /// The fields of identifiers, each at a place that its identifier gives, until another takes it.
 #[derive(Drop)]
@@ -96,7 +96,7 @@ impl IdTexts {
         ensures text { take result bytes.new ≡ take at bytes.old ++ spaced (id_text id ∷ []) }
         ensures end { result ≡ at + 37 }
     {
-        match self.fields.get_mut((id.spread() >> 53) as usize) {
+        match self.fields.get_mut((id.spread() >> 50) as usize) {
             None => place_id(bytes, at, id),
             Some(field) => {
                 field.be(id);

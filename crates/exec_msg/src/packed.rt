@@ -9,8 +9,8 @@ use crate::line::Line;
 use crate::numbers::{EntityNo, GoalId, Moment};
 use std::mem::size_of;
 
-/// A line in sixteen bytes, with its smallest field first. One on a goal doesn't have its identifier: that stands in a cell before it, where it is another than
-/// that of the lines so far.
+/// A line in sixteen bytes, with its smallest field first. One on a goal doesn't have its identifier:
+/// that stands in a cell before it, where it is another than that of the lines so far.
 #[derive(Clone, Copy)]
 pub(crate) enum Cell {
     Round {
@@ -82,7 +82,7 @@ pub(crate) enum Cell {
         server: EntityNo,
         value: i64,
     },
-    /// The identifier of the goal that the lines behind it are on: its upper half, and its lower one.
+    /// The identifier of the goal that the lines behind it are on: its upper half and its lower one.
     Id {
         high: u32,
         low: u64,
@@ -294,7 +294,8 @@ fn goal_of(line: &Line) -> Option<GoalId>
     }
 }
 
-/// Tells of the goal that a line is on, if it is another than that of the lines so far, and says whether that could be told.
+/// Tells of the goal that a line is on, if it is another than that of the lines so far, and says whether
+/// that could be told.
 #[inline(always)]
 fn tell_goal(cells: &mut Vec<Cell>, goal: &mut GoalId, line: &Line) -> bool
     requires { vec_len cells.old + 2 ≤ vec_capacity cells.old }

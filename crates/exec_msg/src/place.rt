@@ -285,24 +285,6 @@ pub(crate) fn place_id(bytes: &mut [u8], at: usize, id: GoalId) -> usize
     place_field(bytes, at, text.encode_lower(&mut buffer))
 }
 
-// The identifier, where there is one.
-#[inline(always)]
-pub(crate) fn place_any_id(
-    texts: &mut FieldTexts,
-    bytes: &mut [u8],
-    at: usize,
-    id: Option<GoalId>,
-) -> usize
-    requires { at + 48 ≤ length bytes.old }
-    ensures text { take result bytes.new ≡ take at bytes.old ++ spaced (id_field id) }
-    ensures within { result ≤ at + 37 }
-{
-    match id {
-        Some(id) => texts.ids.place(bytes, at, id),
-        None => at,
-    }
-}
-
 // A line's word, the name of what it speaks of, and a value.
 #[inline(always)]
 pub(crate) fn place_named_value(

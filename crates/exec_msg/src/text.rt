@@ -11,8 +11,8 @@ use crate::memory::Memory;
 use crate::names::Names;
 use crate::numbers::GoalId;
 use crate::place::{
-    place, place_any_id, place_callback, place_count, place_goal_count, place_goal_line,
-    place_goal_value, place_named_count, place_named_value, place_value,
+    place, place_callback, place_count, place_goal_count, place_goal_line, place_goal_value,
+    place_named_count, place_named_value, place_value,
 };
 
 /// Appends the text of a line. Where memory is refused, `out` stays as it was.
@@ -91,8 +91,23 @@ fn place_fields(
             kind,
             input,
             aux,
-            id,
+            id: None,
         } => place_run(
+            texts,
+            bytes,
+            at,
+            names.bounded_name(entity),
+            kind,
+            input,
+            aux,
+        ),
+        Line::Run {
+            entity,
+            kind,
+            input,
+            aux,
+            id: Some(id),
+        } => place_goal_run(
             texts,
             bytes,
             at,
@@ -244,16 +259,36 @@ fn place_run(
     kind: Kind,
     input: i64,
     aux: i64,
-    id: Option<GoalId>,
+) -> usize
+    requires { at + length name.now + 68 ≤ length bytes.old }
+    ensures text { take result bytes.new ≡ take at bytes.old ++ joined (codes "run" ∷ name.now ∷ word_of kind ∷ signed_decimal input ∷ signed_decimal aux ∷ []) }
+    ensures within { result ≤ at + length name.now + 57 }
+{
+    let end = place_callback(bytes, at, "run", name, kind);
+    let end = place_value(texts, bytes, end, input);
+    place_value(texts, bytes, end, aux)
+}
+
+// A run line of a callback on a goal.
+#[inline(never)]
+fn place_goal_run(
+    texts: &mut FieldTexts,
+    bytes: &mut [u8],
+    at: usize,
+    name: &str,
+    kind: Kind,
+    input: i64,
+    aux: i64,
+    id: GoalId,
 ) -> usize
     requires { at + length name.now + 105 ≤ length bytes.old }
-    ensures text { take result bytes.new ≡ take at bytes.old ++ joined (codes "run" ∷ name.now ∷ word_of kind ∷ signed_decimal input ∷ signed_decimal aux ∷ id_field id) }
+    ensures text { take result bytes.new ≡ take at bytes.old ++ joined (codes "run" ∷ name.now ∷ word_of kind ∷ signed_decimal input ∷ signed_decimal aux ∷ id_text id ∷ []) }
     ensures within { result ≤ at + length name.now + 94 }
 {
     let end = place_callback(bytes, at, "run", name, kind);
     let end = place_value(texts, bytes, end, input);
     let end = place_value(texts, bytes, end, aux);
-    place_any_id(texts, bytes, end, id)
+    texts.ids.place(bytes, end, id)
 }
 
 #[inline(never)]

@@ -1,4 +1,4 @@
-//! A transcript's lines, kept in few bytes each, and its text, which is made of them piece by piece.
+//! A transcript's lines, kept in few bytes each, and its text, made of them piece by piece.
 ghost use Rattle.std.specs.Prelude.{◌≡◌, ◌≤◌, take, vec_len, OnOk};
 
 use crate::field_texts::FieldTexts;
@@ -57,7 +57,7 @@ impl Transcript {
         ensures { IfOk result (λ reader. reader ≡ record { names = names.now; lines = self.now }) }
     {
         let mut texts = FieldTexts::new(alloc);
-        if self.cells.len() >= MANY_LINES {
+        if self.cells.len() >= MANY_CELLS {
             texts.fill()?;
         }
         Ok(TextReader {
@@ -91,14 +91,15 @@ impl Transcript {
     }
 }
 
-// From so many lines on the texts of identifiers and long numbers are kept for the lines that follow: to make their room takes
-// longer than fewer lines do.
-const MANY_LINES: usize = 1_024;
+// From so many cells on the texts of identifiers and long numbers are kept for the lines that follow:
+// to make their room takes longer than the lines of fewer cells do.
+const MANY_CELLS: usize = 8_192;
 
 // Bytes are made longer by so many more than asked.
 const MORE: usize = 65_536;
 
-// Makes bytes at least so long, with zeros behind them. Where memory is refused, they stay as they were.
+// Makes bytes at least so long, with zeros behind them. Where memory is refused, they stay as they
+// were.
 fn lengthen(bytes: &mut Vec<u8>, length: usize) -> Result<(), Memory>
     ensures ok { OnOk result (length ≤ vec_len bytes.new) }
     ensures front { take (vec_len bytes.old) bytes.new.items ≡ bytes.old.items }
@@ -162,8 +163,9 @@ impl<'a> TextReader<'a> {
         Ok(buffer)
     }
 
-    /// Puts the text of the next lines, as many as there is room for, at a place of a buffer that has the room of one, and gives
-    /// its end, or `None` where no line is left. What stands behind the end may change.
+    /// Puts the text of the next lines, as many as there is room for, at a place of a buffer that has the
+    /// room of one, and gives its end, or `None` where no line is left. What stands behind the end may
+    /// change.
     pub fn fill(&mut self, buffer: &mut [u8], at: usize) -> Option<usize>
         requires { at + line_room self.old.names ≤ length buffer.old }
         ensures text { IfSome result (λ end. take at buffer.old ++ transcript_text self.old.names self.old.lines ≡ take end buffer.new ++ transcript_text self.old.names self.new.lines) }
@@ -174,8 +176,9 @@ impl<'a> TextReader<'a> {
         ensures names { self.new.names ≡ self.old.names }
         ensures same_length { length buffer.new ≡ length buffer.old }
     {
+        let last = self.last_place(buffer);
         let mut end = self.place_next(buffer, at)?;
-        while self.has_room(buffer, end) {
+        while end <= last {
             let Some(next) = self.place_next(buffer, end) else {
                 break;
             };
@@ -184,13 +187,14 @@ impl<'a> TextReader<'a> {
         Some(end)
     }
 
-    // Whether there is room for a line at a place.
-    fn has_room(&self, buffer: &[u8], at: usize) -> bool
-        ensures { result ≡ true → at + line_room self.now.names ≤ length buffer.now }
+    // The last place of a buffer at which a line has its room.
+    fn last_place(&self, buffer: &[u8]) -> usize
+        requires { line_room self.now.names ≤ length buffer.now }
+        ensures { result + line_room self.now.names ≡ length buffer.now }
     {
-        match room_behind(at, self.names) {
-            Ok(room) => room <= buffer.len(),
-            Err(_) => false,
+        match room_behind(0, self.names) {
+            Ok(room) => buffer.len() - room,
+            Err(_) => 0,
         }
     }
 
@@ -207,10 +211,22 @@ impl<'a> TextReader<'a> {
         ensures names { self.new.names ≡ self.old.names }
         ensures same_length { length buffer.new ≡ length buffer.old }
     {
-        match self.next() {
-            None => None,
-            Some(line) => Some(self.place(&line, buffer, at)),
+        let (cells, goal) = skip_goals(self.cells, self.goal);
+        self.cells = cells;
+        self.goal = goal;
+        let [cell, behind @ ..] = cells else {
+            return None;
+        };
+        if let Some(line) = cell.line(goal) {
+            self.cells = behind;
+            return Some(self.place(&line, buffer, at));
         }
+        let [whole, wholes @ ..] = self.wholes else {
+            return None;
+        };
+        self.cells = behind;
+        self.wholes = wholes;
+        Some(self.place(whole, buffer, at))
     }
 
     #[inline(always)]
@@ -222,33 +238,5 @@ impl<'a> TextReader<'a> {
         ensures same_length { length buffer.new ≡ length buffer.old }
     {
         place_line(line, self.names, &mut self.texts, buffer, at)
-    }
-
-    // Takes the next line, where one is left.
-    #[inline(always)]
-    fn next(&mut self) -> Option<Line>
-        ensures lines { self.old.lines ≡ option_to_list result ++ self.new.lines }
-        ensures none { IfNone result (self.old.lines ≡ []) }
-        ensures same { IfNone result (self.new ≡ self.old) }
-        ensures names { self.new.names ≡ self.old.names }
-    {
-        let (cells, goal) = skip_goals(self.cells, self.goal);
-        self.cells = cells;
-        self.goal = goal;
-        let [cell, cells @ ..] = cells else {
-            return None;
-        };
-        let line = match cell.line(goal) {
-            Some(line) => line,
-            None => {
-                let [whole, wholes @ ..] = self.wholes else {
-                    return None;
-                };
-                self.wholes = wholes;
-                *whole
-            }
-        };
-        self.cells = cells;
-        Some(line)
     }
 }

@@ -3,7 +3,7 @@ ghost use Rattle.exec_plan.specs.Schedule.{plan_number_of};
 
 use thiserror::Error;
 
-/// Why a graph, moments and a feed are no plan, each with its number: the least that holds.
+/// Why moments and a feed are no plan of a graph, each fault with its number: the least that holds.
 #[derive(Clone, Copy, Debug, PartialEq, Eq, Error)]
 pub enum PlanFault {
     /// A number or a length is beyond its limit.

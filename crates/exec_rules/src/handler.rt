@@ -8,9 +8,13 @@ use std::marker::Model;
 /// Whose callback it is: an entity's, of a callback group that is mutually exclusive or not, and with which script.
 #[derive(Drop)]
 pub struct Handler {
+    /// The entity.
     pub entity: EntityNo,
+    /// Its callback group.
     pub group: GroupNo,
+    /// Whether that is mutually exclusive.
     pub exclusive: bool,
+    /// What runs.
     pub script: Script,
     // Another share in the script, where one is at hand: to make one takes an atomic step, and so does to drop it.
     spare: Option<Script>,

@@ -7,14 +7,18 @@ use std::alloc::Global;
 /// or the queues, all from 0.
 #[derive(Clone, Copy)]
 pub struct Home {
+    /// The callback's place in the ready list.
     pub at: usize,
+    /// Its handler's place among the timers or the queues.
     pub place: usize,
 }
 
 /// Where the scripts come from that timers and queues gave.
 #[derive(Drop)]
 pub struct Homes {
+    /// Those of timers.
     pub timers: Vec<Home>,
+    /// Those of queues.
     pub queues: Vec<Home>,
 }
 

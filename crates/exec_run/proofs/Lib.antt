@@ -1,2 +1,1 @@
-mod KnownBytes
 mod Runs

@@ -13,8 +13,8 @@ use Rattle.exec_round.specs.Run.{IsRefusalOf}
 use Rattle.exec_run.specs.Program.{AreGoodWords, Gave, HasRun, Left, StreamRun, Took}
 use Rattle.exec_run.specs.declared.program.Failure.{Failure}
 use Rattle.exec_run.specs.declared.program.Failure.TheVariants as failure
-use Rattle.exec_run.specs.declared.program.words.WordsFault.{WordsFault}
-use Rattle.exec_run.specs.declared.program.words.WordsFault.TheVariants as words_fault
+use Rattle.exec_io.specs.declared.words.WordsFault.{WordsFault}
+use Rattle.exec_io.specs.declared.words.WordsFault.TheVariants as words_fault
 use Rattle.exec_rules.specs.Transcript.{text_of}
 
 -- the words were good, and a document was read whole

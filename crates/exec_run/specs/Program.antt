@@ -11,15 +11,15 @@ use Rattle.exec_doc.specs.declared.refused.Refused.TheVariants as refused
 use Rattle.exec_plan.specs.Plan.{PlanData}
 use Rattle.exec_msg.specs.declared.limits.TheConstants.{DOCUMENT}
 use Rattle.exec_round.specs.Run.{IsRefusalOf}
-use Rattle.exec_run.specs.Words.{AreSettings}
+use Rattle.exec_io.specs.Words.{AreSettings}
 use Rattle.exec_run.specs.declared.program.Failure.{Failure}
 use Rattle.exec_run.specs.declared.program.Failure.TheVariants as failure
 use Rattle.exec_run.specs.declared.program.Status.{Status}
 use Rattle.exec_run.specs.declared.program.Status.TheVariants as status
-use Rattle.exec_run.specs.declared.program.words.WordsFault.{WordsFault}
-use Rattle.exec_run.specs.declared.program.words.WordsFault.TheVariants as words_fault
-use Rattle.exec_run.specs.declared.program.streams.ReadFault.{ReadFault}
-use Rattle.exec_run.specs.declared.program.streams.ReadFault.TheVariants as reading
+use Rattle.exec_io.specs.declared.words.WordsFault.{WordsFault}
+use Rattle.exec_io.specs.declared.words.WordsFault.TheVariants as words_fault
+use Rattle.exec_io.specs.declared.streams.ReadFault.{ReadFault}
+use Rattle.exec_io.specs.declared.streams.ReadFault.TheVariants as reading
 use Rattle.exec_rules.specs.Transcript.{text_of}
 
 -- words that are text, and two numbers in their ranges

@@ -5,7 +5,8 @@ mod program;
 #[cfg(test)]
 mod tests;
 
-use program::{InputStream, OutputStream, execute, read_words};
+use exec_io::{InputStream, OutputStream, read_words};
+use program::execute;
 use std::process::ExitCode;
 
 fn main(rt: HostRuntime) -> ExitCode {

@@ -1,7 +1,5 @@
-mod streams;
 #[cfg(test)]
 mod tests;
-mod words;
 
 ghost use Rattle.std.specs.Prelude.{◌≡◌, ◌⊎◌, ℕ, true, take, Result, Err, OnOk, OnErr};
 ghost use Rattle.std.specs.Io.KnownBytes.{Appends, Keeps};
@@ -13,16 +11,16 @@ ghost use Rattle.exec_run.specs.declared.program.Failure.{Failure};
 ghost use Rattle.exec_run.specs.declared.program.Failure.TheVariants.{Refused, WriteFailed};
 
 use exec_doc::Refused;
+use exec_io::{
+    InputStream, OutputStream, ReadFault, Settings, WordsFault, WriteFault, read_document,
+    write_pieces, write_text,
+};
 use exec_lane::Open;
 use exec_msg::Memory;
 use exec_round::PlanTranscript;
 use std::alloc::Global;
 use std::io::{Read, Write};
 use std::thread::Threads;
-pub use streams::{
-    InputStream, OutputStream, ReadFault, WriteFault, read_document, write_pieces, write_text,
-};
-pub use words::{Settings, WordsFault, read_words};
 
 /// What the program's run came to, each with its exit status.
 #[derive(Clone, Copy, Debug, PartialEq, Eq)]
@@ -145,12 +143,12 @@ pub fn execute<H: Threads + Sync, R: Read, O: Write, E: Write>(
 ) -> Status
     ensures { (outcome : Result (Unit {0}) Failure)
         × HasRun words
-        (record { before = R.remaining input.old.reader; after = R.remaining input.new.reader; failed = input.new.failed })
-        (record { before = O.contents output.old.writer; after = O.contents output.new.writer; failed = output.new.failed })
+        (record { before = input.old.remaining; after = input.new.remaining; failed = input.new.failed })
+        (record { before = output.old.contents; after = output.new.contents; failed = output.new.failed })
         output.new.flushed outcome
         × (result ≡ outcome_status outcome)
         × IsTold outcome
-        (record { before = E.contents errors.old.writer; after = E.contents errors.new.writer; failed = errors.new.failed })
+        (record { before = errors.old.contents; after = errors.new.contents; failed = errors.new.failed })
         errors.new.flushed }
 {
     match transcribe(rt, alloc, words, input, output) {
@@ -170,8 +168,8 @@ fn transcribe<H: Threads + Sync, R: Read, O: Write>(
     output: &mut OutputStream<O>,
 ) -> Result<(), Failure>
     ensures { HasRun words
-        (record { before = R.remaining input.old.reader; after = R.remaining input.new.reader; failed = input.new.failed })
-        (record { before = O.contents output.old.writer; after = O.contents output.new.writer; failed = output.new.failed })
+        (record { before = input.old.remaining; after = input.new.remaining; failed = input.new.failed })
+        (record { before = output.old.contents; after = output.new.contents; failed = output.new.failed })
         output.new.flushed result }
 {
     let words = words?;
@@ -194,11 +192,11 @@ fn write_transcript<O: Write>(
     output: &mut OutputStream<O>,
     transcript: &PlanTranscript,
 ) -> Result<(), Failure>
-    ensures ok { OnOk result (Appends (O.contents output.old.writer) (O.contents output.new.writer) (transcript_text (names_of transcript.now.plan.graph) transcript.now.lines)) }
+    ensures ok { OnOk result (Appends output.old.contents output.new.contents (transcript_text (names_of transcript.now.plan.graph) transcript.now.lines)) }
     ensures flushed { OnOk result (output.new.flushed ≡ true) }
-    ensures err { OnErr result (((result ≡ Err (Failure.Refused Refused.Memory)) × Keeps (O.contents output.old.writer) (O.contents output.new.writer))
+    ensures err { OnErr result (((result ≡ Err (Failure.Refused Refused.Memory)) × Keeps output.old.contents output.new.contents)
         ⊎ ((result ≡ Err Failure.WriteFailed) × (output.new.failed ≡ true) × ((count : ℕ)
-        × Appends (O.contents output.old.writer) (O.contents output.new.writer) (take count (transcript_text (names_of transcript.now.plan.graph) transcript.now.lines))))) }
+        × Appends output.old.contents output.new.contents (take count (transcript_text (names_of transcript.now.plan.graph) transcript.now.lines))))) }
 {
     let mut reader = transcript.reader(alloc)?;
     let mut buffer = reader.buffer(alloc)?;

@@ -10,6 +10,7 @@ mod instr;
 mod item;
 pub mod laws;
 mod place;
+mod results;
 mod run;
 mod scope;
 mod spelling;

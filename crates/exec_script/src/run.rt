@@ -1,14 +1,13 @@
 ghost use Rattle.std.specs.Prelude.{◌≡◌, ◌+◌, ◌-◌, ◌<◌, ◌≤◌, ◌^◌, ℤ, List, [], Option, None, length, vec_len, vec_capacity, OnOk, OnErr, IfOk};
-ghost use Rattle.exec_script.specs.Script.{result_of, at_least_0, step_of, PausesWithin, WaitsWithin, listed, resumed, decision_within, close_of, HasCalled};
+ghost use Rattle.exec_script.specs.Script.{at_least_0, step_of, PausesWithin, WaitsWithin, listed, resumed, decision_within, close_of, HasCalled};
 ghost use Rattle.exec_script.specs.declared.effects.Effect.{Effect};
-ghost use Rattle.exec_script.specs.declared.instr.Operation.TheVariants as operation;
-ghost use Rattle.exec_script.specs.inner.Flat.{operation_number};
 
 use crate::cells::{Bank, Regs};
 use crate::effects::{Close, Effect, EffectList, Effects};
 use crate::frame::Frame;
-use crate::instr::{Instr, Opcode, Operation};
+use crate::instr::{Instr, Opcode};
 use crate::place::Role;
+use crate::results::{Foreseen, Picked, Results};
 use crate::step::{Step, Stop};
 use exec_msg::{Event, Memory, Moment};
 use std::alloc::Global;
@@ -93,7 +92,7 @@ pub fn run_call_closing(
     let mut frame = Frame::new();
     frame.begin(bank, input);
     let mut answer = None;
-    follow(script, 0, &mut frame, &mut answer, &mut effects.items);
+    follow::<Picked>(script, 0, &mut frame, &mut answer, &mut effects.items);
     frame.put_bank(bank);
     *close = close_of(role, answer);
     Ok(())
@@ -123,7 +122,7 @@ pub fn run_from(
     let mut frame = Frame::new();
     frame.fill(regs, bank, input);
     let mut answer = None;
-    let stop = follow(script, place, &mut frame, &mut answer, &mut effects.items);
+    let stop = follow::<Foreseen>(script, place, &mut frame, &mut answer, &mut effects.items);
     frame.put_regs(regs);
     frame.put_bank(bank);
     Ok(stop)
@@ -131,7 +130,7 @@ pub fn run_from(
 
 // Runs a script from a place until it stops, and says where. An instruction gives at most one effect, so there is room for
 // all of them.
-fn follow(
+fn follow<R: Results>(
     script: &[Instr],
     place: usize,
     frame: &mut Frame,
@@ -150,11 +149,11 @@ fn follow(
 {
     let mut pc = place;
     loop {
-        pc = follow_sets(script, pc, frame);
+        pc = follow_sets::<R>(script, pc, frame);
         let Some(instr) = script.get(pc) else {
             return Stop::End;
         };
-        let step = step_of(instr, frame);
+        let step = step_of::<R>(instr, frame);
         pc += 1;
         match step {
             Step::Store(target, value) => frame.write(target, value),
@@ -171,14 +170,14 @@ fn follow(
 // Runs the `set`s that stand at a place one after another, and says where they end. Scripts have many of them: in a loop of
 // their own all that it needs stays in a processor's registers.
 #[inline(always)]
-fn follow_sets(script: &[Instr], place: usize, frame: &mut Frame) -> usize
+fn follow_sets<R: Results>(script: &[Instr], place: usize, frame: &mut Frame) -> usize
     ensures behind { place ≤ result }
     ensures input { frame.new.input ≡ frame.old.input }
     ensures same_end { (answer : Option ℤ) → (given : List Effect) → resumed listed script.now result frame.new.registers frame.new.variables answer frame.new.input given ≡ resumed listed script.now place frame.old.registers frame.old.variables answer frame.old.input given }
 {
     let mut pc = place;
     while pc < script.len() {
-        let Step::Store(target, value) = step_of(&script[pc], frame) else {
+        let Step::Store(target, value) = step_of::<R>(&script[pc], frame) else {
             break;
         };
         frame.write(target, value);
@@ -210,7 +209,7 @@ fn decision_within(most: u8, answer: i64) -> u8
 }
 
 #[inline(always)]
-fn step_of(instr: &Instr, frame: &Frame) -> Step
+fn step_of<R: Results>(instr: &Instr, frame: &Frame) -> Step
     ensures does { result ≡ step_of instr.now frame.now.registers frame.now.variables frame.now.input }
     ensures ticks { PausesWithin (2 ^ 63) result }
 {
@@ -219,7 +218,7 @@ fn step_of(instr: &Instr, frame: &Frame) -> Step
     let right = frame.read(flat.right_source, flat.right);
     let entity = flat.entity;
     match flat.opcode {
-        Opcode::Set => Step::Store(flat.target, result_of(flat.operation, left, right)),
+        Opcode::Set => Step::Store(flat.target, R::of(flat.operation, left, right)),
         Opcode::Skip => Step::Pass(if left == 0 { 0 } else { at_least_0(right) }),
         Opcode::Pub => Step::Give(Effect::Publish {
             topic: entity,
@@ -259,44 +258,4 @@ fn at_least_0(value: i64) -> u64
     ensures bound { result < 2 ^ 63 }
 {
     if value < 0 { 0 } else { value as u64 }
-}
-
-// All results are made, and one is picked: scripts mix operations, and a jump for each is one that a processor can't
-// foresee.
-#[inline(always)]
-fn result_of(operation: Operation, left: i64, right: i64) -> i64
-    ensures { result ≡ result_of operation left right }
-{
-    let results = [
-        left.wrapping_add(right),
-        left.wrapping_sub(right),
-        left.wrapping_mul(right),
-        left.min(right),
-        left.max(right),
-        less(left, right),
-        equal(left, right),
-    ];
-    results[operation_number(operation)]
-}
-
-#[inline(always)]
-fn operation_number(operation: Operation) -> usize
-    ensures value { result ≡ operation_number operation }
-    ensures bound { result < 7 }
-{
-    operation as usize
-}
-
-#[inline(always)]
-fn less(left: i64, right: i64) -> i64
-    ensures { result ≡ result_of operation.Lt left right }
-{
-    (left < right) as i64
-}
-
-#[inline(always)]
-fn equal(left: i64, right: i64) -> i64
-    ensures { result ≡ result_of operation.Eq left right }
-{
-    (left == right) as i64
 }

@@ -18,9 +18,9 @@ use std::sync::Arc;
 /// A goal's work, as a future that is polled by hand.
 #[derive(Drop)]
 pub struct GoalTask {
+    progress: Progress,
     script: Arc<Vec<Instr>>,
     value: i64,
-    progress: Progress,
     // A poll was refused memory.
     failed: bool,
     clock: WakeSource,
@@ -37,8 +37,7 @@ impl Model for GoalTask {
 }
 
 impl GoalTask {
-    /// The task of a goal of this value, before its first poll. The script is shared, so this takes no memory; it is one
-    /// that `check` accepts for a goal's own work.
+    /// The task of a goal of this value, before its first poll. The script is shared, so this takes no memory.
     pub fn new(script: Arc<Vec<Instr>>, value: i64) -> GoalTask
         ensures script { result.script ≡ (arc_value script).items }
         ensures value { result.value ≡ value }

@@ -8,16 +8,17 @@ use exec_msg::{Event, Memory, Moment};
 use exec_script::{Bank, EffectList, Input, Instr, Regs, Stop, run_from};
 use std::marker::Model;
 
-// How far a goal's script has come.
+// How far a goal's script has come. What tells whether the goal is awake stands first, so that it lies together: each round
+// asks it of every goal.
 #[derive(Clone, Copy, Debug, PartialEq, Eq)]
 pub(crate) struct Progress {
-    // The number of the instruction at which the script goes on, from 0.
-    place: usize,
-    registers: Regs,
     waits: Wait,
     // Whether the goal was polled as one that is being canceled.
     told: bool,
     ending: Option<Ending>,
+    // The number of the instruction at which the script goes on, from 0.
+    place: usize,
+    registers: Regs,
 }
 
 impl Model for Progress {

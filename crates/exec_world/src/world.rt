@@ -136,7 +136,7 @@ impl<L: Lines> World<L> {
         })
     }
 
-    /// Whether a call was refused memory, after which the world answers nothing else.
+    /// Whether a call was refused memory, or the world was marked as failed: calls that go on answer `Failed` from then on.
     pub fn is_failed(&self) -> bool
         ensures { result ≡ self.now.failed }
     {

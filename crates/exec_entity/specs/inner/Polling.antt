@@ -5,7 +5,6 @@ use Rattle.std.specs.Option.{option_and_then, option_map}
 use Rattle.exec_goal.specs.Table.{GoalRecord}
 use Rattle.exec_plan.specs.Entity.{EntityNo}
 use Rattle.exec_msg.specs.Lists.{change_first}
-use Rattle.exec_script.specs.Script.{listed}
 use Rattle.exec_script.specs.declared.effects.Effect.{Effect}
 use Rattle.exec_task.specs.Task.{TaskState}
 use Rattle.exec_task.specs.declared.wait.Turn.{Turn}

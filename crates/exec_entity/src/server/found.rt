@@ -124,8 +124,8 @@ impl ByNumber<Server> {
         Ok(told)
     }
 
-    /// A server executes its oldest goal that is accepted and not executed yet, and answers its identifier, or `None` where there is
-    /// none.
+    /// A server executes its oldest goal that is accepted and not executed yet, and answers its identifier, or `None` where
+    /// there is none.
     pub fn execute_oldest(&mut self, server: EntityNo) -> Option<GoalId>
         ensures found { result ≡ option_map (λ goal. goal.id) (find (λ goal. is_accepted goal.state) (goals_in server self.old)) }
         ensures executed { self.new ≡ executed_in server (find (λ goal. is_accepted goal.state) (goals_in server self.old)) self.old }

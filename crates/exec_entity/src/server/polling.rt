@@ -19,7 +19,7 @@ use std::alloc::Global;
 use std::mem;
 
 impl Server {
-    ghost use Rattle.std.specs.Prelude.{ℕ, ◌<◌, None, length, map, filter, find, slice_get, slice_index_or};
+    ghost use Rattle.std.specs.Prelude.{ℕ, ◌<◌, None, length, map, filter, find, slice_get, slice_index_or, IfNone, IfSome};
     ghost use Rattle.std.specs.Option.{option_and_then};
     ghost use Rattle.exec_goal.specs.Info.{info_of};
     ghost use Rattle.exec_goal.specs.State.{is_canceling};
@@ -27,6 +27,7 @@ impl Server {
     ghost use Rattle.exec_rules.specs.Ready.{is_goal_awake, is_task_awake, poll_ready, ready_for, woken};
     ghost use Rattle.exec_rules.specs.World.{is_for};
     ghost use Rattle.exec_rules.specs.inner.Listing.{listed_behind};
+    ghost use Rattle.exec_entity.specs.inner.Keeping.{IsFor};
     ghost use Rattle.exec_entity.specs.inner.Polling.{goal_polled, goal_ready, server_polled, server_with_work};
 
     // How many goals the server works on; where there are none, none is awake. It looks at no goal.
@@ -144,12 +145,35 @@ impl Server {
         ensures refused { OnErr result (self.new ≡ self.old) }
         ensures refused_variables { OnErr result (bank.new ≡ bank.old) }
     {
-        let Some(held) = self.held.get_mut(&id) else {
+        let Some(place) = self.place_of(id) else {
             effects.clear();
             return Ok(Close::Pending);
         };
+        self.next = place.wrapping_add(1);
+        let held = self.held.get_index_mut(place).unwrap();
         let close = poll_any(&mut held.task, turn, bank, cx, effects)?;
         Ok(close)
+    }
+
+    // The place of a goal's work, from 0, if it is held.
+    #[inline(always)]
+    fn place_of(&self, id: GoalId) -> Option<usize>
+        ensures at { IfSome result (λ place. IsFor self.now.held place id) }
+        ensures none { IfNone result (find (is_for id) self.now.held ≡ None) }
+    {
+        match self.held.get_index(self.next) {
+            Some((key, _)) if *key == id => Some(self.next),
+            _ => self.place_found(id),
+        }
+    }
+
+    // The same, wherever it stands.
+    #[inline(never)]
+    fn place_found(&self, id: GoalId) -> Option<usize>
+        ensures at { IfSome result (λ place. IsFor self.now.held place id) }
+        ensures none { IfNone result (find (is_for id) self.now.held ≡ None) }
+    {
+        self.held.get_index_of(&id)
     }
 
     // Takes the task of a goal out, and answers `None` where no such goal is held or its task is out.

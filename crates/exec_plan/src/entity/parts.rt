@@ -13,14 +13,18 @@ use std::marker::Model;
 /// What a name must be declared as.
 #[derive(Clone, Copy)]
 pub enum Referent {
+    /// A topic.
     Topic,
+    /// An entity of this kind.
     Entity(EntityKind),
 }
 
 /// What an entity refers to, and what that must be.
 #[derive(Drop)]
 pub struct Reference<'a, N> {
+    /// What the name must be declared as.
     pub to: Referent,
+    /// The name: in a draft its text, in a graph its number.
     pub name: &'a N,
 }
 
@@ -35,7 +39,9 @@ impl<'a, N> Model for Reference<'a, N> {
 /// A script of an entity with the role in which it runs.
 #[derive(Drop)]
 pub struct RoleScript<'a, S> {
+    /// What the script is run as.
     pub role: Role,
+    /// The script: in a draft its words, in a graph its instructions.
     pub script: &'a S,
 }
 

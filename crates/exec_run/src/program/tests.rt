@@ -1,6 +1,7 @@
 mod fakes;
 
-use super::{InputStream, OutputStream, Status, WordsFault, execute, read_words};
+use super::{Status, execute};
+use exec_io::{InputStream, OutputStream, WordsFault, read_words};
 use fakes::{Arguments, End, Sink, Source, Spaces};
 use std::alloc::{AllocError, Global};
 use std::io::Read;

@@ -8,7 +8,7 @@ use Rattle.exec_script.proofs.Following.{follow_pass, follow_stop}
 use Rattle.exec_script.proofs.run.follow.Goals as goal
 
 pub loop-instr-preserved-in-Pass : goal.loop-instr-preserved-in-Pass
-loop-instr-preserved-in-Pass c = record {
+loop-instr-preserved-in-Pass g c = record {
   same_end =
       sym (follow_pass listed c.follow_sets-pc.new.frame.input c.args.script.now c.follow_sets-pc.result c.in-Pass.count c.saturating_add-pc.result c.in-Some.instr.now
       (record { registers = c.follow_sets-pc.new.frame.registers; variables = c.follow_sets-pc.new.frame.variables; answer = c.loop-instr.answer; given = c.loop-instr.effects.items; stop = stop.End })
@@ -20,7 +20,7 @@ loop-instr-preserved-in-Pass c = record {
 }
 
 pub returns-in-Wait-clause-ends : goal.returns-in-Wait-clause-ends
-returns-in-Wait-clause-ends c =
+returns-in-Wait-clause-ends g c =
     sym (follow_stop listed c.follow_sets-pc.new.frame.input c.args.script.now c.follow_sets-pc.result c.in-Some.instr.now (step.Wait c.in-Wait.ticks)
     (record { registers = c.follow_sets-pc.new.frame.registers; variables = c.follow_sets-pc.new.frame.variables; answer = c.loop-instr.answer; given = c.loop-instr.effects.items; stop = stop.End })
     (search rules) (c.in-Some.ensures.lookup.1) (c.in-Wait.ensures.does) (λ left. refl))
@@ -28,7 +28,7 @@ returns-in-Wait-clause-ends c =
     ∙ c.loop-instr.invariant.same_end
 
 pub returns-in-Yield-clause-ends : goal.returns-in-Yield-clause-ends
-returns-in-Yield-clause-ends c =
+returns-in-Yield-clause-ends g c =
     sym (follow_stop listed c.follow_sets-pc.new.frame.input c.args.script.now c.follow_sets-pc.result c.in-Some.instr.now step.Yield
     (record { registers = c.follow_sets-pc.new.frame.registers; variables = c.follow_sets-pc.new.frame.variables; answer = c.loop-instr.answer; given = c.loop-instr.effects.items; stop = stop.End })
     (search rules) (c.in-Some.ensures.lookup.1) (c.in-Yield.ensures.does) (λ left. refl))
@@ -36,7 +36,7 @@ returns-in-Yield-clause-ends c =
     ∙ c.loop-instr.invariant.same_end
 
 pub returns-in-Ended-clause-ends : goal.returns-in-Ended-clause-ends
-returns-in-Ended-clause-ends c =
+returns-in-Ended-clause-ends g c =
     let fits : SFits w64 c.in-Ended.value = search rules in
     rw (to_z-of_z w64 c.in-Ended.value fits)
     (sym (follow_stop listed c.follow_sets-pc.new.frame.input c.args.script.now c.follow_sets-pc.result c.in-Some.instr.now (step.Ended c.in-Ended.event c.in-Ended.value)

@@ -6,7 +6,7 @@ use Rattle.exec_script.proofs.run.follow.Given as goal
 -- what is left of the script leads from here to where it leads from the start, on the same input, and there is room for
 -- an effect of each instruction that is left
 abbrev pub invariant-loop-instr : goal.invariant-loop-instr
-invariant-loop-instr l = record {
+invariant-loop-instr g l = record {
   same_end :
       follow listed l.frame.input (drop l.pc l.script) l.pc 0 (record { registers = l.frame.registers; variables = l.frame.variables; answer = l.answer; given = l.effects.items; stop = stop.End })
       ≡ resumed listed l.script l.place l.initial.frame.registers l.initial.frame.variables l.initial.answer l.initial.frame.input l.initial.effects.items;
@@ -15,4 +15,4 @@ invariant-loop-instr l = record {
 }
 
 abbrev pub decreases-loop-instr : goal.decreases-loop-instr
-decreases-loop-instr l = length l.script - l.pc
+decreases-loop-instr g l = length l.script - l.pc

@@ -1,3 +1,4 @@
+//! Streams that note whether they have failed.
 ghost use Rattle.std.specs.Prelude.{◌≡◌, ◌≢◌, ℕ, List, ◌+◌, ◌<◌, ◌≤◌, true, false, length, take, drop, vec_len, OnOk, OnErr, IfOk, IfSome};
 ghost use Rattle.std.specs.Io.KnownBytes.{Keeps, Appends, Consumes, IsAtEnd};
 ghost use Rattle.exec_msg.specs.Line.{line_room, transcript_text};
@@ -6,6 +7,7 @@ use exec_msg::TextReader;
 use exec_msg::limits::DOCUMENT;
 use std::alloc::{AllocError, Global};
 use std::io::{Read, Write};
+use std::marker::Model;
 
 const FIRST_ROOM: usize = 65_536;
 
@@ -26,17 +28,25 @@ pub struct WriteFault;
 
 /// A reader that notes whether it has failed.
 #[derive(Drop)]
-pub struct InputStream<R> {
+pub struct InputStream<R: Read> {
     /// The reader.
     pub reader: R,
     // Whether a read has failed.
     failed: bool,
 }
 
+impl<R: Read> Model for InputStream<R> {
+    ghost use Rattle.exec_io.specs.Streams.{Source};
+
+    ghost Value = { Source };
+
+    ghost view = { λ input. record { remaining = R.remaining input.reader; failed = input.failed } };
+}
+
 impl<R: Read> InputStream<R> {
     /// A reader that hasn't failed yet.
     pub fn new(reader: R) -> InputStream<R>
-        ensures { result ≡ record { reader = reader; failed = false } }
+        ensures { result ≡ record { remaining = R.remaining reader; failed = false } }
     {
         InputStream {
             reader,
@@ -49,10 +59,10 @@ impl<R: Read> InputStream<R> {
         requires { start < length buffer.old }
         ensures front { take start buffer.new ≡ take start buffer.old }
         ensures fits { IfOk result (λ count. start + count ≤ length buffer.new) }
-        ensures ok { IfOk result (λ count. Consumes (R.remaining self.old.reader) (R.remaining self.new.reader)
+        ensures ok { IfOk result (λ count. Consumes self.old.remaining self.new.remaining
             (take count (drop start buffer.new))) }
-        ensures end { IfOk result (λ count. count ≡ 0 → IsAtEnd (R.remaining self.new.reader)) }
-        ensures kept { OnErr result (Keeps (R.remaining self.old.reader) (R.remaining self.new.reader)) }
+        ensures end { IfOk result (λ count. count ≡ 0 → IsAtEnd self.new.remaining) }
+        ensures kept { OnErr result (Keeps self.old.remaining self.new.remaining) }
         ensures err { OnErr result (result ≡ Err ReadFault.Failed) }
         ensures failed { OnErr result (self.new.failed ≡ true) }
     {
@@ -68,7 +78,7 @@ impl<R: Read> InputStream<R> {
 
 /// A writer that notes whether it has failed, and whether all that it took is flushed.
 #[derive(Drop)]
-pub struct OutputStream<W> {
+pub struct OutputStream<W: Write> {
     /// The writer.
     pub writer: W,
     // Whether a write or a flush has failed, or a write took nothing.
@@ -77,10 +87,18 @@ pub struct OutputStream<W> {
     flushed: bool,
 }
 
+impl<W: Write> Model for OutputStream<W> {
+    ghost use Rattle.exec_io.specs.Streams.{Sink};
+
+    ghost Value = { Sink };
+
+    ghost view = { λ output. record { contents = W.contents output.writer; failed = output.failed; flushed = output.flushed } };
+}
+
 impl<W: Write> OutputStream<W> {
     /// A writer to which nothing was written yet.
     pub fn new(writer: W) -> OutputStream<W>
-        ensures { result ≡ record { writer = writer; failed = false; flushed = false } }
+        ensures { result ≡ record { contents = W.contents writer; failed = false; flushed = false } }
     {
         OutputStream {
             writer,
@@ -94,8 +112,8 @@ impl<W: Write> OutputStream<W> {
         requires { 0 < length text.now }
         ensures some { IfOk result (λ count. 0 < count) }
         ensures bound { IfOk result (λ count. count ≤ length text.now) }
-        ensures bytes { IfOk result (λ count. Appends (W.contents self.old.writer) (W.contents self.new.writer) (take count text.now)) }
-        ensures kept { OnErr result (Keeps (W.contents self.old.writer) (W.contents self.new.writer)) }
+        ensures bytes { IfOk result (λ count. Appends self.old.contents self.new.contents (take count text.now)) }
+        ensures kept { OnErr result (Keeps self.old.contents self.new.contents) }
         ensures failed { OnErr result (self.new.failed ≡ true) }
     {
         self.flushed = false;
@@ -109,7 +127,7 @@ impl<W: Write> OutputStream<W> {
     }
 
     fn flush(&mut self) -> Result<(), WriteFault>
-        ensures kept { Keeps (W.contents self.old.writer) (W.contents self.new.writer) }
+        ensures kept { Keeps self.old.contents self.new.contents }
         ensures flushed { OnOk result (self.new.flushed ≡ true) }
         ensures failed { OnErr result (self.new.failed ≡ true) }
     {
@@ -130,9 +148,9 @@ pub fn read_document<R: Read>(
     input: &mut InputStream<R>,
 ) -> Result<Vec<u8>, ReadFault>
     ensures fits { IfOk result (λ document. vec_len document ≤ DOCUMENT) }
-    ensures whole { IfOk result (λ document. IfSome (R.remaining input.old.reader) (λ bytes. document.items ≡ bytes)) }
-    ensures end { OnOk result (IsAtEnd (R.remaining input.new.reader)) }
-    ensures taken { (bytes : List ℕ) × Consumes (R.remaining input.old.reader) (R.remaining input.new.reader) bytes
+    ensures whole { IfOk result (λ document. IfSome input.old.remaining (λ bytes. document.items ≡ bytes)) }
+    ensures end { OnOk result (IsAtEnd input.new.remaining) }
+    ensures taken { (bytes : List ℕ) × Consumes input.old.remaining input.new.remaining bytes
         × (length bytes ≤ DOCUMENT + 1) × (result ≡ Err ReadFault.TooLong → length bytes ≡ DOCUMENT + 1) }
     ensures failed { result ≡ Err ReadFault.Failed → input.new.failed ≡ true }
 {
@@ -175,11 +193,11 @@ fn make_room(buffer: &mut Vec<u8>, filled: usize) -> Result<(), AllocError>
 /// Writes all of a text, and flushes the writer. Each turn takes at least one byte, or ends the
 /// writing; an error of whatever kind ends it as a fault, and so does a turn that takes nothing.
 pub fn write_text<W: Write>(output: &mut OutputStream<W>, text: &[u8]) -> Result<(), WriteFault>
-    ensures ok { OnOk result (Appends (W.contents output.old.writer) (W.contents output.new.writer) text.now) }
+    ensures ok { OnOk result (Appends output.old.contents output.new.contents text.now) }
     ensures flushed { OnOk result (output.new.flushed ≡ true) }
     ensures failed { OnErr result (output.new.failed ≡ true) }
     ensures front { (count : ℕ)
-        × Appends (W.contents output.old.writer) (W.contents output.new.writer) (take count text.now) }
+        × Appends output.old.contents output.new.contents (take count text.now) }
 {
     write_all(output, text)?;
     output.flush()
@@ -187,10 +205,10 @@ pub fn write_text<W: Write>(output: &mut OutputStream<W>, text: &[u8]) -> Result
 
 // Writes all of a text.
 fn write_all<W: Write>(output: &mut OutputStream<W>, text: &[u8]) -> Result<(), WriteFault>
-    ensures ok { OnOk result (Appends (W.contents output.old.writer) (W.contents output.new.writer) text.now) }
+    ensures ok { OnOk result (Appends output.old.contents output.new.contents text.now) }
     ensures failed { OnErr result (output.new.failed ≡ true) }
     ensures front { (count : ℕ) × (count ≤ length text.now)
-        × Appends (W.contents output.old.writer) (W.contents output.new.writer) (take count text.now) }
+        × Appends output.old.contents output.new.contents (take count text.now) }
 {
     let mut written = 0;
     while written < text.len() {
@@ -207,11 +225,11 @@ pub fn write_pieces<W: Write>(
     buffer: &mut [u8],
 ) -> Result<(), WriteFault>
     requires { line_room reader.old.names ≤ length buffer.old }
-    ensures ok { OnOk result (Appends (W.contents output.old.writer) (W.contents output.new.writer) (transcript_text reader.old.names reader.old.lines)) }
+    ensures ok { OnOk result (Appends output.old.contents output.new.contents (transcript_text reader.old.names reader.old.lines)) }
     ensures flushed { OnOk result (output.new.flushed ≡ true) }
     ensures failed { OnErr result (output.new.failed ≡ true) }
     ensures front { (count : ℕ)
-        × Appends (W.contents output.old.writer) (W.contents output.new.writer) (take count (transcript_text reader.old.names reader.old.lines)) }
+        × Appends output.old.contents output.new.contents (take count (transcript_text reader.old.names reader.old.lines)) }
 {
     while let Some(end) = reader.fill(buffer, 0) {
         write_all(output, &buffer[..end])?;

@@ -1,7 +1,7 @@
 use Rattle.std.proofs.Common.{◌≡◌, ℕ, List, ◌+◌, ◌++◌, ◌≤◌, length, take, sym, ap, subst, ◌∙◌, append_assoc}
 use Rattle.exec_msg.specs.Line.{line_room, transcript_text}
-use Rattle.exec_run.proofs.KnownBytes.{Appends-front, Appends-kept, Appends-piece}
-use Rattle.exec_run.proofs.program.streams.write_pieces.Goals as goal
+use Rattle.exec_io.proofs.KnownBytes.{Appends-front, Appends-kept, Appends-piece}
+use Rattle.exec_io.proofs.streams.write_pieces.Goals as goal
 
 pub loop-end-preserved : goal.loop-end-preserved
 loop-end-preserved g c =

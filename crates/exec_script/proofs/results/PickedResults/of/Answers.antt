@@ -2,7 +2,7 @@ use Rattle.std.proofs.Common.{w64, refl, rules}
 use mir.Val.{SFits}
 use Rattle.exec_script.specs.declared.instr.Operation.TheVariants as operation
 use Rattle.exec_script.proofs.Flats.{picked_is, stored_is, stored_fits, remainder_fits}
-use Rattle.exec_script.proofs.run.result_of.Goals as goal
+use Rattle.exec_script.proofs.results.PickedResults.of.Goals as goal
 
 pub returns : goal.returns
 returns c =

@@ -2,13 +2,13 @@
 use Rattle.std.proofs.Common.{◌+◌, ◌-◌, ◌≤◌, take, vec_len}
 use Rattle.std.specs.Io.KnownBytes.{Consumes}
 use Rattle.exec_msg.specs.declared.limits.TheConstants.{DOCUMENT}
-use Rattle.exec_run.proofs.program.streams.read_document.Given as goal
+use Rattle.exec_io.proofs.streams.read_document.Given as goal
 
 abbrev pub invariant-loop-filled : goal.invariant-loop-filled
 invariant-loop-filled g l = record {
   within : l.filled ≤ vec_len l.document;
   bound : vec_len l.document ≤ DOCUMENT + 1;
-  front : Consumes (g.R.Read.remaining l.initial.input.reader) (g.R.Read.remaining l.input.reader) (take l.filled l.document.items);
+  front : Consumes l.initial.input.remaining l.input.remaining (take l.filled l.document.items);
 }
 
 abbrev pub decreases-loop-filled : goal.decreases-loop-filled

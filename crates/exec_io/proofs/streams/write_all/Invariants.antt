@@ -1,12 +1,12 @@
 -- What is written so far is the front of the text.
 use Rattle.std.proofs.Common.{length, ◌-◌, ◌≤◌, take}
 use Rattle.std.specs.Io.KnownBytes.{Appends}
-use Rattle.exec_run.proofs.program.streams.write_all.Given as goal
+use Rattle.exec_io.proofs.streams.write_all.Given as goal
 
 abbrev pub invariant-loop-written : goal.invariant-loop-written
 invariant-loop-written g l = record {
   within : l.written ≤ length l.text;
-  front : Appends (g.W.Write.contents l.initial.output.writer) (g.W.Write.contents l.output.writer) (take l.written l.text);
+  front : Appends l.initial.output.contents l.output.contents (take l.written l.text);
 }
 
 abbrev pub decreases-loop-written : goal.decreases-loop-written

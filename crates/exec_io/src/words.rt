@@ -1,7 +1,7 @@
 ghost use Rattle.std.specs.Prelude.{◌≡◌, ◌≢◌, ◌<◌, ◌≤◌, ◌↔◌, IsSome, IfSome, map, string_bytes, slice_index_or, drop, []};
 ghost use Rattle.std.specs.Str.Parse.{digits_value};
 ghost use Rattle.std.specs.IoError.{error_kind};
-ghost use Rattle.exec_run.specs.Words.{IsNumber, AreSettings};
+ghost use Rattle.exec_io.specs.Words.{IsNumber, AreSettings};
 
 use std::alloc::Global;
 use std::env;

@@ -1,7 +1,7 @@
 use Rattle.std.proofs.Common.{arith}
 use Rattle.std.proofs.lemmas.List.{take_rest}
-use Rattle.exec_run.proofs.KnownBytes.{Appends-more}
-use Rattle.exec_run.proofs.program.streams.write_all.Goals as goal
+use Rattle.exec_io.proofs.KnownBytes.{Appends-more}
+use Rattle.exec_io.proofs.streams.write_all.Goals as goal
 
 pub loop-written-preserved : goal.loop-written-preserved
 loop-written-preserved g c = record {

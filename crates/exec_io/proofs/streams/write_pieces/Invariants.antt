@@ -2,11 +2,11 @@
 use Rattle.std.proofs.Common.{◌≡◌, ◌++◌, ◌≤◌, ℕ, List, length}
 use Rattle.std.specs.Io.KnownBytes.{Appends}
 use Rattle.exec_msg.specs.Line.{line_room, transcript_text}
-use Rattle.exec_run.proofs.program.streams.write_pieces.Given as goal
+use Rattle.exec_io.proofs.streams.write_pieces.Given as goal
 
 abbrev pub invariant-loop-end : goal.invariant-loop-end
 invariant-loop-end g l =
-    ((written : List ℕ) × Appends (g.W.Write.contents l.initial.output.writer) (g.W.Write.contents l.output.writer) written
+    ((written : List ℕ) × Appends l.initial.output.contents l.output.contents written
     × (written ++ transcript_text l.fn.reader.names l.reader.lines ≡ transcript_text l.fn.reader.names l.fn.reader.lines))
     × (l.reader.names ≡ l.fn.reader.names)
     × (line_room l.fn.reader.names ≤ length l.buffer)

@@ -1,7 +1,7 @@
 use Rattle.std.proofs.Common.{◌≡◌, arith, rules, length, take, drop, ◌++◌}
 use Rattle.std.proofs.lemmas.List.{take_at}
-use Rattle.exec_run.proofs.KnownBytes.{Consumes-more}
-use Rattle.exec_run.proofs.program.streams.read_document.Goals as goal
+use Rattle.exec_io.proofs.KnownBytes.{Consumes-more}
+use Rattle.exec_io.proofs.streams.read_document.Goals as goal
 
 pub loop-filled-preserved : goal.loop-filled-preserved
 loop-filled-preserved g c =

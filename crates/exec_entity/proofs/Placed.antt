@@ -1,0 +1,110 @@
+-- Where what a server keeps stands, by its place.
+use Rattle.std.proofs.Common.{◌≡◌, ℕ, zero, suc, ◌==◌, ◌<◌, ◌||◌, List, [], ◌∷◌, length, Bool, true, false, cond, if◌then◌else◌, Option, None, Some, IfSome, slice_get, get_or, is_some, IfNone, refl, ap, sym, subst, ◌∙◌, arith}
+use Rattle.std.specs.List.{find, position}
+use Rattle.std.specs.Map.{keys_of, values_of, lookup}
+use Rattle.std.specs.Option.{option_map}
+use Rattle.std.proofs.lemmas.Bool.{eqb-true, eq-eqb}
+use Rattle.std.proofs.lemmas.List.Quantifiers.{position-Some}
+use Rattle.indexmap.specs.IndexMap.{set_value_at}
+use Rattle.exec_goal.specs.Calls.{is_among}
+use Rattle.exec_goal.specs.Table.{GoalRecord}
+use Rattle.exec_msg.specs.Lists.{change_first}
+use Rattle.exec_rules.specs.World.{HeldGoal, is_for}
+use Rattle.exec_entity.proofs.HeldEntries.{find-lookup}
+use Rattle.exec_entity.proofs.Serving.{held_ids}
+use Rattle.exec_entity.specs.inner.Keeping.{AreDistinct, AreKept, IsFor}
+use Rattle.exec_entity.specs.inner.Server.{held_goal_of, held_goals_of}
+use Rattle.exec_entity.specs.declared.server.Held.{Held}
+
+among-at : (entries : List (ℕ × Held)) (place id : ℕ) → IsFor (held_goals_of entries) place id → is_among (held_ids (held_goals_of entries)) id ≡ true
+among-at [] place id named = absurd cc
+among-at (entry ∷ entries) zero id named =
+    let is : entry.0 ≡ id = cc in
+    ap (λ (b : Bool). b || is_among (held_ids (held_goals_of entries)) id) (eq-eqb entry.0 id is)
+among-at (entry ∷ entries) (suc place) id named = by (entry.0 == id) (among-at entries place id named)
+  where
+    by : (b : Bool) → is_among (held_ids (held_goals_of entries)) id ≡ true → (b || is_among (held_ids (held_goals_of entries)) id) ≡ true
+    by true is = refl
+    by false is = is
+
+-- what stands before a place isn't for its goal
+differs : (entry : ℕ × Held) (entries : List (ℕ × Held)) (place id : ℕ) → AreDistinct (held_ids (held_goals_of (entry ∷ entries))) → IsFor (held_goals_of entries) place id → (entry.0 == id) ≡ false
+differs entry entries place id distinct named = by (entry.0 == id) refl
+  where
+    by : (b : Bool) → (entry.0 == id) ≡ b → b ≡ false
+    by true is =
+        let same : entry.0 ≡ id = eqb-true entry.0 id is in
+        let among : is_among (held_ids (held_goals_of entries)) entry.0 ≡ true = subst (λ (one : ℕ). is_among (held_ids (held_goals_of entries)) one ≡ true) (sym same) (among-at entries place id named) in
+        absurd cc
+    by false is = refl
+
+-- what is kept for a goal, where it stands at a place of entries of which no two are for one goal
+pub record KeptAt (id : ℕ) (held : Held) (entries : List (ℕ × Held)) (place : ℕ) : Type 0 where
+  pub distinct : AreDistinct (held_ids (held_goals_of entries))
+  pub named : IsFor (held_goals_of entries) place id
+  pub kept : Some held ≡ slice_get (values_of entries) place
+
+-- the entries of a server's map are such
+pub kept-at : (id : ℕ) (held : Held) (goals : List GoalRecord) (entries : List (ℕ × Held)) (helds : List HeldGoal) (place : ℕ) → held_goals_of entries ≡ helds → AreKept goals (held_goals_of entries)
+    → IsFor helds place id → Some held ≡ slice_get (values_of entries) place → KeptAt id held entries place
+kept-at id held goals entries helds place are all named kept = record {
+  distinct = subst AreDistinct all.same all.distinct;
+  named = subst (λ (helds : List HeldGoal). IsFor helds place id) (sym are) named;
+  kept = kept;
+}
+
+-- it is found by the goal's identifier
+pub found-at : (id : ℕ) (held : Held) (entries : List (ℕ × Held)) (place : ℕ) → KeptAt id held entries place → find (is_for id) (held_goals_of entries) ≡ Some (held_goal_of (id, held))
+found-at id held [] place at = let kept = at.kept in absurd cc
+found-at id held (entry ∷ entries) zero at =
+    let named = at.named in
+    let kept = at.kept in
+    let is : entry.0 ≡ id = cc in
+    let holds : entry.1 ≡ held = cc in
+    ap (λ (b : Bool). cond b (Some (held_goal_of entry)) (find (is_for id) (held_goals_of entries))) (eq-eqb entry.0 id is) ∙ (λ i. Some (held_goal_of (is i, holds i)))
+found-at id held (entry ∷ entries) (suc place) at =
+    ap (λ (b : Bool). cond b (Some (held_goal_of entry)) (find (is_for id) (held_goals_of entries))) (differs entry entries place id at.distinct at.named)
+    ∙ found-at id held entries place (record { distinct = at.distinct.1; named = at.named; kept = at.kept })
+
+-- and a change of it is a change of what is kept for the goal
+pub changed-at : {id : ℕ} {held : Held} {entries : List (ℕ × Held)} {place : ℕ} → KeptAt id held entries place → (after : Held) (change : HeldGoal → HeldGoal) → held_goal_of (id, after) ≡ change (held_goal_of (id, held))
+    → held_goals_of (set_value_at entries place after) ≡ change_first (is_for id) change (held_goals_of entries)
+changed-at {id} {held} {entries} {place} at after change changes = walk entries place at
+  where
+    chosen : ℕ × Held → List (ℕ × Held) → Bool → List HeldGoal
+    chosen entry entries b = if b then change (held_goal_of entry) ∷ held_goals_of entries else held_goal_of entry ∷ change_first (is_for id) change (held_goals_of entries)
+
+    walk : (entries : List (ℕ × Held)) (place : ℕ) → KeptAt id held entries place → held_goals_of (set_value_at entries place after) ≡ change_first (is_for id) change (held_goals_of entries)
+    walk [] place at = let kept = at.kept in absurd cc
+    walk (entry ∷ entries) zero at =
+        let named = at.named in
+        let kept = at.kept in
+        let is : entry.0 ≡ id = cc in
+        let holds : entry.1 ≡ held = cc in
+        ap (λ (goal : HeldGoal). goal ∷ held_goals_of entries) (ap (λ (key : ℕ). held_goal_of (key, after)) is ∙ changes ∙ (λ i. change (held_goal_of (sym is i, sym holds i))))
+        ∙ ap (chosen entry entries) (sym (eq-eqb entry.0 id is))
+    walk (entry ∷ entries) (suc place) at =
+        ap (λ (goals : List HeldGoal). held_goal_of entry ∷ goals) (walk entries place (record { distinct = at.distinct.1; named = at.named; kept = at.kept }))
+        ∙ ap (chosen entry entries) (sym (differs entry entries place id at.distinct at.named))
+
+named_here : (entries : List (ℕ × Held)) (place d : ℕ) → place < length (keys_of entries) → IsFor (held_goals_of entries) place (get_or (keys_of entries) place d)
+named_here [] place d within = absurd (omega (arith, within))
+named_here (entry ∷ entries) zero d within = refl
+named_here (entry ∷ entries) (suc place) d within = named_here entries place d (omega (arith, within))
+
+-- where the map finds an entry, what stands there is for its key
+pub named-at-found : (test : ℕ → Bool) (id : ℕ) → ((key : ℕ) → test key ≡ (key == id)) → (entries : List (ℕ × Held)) (found : Option ℕ) → found ≡ position test (keys_of entries) → IfSome found (λ place. IsFor (held_goals_of entries) place id)
+named-at-found test id same entries None is = tt
+named-at-found test id same entries (Some place) is =
+    let first = position-Some test (keys_of entries) place 0 (sym is) in
+    let key : get_or (keys_of entries) place 0 ≡ id = eqb-true (get_or (keys_of entries) place 0) id (sym (same (get_or (keys_of entries) place 0)) ∙ first.1) in
+    subst (IsFor (held_goals_of entries) place) key (named_here entries place 0 first.0)
+
+-- where the map finds no entry, nothing is kept for the goal
+pub none-found : (test : ℕ → Bool) (id : ℕ) → ((key : ℕ) → test key ≡ (key == id)) → (entries : List (ℕ × Held)) (found : Option ℕ) → is_some found ≡ is_some (lookup test entries) → IfNone found (find (is_for id) (held_goals_of entries) ≡ None)
+none-found test id same entries (Some place) is = tt
+none-found test id same entries None is = find-lookup test id same entries ∙ by (lookup test entries) is
+  where
+    by : (rest : Option Held) → false ≡ is_some rest → option_map (λ held. held_goal_of (id, held)) rest ≡ None
+    by None none = refl
+    by (Some held) none = absurd cc
