@@ -1,5 +1,5 @@
 //! The loop of a worker at a board.
-ghost use Rattle.std.specs.Prelude.{◌≡◌, ◌<◌, ◌≤◌, [], length, IfOk, IsOk, OnErr};
+ghost use Rattle.std.specs.Prelude.{◌≡◌, ◌<◌, [], length, IfOk, IsOk, OnErr};
 ghost use Rattle.exec_board.specs.Board.{IsSized};
 ghost use Rattle.exec_board.specs.Sweeps.{EndsSweep, IsSwept};
 ghost use Rattle.exec_board.specs.inner.Visits.{HasRun, Turning, Visited};

@@ -79,7 +79,7 @@ impl Server {
     ghost use Rattle.exec_goal.specs.Cancel.{candidates, code_of, moved, table_after};
     ghost use Rattle.exec_goal.specs.Info.{answer_of, info_of};
     ghost use Rattle.exec_goal.specs.State.{is_accepted};
-    ghost use Rattle.exec_goal.specs.Table.{after_end, asked_for, has_id, working};
+    ghost use Rattle.exec_goal.specs.Table.{after_end, asked_for, has_id};
     ghost use Rattle.exec_msg.specs.Lists.{change_first};
     ghost use Rattle.exec_task.specs.Task.{new_task};
     ghost use Rattle.exec_rules.specs.Close.{server_accepting};

@@ -1,5 +1,5 @@
 //! Streams that note whether they have failed.
-ghost use Rattle.std.specs.Prelude.{◌≡◌, ◌≢◌, ℕ, List, ◌+◌, ◌<◌, ◌≤◌, true, false, length, take, drop, vec_len, OnOk, OnErr, IfOk, IfSome};
+ghost use Rattle.std.specs.Prelude.{◌≡◌, ℕ, List, ◌+◌, ◌<◌, ◌≤◌, true, false, length, take, drop, vec_len, OnOk, OnErr, IfOk, IfSome};
 ghost use Rattle.std.specs.Io.KnownBytes.{Keeps, Appends, Consumes, IsAtEnd};
 ghost use Rattle.exec_msg.specs.Line.{line_room, transcript_text};
 

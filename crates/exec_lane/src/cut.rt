@@ -28,7 +28,7 @@ impl Model for Cut {
 
 impl Cut {
     ghost use Rattle.std.specs.Prelude.{◌≡◌, [], ◌∷◌, ◌++◌, map, None, Some, OnOk};
-    ghost use Rattle.exec_lane.specs.inner.Cuts.{is_lane_of, lane_with, place_for, with_slot};
+    ghost use Rattle.exec_lane.specs.inner.Cuts.{lane_with, place_for, with_slot};
     ghost use Rattle.exec_msg.specs.Places.{change_at};
 
     // No lanes. It takes no memory.

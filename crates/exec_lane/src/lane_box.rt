@@ -1,5 +1,5 @@
 //! A lane that may be moved from thread to thread.
-ghost use Rattle.std.specs.Prelude.{◌≡◌, ◌<◌, ◌≤◌, ◌+◌, ◌==◌, Some, true, false, length, map, slice_get, IfOk, IsErr, OnErr, OnOk};
+ghost use Rattle.std.specs.Prelude.{◌≡◌, ◌<◌, ◌≤◌, ◌+◌, ◌==◌, true, false, length, IfOk, IsErr, OnErr, OnOk};
 ghost use Rattle.std.specs.Option.{option_map};
 ghost use Rattle.exec_lane.specs.Gather.{ran_in};
 ghost use Rattle.exec_lane.specs.Lane.{Lane, lane_home, variables_home};

@@ -14,7 +14,7 @@ ghost use Rattle.exec_laws.specs.Goals.{AreLawful, IsDecision, IsFinal, MayCome,
 ghost use Rattle.exec_rules.specs.Lines.{statuses_of};
 ghost use Rattle.exec_rules.specs.Run.{unclosed};
 ghost use Rattle.exec_rules.specs.Run.{outcome_in};
-ghost use Rattle.exec_rules.specs.Transcript.{first_world, lines_of, round, rounds};
+ghost use Rattle.exec_rules.specs.Transcript.{first_world, lines_of, rounds};
 ghost use Rattle.exec_rules.specs.World.{WorldState, goals_of};
 ghost use Rattle.exec_rules.specs.declared.ready.Cause.TheVariants as cause;
 ghost use Rattle.exec_rules.specs.declared.ready.Ready.{Ready};

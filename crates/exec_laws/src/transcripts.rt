@@ -36,7 +36,8 @@ pub fn wrapped()
     ensures { lines_of wrapped ≡ wrapped_lines }
 {}
 
-/// A timer publishes three values to a subscription whose queue keeps two: entity 0 is the topic `x`, 1 the timer, 2 the subscription.
+/// A timer publishes three values to a subscription whose queue keeps two: entity 0 is the topic `x`, 1 the timer, 2 the
+/// subscription.
 pub fn full_queue()
     ensures { lines_of full_queue ≡ full_queue_lines }
 {}

@@ -1,5 +1,5 @@
 //! The texts of identifiers that lines had, for the lines that follow: those speak of the same goals again and again.
-ghost use Rattle.std.specs.Prelude.{◌≡◌, ◌+◌, ◌≤◌, [], ◌∷◌, ◌++◌, length, take};
+ghost use Rattle.std.specs.Prelude.{◌≡◌, ◌+◌, ◌≤◌, [], ◌∷◌, ◌++◌, true, length, take};
 ghost use Rattle.exec_msg.specs.Line.{spaced, id_text};
 
 use crate::memory::Memory;
@@ -8,66 +8,82 @@ use crate::place::{place_cell, place_id};
 use std::alloc::Global;
 use std::marker::Model;
 
-// An identifier's field as a line has it, with the space before it, and spaces behind: three copies of sixteen bytes.
+// An identifier's field as a line has it, with the space before it, and spaces behind: three copies of sixteen bytes. Its
+// text is there from the second line in turn on that asks for it. Where so many goals take turns that no place keeps one until
+// it comes again, none is kept for nobody, and none is copied just after it was written, for which a processor waits.
 #[derive(Clone, Copy)]
 struct IdField {
     id: GoalId,
+    has_text: bool,
     text: [u8; 48],
 }
 
 impl Model for IdField {
-    ghost use Rattle.std.specs.Prelude.{◌≡◌, ℕ, List, ◌∷◌, take};
+    ghost use Rattle.std.specs.Prelude.{◌≡◌, ℕ, Bool, true, List, ◌∷◌, take};
     ghost use Rattle.exec_msg.specs.Line.{id_text};
 
-    ghost Value = { ℕ × List ℕ };
+    ghost Value = { ℕ × Bool × List ℕ };
 
-    ghost view = { λ field. (field.id, field.text) };
+    ghost view = { λ field. (field.id, field.has_text, field.text) };
 
-    ghost invariant = { λ field. take 37 field.text ≡ 32 ∷ id_text field.id };
+    ghost invariant = { λ field. field.has_text ≡ true → take 37 field.text ≡ 32 ∷ id_text field.id };
 
-    ghost inverse = { λ value. record { id = value.0; text = value.1 } };
+    ghost inverse = { λ parts. record { id = parts.0; has_text = parts.1; text = parts.2 } };
 }
 
 impl IdField {
-    fn of(id: GoalId) -> IdField
-        ensures { result.0 ≡ id }
-    {
-        let mut text = [b' '; 48];
-        place_id(&mut text, 0, id);
-        IdField { id, text }
-    }
-
-    // Makes it the field of an identifier.
-    #[inline(always)]
-    fn be(&mut self, id: GoalId)
-        ensures { self.new.0 ≡ id }
-    {
-        if self.id.number() != id.number() {
-            self.write(id);
+    // The field of an identifier, without its text.
+    fn of(id: GoalId) -> IdField {
+        IdField {
+            id,
+            has_text: false,
+            text: [b' '; 48],
         }
     }
 
-    #[inline(never)]
-    fn write(&mut self, id: GoalId)
-        ensures { self.new.0 ≡ id }
+    // Puts an identifier at a place, and makes this its field.
+    #[inline(always)]
+    fn place(&mut self, bytes: &mut [u8], at: usize, id: GoalId) -> usize
+        requires { at + 48 ≤ length bytes.old }
+        ensures text { take result bytes.new ≡ take at bytes.old ++ spaced (id_text id ∷ []) }
+        ensures end { result ≡ at + 37 }
     {
-        self.id = id;
-        place_id(&mut self.text, 0, id);
+        if self.id.number() != id.number() {
+            self.id = id;
+            self.has_text = false;
+            return place_id(bytes, at, id);
+        }
+        if !self.has_text {
+            self.write();
+        }
+        self.copy(bytes, at)
     }
 
+    // Puts its text at a place.
     #[inline(always)]
-    fn place(&self, bytes: &mut [u8], at: usize) -> usize
-        requires { at + 48 ≤ length bytes.old }
+    fn copy(&self, bytes: &mut [u8], at: usize) -> usize
+        requires written { self.now.1 ≡ true }
+        requires room { at + 48 ≤ length bytes.old }
         ensures text { take result bytes.new ≡ take at bytes.old ++ spaced (id_text self.now.0 ∷ []) }
         ensures end { result ≡ at + 37 }
     {
         place_cell::<48>(bytes, at, &self.text);
         at + 37
     }
+
+    // Writes its text.
+    #[inline(never)]
+    fn write(&mut self)
+        ensures id { self.new.0 ≡ self.old.0 }
+        ensures written { self.new.1 ≡ true }
+    {
+        place_id(&mut self.text, 0, self.id);
+        self.has_text = true;
+    }
 }
 
-// So many fields take 1 MiB.
-const FIELDS: usize = 16_384;
+// So many fields take 256 KiB.
+const FIELDS: usize = 4_096;
 
 /// The fields of identifiers, each at a place that its identifier gives, until another takes it.
 #[derive(Drop)]
@@ -96,12 +112,9 @@ impl IdTexts {
         ensures text { take result bytes.new ≡ take at bytes.old ++ spaced (id_text id ∷ []) }
         ensures end { result ≡ at + 37 }
     {
-        match self.fields.get_mut((id.spread() >> 50) as usize) {
+        match self.fields.get_mut((id.spread() >> 52) as usize) {
             None => place_id(bytes, at, id),
-            Some(field) => {
-                field.be(id);
-                field.place(bytes, at)
-            }
+            Some(field) => field.place(bytes, at, id),
         }
     }
 }

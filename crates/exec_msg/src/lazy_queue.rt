@@ -86,6 +86,7 @@ impl<T: Drop> LazyQueue<T> {
         ensures ok { OnOk result (self.new ≡ record self.old { items = sent self.old.depth item self.old.items }) }
         ensures displaced { IfOk result (λ lost. lost ≡ slice_get (displaced self.old.depth item self.old.items) 0) }
         ensures err { OnErr result (self.new ≡ self.old) }
+        ensures memory { OnErr result (self.old.items ≡ []) }
     {
         if let Some(made) = &mut self.made {
             return Ok(made.push(item));

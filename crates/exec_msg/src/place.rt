@@ -3,7 +3,7 @@
 
 ghost use Rattle.std.specs.Prelude.{◌≡◌, ◌+◌, ◌<◌, ◌≤◌, [], ◌∷◌, ◌++◌, length, take, decimal};
 ghost use Rattle.std.specs.Fmt.{signed_decimal};
-ghost use Rattle.exec_msg.specs.Line.{spaced, joined, word_of, id_text, id_field};
+ghost use Rattle.exec_msg.specs.Line.{spaced, joined, word_of, id_text};
 
 use crate::field_texts::FieldTexts;
 use crate::kind::Kind;

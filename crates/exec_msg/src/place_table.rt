@@ -1,5 +1,5 @@
 //! Places by number.
-ghost use Rattle.std.specs.Prelude.{◌≡◌, ◌<◌, ◌≤◌, ◌^◌, ℕ, [], length, OnOk};
+ghost use Rattle.std.specs.Prelude.{◌≡◌, ◌<◌, ◌≤◌, ◌^◌, ℕ, [], length, OnOk, OnErr};
 ghost use Rattle.exec_msg.specs.Places.{change_at, first_noted, place_under};
 
 use crate::memory::Memory;
@@ -41,13 +41,15 @@ impl PlaceTable {
         }
     }
 
-    /// Makes room for a number. Places and room stay as they are, also where memory is refused.
+    /// Makes room for a number. Places and room stay as they are, also where memory is refused. Where there is room already
+    /// none is taken.
     ///
     /// # Errors
     /// [`Memory`] where the growth was refused.
     pub fn reserve(&mut self, number: usize) -> Result<(), Memory>
         requires { number < 2 ^ 32 }
         ensures room { OnOk result (number < length self.new) }
+        ensures memory { OnErr result (length self.old ≤ number) }
         ensures kept { length self.old ≤ length self.new }
         ensures same { (other : ℕ) → place_under other self.new ≡ place_under other self.old }
     {

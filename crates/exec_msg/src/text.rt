@@ -1,7 +1,7 @@
 ghost use Rattle.std.specs.Prelude.{◌≡◌, ◌+◌, ◌<◌, ◌≤◌, [], ◌∷◌, ◌++◌, length, take, codes, decimal, ◌^◌, vec_capacity, vec_len, IfOk, OnErr};
 ghost use Rattle.std.specs.Fmt.{signed_decimal};
 ghost use Rattle.exec_msg.specs.Goal.{status_number, code_number};
-ghost use Rattle.exec_msg.specs.Line.{IsAppended, greatest_length, line_room, spaced, joined, word_of, id_text, id_field, fields_of, line_text};
+ghost use Rattle.exec_msg.specs.Line.{IsAppended, greatest_length, line_room, joined, word_of, id_text, fields_of, line_text};
 
 use crate::field_texts::FieldTexts;
 use crate::goal::{GoalStatus, ReturnCode};

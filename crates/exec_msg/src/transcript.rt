@@ -148,7 +148,7 @@ impl<'a> Model for TextReader<'a> {
 }
 
 impl<'a> TextReader<'a> {
-    ghost use Rattle.std.specs.Prelude.{◌≡◌, ◌++◌, ◌∷◌, ◌+◌, ◌<◌, ◌≤◌, [], true, length, take, option_to_list, IfSome, IfNone, IfOk};
+    ghost use Rattle.std.specs.Prelude.{◌≡◌, ◌⊎◌, ◌++◌, ◌+◌, ◌<◌, ◌≤◌, [], length, take, IfSome, IfNone, IfOk};
     ghost use Rattle.exec_msg.specs.Line.{line_room, line_text, transcript_text};
 
     /// Bytes that have the room of some lines.
@@ -171,6 +171,7 @@ impl<'a> TextReader<'a> {
         ensures text { IfSome result (λ end. take at buffer.old ++ transcript_text self.old.names self.old.lines ≡ take end buffer.new ++ transcript_text self.old.names self.new.lines) }
         ensures within { IfSome result (λ end. end ≤ length buffer.new) }
         ensures shorter { IfSome result (λ _. length self.new.lines < length self.old.lines) }
+        ensures full { IfSome result (λ end. (self.new.lines ≡ []) ⊎ (length buffer.new < end + line_room self.old.names)) }
         ensures none { IfNone result (self.old.lines ≡ []) }
         ensures same_buffer { IfNone result (buffer.new ≡ buffer.old) }
         ensures names { self.new.names ≡ self.old.names }

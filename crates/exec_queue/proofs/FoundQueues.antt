@@ -1,6 +1,6 @@
 -- A look-up by entity and kind gives the place of the first such queue, and places with items are covered.
-use Rattle.std.proofs.Common.{◌≡◌, ℕ, zero, suc, ◌+◌, ◌*◌, ◌-◌, ◌<◌, ◌≤◌, ◌&&◌, ◌==◌, ⊎_elim, true, false, not, length, List, [], ◌∷◌, ◌++◌, Option, Some, None, IfSome, slice_get, take, refl, sym, ap, subst, ◌∙◌, arith}
-use Rattle.std.specs.List.{Contains}
+use Rattle.std.proofs.Common.{◌≡◌, ℕ, Bool, zero, suc, ◌+◌, ◌*◌, ◌-◌, ◌<◌, ◌≤◌, ◌&&◌, ◌==◌, ⊎_elim, true, false, not, length, List, [], ◌∷◌, ◌++◌, Option, Some, None, IfSome, slice_get, take, refl, sym, ap, subst, ◌∙◌, arith}
+use Rattle.std.specs.List.{Contains, find}
 use Rattle.std.specs.Option.{option_map_or, option_to_list}
 use Rattle.std.proofs.lemmas.Bool.{eqb-true, eq-eqb, both_ways, and_parts}
 use Rattle.std.proofs.lemmas.List.{length_push}
@@ -8,7 +8,7 @@ use Rattle.exec_msg.specs.KeepLast.{displaced}
 use Rattle.exec_msg.specs.Kind.{ready_number}
 use Rattle.exec_msg.specs.declared.kind.Kind.{Kind}
 use Rattle.exec_msg.specs.declared.kind.Kind.TheVariants as kind
-use Rattle.exec_msg.proofs.FirstPlaces.{first_place-changed, first_place-behind, noted_at, place_or, there_or_same}
+use Rattle.exec_msg.proofs.FirstPlaces.{find-first_place, first_place-changed, first_place-behind, noted_at, place_or, there_or_same}
 use Rattle.exec_rules.specs.World.{Queue, is_queue, queue_after}
 use Rattle.exec_rules.specs.declared.item.Item.{Item}
 use Rattle.exec_msg.specs.Places.{first_place, place_under, change_at, first_noted}
@@ -115,3 +115,13 @@ pub lost_is : (found : Option Queue) (item : Item) (lost : Option Item) → IfSo
     → lost ≡ option_map_or (λ queue. slice_get (displaced queue.depth item queue.items) 0) found None
     → option_to_list lost ≡ option_map_or (λ queue. displaced queue.depth item queue.items) found []
 lost_is found item lost bound is = ap option_to_list is ∙ lost_of found item bound
+
+-- ---- where memory is refused
+
+-- the first queue that passes a test has no item where none stands at its place
+pub found_empty : (test : Queue → Bool) (held read : List Queue) (place : ℕ) → first_place test held ≡ Some place → read ≡ held
+    → is_filled_at read place ≡ false → option_map_or has_item (find test held) false ≡ false
+found_empty test held read place at is empty =
+    ap (λ found. option_map_or has_item found false) (find-first_place test held place at)
+    ∙ ap (λ queues. is_filled_at queues place) (sym is)
+    ∙ empty

@@ -1,7 +1,7 @@
 //! The queues of a plan's entities in ready order, found by entity and kind. A snapshot walks over those that have an item,
 //! and over no other.
-ghost use Rattle.std.specs.Prelude.{◌≡◌, ◌==◌, ◌&&◌, ℕ, List, ◌<◌, ◌≤◌, ◌^◌, [], ◌∷◌, ◌++◌, false, true, None, Some, length, map, slice_get, OnOk, OnErr, IfOk, IfSome};
-ghost use Rattle.std.specs.List.{Contains, filter, find};
+ghost use Rattle.std.specs.Prelude.{◌≡◌, ◌&&◌, ℕ, List, ◌<◌, ◌≤◌, ◌^◌, [], ◌∷◌, ◌++◌, false, true, None, Some, length, map, find, slice_get, vec_capacity, OnOk, OnErr, IfOk, IfSome};
+ghost use Rattle.std.specs.List.{Contains, filter};
 ghost use Rattle.std.specs.List.Sorted.{IsPermutation, IsSorted, IsStrictlyIncreasing};
 ghost use Rattle.std.specs.Option.{option_copied, option_map, option_map_or, option_to_list};
 ghost use Rattle.std.specs.Ordering.{nat_cmp};
@@ -95,11 +95,12 @@ impl Queues {
     /// Where there is no such queue nothing changes.
     ///
     /// # Errors
-    /// [`Memory`] where a growth was refused. The queues stay as they were.
+    /// [`Memory`] where a growth was refused, which can't be where the queue has an item. The queues stay as they were.
     pub fn send(&mut self, entity: EntityNo, item: Item) -> Result<Option<Item>, Memory>
         ensures ok { OnOk result (self.new ≡ change_first (is_queue entity (taker_of item)) (queue_after item) self.old) }
         ensures lost { IfOk result (λ lost. option_to_list lost ≡ lost_from entity item self.old) }
         ensures err { OnErr result (self.new ≡ self.old) }
+        ensures memory { OnErr result (option_map_or has_item (find (is_queue entity (taker_of item)) self.old) false ≡ false) }
     {
         let Some(place) = self.places.get(slot(entity, item.kind())) else {
             return Ok(None);
@@ -111,13 +112,15 @@ impl Queues {
     }
 
     /// Sets places to those of the queues that have an item, either of the kinds before polls or of those behind them, in
-    /// ascending order. Where there is room for them it is never refused memory.
+    /// ascending order.
     ///
     /// # Errors
-    /// [`Memory`] where a growth was refused. The queues stay as they were, and the places may have changed.
+    /// [`Memory`] where a growth was refused, which can't be where the capacity has room for the places of all queues that have
+    /// an item. The queues stay as they were, and the places may have changed.
     pub fn filled(&mut self, before_polls: bool, places: &mut Vec<usize>) -> Result<(), Memory>
         ensures same { self.new ≡ self.old }
         ensures places { OnOk result (places.new.items ≡ places_where (λ queue. has_item queue && is_in_part before_polls queue) self.old) }
+        ensures memory { OnErr result (vec_capacity places.old < length (places_where has_item self.old)) }
     {
         settle(&mut self.settled, &mut self.filled, &self.entries);
         places.clear();
@@ -306,6 +309,7 @@ fn is_filled(entries: &[Entry], place: usize) -> bool
 fn note_filled(filled: &mut Vec<usize>, entries: &[Entry], place: usize) -> Result<(), Memory>
     ensures keeps { (other : ℕ) → Contains filled.old.items other → Contains filled.new.items other }
     ensures has { OnOk result (CoversFilled filled.old.items entries.now → Contains filled.new.items place) }
+    ensures memory { OnErr result (is_filled_at entries.now place ≡ false) }
     ensures bound { IfSome (slice_get entries.now place) (λ queue. length queue.items ≤ queue.depth) }
 {
     if !is_filled(entries, place) {
@@ -318,6 +322,7 @@ fn send_at(entries: &mut Vec<Entry>, place: usize, item: Item) -> Result<Option<
     ensures ok { OnOk result (entries.new.items ≡ change_at place (queue_after item) entries.old.items) }
     ensures lost { IfOk result (λ lost. lost ≡ option_map_or (λ queue. slice_get (displaced queue.depth item queue.items) 0) (slice_get entries.old.items place) None) }
     ensures err { OnErr result (entries.new.items ≡ entries.old.items) }
+    ensures memory { OnErr result (is_filled_at entries.old.items place ≡ false) }
 {
     match entries.get_mut(place) {
         None => Ok(None),

@@ -10,9 +10,9 @@ use exec_msg::Memory;
 use std::alloc::Global;
 use std::thread::{Threads, join};
 
-// Runs all callbacks of the lanes by so many workers at most, which claim lanes on a board and run at most `quantum` callbacks at a
-// claim. There are no more passes than lanes, since a pass beyond the last lane could do nothing. What a worker was refused the
-// caller, which sweeps when all workers have ended, is refused again.
+// Runs all callbacks of the lanes by so many workers at most, which claim lanes on a board and run at most `quantum` callbacks
+// at a claim. There are no more passes than lanes, since a pass beyond the last lane could do nothing. What a worker was refused
+// the caller, which sweeps when all workers have ended, is refused again.
 pub(crate) fn claim_lanes<R: Threads + Sync, G: Gate>(
     rt: &R,
     alloc: Global,

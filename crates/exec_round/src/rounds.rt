@@ -50,11 +50,11 @@ pub fn round_forked<L: Lines, R: Threads + Sync, G: Gate>(
     Ok(world)
 }
 
-/// Runs a whole round by so many workers at most. Its callbacks are cut into lanes on a board, and each worker, in a thread of its
-/// own where one can be made, claims a lane that is open, runs at most `quantum` callbacks of it and releases it, until it came
-/// round without a claim. What the callbacks did is committed when the last of them has run. One worker alone, and a round whose
-/// callbacks take less time than workers to start, if nobody watches, take no thread. Where memory is refused, the world is given
-/// up.
+/// Runs a whole round by so many workers at most. Its callbacks are cut into lanes on a board, and each worker, in a thread of
+/// its own where one can be made, claims a lane that is open, runs at most `quantum` callbacks of it and releases it, until it
+/// came round without a claim. What the callbacks did is committed when the last of them has run. One worker alone, and a round
+/// whose callbacks take less time than workers to start, if nobody watches, take no thread. Where memory is refused, the world is
+/// given up.
 ///
 /// # Errors
 /// [`Memory`] where a growth or a clone was refused. All threads have ended then.

@@ -15,7 +15,8 @@ const CUT: u64 = 400;
 const START: u64 = 50_000;
 
 // By how many workers, of so many at most, callbacks are run. None where the calling thread runs them where they stand, since
-// nobody watches and it takes no more time, as far as the lengths of their scripts tell; more workers than processors gain nothing.
+// nobody watches and it takes no more time, as far as the lengths of their scripts tell; more workers than processors gain
+// nothing.
 pub(crate) fn workers_for<R: Threads, G: Gate>(
     rt: &R,
     list: &[Ready],

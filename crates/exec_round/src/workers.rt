@@ -1,5 +1,5 @@
 //! How the lanes of a round are run by workers.
-ghost use Rattle.std.specs.Prelude.{◌≡◌, ◌<◌, [], length, map, vec_len, slice_index_or, option_to_list, IfOk};
+ghost use Rattle.std.specs.Prelude.{◌≡◌, ◌<◌, [], map, vec_len, slice_index_or, option_to_list, IfOk};
 ghost use Rattle.exec_lane.specs.Lane.{AreFinished};
 ghost use Rattle.exec_round.specs.inner.Running.{are_done, opening_of, openings_of};
 ghost use Rattle.exec_round.specs.inner.Shares.{dealt, last_of, put_back, taken_from};

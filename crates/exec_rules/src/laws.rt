@@ -8,7 +8,7 @@ ghost use Rattle.exec_rules.specs.Calls.{IsHomeFor, after_finish, after_round, w
 ghost use Rattle.exec_rules.specs.Ready.{is_callback_of};
 ghost use Rattle.exec_rules.specs.Ready.{ready_list};
 ghost use Rattle.exec_rules.specs.Run.{all_apart, all_home, apart, brought_home, commit, commit_all, effects_of, run};
-ghost use Rattle.exec_rules.specs.Transcript.{at_snapshot, first_world, lines_of, round, rounds, run_all};
+ghost use Rattle.exec_rules.specs.Transcript.{at_snapshot, first_world, lines_of, rounds, run_all};
 ghost use Rattle.exec_rules.specs.World.{WorldState};
 ghost use Rattle.exec_rules.specs.declared.ready.Ready.{Ready};
 

@@ -1,11 +1,11 @@
 //! Laws of scripts. Each holds for all scripts, from every state, and for effects that go anywhere: `S` is what they
 //! are put into, and `give` puts one there.
 
-ghost use Rattle.std.specs.Prelude.{◌≡◌, ◌≢◌, ℕ, ◌+◌, ◌<◌, ◌≤◌, ℤ, List, [], length, Bool, true, Option, None, Result, Ok, IfSome};
+ghost use Rattle.std.specs.Prelude.{◌≡◌, ◌≢◌, ℕ, ◌+◌, ◌<◌, ◌≤◌, ℤ, List, [], length, true, Option, None, Ok, IfSome};
 ghost use Rattle.std.specs.List.{All, Any};
 ghost use Rattle.exec_script.specs.LawWords.{goes_on_at, ended_by, IsEnding, MayGive, state_with_variables, give_each, given_later};
 ghost use Rattle.exec_script.specs.Legality.{legality_of};
-ghost use Rattle.exec_script.specs.Script.{CallInput, ScriptState, call_of, called, listed, resumed};
+ghost use Rattle.exec_script.specs.Script.{CallInput, call_of, called, listed, resumed};
 ghost use Rattle.exec_script.specs.declared.effects.Effect.{Effect};
 ghost use Rattle.exec_script.specs.declared.instr.Instr.{Instr};
 ghost use Rattle.exec_script.specs.declared.place.Place.{Place};

@@ -18,7 +18,7 @@ impl Numbered for Server {
 }
 
 impl ByNumber<Server> {
-    ghost use Rattle.std.specs.Prelude.{◌≡◌, ◌⊎◌, [], true, None, Some, map, find, slice_get, IfNone, IfOk, IfSome, OnErr, OnOk};
+    ghost use Rattle.std.specs.Prelude.{◌≡◌, ◌⊎◌, true, None, Some, map, find, slice_get, IfNone, IfOk, IfSome, OnErr, OnOk};
     ghost use Rattle.std.specs.List.{flat_map};
     ghost use Rattle.std.specs.Option.{option_map, option_map_or};
     ghost use Rattle.exec_goal.specs.Calls.{askers_in, end_state};

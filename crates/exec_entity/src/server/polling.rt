@@ -3,10 +3,8 @@ ghost use Rattle.std.specs.Prelude.{◌≡◌, [], false, Some, IfOk, OnErr, OnO
 ghost use Rattle.std.specs.Option.{option_map, option_map_or};
 ghost use Rattle.exec_script.specs.declared.effects.Close.TheVariants as close;
 ghost use Rattle.exec_task.specs.Task.{is_awake};
-ghost use Rattle.exec_rules.specs.Callback.{close_of_answer};
 ghost use Rattle.exec_rules.specs.Ready.{turn_at};
 ghost use Rattle.exec_rules.specs.World.{work_of};
-ghost use Rattle.exec_rules.specs.Run.{work_after};
 
 use super::{Held, Server};
 use exec_goal::GoalInfo;

@@ -1,6 +1,6 @@
 //! What a graph declares, by name.
 ghost use Rattle.std.specs.Bool.{then_some};
-ghost use Rattle.std.specs.Prelude.{◌≡◌, ◌&&◌, ◌==◌, length, map, if◌then◌else◌, Some, None, ◌<◌, IfOk, IfSome};
+ghost use Rattle.std.specs.Prelude.{◌≡◌, ◌&&◌, ◌==◌, length, map, Some, None, ◌<◌, IfOk, IfSome};
 ghost use Rattle.std.specs.List.{list_all};
 ghost use Rattle.std.specs.Option.{option_map};
 ghost use Rattle.exec_graph.specs.inner.Directory.{names_from, node_groups_from, topic_number, placed_named, entity_number, number_in, group_in, referred, linked_in, directory_of};

@@ -1,4 +1,5 @@
--- Worked examples: the four forms of a cancel request, two clients of one server, an identifier that is accepted anew, and arithmetic.
+-- Worked examples: the four forms of a cancel request, two clients of one server, an identifier that is accepted anew, and
+-- arithmetic.
 use Rattle.std.specs.Prelude.{pos, negsuc, List, [], ◌∷◌, codes, true, None, Some}
 use Rattle.exec_plan.specs.Graph.{in_group}
 use Rattle.exec_plan.specs.declared.entity.EntityOf.TheVariants.{Timer, Server, ActionClient}

@@ -118,7 +118,8 @@ wrapped_lines =
     ∷ line.End 1
     ∷ []
 
--- a timer publishes three values to a subscription whose queue keeps two: entity 0 is the topic `x`, 1 the timer, 2 the subscription
+-- a timer publishes three values to a subscription whose queue keeps two: entity 0 is the topic `x`, 1 the timer, 2 the
+-- subscription
 abbrev pub full_queue : PlanData
 full_queue = record {
   graph = record {

@@ -6,6 +6,7 @@ ghost use Rattle.exec_rules.specs.World.{Handler, queue_after};
 ghost use Rattle.exec_rules.specs.inner.Homes.{AreHomes, handlers_of};
 ghost use Rattle.std.specs.Option.{option_map_or};
 ghost use Rattle.exec_rules.specs.inner.Listing.{listed_behind};
+ghost use Rattle.exec_queue.specs.inner.Queues.{has_item};
 
 use super::number;
 use exec_msg::{Items, Kind, LazyQueue, Memory, Moment};
@@ -35,6 +36,7 @@ impl Entry {
         ensures ok { OnOk result (self.new ≡ queue_after item self.old) }
         ensures lost { IfOk result (λ lost. lost ≡ slice_get (displaced self.old.depth item self.old.items) 0) }
         ensures err { OnErr result (self.new ≡ self.old) }
+        ensures memory { OnErr result (has_item self.old ≡ false) }
     {
         let lost = self.queue.send(item)?;
         Ok(lost)

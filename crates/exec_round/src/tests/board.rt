@@ -82,7 +82,8 @@ impl Steps {
     }
 }
 
-// Claims the lane, runs three callbacks of it once the other thread was refused it, and is refused it once the other ran the rest.
+// Claims the lane, runs three callbacks of it once the other thread was refused it, and is refused it once the other ran the
+// rest.
 fn lead(board: &Board, mut pass: Pass, steps: &Steps) -> (Pass, bool)
     requires board { pass.board ≡ board.now }
     requires lane { 0 < board.now.words }

@@ -10,7 +10,8 @@ use exec_msg::Memory;
 use exec_world::World;
 use std::alloc::{AllocError, Global};
 
-// A document in whose first round there is a lane of each length, in their order: one mutually exclusive group with as many timers.
+// A document in whose first round there is a lane of each length, in their order: one mutually exclusive group with as many
+// timers.
 fn document_of(alloc: Global, lengths: &[usize]) -> Result<String, AllocError> {
     let mut text = String::from_str(alloc, r#"{"version":1,"nodes":[{"name":"n","groups":["#)?;
     push_groups(&mut text, lengths.len())?;

@@ -118,8 +118,8 @@ fn has_written(world: &World, lines: &[Line]) -> bool {
     !world.is_failed() && world.transcript() == lines
 }
 
-// Cuts the first round into lanes, runs the next callback of each of these and commits what ran. Tells whether the lanes had these
-// lengths, the gate was told these positions, both callbacks came home in ready order, and these lines were written.
+// Cuts the first round into lanes, runs the next callback of each of these and commits what ran. Tells whether the lanes had
+// these lengths, the gate was told these positions, both callbacks came home in ready order, and these lines were written.
 fn run_lanes(
     alloc: Global,
     world: &mut World,

@@ -1,5 +1,5 @@
 //! How a ready callback runs.
-ghost use Rattle.std.specs.Prelude.{◌≡◌, [], slice_index_or, slice_set, IfOk, OnOk};
+ghost use Rattle.std.specs.Prelude.{◌≡◌, [], slice_index_or, slice_set, OnOk};
 ghost use Rattle.exec_script.specs.Script.{listed};
 ghost use Rattle.exec_script.specs.Zeros.{zeros};
 ghost use Rattle.exec_rules.specs.Callback.{callback};
@@ -17,7 +17,7 @@ use futures::task::Context;
 use std::alloc::Global;
 
 impl<L: Lines> State<L> {
-    ghost use Rattle.std.specs.Prelude.{◌≡◌, IfOk, OnOk};
+    ghost use Rattle.std.specs.Prelude.{◌≡◌, OnOk};
     ghost use Rattle.exec_rules.specs.Run.{apart, brought_home, commit, run};
 
     // Runs a ready callback; a goal is polled in a context that the caller has made. The list has room for effects, which is used

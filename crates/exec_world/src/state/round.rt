@@ -18,7 +18,7 @@ impl<L: Lines> State<L> {
     ghost use Rattle.std.specs.Prelude.{◌≡◌, OnOk};
     ghost use Rattle.exec_msg.specs.declared.line.Line.TheVariants as line;
     ghost use Rattle.exec_rules.specs.Ready.{ready_list, take_inputs};
-    ghost use Rattle.exec_rules.specs.Transcript.{closing_lines, expire, feed, feed_one, finish, run_all, snapshot_and_run};
+    ghost use Rattle.exec_rules.specs.Transcript.{expire, feed, feed_one, finish, run_all, snapshot_and_run};
     ghost use Rattle.exec_rules.specs.World.{add_line};
     ghost use Rattle.exec_rules.specs.inner.Homes.{AreHomes, queue_handlers, timer_handlers};
 

@@ -1,12 +1,12 @@
-use Rattle.std.proofs.Common.{length, [], Some, IfSome, ◌≤◌, slice_get, ap, subst, sym, ◌∙◌, true≢false}
+use Rattle.std.proofs.Common.{rules, ◌≡◌, false, find, length, [], Some, IfSome, ◌≤◌, slice_get, ap, subst, sym, ◌∙◌, true≢false}
 use Rattle.std.specs.Option.{option_map_or}
 use Rattle.exec_msg.specs.KeepLast.{displaced}
 use Rattle.exec_msg.proofs.FirstPlaces.{find-nowhere, find-first_place, change_first-nowhere, change_first-first_place}
-use Rattle.exec_queue.proofs.FoundQueues.{looked_up, finds_after, covers_after, lost_is}
+use Rattle.exec_queue.proofs.FoundQueues.{looked_up, finds_after, covers_after, found_empty, lost_is}
 use Rattle.exec_rules.specs.Item.{taker_of}
 use Rattle.exec_rules.specs.World.{is_queue, queue_after}
 use Rattle.exec_msg.specs.Places.{change_at}
-use Rattle.exec_queue.specs.inner.Queues.{CoversFilled}
+use Rattle.exec_queue.specs.inner.Queues.{CoversFilled, has_item}
 use Rattle.exec_queue.proofs.queue.Queues.send.Goals as goal
 
 pub returns-in_default-clause-ok : goal.returns-in_default-clause-ok
@@ -41,3 +41,17 @@ returns-clause-lost c =
     (subst (λ queues. IfSome (slice_get queues c.in-Some.place) (λ queue. length queue.items ≤ queue.depth)) c.deref.ensures.value c.in_ok-note_filled.ensures.bound) c.in_ok-lost.ensures.lost
     ∙ ap (λ found. option_map_or (λ queue. displaced queue.depth c.args.item queue.items) found [])
     (ap (λ queues. slice_get queues c.in-Some.place) c.self.view_is ∙ sym (find-first_place (is_queue c.args.entity (taker_of c.args.item)) c.args.self.now c.in-Some.place at))
+
+pub returns-in_err-note_filled-clause-memory : goal.returns-in_err-note_filled-clause-memory
+returns-in_err-note_filled-clause-memory c =
+    let at = looked_up c.self.inside.places c.self.inside.entries.items c.args.self.now c.self.invariant.0 c.self.view_is c.args.entity c.kind.result (taker_of c.args.item) c.kind.ensures c.slot.result c.slot.ensures.value (Some c.in-Some.place) c.in-Some.ensures in
+    let empty : option_map_or has_item (find (is_queue c.args.entity (taker_of c.args.item)) c.args.self.now) false ≡ false =
+    found_empty (is_queue c.args.entity (taker_of c.args.item)) c.args.self.now _ c.in-Some.place at (c.deref.ensures.value ∙ c.self.view_is) c.in_err-note_filled.ensures.memory in
+    search rules
+
+pub returns-in_err-lost-clause-memory : goal.returns-in_err-lost-clause-memory
+returns-in_err-lost-clause-memory c =
+    let at = looked_up c.self.inside.places c.self.inside.entries.items c.args.self.now c.self.invariant.0 c.self.view_is c.args.entity c.kind.result (taker_of c.args.item) c.kind.ensures c.slot.result c.slot.ensures.value (Some c.in-Some.place) c.in-Some.ensures in
+    let empty : option_map_or has_item (find (is_queue c.args.entity (taker_of c.args.item)) c.args.self.now) false ≡ false =
+    found_empty (is_queue c.args.entity (taker_of c.args.item)) c.args.self.now _ c.in-Some.place at c.self.view_is c.in_err-lost.ensures.memory in
+    search rules

@@ -1,0 +1,8 @@
+use Rattle.std.proofs.Common.{rules, ◌≡◌, ◌==◌, ◌∙◌, false, length, not, ap, sym}
+use Rattle.exec_queue.specs.inner.Queues.{has_item}
+use Rattle.exec_queue.proofs.queue.entry.Entry.send.Goals as goal
+
+pub returns-in_err-lost-clause-memory : goal.returns-in_err-lost-clause-memory
+returns-in_err-lost-clause-memory c =
+    let empty : has_item c.args.self.now ≡ false = sym (ap has_item c.self.view_is) ∙ ap (λ items. not (length items == 0)) c.in_err-lost.ensures.memory in
+    search rules
