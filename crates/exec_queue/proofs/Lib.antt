@@ -1,3 +1,4 @@
 pub mod Filled
 pub mod FoundQueues
 mod PlainFronts
+mod Parts

@@ -1,6 +1,6 @@
 //! The queues of a plan's entities in ready order, found by entity and kind. A snapshot walks over those that have an item,
 //! and over no other.
-ghost use Rattle.std.specs.Prelude.{◌≡◌, ◌&&◌, ℕ, List, ◌<◌, ◌≤◌, ◌^◌, [], ◌∷◌, ◌++◌, false, true, None, Some, length, map, find, slice_get, vec_capacity, OnOk, OnErr, IfOk, IfSome};
+ghost use Rattle.std.specs.Prelude.{◌≡◌, ◌&&◌, ◌||◌, ℕ, List, ◌<◌, ◌≤◌, ◌^◌, [], ◌∷◌, ◌++◌, false, true, not, None, Some, length, map, find, slice_get, vec_capacity, OnOk, OnErr, IfOk, IfSome};
 ghost use Rattle.std.specs.List.{Contains, filter};
 ghost use Rattle.std.specs.List.Sorted.{IsPermutation, IsSorted, IsStrictlyIncreasing};
 ghost use Rattle.std.specs.Option.{option_copied, option_map, option_map_or, option_to_list};
@@ -10,14 +10,14 @@ ghost use Rattle.exec_msg.specs.Kind.{ready_number};
 ghost use Rattle.exec_msg.specs.Lists.{change_first};
 ghost use Rattle.exec_msg.specs.declared.limits.TheConstants.{DEPTH};
 ghost use Rattle.exec_rules.specs.Item.{taker_of};
-ghost use Rattle.exec_rules.specs.Ready.{item_ready, queue_taken};
+ghost use Rattle.exec_rules.specs.Ready.{is_before_polls, item_ready, queue_taken};
 ghost use Rattle.exec_rules.specs.World.{Handler, Queue, is_queue, queue_after, lost_from};
 ghost use Rattle.exec_rules.specs.declared.homes.Home.{Home as HomeAt};
 ghost use Rattle.exec_rules.specs.inner.Homes.{AreHomes, IsHome, handlers_of};
 ghost use Rattle.exec_rules.specs.inner.Listing.{listed_behind};
 ghost use Rattle.exec_msg.specs.Places.{change_at};
 ghost use Rattle.exec_rules.specs.inner.Places.{change_each, places_where};
-ghost use Rattle.exec_queue.specs.inner.Queues.{slot_of, CoversFilled, has_item, is_filled_at, is_in_part, is_in_part_at};
+ghost use Rattle.exec_queue.specs.inner.Queues.{slot_of, AreBeforePolls, CoversFilled, has_item, is_filled_at, is_in_part, is_in_part_at};
 
 mod entry;
 
@@ -39,19 +39,21 @@ pub struct Queues {
     filled: Vec<usize>,
     // Whether these are the places of the queues that have an item, in ascending order.
     settled: bool,
+    // Whether there is a queue of a kind behind polls.
+    has_late: bool,
 }
 
 impl Model for Queues {
-    ghost use Rattle.std.specs.Prelude.{◌≡◌, List, true};
+    ghost use Rattle.std.specs.Prelude.{◌≡◌, List, true, false};
     ghost use Rattle.exec_rules.specs.World.{Queue};
     ghost use Rattle.exec_rules.specs.inner.Places.{places_where};
-    ghost use Rattle.exec_queue.specs.inner.Queues.{FindsQueues, CoversFilled, has_item};
+    ghost use Rattle.exec_queue.specs.inner.Queues.{FindsQueues, CoversFilled, AreBeforePolls, has_item};
 
     ghost Value = { List Queue };
 
     ghost view = { λ queues. queues.entries.items };
 
-    ghost invariant = { λ queues. FindsQueues queues.places queues.entries.items × CoversFilled queues.filled.items queues.entries.items × (queues.settled ≡ true → queues.filled.items ≡ places_where has_item queues.entries.items) };
+    ghost invariant = { λ queues. FindsQueues queues.places queues.entries.items × CoversFilled queues.filled.items queues.entries.items × (queues.settled ≡ true → queues.filled.items ≡ places_where has_item queues.entries.items) × (queues.has_late ≡ false → AreBeforePolls queues.entries.items) };
 }
 
 impl Queues {
@@ -65,6 +67,7 @@ impl Queues {
             places: PlaceTable::new(alloc),
             filled: Vec::new(alloc),
             settled: false,
+            has_late: false,
         }
     }
 
@@ -82,6 +85,7 @@ impl Queues {
         let place = count(&self.entries);
         let queue = LazyQueue::new(self.alloc, depth);
         self.settled = false;
+        self.has_late = has_late_with(self.has_late, kind);
         self.entries.push(Entry {
             handler,
             kind,
@@ -125,7 +129,7 @@ impl Queues {
         settle(&mut self.settled, &mut self.filled, &self.entries);
         places.clear();
         places.extend_from_slice(&self.filled)?;
-        keep_part(places, &self.entries, before_polls);
+        leave_part(places, &self.entries, self.has_late, before_polls);
         Ok(())
     }
 
@@ -289,6 +293,20 @@ fn number(kind: Kind) -> usize
     kind as usize + 1
 }
 
+// Whether callbacks of a kind run before polls, or are these.
+fn is_before_polls(kind: Kind) -> bool
+    ensures { result ≡ is_before_polls kind }
+{
+    number(kind) <= number(Kind::Poll)
+}
+
+// Whether there is a queue of a kind behind polls once there is one of this kind.
+fn has_late_with(has_late: bool, kind: Kind) -> bool
+    ensures { result ≡ (has_late || not (is_before_polls kind)) }
+{
+    has_late || !is_before_polls(kind)
+}
+
 fn count(entries: &[Entry]) -> usize
     ensures { result ≡ length entries.now }
 {
@@ -384,6 +402,20 @@ fn take_each(entries: &mut Vec<Entry>, places: &[usize])
 {
     for &place in places {
         take_at(entries, place);
+    }
+}
+
+// Leaves the places of the queues of one part that have an item. Where there is no queue of a kind behind polls it looks at
+// none.
+fn leave_part(places: &mut Vec<usize>, entries: &[Entry], has_late: bool, before_polls: bool)
+    requires filled { places.old.items ≡ places_where has_item entries.now }
+    requires late { has_late ≡ false → AreBeforePolls entries.now }
+    ensures { places.new.items ≡ places_where (λ queue. has_item queue && is_in_part before_polls queue) entries.now }
+{
+    if has_late {
+        keep_part(places, entries, before_polls);
+    } else if !before_polls {
+        places.clear();
     }
 }
 

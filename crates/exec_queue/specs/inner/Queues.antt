@@ -29,6 +29,10 @@ is_in_part before queue = if before then is_before_polls queue.kind else not (is
 abbrev pub is_in_part_at : Bool → List Queue → ℕ → Bool
 is_in_part_at before queues place = option_map_or (is_in_part before) (slice_get queues place) false
 
+-- no queue is of a kind behind polls
+abbrev pub AreBeforePolls : List Queue → Type 0
+AreBeforePolls queues = (place : ℕ) → is_in_part_at false queues place ≡ false
+
 -- a look-up by the number gives the place of the first queue of that entity and kind
 abbrev pub FindsQueues : List (Option ℕ) → List Queue → Type 0
 FindsQueues places queues = (entity : EntityNo) (kind : Kind) → place_under (slot_of entity kind) places ≡ first_place (is_queue entity kind) queues

@@ -8,7 +8,7 @@ ghost use Rattle.std.specs.Option.{option_map_or};
 ghost use Rattle.exec_rules.specs.inner.Listing.{listed_behind};
 ghost use Rattle.exec_queue.specs.inner.Queues.{has_item};
 
-use super::number;
+use super::is_before_polls;
 use exec_msg::{Items, Kind, LazyQueue, Memory, Moment};
 use exec_plan::Script;
 use exec_rules::{Cause, Handler, Home, Item, ReadyList};
@@ -115,7 +115,7 @@ impl Entry {
     pub(super) fn is_before_polls(&self) -> bool
         ensures { result ≡ is_before_polls self.now.kind }
     {
-        number(self.kind) <= number(Kind::Poll)
+        is_before_polls(self.kind)
     }
 }
 

@@ -1,12 +1,13 @@
-use Rattle.std.proofs.Common.{rules, ◌≡◌, false, find, length, [], Some, IfSome, ◌≤◌, slice_get, ap, subst, sym, ◌∙◌, true≢false}
+use Rattle.std.proofs.Common.{rules, ◌≡◌, false, find, length, [], Some, IfSome, ◌≤◌, slice_get, refl, ap, subst, sym, ◌∙◌, true≢false}
 use Rattle.std.specs.Option.{option_map_or}
 use Rattle.exec_msg.specs.KeepLast.{displaced}
 use Rattle.exec_msg.proofs.FirstPlaces.{find-nowhere, find-first_place, change_first-nowhere, change_first-first_place}
 use Rattle.exec_queue.proofs.FoundQueues.{looked_up, finds_after, covers_after, found_empty, lost_is}
+use Rattle.exec_queue.proofs.Parts.{early_changed}
 use Rattle.exec_rules.specs.Item.{taker_of}
 use Rattle.exec_rules.specs.World.{is_queue, queue_after}
 use Rattle.exec_msg.specs.Places.{change_at}
-use Rattle.exec_queue.specs.inner.Queues.{CoversFilled, has_item}
+use Rattle.exec_queue.specs.inner.Queues.{AreBeforePolls, CoversFilled, has_item}
 use Rattle.exec_queue.proofs.queue.Queues.send.Goals as goal
 
 pub returns-in_default-clause-ok : goal.returns-in_default-clause-ok
@@ -25,6 +26,7 @@ invariant_of-self-2 c = (
   covers_after c.self.inside.filled.items c.note_filled.new.filled.items c.self.inside.entries.items c.send_at.new.entries.items c.in-Some.place (queue_after c.args.item) c.self.invariant.1 c.in_ok-note_filled.ensures.keeps
       (c.in_ok-note_filled.ensures.has (subst (CoversFilled c.self.inside.filled.items) (sym c.deref.ensures.value) c.self.invariant.1)) c.in_ok-lost.ensures.ok,
   λ settled. absurd (true≢false (sym settled)),
+  λ none. subst AreBeforePolls (sym c.in_ok-lost.ensures.ok) (early_changed (queue_after c.args.item) (λ queue. refl) c.in-Some.place c.self.inside.entries.items (c.self.invariant.3 none)),
 )
 
 pub returns-clause-ok : goal.returns-clause-ok

@@ -1,8 +1,9 @@
 use Rattle.std.proofs.Common.{◌≡◌, map, ap, subst, sym, ◌∙◌, filter, true≢false}
 use Rattle.exec_queue.proofs.Filled.{all_taken, covers_taken, filled_covers, finds_taken}
+use Rattle.exec_queue.proofs.Parts.{early_taken}
 use Rattle.exec_rules.specs.Ready.{queue_taken}
 use Rattle.exec_rules.specs.inner.Places.{change_each, places_where}
-use Rattle.exec_queue.specs.inner.Queues.{has_item, is_filled_at, CoversFilled}
+use Rattle.exec_queue.specs.inner.Queues.{has_item, is_filled_at, AreBeforePolls, CoversFilled}
 use Rattle.exec_queue.proofs.queue.Queues.take_first.Goals as goal
 
 pub invariant_of-self : goal.invariant_of-self
@@ -15,6 +16,7 @@ invariant_of-self c =
       filled_covers c.take_each.new.entries.items c.settle.new.places.items c.keep_filled.new.places.items kept
           (covers_taken c.settle.new.places.items c.self.inside.entries.items c.take_each.new.entries.items (subst (CoversFilled c.settle.new.places.items) c.deref.ensures.value (c.settle.ensures.covers covered)) taken),
       λ settled. absurd (true≢false (sym settled)),
+      λ none. subst AreBeforePolls (sym taken) (early_taken c.self.inside.entries.items (c.self.invariant.3 none)),
     )
 
 pub returns : goal.returns
