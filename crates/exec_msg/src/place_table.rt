@@ -41,11 +41,10 @@ impl PlaceTable {
         }
     }
 
-    /// Makes room for a number. Places and room stay as they are, also where memory is refused. Where there is room already
-    /// none is taken.
+    /// Makes room for a number. Places and room stay as they are, also where memory is refused.
     ///
     /// # Errors
-    /// [`Memory`] where the growth was refused.
+    /// [`Memory`] where the growth was refused, which can't be where there is room already.
     pub fn reserve(&mut self, number: usize) -> Result<(), Memory>
         requires { number < 2 ^ 32 }
         ensures room { OnOk result (number < length self.new) }
