@@ -55,7 +55,12 @@ impl<T> KeepLast<T> {
         ensures taken { self.new ≡ record self.old { items = after_taking self.old.items } }
         ensures oldest { result ≡ slice_get self.old.items 0 }
     {
-        self.ring.pop_front()
+        // An only item taken from the back leaves the ring's start where it is, so that the same cells are used again.
+        if self.ring.len() == 1 {
+            self.ring.pop_back()
+        } else {
+            self.ring.pop_front()
+        }
     }
 
     /// The oldest item, where there is one.

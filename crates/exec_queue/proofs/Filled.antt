@@ -1,16 +1,19 @@
 -- The places of the queues that have an item, in ascending order.
-use Rattle.std.proofs.Common.{◌≡◌, ℕ, zero, suc, ◌+◌, ◌-◌, ◌<◌, ◌≤◌, ◌&&◌, ◌==◌, ◌⊎◌, inl, inr, ⊎_elim, Bool, true, false, not, cond, if◌then◌else◌, length, map, filter, drop, get_or, List, [], ◌∷◌, ◌++◌, Option, Some, slice_get, refl, sym, ap, subst, ◌∙◌, arith}
+use Rattle.std.proofs.Common.{◌≡◌, ℕ, zero, suc, ◌+◌, ◌-◌, ◌<◌, ◌≤◌, ◌&&◌, ◌==◌, ◌⊎◌, inl, inr, ⊎_elim, Bool, true, false, not, cond, if◌then◌else◌, length, map, filter, drop, get_or, List, [], ◌∷◌, ◌++◌, Option, Some, slice_get, slice_set, refl, sym, ap, subst, ◌∙◌, length-drop, arith}
 use Rattle.std.specs.Bool.{⊤}
 use Rattle.std.specs.List.{Contains, flat_map}
 use Rattle.std.specs.List.Sorted.{IsStrictlyIncreasing}
 use Rattle.std.specs.Option.{option_map, option_map_or}
 use Rattle.std.proofs.lemmas.Bool.{cases_lt, eqb-true}
+use Rattle.std.proofs.lemmas.List.{length_push}
+use Rattle.std.proofs.lemmas.List.Elements.{All-contains, filter_passes}
+use Rattle.exec_msg.specs.KeepLast.{excess, sent}
 use Rattle.exec_rules.specs.Ready.{queue_taken}
 use Rattle.exec_rules.specs.World.{Queue, is_queue}
 use Rattle.exec_rules.specs.declared.item.Item.{Item}
 use Rattle.exec_msg.specs.Places.{first_place, change_at}
 use Rattle.exec_rules.specs.inner.Places.{places_from, places_where, change_each}
-use Rattle.exec_queue.specs.inner.Queues.{has_item, is_filled_at, is_in_part, is_in_part_at, FindsQueues, CoversFilled}
+use Rattle.exec_queue.specs.inner.Queues.{has_item, is_filled_at, is_in_part, is_in_part_at, FindsQueues, CoversFilled, AreFilled}
 
 -- places that rise from one on
 abbrev pub Rising : ℕ → List ℕ → Type 0
@@ -88,13 +91,36 @@ module _ {A : Type 0} (test : A → Bool) (g : ℕ → Bool) where
       higher_than : n < r → suc n ≤ r
       higher_than higher = omega arith
 
--- what is left of sorted places that cover the filled queues
-pub settled : (queues : List Queue) (sorted : List ℕ) → IsStrictlyIncreasing sorted → CoversFilled sorted queues
+-- what is left of rising places that cover the filled queues
+rising_left : (queues : List Queue) (sorted : List ℕ) → IsStrictlyIncreasing sorted → CoversFilled sorted queues
     → filter (λ place. is_filled_at queues place) sorted ≡ places_where has_item queues
-settled queues sorted rises covers =
+rising_left queues sorted rises covers =
     kept_is has_item (λ place. is_filled_at queues place) 0 queues sorted (rising_of 0 sorted (low_zero sorted) rises)
     (λ k. let e : 0 + k ≡ k = omega arith in ap (is_filled_at queues) e)
     (λ k is. let held = covers k is in let e : k ≡ 0 + k = omega arith in subst (Holds sorted) e (holds_of sorted k held.0 held.1 held.2))
+
+all_kept : (g : ℕ → Bool) (xs : List ℕ) → ((x : ℕ) → Contains xs x → g x ≡ true) → filter g xs ≡ xs
+all_kept g [] all = refl
+all_kept g (x ∷ xs) all =
+    ap (λ b. cond b (x ∷ filter g xs) (filter g xs)) (all x (0, omega arith, refl))
+    ∙ ap (λ ys. x ∷ ys) (all_kept g xs (λ y held. let within = held.1 in all y (suc held.0, omega arith, held.2)))
+
+-- ---- places that were put in order
+
+module _ (queues : List Queue) (places sorted : List ℕ) where
+  pub covers_settled : ((place : ℕ) → Contains places place → Contains sorted place) → CoversFilled places queues → CoversFilled sorted queues
+  covers_settled keeps covers = λ place is. keeps place (covers place is)
+
+  pub filled_settled : ((place : ℕ) → Contains sorted place → Contains places place) → AreFilled places queues → AreFilled sorted queues
+  filled_settled only filled = λ place held. filled place (only place held)
+
+  -- they are those of the queues that have an item
+  pub settled : IsStrictlyIncreasing sorted → ((place : ℕ) → Contains places place → Contains sorted place) → ((place : ℕ) → Contains sorted place → Contains places place)
+      → CoversFilled places queues → AreFilled places queues → sorted ≡ places_where has_item queues
+  settled rises keeps only covers filled =
+      sym (all_kept (λ place. is_filled_at queues place) sorted (filled_settled only filled)) ∙ rising_left queues sorted rises (covers_settled keeps covers)
+
+-- ---- places of which those of empty queues were left out
 
 contains_first : (b : Bool) (x place : ℕ) (ys : List ℕ) → b ≡ true → x ≡ place → Contains (cond b (x ∷ ys) ys) place
 contains_first true x place ys is same = (0, omega arith, same)
@@ -109,20 +135,37 @@ contains_kept g [] place k within is passes = absurd (omega arith)
 contains_kept g (x ∷ xs) place zero within is passes = contains_first (g x) x place (filter g xs) (ap g is ∙ passes) is
 contains_kept g (x ∷ xs) place (suc k) within is passes = contains_more (g x) x place (filter g xs) (contains_kept g xs place k (omega arith) is passes)
 
-module _ (queues : List Queue) (places sorted new : List ℕ) (rises : IsStrictlyIncreasing sorted) (keeps : (place : ℕ) → Contains places place → Contains sorted place) (is : new ≡ filter (λ place. is_filled_at queues place) sorted) where
-  pub settled_value : CoversFilled places queues → new ≡ places_where has_item queues
-  settled_value covers = is ∙ settled queues sorted rises (λ place filled. keeps place (covers place filled))
-
-  pub settled_covers : CoversFilled places queues → CoversFilled new queues
-  settled_covers covers = λ place filled.
-      let held = keeps place (covers place filled) in
-      subst (λ ps. Contains ps place) (sym is) (contains_kept (λ place. is_filled_at queues place) sorted place held.0 held.1 held.2 filled)
-
 -- places that cover the filled queues do so without those of empty ones
 pub filled_covers : (queues : List Queue) (places new : List ℕ) → new ≡ filter (λ place. is_filled_at queues place) places → CoversFilled places queues → CoversFilled new queues
 filled_covers queues places new is covers = λ place filled.
     let held = covers place filled in
     subst (λ ps. Contains ps place) (sym is) (contains_kept (λ place. is_filled_at queues place) places place held.0 held.1 held.2 filled)
+
+-- each of those that are left is that of a queue with an item
+pub filled_left : (queues : List Queue) (places new : List ℕ) → new ≡ filter (λ place. is_filled_at queues place) places → AreFilled new queues
+filled_left queues places new is = λ place held.
+    All-contains (λ other. is_filled_at queues other ≡ true) (filter (λ other. is_filled_at queues other) places) place
+    (filter_passes (λ other. is_filled_at queues other) places) (subst (λ ps. Contains ps place) is held)
+
+-- ---- a queue that an item is sent to
+
+not_by : (b : Bool) → (b ≡ true → ⊥) → not b ≡ true
+not_by true differs = absurd (differs refl)
+not_by false differs = refl
+
+-- it has an item then
+pub has_sent : (depth : ℕ) (item : Item) (items : List Item) → 1 ≤ depth → not (length (sent depth item items) == 0) ≡ true
+has_sent depth item items deep =
+    let behind = items ++ item ∷ [] in
+    let long = length_push items item in
+    let left = length-drop (excess depth behind) behind in
+    not_by (length (sent depth item items) == 0) (λ none. let e = eqb-true (length (sent depth item items)) 0 none in omega (arith, long, left))
+
+-- and the place at which it is written is that of one
+pub filled_written : (queues : List Queue) (place : ℕ) (after : Queue) → has_item after ≡ true → place < length queues → is_filled_at (slice_set queues place after) place ≡ true
+filled_written [] place after has within = absurd (omega arith)
+filled_written (queue ∷ queues) zero after has within = has
+filled_written (queue ∷ queues) (suc place) after has within = filled_written queues place after has (omega arith)
 
 -- ---- what is changed at each place
 
@@ -157,10 +200,6 @@ nothing_taken (item ∷ items) is = let none = eqb-true (length (item ∷ items)
 -- each queue loses its first item
 pub all_taken : (queues : List Queue) → change_each (places_where has_item queues) queue_taken queues ≡ map queue_taken queues
 all_taken queues = all_changed has_item queue_taken (λ queue is. ap (λ items. record queue { items = items }) (nothing_taken queue.items is)) queues
-
-not_by : (b : Bool) → (b ≡ true → ⊥) → not b ≡ true
-not_by true differs = absurd (differs refl)
-not_by false differs = refl
 
 had_item : (items : List Item) → not (length (drop 1 items) == 0) ≡ true → not (length items == 0) ≡ true
 had_item [] is = is

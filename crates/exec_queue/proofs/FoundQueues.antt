@@ -1,9 +1,11 @@
 -- A look-up by entity and kind gives the place of the first such queue, and places with items are covered.
-use Rattle.std.proofs.Common.{◌≡◌, ℕ, Bool, zero, suc, ◌+◌, ◌*◌, ◌-◌, ◌<◌, ◌≤◌, ◌&&◌, ◌==◌, ⊎_elim, true, false, not, length, List, [], ◌∷◌, ◌++◌, Option, Some, None, IfSome, slice_get, take, refl, sym, ap, subst, ◌∙◌, arith}
+use Rattle.std.proofs.Common.{◌≡◌, ℕ, Bool, zero, suc, ◌+◌, ◌*◌, ◌-◌, ◌<◌, ◌≤◌, ◌&&◌, ◌==◌, ⊎_elim, true, false, not, length, List, [], ◌∷◌, ◌++◌, Option, Some, None, IfSome, if◌then◌else◌, inl, inr, ◌⊎◌, slice_get, take, refl, sym, ap, subst, ◌∙◌, true≢false, arith}
 use Rattle.std.specs.List.{Contains, find}
 use Rattle.std.specs.Option.{option_map_or, option_to_list}
 use Rattle.std.proofs.lemmas.Bool.{eqb-true, eq-eqb, both_ways, and_parts}
 use Rattle.std.proofs.lemmas.List.{length_push}
+use Rattle.std.proofs.Math.Seq.{take-append_seam}
+use Rattle.std.proofs.lemmas.List.Elements.{Contains-append_left, Contains-push, Contains-push_cases}
 use Rattle.exec_msg.specs.KeepLast.{displaced}
 use Rattle.exec_msg.specs.Kind.{ready_number}
 use Rattle.exec_msg.specs.declared.kind.Kind.{Kind}
@@ -12,7 +14,7 @@ use Rattle.exec_msg.proofs.FirstPlaces.{find-first_place, first_place-changed, f
 use Rattle.exec_rules.specs.World.{Queue, is_queue, queue_after}
 use Rattle.exec_rules.specs.declared.item.Item.{Item}
 use Rattle.exec_msg.specs.Places.{first_place, place_under, change_at, first_noted}
-use Rattle.exec_queue.specs.inner.Queues.{slot_of, has_item, is_filled_at, FindsQueues, CoversFilled}
+use Rattle.exec_queue.specs.inner.Queues.{slot_of, has_item, is_filled_at, FindsQueues, CoversFilled, AreFilled}
 
 -- what a look-up gives is the first place
 pub looked_up : (places : List (Option ℕ)) (queues held : List Queue) → FindsQueues places queues → queues ≡ held
@@ -32,14 +34,50 @@ finds_after places queues after place item finds is = λ entity kind.
     ∙ sym (first_place-changed (is_queue entity kind) (queue_after item) (λ queue. refl) place queues)
     ∙ ap (first_place (is_queue entity kind)) (sym is)
 
--- the filled queues stay covered
-pub covers_after : (old new : List ℕ) (queues after : List Queue) (place : ℕ) (change : Queue → Queue) → CoversFilled old queues
-    → ((other : ℕ) → Contains old other → Contains new other) → Contains new place → after ≡ change_at place change queues → CoversFilled new after
-covers_after old new queues after place change covers keeps has is = λ other filled.
-    ⊎_elim
-    (λ same. subst (Contains new) same has)
-    (λ kept. keeps other (covers other (ap (λ found. option_map_or has_item found false) (sym kept) ∙ ap (λ these. is_filled_at these other) (sym is) ∙ filled)))
-    (there_or_same change place other queues)
+-- ---- the place of a queue that an item is sent to is noted unless it had one
+
+still_by : (b : Bool) (old : List ℕ) (place other : ℕ) → Contains old other → Contains (if b then old else old ++ place ∷ []) other
+still_by true old place other held = held
+still_by false old place other held = Contains-append_left old (place ∷ []) other held
+
+has_by : (b : Bool) (old : List ℕ) (place : ℕ) → (b ≡ true → Contains old place) → Contains (if b then old else old ++ place ∷ []) place
+has_by true old place there = there refl
+has_by false old place there = Contains-push old place
+
+only_by : (b : Bool) (old : List ℕ) (place other : ℕ) → Contains (if b then old else old ++ place ∷ []) other → (place ≡ other) ⊎ Contains old other
+only_by true old place other held = inr held
+only_by false old place other held = ⊎_elim inr inl (Contains-push_cases old place other held)
+
+module _ (old new : List ℕ) (queues after : List Queue) (place : ℕ) (change : Queue → Queue)
+    (noted : new ≡ (if is_filled_at queues place then old else old ++ place ∷ [])) (is : after ≡ change_at place change queues) where
+  -- the filled queues stay covered
+  pub covers_after : CoversFilled old queues → CoversFilled new after
+  covers_after covers = λ other filled.
+      subst (λ places. Contains places other) (sym noted)
+      (⊎_elim
+      (λ same. subst (Contains (if is_filled_at queues place then old else old ++ place ∷ [])) same (has_by (is_filled_at queues place) old place (covers place)))
+      (λ kept. still_by (is_filled_at queues place) old place other (covers other (ap (λ found. option_map_or has_item found false) (sym kept) ∙ ap (λ these. is_filled_at these other) (sym is) ∙ filled)))
+      (there_or_same change place other queues))
+
+  -- and no other is noted
+  pub filled_after : is_filled_at after place ≡ true → AreFilled old queues → AreFilled new after
+  filled_after has filled = λ other held.
+      ⊎_elim
+      (λ same. subst (λ at. is_filled_at after at ≡ true) same has)
+      (λ kept. ⊎_elim
+      (λ same. subst (λ at. is_filled_at after at ≡ true) same has)
+      (λ before. ap (λ these. is_filled_at these other) is ∙ ap (λ found. option_map_or has_item found false) kept ∙ filled other before)
+      (only_by (is_filled_at queues place) old place other (subst (λ places. Contains places other) noted held)))
+      (there_or_same change place other queues)
+
+-- a place that was noted last is taken away
+pub unnoted : (b : Bool) (old new left : List ℕ) (place n : ℕ) → b ≡ false → new ≡ (if b then old else old ++ place ∷ []) → n ≡ length new → left ≡ take (n - 1) new → left ≡ old
+unnoted true old new left place n empty noted counted is = absurd (true≢false empty)
+unnoted false old new left place n empty noted counted is =
+    let long = length_push old place in
+    let same : length new ≡ length (old ++ place ∷ []) = ap length noted in
+    let fewer : n - 1 ≡ length old = omega (arith, long, same, counted) in
+    is ∙ (λ i. take (fewer i) (noted i)) ∙ take-append_seam old (place ∷ [])
 
 -- ---- one queue more
 
@@ -94,6 +132,10 @@ filled_behind (first ∷ queues) queue (suc place) is = filled_behind queues que
 -- an empty queue needs no place
 pub covers_behind : (filled : List ℕ) (queues : List Queue) (queue : Queue) → CoversFilled filled queues → queue.items ≡ [] → CoversFilled filled (queues ++ queue ∷ [])
 covers_behind filled queues queue covers empty = λ place is. covers place (sym (filled_behind queues queue place empty) ∙ is)
+
+-- and has none noted
+pub filled_declared : (filled : List ℕ) (queues : List Queue) (queue : Queue) → AreFilled filled queues → queue.items ≡ [] → AreFilled filled (queues ++ queue ∷ [])
+filled_declared filled queues queue are empty = λ place held. filled_behind queues queue place empty ∙ are place held
 
 -- ---- what is lost
 

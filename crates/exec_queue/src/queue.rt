@@ -1,6 +1,6 @@
 //! The queues of a plan's entities in ready order, found by entity and kind. A snapshot walks over those that have an item,
 //! and over no other.
-ghost use Rattle.std.specs.Prelude.{◌≡◌, ◌&&◌, ◌||◌, ℕ, List, ◌<◌, ◌≤◌, ◌^◌, [], ◌∷◌, ◌++◌, false, true, not, None, Some, length, map, find, slice_get, vec_capacity, OnOk, OnErr, IfOk, IfSome};
+ghost use Rattle.std.specs.Prelude.{◌≡◌, ◌&&◌, ◌||◌, ℕ, List, ◌<◌, ◌≤◌, ◌^◌, [], ◌∷◌, ◌++◌, false, true, not, if◌then◌else◌, None, Some, length, map, find, slice_get, vec_capacity, OnOk, OnErr, IfOk, IfSome};
 ghost use Rattle.std.specs.List.{Contains, filter};
 ghost use Rattle.std.specs.List.Sorted.{IsPermutation, IsSorted, IsStrictlyIncreasing};
 ghost use Rattle.std.specs.Option.{option_copied, option_map, option_map_or, option_to_list};
@@ -17,7 +17,7 @@ ghost use Rattle.exec_rules.specs.inner.Homes.{AreHomes, IsHome, handlers_of};
 ghost use Rattle.exec_rules.specs.inner.Listing.{listed_behind};
 ghost use Rattle.exec_msg.specs.Places.{change_at};
 ghost use Rattle.exec_rules.specs.inner.Places.{change_each, places_where};
-ghost use Rattle.exec_queue.specs.inner.Queues.{slot_of, AreBeforePolls, CoversFilled, has_item, is_filled_at, is_in_part, is_in_part_at};
+ghost use Rattle.exec_queue.specs.inner.Queues.{slot_of, AreBeforePolls, has_item, is_filled_at, is_in_part, is_in_part_at};
 
 mod entry;
 
@@ -35,9 +35,9 @@ pub struct Queues {
     entries: Vec<Entry>,
     // By entity and kind. A round finds a queue by it, and walks over none.
     places: PlaceTable,
-    // The places of the queues that have an item, and of some that had one.
+    // The places of the queues that have an item, and of no other.
     filled: Vec<usize>,
-    // Whether these are the places of the queues that have an item, in ascending order.
+    // Whether these rise.
     settled: bool,
     // Whether there is a queue of a kind behind polls.
     has_late: bool,
@@ -45,15 +45,15 @@ pub struct Queues {
 
 impl Model for Queues {
     ghost use Rattle.std.specs.Prelude.{◌≡◌, List, true, false};
+    ghost use Rattle.std.specs.List.Sorted.{IsStrictlyIncreasing};
     ghost use Rattle.exec_rules.specs.World.{Queue};
-    ghost use Rattle.exec_rules.specs.inner.Places.{places_where};
-    ghost use Rattle.exec_queue.specs.inner.Queues.{FindsQueues, CoversFilled, AreBeforePolls, has_item};
+    ghost use Rattle.exec_queue.specs.inner.Queues.{FindsQueues, CoversFilled, AreFilled, AreBeforePolls};
 
     ghost Value = { List Queue };
 
     ghost view = { λ queues. queues.entries.items };
 
-    ghost invariant = { λ queues. FindsQueues queues.places queues.entries.items × CoversFilled queues.filled.items queues.entries.items × (queues.settled ≡ true → queues.filled.items ≡ places_where has_item queues.entries.items) × (queues.has_late ≡ false → AreBeforePolls queues.entries.items) };
+    ghost invariant = { λ queues. FindsQueues queues.places queues.entries.items × CoversFilled queues.filled.items queues.entries.items × AreFilled queues.filled.items queues.entries.items × (queues.settled ≡ true → IsStrictlyIncreasing queues.filled.items) × (queues.has_late ≡ false → AreBeforePolls queues.entries.items) };
 }
 
 impl Queues {
@@ -111,8 +111,14 @@ impl Queues {
         };
         self.settled = false;
         note_filled(&mut self.filled, &self.entries, place)?;
-        let lost = send_at(&mut self.entries, place, item)?;
-        Ok(lost)
+        match send_at(&mut self.entries, place, item) {
+            Ok(lost) => Ok(lost),
+            Err(refused) => {
+                // The queue was empty and is, and its place stands last.
+                self.filled.pop();
+                Err(refused)
+            }
+        }
     }
 
     /// Sets places to those of the queues that have an item, either of the kinds before polls or of those behind them, in
@@ -126,7 +132,7 @@ impl Queues {
         ensures places { OnOk result (places.new.items ≡ places_where (λ queue. has_item queue && is_in_part before_polls queue) self.old) }
         ensures memory { OnErr result (vec_capacity places.old < length (places_where has_item self.old)) }
     {
-        settle(&mut self.settled, &mut self.filled, &self.entries);
+        settle(&mut self.settled, &mut self.filled);
         places.clear();
         places.extend_from_slice(&self.filled)?;
         leave_part(places, &self.entries, self.has_late, before_polls);
@@ -137,10 +143,10 @@ impl Queues {
     pub fn take_first(&mut self)
         ensures { self.new ≡ map queue_taken self.old }
     {
-        settle(&mut self.settled, &mut self.filled, &self.entries);
+        settle(&mut self.settled, &mut self.filled);
         self.settled = false;
         take_each(&mut self.entries, &self.filled);
-        // So that no place is noted twice, and fewer are sorted in the next round.
+        // Those whose last item was taken are noted no more.
         keep_filled(&mut self.filled, &self.entries);
     }
 
@@ -325,8 +331,8 @@ fn is_filled(entries: &[Entry], place: usize) -> bool
 
 // Notes a place at which an item is about to stand.
 fn note_filled(filled: &mut Vec<usize>, entries: &[Entry], place: usize) -> Result<(), Memory>
-    ensures keeps { (other : ℕ) → Contains filled.old.items other → Contains filled.new.items other }
-    ensures has { OnOk result (CoversFilled filled.old.items entries.now → Contains filled.new.items place) }
+    ensures noted { OnOk result (filled.new.items ≡ (if is_filled_at entries.now place then filled.old.items else filled.old.items ++ place ∷ [])) }
+    ensures err { OnErr result (filled.new.items ≡ filled.old.items) }
     ensures memory { OnErr result (is_filled_at entries.now place ≡ false) }
     ensures bound { IfSome (slice_get entries.now place) (λ queue. length queue.items ≤ queue.depth) }
 {
@@ -338,6 +344,7 @@ fn note_filled(filled: &mut Vec<usize>, entries: &[Entry], place: usize) -> Resu
 
 fn send_at(entries: &mut Vec<Entry>, place: usize, item: Item) -> Result<Option<Item>, Memory>
     ensures ok { OnOk result (entries.new.items ≡ change_at place (queue_after item) entries.old.items) }
+    ensures filled { OnOk result (place < length entries.old.items → is_filled_at entries.new.items place ≡ true) }
     ensures lost { IfOk result (λ lost. lost ≡ option_map_or (λ queue. slice_get (displaced queue.depth item queue.items) 0) (slice_get entries.old.items place) None) }
     ensures err { OnErr result (entries.new.items ≡ entries.old.items) }
     ensures memory { OnErr result (is_filled_at entries.old.items place ≡ false) }
@@ -351,15 +358,15 @@ fn send_at(entries: &mut Vec<Entry>, place: usize, item: Item) -> Result<Option<
     }
 }
 
-// Leaves the places of the queues that have an item, in ascending order, where they aren't settled so yet.
-fn settle(settled: &mut bool, places: &mut Vec<usize>, entries: &[Entry])
-    requires { settled.old ≡ true → places.old.items ≡ places_where has_item entries.now }
-    ensures value { CoversFilled places.old.items entries.now → places.new.items ≡ places_where has_item entries.now }
-    ensures covers { CoversFilled places.old.items entries.now → CoversFilled places.new.items entries.now }
+// Leaves the same places in ascending order, each once, where they aren't settled so yet.
+fn settle(settled: &mut bool, places: &mut Vec<usize>)
+    requires { settled.old ≡ true → IsStrictlyIncreasing places.old.items }
+    ensures rises { IsStrictlyIncreasing places.new.items }
+    ensures keeps { (place : ℕ) → Contains places.old.items place → Contains places.new.items place }
+    ensures only { (place : ℕ) → Contains places.new.items place → Contains places.old.items place }
 {
     if !*settled {
         sort_places(places);
-        keep_filled(places, entries);
         *settled = true;
     }
 }
@@ -374,6 +381,7 @@ fn keep_filled(places: &mut Vec<usize>, entries: &[Entry])
 fn sort_places(places: &mut Vec<usize>)
     ensures rises { IsStrictlyIncreasing places.new.items }
     ensures keeps { (place : ℕ) → Contains places.old.items place → Contains places.new.items place }
+    ensures only { (place : ℕ) → Contains places.new.items place → Contains places.old.items place }
 {
     sort(places);
     places.dedup();

@@ -40,3 +40,7 @@ FindsQueues places queues = (entity : EntityNo) (kind : Kind) → place_under (s
 -- each queue with an item stands among these places
 abbrev pub CoversFilled : List ℕ → List Queue → Type 0
 CoversFilled filled queues = (place : ℕ) → is_filled_at queues place ≡ true → Contains filled place
+
+-- each of these places is that of a queue with an item
+abbrev pub AreFilled : List ℕ → List Queue → Type 0
+AreFilled filled queues = (place : ℕ) → Contains filled place → is_filled_at queues place ≡ true

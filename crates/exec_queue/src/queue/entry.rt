@@ -24,16 +24,20 @@ pub(super) struct Entry {
 }
 
 impl Model for Entry {
+    ghost use Rattle.std.specs.Prelude.{◌≤◌};
     ghost use Rattle.exec_rules.specs.World.{Queue};
 
     ghost Value = { Queue };
 
     ghost view = { λ entry. record { handler = entry.handler; kind = entry.kind; depth = entry.queue.depth; items = entry.queue.items } };
+
+    ghost invariant = { λ entry. 1 ≤ entry.queue.depth };
 }
 
 impl Entry {
     pub(super) fn send(&mut self, item: Item) -> Result<Option<Item>, Memory>
         ensures ok { OnOk result (self.new ≡ queue_after item self.old) }
+        ensures has { OnOk result (has_item self.new ≡ true) }
         ensures lost { IfOk result (λ lost. lost ≡ slice_get (displaced self.old.depth item self.old.items) 0) }
         ensures err { OnErr result (self.new ≡ self.old) }
         ensures memory { OnErr result (has_item self.old ≡ false) }

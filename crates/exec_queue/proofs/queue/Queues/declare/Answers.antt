@@ -1,9 +1,9 @@
 use Rattle.std.proofs.Common.{length, refl, ap, subst, sym, ◌∙◌, true≢false}
-use Rattle.exec_queue.proofs.FoundQueues.{finds_behind, covers_behind}
+use Rattle.exec_queue.proofs.FoundQueues.{finds_behind, covers_behind, filled_declared}
 use Rattle.exec_queue.proofs.Parts.{early_declared}
 use Rattle.exec_rules.specs.World.{Handler, Queue}
 use Rattle.exec_msg.specs.Places.{change_at, first_noted}
-use Rattle.exec_queue.specs.inner.Queues.{slot_of, AreBeforePolls, FindsQueues, CoversFilled}
+use Rattle.exec_queue.specs.inner.Queues.{slot_of, AreBeforePolls, FindsQueues, CoversFilled, AreFilled}
 use Rattle.exec_queue.proofs.queue.Queues.declare.Goals as goal
 
 pub invariant_of-self-2 : goal.invariant_of-self-2
@@ -15,6 +15,8 @@ invariant_of-self-2 c =
           (c.note.ensures ∙ ap (λ n. change_at c.slot-slot.result (first_noted n) c.reserve.new.self) (c.count-place.ensures ∙ ap length c.deref.ensures.value))),
       subst (CoversFilled c.self.inside.filled.items) (sym c.in_ok-push.ensures.items)
           (covers_behind c.self.inside.filled.items c.self.inside.entries.items queue c.self.invariant.1 (ap (λ queue. queue.items) c.new-queue.ensures)),
+      subst (AreFilled c.self.inside.filled.items) (sym c.in_ok-push.ensures.items)
+          (filled_declared c.self.inside.filled.items c.self.inside.entries.items queue c.self.invariant.2 (ap (λ queue. queue.items) c.new-queue.ensures)),
       λ settled. absurd (true≢false (sym settled)),
-      λ none. subst AreBeforePolls (sym c.in_ok-push.ensures.items) (early_declared c.self.inside.entries.items queue c.self.inside.has_late c.has_late_with-self-inside.result c.has_late_with-self-inside.ensures c.self.invariant.3 none),
+      λ none. subst AreBeforePolls (sym c.in_ok-push.ensures.items) (early_declared c.self.inside.entries.items queue c.self.inside.has_late c.has_late_with-self-inside.result c.has_late_with-self-inside.ensures c.self.invariant.4 none),
     )
