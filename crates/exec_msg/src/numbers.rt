@@ -1,4 +1,4 @@
-ghost use Rattle.std.specs.Prelude.{◌≡◌, ℕ, ◌+◌, ◌*◌, ◌≤◌, ◌^◌, SomeIff};
+ghost use Rattle.std.specs.Prelude.{◌≡◌, ℕ, ◌+◌, ◌*◌, ◌%◌, ◌≤◌, ◌^◌, SomeIff};
 
 use crate::limits::TICKS;
 use std::marker::Model;
@@ -88,6 +88,14 @@ impl GoalId {
         ensures { result.0 * 2 ^ 64 + result.1 ≡ self }
     {
         (self.high, self.low)
+    }
+
+    // Its lower half: for a goal of an action client its number among that client's goals.
+    #[inline(always)]
+    pub(crate) fn count(self) -> u64
+        ensures { result ≡ self % 2 ^ 64 }
+    {
+        self.low
     }
 
     // The identifier of these halves.

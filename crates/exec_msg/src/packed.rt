@@ -1,70 +1,136 @@
 //! Lines in few bytes each.
-ghost use Rattle.std.specs.Prelude.{◌≡◌, ◌+◌, ◌≤◌, ◌++◌, ◌∷◌, List, [], true, false, vec_len, vec_capacity, IfSome};
-ghost use Rattle.exec_msg.specs.declared.packed.Cell.{Cell};
-ghost use Rattle.exec_msg.specs.inner.Packed.{a_line, a_goal, said_by, line_said, goal_of, goal_behind, lines_in, tells_no_goal, AreTold};
+ghost use Rattle.std.specs.Prelude.{◌≡◌, ◌+◌, ◌*◌, ◌^◌, ◌≤◌, List, [], ◌∷◌, true, false, vec_len, vec_capacity};
+ghost use Rattle.exec_msg.specs.declared.line.Line.TheVariants as line;
+ghost use Rattle.exec_msg.specs.inner.Packed.{joined, said_by, said_line, lines_in, tells_no_id, HasLines};
+
+mod form;
+mod halves;
 
 use crate::goal::GoalStatus;
 use crate::kind::Kind;
 use crate::line::Line;
 use crate::numbers::{EntityNo, GoalId, Moment};
+use form::{form_of, id_cell, near_form};
+use halves::{join, join_value};
 use std::mem::size_of;
 
-/// A line in sixteen bytes, with its smallest field first. One on a goal doesn't have its identifier:
-/// that stands in a cell before it, where it is another than that of the lines so far.
+/// A line in twelve bytes, with its smallest field first. A number of 64 bits stands in its upper half and
+/// its lower one.
+///
+/// Of the goal that a line is on, and of a number beside its value, it has nothing where these are those
+/// of the identifier that was told last: by a cell before it that tells of no more, or by a line on a near
+/// goal, whose identifier is short. An identifier's lower half is its count, by which numbers are told.
 #[derive(Clone, Copy)]
 pub(crate) enum Cell {
     Round {
+        upper: u16,
         number: u32,
-        moment: Moment,
+        lower: u32,
     },
     Run {
         kind: Kind,
         entity: EntityNo,
+        high: u32,
+        low: u32,
+    },
+    /// One with a short input, and a short number beside it.
+    RunBeside {
+        kind: Kind,
+        entity: EntityNo,
         aux: u32,
-        input: i64,
+        low: u32,
+    },
+    /// One with the count of the identifier that was told beside its input.
+    RunCounted {
+        kind: Kind,
+        entity: EntityNo,
+        high: u32,
+        low: u32,
     },
     Drop {
         kind: Kind,
         entity: EntityNo,
-        input: i64,
+        high: u32,
+        low: u32,
     },
     Pub {
         topic: EntityNo,
-        value: i64,
+        high: u32,
+        low: u32,
     },
+    /// One with a short number and a short value.
     Call {
         client: EntityNo,
         number: u32,
-        value: i64,
+        low: u32,
+    },
+    /// One with the count of the identifier that was told as its number.
+    CallCounted {
+        client: EntityNo,
+        high: u32,
+        low: u32,
     },
     Reply {
         service: EntityNo,
-        value: i64,
+        high: u32,
+        low: u32,
     },
     Log {
         entity: EntityNo,
-        value: i64,
+        high: u32,
+        low: u32,
     },
     RunOnGoal {
         kind: Kind,
         entity: EntityNo,
+        high: u32,
+        low: u32,
+    },
+    RunOnGoalBeside {
+        kind: Kind,
+        entity: EntityNo,
         aux: u32,
-        input: i64,
+        low: u32,
+    },
+    RunOnGoalCounted {
+        kind: Kind,
+        entity: EntityNo,
+        high: u32,
+        low: u32,
+    },
+    /// One on a near goal, with a short input.
+    RunOnNear {
+        kind: Kind,
+        entity: EntityNo,
+        maker: u16,
+        count: u16,
+        low: u32,
+    },
+    /// The same, with the count of its goal beside it.
+    RunOnNearCounted {
+        kind: Kind,
+        entity: EntityNo,
+        maker: u16,
+        count: u16,
+        low: u32,
     },
     Expire {
         server: EntityNo,
     },
     Goal {
         client: EntityNo,
-        value: i64,
+        high: u32,
+        low: u32,
     },
     Cancel {
         client: EntityNo,
-        stamp: u64,
+        high: u32,
+        low: u32,
     },
     Feedback {
         server: EntityNo,
-        value: i64,
+        high: u32,
+        low: u32,
     },
     Decide {
         decision: u8,
@@ -80,271 +146,335 @@ pub(crate) enum Cell {
     Result {
         status: GoalStatus,
         server: EntityNo,
-        value: i64,
-    },
-    /// The identifier of the goal that the lines behind it are on: its upper half and its lower one.
-    Id {
         high: u32,
-        low: u64,
+        low: u32,
+    },
+    /// Tells an identifier.
+    Id {
+        maker: u16,
+        high: u32,
+        low: u32,
     },
     /// A line that has no such form; it stands whole beside the cells.
     Whole,
 }
 
-const _: () = prove!(size_of::<Cell>() == 16);
+const _: () = prove!(size_of::<Cell>() == 12);
 
 impl Cell {
-    // The cell of a line, where its goal, if it is on one, is told before.
+    // The line that it is where an identifier was told, if it is one, and the identifier that is told behind it.
     #[inline(always)]
-    fn of(line: &Line) -> Option<Cell>
-        ensures { IfSome result (λ cell. (id : _) → IfSome (goal_of line.now) (λ goal. goal ≡ id) → said_by cell id ≡ a_line line.now) }
-    {
-        match *line {
-            Line::Round { number, moment } => Some(Cell::Round {
-                number: u32::try_from(number).ok()?,
-                moment,
-            }),
-            Line::Run {
-                entity,
-                kind,
-                input,
-                aux,
-                id: None,
-            } => Some(Cell::Run {
-                entity,
-                kind,
-                aux: u32::try_from(aux).ok()?,
-                input,
-            }),
-            Line::Run {
-                entity,
-                kind,
-                input,
-                aux,
-                id: Some(_),
-            } => Some(Cell::RunOnGoal {
-                entity,
-                kind,
-                aux: u32::try_from(aux).ok()?,
-                input,
-            }),
-            Line::Drop {
-                entity,
-                kind,
-                input,
-            } => Some(Cell::Drop {
-                entity,
-                kind,
-                input,
-            }),
-            Line::Pub { topic, value } => Some(Cell::Pub { topic, value }),
-            Line::Call {
-                client,
-                number,
-                value,
-            } => Some(Cell::Call {
-                client,
-                number: u32::try_from(number).ok()?,
-                value,
-            }),
-            Line::Reply { service, value } => Some(Cell::Reply { service, value }),
-            Line::Log { entity, value } => Some(Cell::Log { entity, value }),
-            Line::Expire { server, .. } => Some(Cell::Expire { server }),
-            Line::Goal { client, value, .. } => Some(Cell::Goal { client, value }),
-            Line::Cancel { client, stamp, .. } => Some(Cell::Cancel { client, stamp }),
-            Line::Feedback { server, value, .. } => Some(Cell::Feedback { server, value }),
-            Line::Decide {
-                server,
-                decision,
-                ..
-            } => Some(Cell::Decide { server, decision }),
-            Line::State { server, status, .. } => Some(Cell::State { server, status }),
-            Line::Ask { client, .. } => Some(Cell::Ask { client }),
-            Line::Result {
-                server,
-                status,
-                value,
-                ..
-            } => Some(Cell::Result {
-                server,
-                status,
-                value,
-            }),
-            Line::Code { .. } | Line::Pending { .. } | Line::End { .. } => None,
-        }
-    }
-
-    // The cell that tells of a goal.
-    #[inline(always)]
-    fn of_goal(id: GoalId) -> Option<Cell>
-        ensures { IfSome result (λ cell. (other : _) → said_by cell other ≡ a_goal id) }
-    {
-        let (high, low) = id.halves();
-        Some(Cell::Id {
-            high: u32::try_from(high).ok()?,
-            low,
-        })
-    }
-
-    // The line that it is where lines are on a goal, if it is one.
-    #[inline(always)]
-    pub(crate) fn line(&self, id: GoalId) -> Option<Line>
-        ensures { result ≡ line_said (said_by self.now id) }
+    pub(crate) fn line(&self, told: GoalId) -> Option<(Line, GoalId)>
+        ensures { result ≡ said_line (said_by self.now told) }
     {
         match *self {
-            Cell::Round { number, moment } => Some(Line::Round {
-                number: u64::from(number),
-                moment,
-            }),
+            Cell::Round {
+                upper,
+                number,
+                lower,
+            } => Some((round_line(upper, number, lower), told)),
             Cell::Run {
                 entity,
                 kind,
-                aux,
-                input,
-            } => Some(Line::Run {
+                high,
+                low,
+            } => {
+                let line = Line::Run {
+                    entity,
+                    kind,
+                    input: join_value(high, low),
+                    aux: 0,
+                    id: None,
+                };
+                Some((line, told))
+            }
+            Cell::RunBeside {
                 entity,
                 kind,
-                input,
-                aux: i64::from(aux),
-                id: None,
-            }),
+                aux,
+                low,
+            } => {
+                let line = Line::Run {
+                    entity,
+                    kind,
+                    input: i64::from(low),
+                    aux: i64::from(aux),
+                    id: None,
+                };
+                Some((line, told))
+            }
+            Cell::RunCounted {
+                entity,
+                kind,
+                high,
+                low,
+            } => {
+                let line = Line::Run {
+                    entity,
+                    kind,
+                    input: join_value(high, low),
+                    aux: told.count().cast_signed(),
+                    id: None,
+                };
+                Some((line, told))
+            }
             Cell::Drop {
                 entity,
                 kind,
-                input,
-            } => Some(Line::Drop {
-                entity,
-                kind,
-                input,
-            }),
-            Cell::Pub { topic, value } => Some(Line::Pub { topic, value }),
+                high,
+                low,
+            } => {
+                let line = Line::Drop {
+                    entity,
+                    kind,
+                    input: join_value(high, low),
+                };
+                Some((line, told))
+            }
+            Cell::Pub { topic, high, low } => {
+                let value = join_value(high, low);
+                Some((Line::Pub { topic, value }, told))
+            }
             Cell::Call {
                 client,
                 number,
-                value,
-            } => Some(Line::Call {
-                client,
-                number: u64::from(number),
-                value,
-            }),
-            Cell::Reply { service, value } => Some(Line::Reply { service, value }),
-            Cell::Log { entity, value } => Some(Line::Log { entity, value }),
+                low,
+            } => {
+                let line = Line::Call {
+                    client,
+                    number: u64::from(number),
+                    value: i64::from(low),
+                };
+                Some((line, told))
+            }
+            Cell::CallCounted { client, high, low } => {
+                let line = Line::Call {
+                    client,
+                    number: told.count(),
+                    value: join_value(high, low),
+                };
+                Some((line, told))
+            }
+            Cell::Reply { service, high, low } => {
+                let value = join_value(high, low);
+                Some((Line::Reply { service, value }, told))
+            }
+            Cell::Log { entity, high, low } => {
+                let value = join_value(high, low);
+                Some((Line::Log { entity, value }, told))
+            }
             Cell::RunOnGoal {
                 entity,
                 kind,
-                aux,
-                input,
-            } => Some(Line::Run {
+                high,
+                low,
+            } => {
+                let line = Line::Run {
+                    entity,
+                    kind,
+                    input: join_value(high, low),
+                    aux: 0,
+                    id: Some(told),
+                };
+                Some((line, told))
+            }
+            Cell::RunOnGoalBeside {
                 entity,
                 kind,
-                input,
-                aux: i64::from(aux),
-                id: Some(id),
-            }),
-            Cell::Expire { server } => Some(Line::Expire { server, id }),
-            Cell::Goal { client, value } => Some(Line::Goal { client, id, value }),
-            Cell::Cancel { client, stamp } => Some(Line::Cancel { client, id, stamp }),
-            Cell::Feedback { server, value } => Some(Line::Feedback { server, id, value }),
-            Cell::Decide { server, decision } => Some(Line::Decide {
-                server,
-                id,
-                decision,
-            }),
-            Cell::State { server, status } => Some(Line::State { server, id, status }),
-            Cell::Ask { client } => Some(Line::Ask { client, id }),
+                aux,
+                low,
+            } => {
+                let line = Line::Run {
+                    entity,
+                    kind,
+                    input: i64::from(low),
+                    aux: i64::from(aux),
+                    id: Some(told),
+                };
+                Some((line, told))
+            }
+            Cell::RunOnGoalCounted {
+                entity,
+                kind,
+                high,
+                low,
+            } => {
+                let line = Line::Run {
+                    entity,
+                    kind,
+                    input: join_value(high, low),
+                    aux: told.count().cast_signed(),
+                    id: Some(told),
+                };
+                Some((line, told))
+            }
+            Cell::RunOnNear {
+                entity,
+                kind,
+                maker,
+                count,
+                low,
+            } => {
+                let id = near_id(maker, count);
+                let line = Line::Run {
+                    entity,
+                    kind,
+                    input: i64::from(low),
+                    aux: 0,
+                    id: Some(id),
+                };
+                Some((line, id))
+            }
+            Cell::RunOnNearCounted {
+                entity,
+                kind,
+                maker,
+                count,
+                low,
+            } => {
+                let id = near_id(maker, count);
+                let line = Line::Run {
+                    entity,
+                    kind,
+                    input: i64::from(low),
+                    aux: i64::from(count),
+                    id: Some(id),
+                };
+                Some((line, id))
+            }
+            Cell::Expire { server } => Some((Line::Expire { server, id: told }, told)),
+            Cell::Goal { client, high, low } => {
+                let line = Line::Goal {
+                    client,
+                    id: told,
+                    value: join_value(high, low),
+                };
+                Some((line, told))
+            }
+            Cell::Cancel { client, high, low } => {
+                let line = Line::Cancel {
+                    client,
+                    id: told,
+                    stamp: join(high, low),
+                };
+                Some((line, told))
+            }
+            Cell::Feedback { server, high, low } => {
+                let line = Line::Feedback {
+                    server,
+                    id: told,
+                    value: join_value(high, low),
+                };
+                Some((line, told))
+            }
+            Cell::Decide { server, decision } => {
+                let line = Line::Decide {
+                    server,
+                    id: told,
+                    decision,
+                };
+                Some((line, told))
+            }
+            Cell::State { server, status } => {
+                let line = Line::State {
+                    server,
+                    id: told,
+                    status,
+                };
+                Some((line, told))
+            }
+            Cell::Ask { client } => Some((Line::Ask { client, id: told }, told)),
             Cell::Result {
                 server,
                 status,
-                value,
-            } => Some(Line::Result {
-                server,
-                id,
-                status,
-                value,
-            }),
+                high,
+                low,
+            } => {
+                let line = Line::Result {
+                    server,
+                    id: told,
+                    status,
+                    value: join_value(high, low),
+                };
+                Some((line, told))
+            }
             Cell::Id { .. } | Cell::Whole => None,
         }
     }
 }
 
-// The goal that a line is on, if it is on one.
 #[inline(always)]
-fn goal_of(line: &Line) -> Option<GoalId>
-    ensures { result ≡ goal_of line.now }
+fn round_line(upper: u16, number: u32, lower: u32) -> Line
+    ensures { result ≡ line.Round number (joined upper lower) }
 {
-    match *line {
-        Line::Run { id, .. } => id,
-        Line::Expire { id, .. }
-        | Line::Goal { id, .. }
-        | Line::Cancel { id, .. }
-        | Line::Feedback { id, .. }
-        | Line::Decide { id, .. }
-        | Line::State { id, .. }
-        | Line::Ask { id, .. }
-        | Line::Result { id, .. } => Some(id),
-        Line::Round { .. }
-        | Line::Drop { .. }
-        | Line::Pub { .. }
-        | Line::Call { .. }
-        | Line::Reply { .. }
-        | Line::Log { .. }
-        | Line::Code { .. }
-        | Line::Pending { .. }
-        | Line::End { .. } => None,
+    match Moment::new(join(u32::from(upper), lower)) {
+        Some(moment) => Line::Round {
+            number: u64::from(number),
+            moment,
+        },
+        None => Line::End { rounds: 0 },
     }
 }
 
-/// Tells of the goal that a line is on, if it is another than that of the lines so far, and says whether
-/// that could be told.
 #[inline(always)]
-fn tell_goal(cells: &mut Vec<Cell>, goal: &mut GoalId, line: &Line) -> bool
-    requires { vec_len cells.old + 2 ≤ vec_capacity cells.old }
-    ensures told { result ≡ true → (more : List Cell) × (cells.new.items ≡ cells.old.items ++ more) × (lines_in more goal.old [] ≡ []) × (goal_behind more goal.old ≡ goal.new) × AreTold more goal.old [] }
-    ensures room { result ≡ true → vec_len cells.new + 1 ≤ vec_capacity cells.new }
-    ensures on { result ≡ true → IfSome (goal_of line.now) (λ one. one ≡ goal.new) }
-    ensures left { result ≡ false → (cells.new.items ≡ cells.old.items) × (goal.new ≡ goal.old) × (vec_len cells.new + 2 ≤ vec_capacity cells.new) }
+fn near_id(maker: u16, count: u16) -> GoalId
+    ensures { result ≡ maker * 2 ^ 64 + count }
 {
-    let Some(id) = goal_of(line) else {
-        return true;
-    };
-    if id == *goal {
+    GoalId::of_halves(u64::from(maker), u64::from(count))
+}
+
+/// Tells an identifier, if it is another than the one that was told last, and says whether that could be.
+#[inline(always)]
+fn tell(cells: &mut Vec<Cell>, told: &mut GoalId, id: GoalId) -> bool
+    requires { vec_len cells.old + 2 ≤ vec_capacity cells.old }
+    ensures told { result ≡ true → HasLines cells.old.items cells.new.items told.old told.new [] }
+    ensures id { result ≡ true → told.new ≡ id }
+    ensures room { result ≡ true → vec_len cells.new + 1 ≤ vec_capacity cells.new }
+    ensures left { result ≡ false → (cells.new.items ≡ cells.old.items) × (told.new ≡ told.old) × (vec_len cells.new + 2 ≤ vec_capacity cells.new) }
+{
+    if id == *told {
         return true;
     }
-    let Some(cell) = Cell::of_goal(id) else {
+    let Some(cell) = id_cell(id) else {
         return false;
     };
     cells.push_reserved(cell);
-    *goal = id;
+    *told = id;
     true
 }
 
 /// Puts a line behind cells that have the room of two, and says whether it has a form in cells.
 #[inline(always)]
-pub(crate) fn push_line(cells: &mut Vec<Cell>, goal: &mut GoalId, line: &Line) -> bool
+pub(crate) fn push_line(cells: &mut Vec<Cell>, told: &mut GoalId, line: &Line) -> bool
     requires { vec_len cells.old + 2 ≤ vec_capacity cells.old }
-    ensures pushed { result ≡ true → (more : List Cell) × (cells.new.items ≡ cells.old.items ++ more) × (lines_in more goal.old [] ≡ line.now ∷ []) × (goal_behind more goal.old ≡ goal.new) × AreTold more goal.old [] }
-    ensures left { result ≡ false → (cells.new.items ≡ cells.old.items) × (goal.new ≡ goal.old) × (vec_len cells.new + 2 ≤ vec_capacity cells.new) }
+    ensures pushed { result ≡ true → HasLines cells.old.items cells.new.items told.old told.new (line.now ∷ []) }
+    ensures left { result ≡ false → (cells.new.items ≡ cells.old.items) × (told.new ≡ told.old) × (vec_len cells.new + 2 ≤ vec_capacity cells.new) }
 {
-    let Some(cell) = Cell::of(line) else {
+    if let Some((cell, id)) = near_form(line) {
+        cells.push_reserved(cell);
+        *told = id;
+        return true;
+    }
+    let Some((cell, id)) = form_of(line, *told) else {
         return false;
     };
-    if !tell_goal(cells, goal, line) {
+    if !tell(cells, told, id) {
         return false;
     }
     cells.push_reserved(cell);
     true
 }
 
-/// The cells behind those that only tell of a goal, and the goal that lines are on there.
+/// The cells behind those that only tell identifiers, and the one that is told there.
 #[inline(always)]
-pub(crate) fn skip_goals(cells: &[Cell], goal: GoalId) -> (&[Cell], GoalId)
-    ensures lines { (wholes : List _) → lines_in result.0.now result.1 wholes ≡ lines_in cells.now goal wholes }
-    ensures line { tells_no_goal result.0.now }
+pub(crate) fn skip_ids(cells: &[Cell], told: GoalId) -> (&[Cell], GoalId)
+    ensures lines { (wholes : List _) → lines_in result.0.now result.1 wholes ≡ lines_in cells.now told wholes }
+    ensures line { tells_no_id result.0.now }
 {
     let mut left = cells;
-    let mut on = goal;
-    while let [Cell::Id { high, low }, behind @ ..] = left {
-        on = GoalId::of_halves(u64::from(*high), *low);
+    let mut on = told;
+    while let [Cell::Id { maker, high, low }, behind @ ..] = left {
+        on = GoalId::of_halves(u64::from(*maker), join(*high, *low));
         left = behind;
     }
     (left, on)

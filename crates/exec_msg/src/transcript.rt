@@ -7,31 +7,31 @@ use crate::lines::{Lines, push_copy};
 use crate::memory::Memory;
 use crate::names::Names;
 use crate::numbers::GoalId;
-use crate::packed::{Cell, push_line, skip_goals};
+use crate::packed::{Cell, push_line, skip_ids};
 use crate::text::{place_line, room_behind};
 use std::alloc::Global;
 use std::marker::Model;
 
-/// The lines of a transcript in their order. Most take sixteen bytes each.
+/// The lines of a transcript in their order. Most take twelve bytes each.
 #[derive(Drop)]
 pub struct Transcript {
     cells: Vec<Cell>,
     // The lines that have no form in cells.
     wholes: Vec<Line>,
-    // The goal that the last lines are on.
-    goal: GoalId,
+    // The identifier that was told last.
+    told: GoalId,
 }
 
 impl Model for Transcript {
     ghost use Rattle.std.specs.Prelude.{◌≡◌, List};
     ghost use Rattle.exec_msg.specs.declared.line.Line.{Line};
-    ghost use Rattle.exec_msg.specs.inner.Packed.{goal_behind, lines_in, AreTold};
+    ghost use Rattle.exec_msg.specs.inner.Packed.{id_behind, lines_in, AreTold};
 
     ghost Value = { List Line };
 
     ghost view = { λ transcript. lines_in transcript.cells.items 0 transcript.wholes.items };
 
-    ghost invariant = { λ transcript. AreTold transcript.cells.items 0 transcript.wholes.items × (goal_behind transcript.cells.items 0 ≡ transcript.goal) };
+    ghost invariant = { λ transcript. AreTold transcript.cells.items 0 transcript.wholes.items × (id_behind transcript.cells.items 0 ≡ transcript.told) };
 }
 
 impl Transcript {
@@ -45,7 +45,7 @@ impl Transcript {
         Transcript {
             cells: Vec::new(alloc),
             wholes: Vec::new(alloc),
-            goal: GoalId::of_halves(0, 0),
+            told: GoalId::of_halves(0, 0),
         }
     }
 
@@ -65,7 +65,7 @@ impl Transcript {
             texts,
             cells: self.cells.as_slice(),
             wholes: self.wholes.as_slice(),
-            goal: GoalId::of_halves(0, 0),
+            told: GoalId::of_halves(0, 0),
         })
     }
 
@@ -118,7 +118,7 @@ impl Lines for Transcript {
     #[inline(always)]
     fn add(&mut self, line: &Line) -> Result<(), Memory> {
         self.cells.reserve(2)?;
-        if push_line(&mut self.cells, &mut self.goal, line) {
+        if push_line(&mut self.cells, &mut self.told, line) {
             return Ok(());
         }
         push_copy(&mut self.wholes, line)?;
@@ -134,8 +134,8 @@ pub struct TextReader<'a> {
     texts: FieldTexts,
     cells: &'a [Cell],
     wholes: &'a [Line],
-    // The goal that the next lines are on.
-    goal: GoalId,
+    // The identifier that was told last.
+    told: GoalId,
 }
 
 impl<'a> Model for TextReader<'a> {
@@ -144,7 +144,7 @@ impl<'a> Model for TextReader<'a> {
 
     ghost Value = { LinesLeft };
 
-    ghost view = { λ reader. record { names = reader.names.now; lines = lines_in reader.cells.now reader.goal reader.wholes.now } };
+    ghost view = { λ reader. record { names = reader.names.now; lines = lines_in reader.cells.now reader.told reader.wholes.now } };
 }
 
 impl<'a> TextReader<'a> {
@@ -212,14 +212,15 @@ impl<'a> TextReader<'a> {
         ensures names { self.new.names ≡ self.old.names }
         ensures same_length { length buffer.new ≡ length buffer.old }
     {
-        let (cells, goal) = skip_goals(self.cells, self.goal);
+        let (cells, told) = skip_ids(self.cells, self.told);
         self.cells = cells;
-        self.goal = goal;
+        self.told = told;
         let [cell, behind @ ..] = cells else {
             return None;
         };
-        if let Some(line) = cell.line(goal) {
+        if let Some((line, behind_it)) = cell.line(told) {
             self.cells = behind;
+            self.told = behind_it;
             return Some(self.place(&line, buffer, at));
         }
         let [whole, wholes @ ..] = self.wholes else {

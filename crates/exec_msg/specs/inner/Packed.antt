@@ -1,89 +1,89 @@
 -- Lines in few bytes each.
-use Rattle.std.specs.Prelude.{ℕ, ◌+◌, ◌*◌, ◌^◌, pos, List, [], ◌∷◌, Option, None, Some}
+use Rattle.std.specs.Prelude.{◌≡◌, ◌++◌, ◌+◌, ◌*◌, ◌%◌, ◌^◌, ℕ, ℤ, pos, List, [], ◌∷◌, Option, None, Some}
 use Rattle.std.specs.Bool.{⊤}
+use Rattle.std.specs.Int.{w64, cast_signed}
 use Rattle.exec_msg.specs.declared.line.Line.{Line}
 use Rattle.exec_msg.specs.declared.line.Line.TheVariants as line
 use Rattle.exec_msg.specs.declared.packed.Cell.{Cell}
 use Rattle.exec_msg.specs.declared.packed.Cell.TheVariants as cell
 
--- what a cell says: a line, the goal that the lines behind it are on, or that a whole line stands in its place
+-- the number of an upper half and a lower one, of 32 bits each
+abbrev pub joined : ℕ → ℕ → ℕ
+joined high low = high * 2 ^ 32 + low
+
+-- the value of these halves
+abbrev pub value_by : ℕ → ℕ → ℤ
+value_by high low = cast_signed w64 (joined high low)
+
+-- the value beside an input that is the count of an identifier
+abbrev pub aux_by : ℕ → ℤ
+aux_by id = cast_signed w64 (id % 2 ^ 64)
+
+-- what a cell says: a line, and the identifier that is told behind it; an identifier alone; or that a whole line stands in its
+-- place
 pub data Said : Type 0 where
-  a_line : Line → Said
-  a_goal : ℕ → Said
+  a_line : Line → ℕ → Said
+  an_id : ℕ → Said
   a_whole_line : Said
 
--- what a cell says where lines are on a goal
+-- what a cell says where an identifier was told
 abbrev pub said_by : Cell → ℕ → Said
-said_by (cell.Round number moment) id = a_line (line.Round number moment)
-said_by (cell.Run kind entity aux input) id = a_line (line.Run entity kind input (pos aux) None)
-said_by (cell.Drop kind entity input) id = a_line (line.Drop entity kind input)
-said_by (cell.Pub topic value) id = a_line (line.Pub topic value)
-said_by (cell.Call client number value) id = a_line (line.Call client number value)
-said_by (cell.Reply service value) id = a_line (line.Reply service value)
-said_by (cell.Log entity value) id = a_line (line.Log entity value)
-said_by (cell.RunOnGoal kind entity aux input) id = a_line (line.Run entity kind input (pos aux) (Some id))
-said_by (cell.Expire server) id = a_line (line.Expire server id)
-said_by (cell.Goal client value) id = a_line (line.Goal client id value)
-said_by (cell.Cancel client stamp) id = a_line (line.Cancel client id stamp)
-said_by (cell.Feedback server value) id = a_line (line.Feedback server id value)
-said_by (cell.Decide decision server) id = a_line (line.Decide server id decision)
-said_by (cell.State status server) id = a_line (line.State server id status)
-said_by (cell.Ask client) id = a_line (line.Ask client id)
-said_by (cell.Result status server value) id = a_line (line.Result server id status value)
-said_by (cell.Id high low) id = a_goal (high * 2 ^ 64 + low)
+said_by (cell.Round upper number lower) id = a_line (line.Round number (joined upper lower)) id
+said_by (cell.Run kind entity high low) id = a_line (line.Run entity kind (value_by high low) (pos 0) None) id
+said_by (cell.RunBeside kind entity aux low) id = a_line (line.Run entity kind (pos low) (pos aux) None) id
+said_by (cell.RunCounted kind entity high low) id = a_line (line.Run entity kind (value_by high low) (aux_by id) None) id
+said_by (cell.Drop kind entity high low) id = a_line (line.Drop entity kind (value_by high low)) id
+said_by (cell.Pub topic high low) id = a_line (line.Pub topic (value_by high low)) id
+said_by (cell.Call client number low) id = a_line (line.Call client number (pos low)) id
+said_by (cell.CallCounted client high low) id = a_line (line.Call client (id % 2 ^ 64) (value_by high low)) id
+said_by (cell.Reply service high low) id = a_line (line.Reply service (value_by high low)) id
+said_by (cell.Log entity high low) id = a_line (line.Log entity (value_by high low)) id
+said_by (cell.RunOnGoal kind entity high low) id = a_line (line.Run entity kind (value_by high low) (pos 0) (Some id)) id
+said_by (cell.RunOnGoalBeside kind entity aux low) id = a_line (line.Run entity kind (pos low) (pos aux) (Some id)) id
+said_by (cell.RunOnGoalCounted kind entity high low) id = a_line (line.Run entity kind (value_by high low) (aux_by id) (Some id)) id
+said_by (cell.RunOnNear kind entity maker count low) id = a_line (line.Run entity kind (pos low) (pos 0) (Some (maker * 2 ^ 64 + count))) (maker * 2 ^ 64 + count)
+said_by (cell.RunOnNearCounted kind entity maker count low) id = a_line (line.Run entity kind (pos low) (pos count) (Some (maker * 2 ^ 64 + count))) (maker * 2 ^ 64 + count)
+said_by (cell.Expire server) id = a_line (line.Expire server id) id
+said_by (cell.Goal client high low) id = a_line (line.Goal client id (value_by high low)) id
+said_by (cell.Cancel client high low) id = a_line (line.Cancel client id (joined high low)) id
+said_by (cell.Feedback server high low) id = a_line (line.Feedback server id (value_by high low)) id
+said_by (cell.Decide decision server) id = a_line (line.Decide server id decision) id
+said_by (cell.State status server) id = a_line (line.State server id status) id
+said_by (cell.Ask client) id = a_line (line.Ask client id) id
+said_by (cell.Result status server high low) id = a_line (line.Result server id status (value_by high low)) id
+said_by (cell.Id maker high low) id = an_id (maker * 2 ^ 64 + joined high low)
 said_by cell.Whole id = a_whole_line
 
--- the line, if it is one
-abbrev pub line_said : Said → Option Line
-line_said (a_line line) = Some line
-line_said (a_goal id) = None
-line_said a_whole_line = None
-
--- the goal that a line is on, if it is on one
-abbrev pub goal_of : Line → Option ℕ
-goal_of (line.Round number moment) = None
-goal_of (line.Expire server id) = Some id
-goal_of (line.Run entity kind input aux id) = id
-goal_of (line.Drop entity kind input) = None
-goal_of (line.Pub topic value) = None
-goal_of (line.Call client number value) = None
-goal_of (line.Reply service value) = None
-goal_of (line.Goal client id value) = Some id
-goal_of (line.Cancel client id stamp) = Some id
-goal_of (line.Log entity value) = None
-goal_of (line.Feedback server id value) = Some id
-goal_of (line.Decide server id decision) = Some id
-goal_of (line.State server id status) = Some id
-goal_of (line.Code server code moved) = None
-goal_of (line.Ask client id) = Some id
-goal_of (line.Result server id status value) = Some id
-goal_of (line.Pending client calls) = None
-goal_of (line.End rounds) = None
+-- the line, if it is one, and the identifier that is told behind it
+abbrev pub said_line : Said → Option (Line × ℕ)
+said_line (a_line line id) = Some (line, id)
+said_line (an_id id) = None
+said_line a_whole_line = None
 
 abbrev pub lines_by : Said → ℕ → List Line → (ℕ → List Line → List Line) → List Line
-lines_by (a_line line) id wholes rest = line ∷ rest id wholes
-lines_by (a_goal other) id wholes rest = rest other wholes
+lines_by (a_line line on) id wholes rest = line ∷ rest on wholes
+lines_by (an_id other) id wholes rest = rest other wholes
 lines_by a_whole_line id [] rest = []
 lines_by a_whole_line id (whole ∷ wholes) rest = whole ∷ rest id wholes
 
--- the lines of cells and of whole lines, where lines are on a goal at first
+-- the lines of cells and of whole lines, where an identifier was told
 abbrev pub lines_in : List Cell → ℕ → List Line → List Line
 lines_in [] id wholes = []
 lines_in (cell ∷ cells) id wholes = lines_by (said_by cell id) id wholes (lines_in cells)
 
-abbrev pub goal_by : Said → ℕ → (ℕ → ℕ) → ℕ
-goal_by (a_line line) id rest = rest id
-goal_by (a_goal other) id rest = rest other
-goal_by a_whole_line id rest = rest id
+abbrev pub id_by : Said → ℕ → (ℕ → ℕ) → ℕ
+id_by (a_line line on) id rest = rest on
+id_by (an_id other) id rest = rest other
+id_by a_whole_line id rest = rest id
 
--- the goal that lines behind cells are on
-abbrev pub goal_behind : List Cell → ℕ → ℕ
-goal_behind [] id = id
-goal_behind (cell ∷ cells) id = goal_by (said_by cell id) id (goal_behind cells)
+-- the identifier that was told last behind cells
+abbrev pub id_behind : List Cell → ℕ → ℕ
+id_behind [] id = id
+id_behind (cell ∷ cells) id = id_by (said_by cell id) id (id_behind cells)
 
 abbrev pub told_by : Said → ℕ → List Line → (ℕ → List Line → Type 0) → Type 0
-told_by (a_line line) id wholes rest = rest id wholes
-told_by (a_goal other) id wholes rest = rest other wholes
+told_by (a_line line on) id wholes rest = rest on wholes
+told_by (an_id other) id wholes rest = rest other wholes
 told_by a_whole_line id [] rest = ⊥
 told_by a_whole_line id (whole ∷ wholes) rest = rest id wholes
 
@@ -93,8 +93,12 @@ AreTold [] id [] = ⊤
 AreTold [] id (whole ∷ wholes) = ⊥
 AreTold (cell ∷ cells) id wholes = told_by (said_by cell id) id wholes (AreTold cells)
 
--- cells don't begin with one that tells of a goal
-abbrev pub tells_no_goal : List Cell → Type 0
-tells_no_goal [] = ⊤
-tells_no_goal (cell.Id high low ∷ cells) = ⊥
-tells_no_goal (_ ∷ cells) = ⊤
+-- cells behind these say lines, where one identifier was told before and one is behind
+abbrev pub HasLines : List Cell → List Cell → ℕ → ℕ → List Line → Type 0
+HasLines cells new before behind lines = (more : List Cell) × (new ≡ cells ++ more) × (lines_in more before [] ≡ lines) × (id_behind more before ≡ behind) × AreTold more before []
+
+-- cells don't begin with one that tells an identifier alone
+abbrev pub tells_no_id : List Cell → Type 0
+tells_no_id [] = ⊤
+tells_no_id (cell.Id maker high low ∷ cells) = ⊥
+tells_no_id (_ ∷ cells) = ⊤
