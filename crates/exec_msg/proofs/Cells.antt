@@ -1,10 +1,9 @@
 -- Lines that stand in cells, and more behind them.
-use Rattle.std.proofs.Common.{◌≡◌, ℕ, List, [], ◌∷◌, ◌++◌, ◌+◌, ◌-◌, ◌≤◌, Some, length, take, drop, get_or, take_all, arith, refl, sym, ap, subst, ◌∙◌, append-nil, append_assoc}
-use Rattle.std.proofs.lemmas.Option.{none-some, same_Some}
+use Rattle.std.proofs.Common.{◌≡◌, ℕ, List, [], ◌∷◌, ◌++◌, refl, sym, ap, subst, ◌∙◌, append-nil, append_assoc}
 use Rattle.exec_msg.specs.declared.line.Line.{Line}
 use Rattle.exec_msg.specs.declared.packed.Cell.{Cell}
 use Rattle.exec_msg.specs.declared.packed.Cell.TheVariants as cell
-use Rattle.exec_msg.specs.inner.Packed.{Said, a_line, an_id, a_whole_line, said_by, said_line, lines_by, lines_in, id_by, id_behind, told_by, AreTold, HasLines}
+use Rattle.exec_msg.specs.inner.Packed.{Said, a_line, an_id, a_whole_line, said_by, lines_by, lines_in, id_by, id_behind, told_by, AreTold, HasLines}
 
 lines_said_behind : (said : Said) (cells more : List Cell) (id : ℕ) (wholes later : List Line)
     → ((on : ℕ) (those : List Line) → AreTold cells on those → lines_in (cells ++ more) on (those ++ later) ≡ lines_in cells on those ++ lines_in more (id_behind cells on) later)
@@ -44,24 +43,6 @@ told_behind : (cells more : List Cell) (id : ℕ) (wholes later : List Line) →
 told_behind [] more id [] later told then = then
 told_behind [] more id (whole ∷ wholes) later told then = absurd told
 told_behind (one ∷ cells) more id wholes later told then = told_said_behind (said_by one id) cells more id wholes later (λ on those is further. told_behind cells more on those later is further) told then
-
--- ---- a line is taken
-
-said_is : (said : Said) (line : Line) (on : ℕ) → said_line said ≡ Some (line, on) → said ≡ a_line line on
-said_is (a_line one on) line behind is = ap (λ (told : Line × ℕ). a_line told.0 told.1) (same_Some {A = Line × ℕ} (one, on) (line, behind) is)
-said_is (an_id id) line on is = absurd (none-some (line, on) is)
-said_is a_whole_line line on is = absurd (none-some (line, on) is)
-
--- the first of cells says one: one line less is left behind it
-pub line_taken : (cells : List Cell) (cell : Cell) (id on : ℕ) (wholes : List Line) (line : Line) → 1 ≤ length cells → cell ≡ get_or cells 0 cell → said_line (said_by cell id) ≡ Some (line, on)
-    → length (lines_in (take (length cells - 1) (drop 1 cells)) on wholes) + 1 ≡ length (lines_in cells id wholes)
-line_taken [] cell id on wholes line some at is = absurd (omega arith)
-line_taken (one ∷ cells) cell id on wholes line some at is =
-    let all : take (length (one ∷ cells) - 1) cells ≡ cells = take_all (length (one ∷ cells) - 1) cells (omega arith) in
-    let more : length (lines_in cells on wholes) + 1 ≡ length (line ∷ lines_in cells on wholes) = omega arith in
-    ap (λ (these : List Cell). length (lines_in these on wholes) + 1) all
-    ∙ more
-    ∙ ap (λ (said : Said). length (lines_by said id wholes (lines_in cells))) (sym (ap (λ (these : Cell). said_by these id) (sym at) ∙ said_is (said_by cell id) line on is))
 
 -- ---- a line is pushed
 

@@ -149,7 +149,7 @@ impl<'a> Model for TextReader<'a> {
 
 impl<'a> TextReader<'a> {
     ghost use Rattle.std.specs.Prelude.{◌≡◌, ◌⊎◌, ◌++◌, ◌+◌, ◌<◌, ◌≤◌, [], length, take, IfSome, IfNone, IfOk};
-    ghost use Rattle.exec_msg.specs.Line.{line_room, line_text, transcript_text};
+    ghost use Rattle.exec_msg.specs.Line.{line_room, transcript_text};
 
     /// Bytes that have the room of some lines.
     ///
@@ -178,13 +178,21 @@ impl<'a> TextReader<'a> {
         ensures same_length { length buffer.new ≡ length buffer.old }
     {
         let last = self.last_place(buffer);
-        let mut end = self.place_next(buffer, at)?;
+        let mut left = Left {
+            cells: self.cells,
+            wholes: self.wholes,
+            told: self.told,
+        };
+        let mut end = left.place_next(self.names, &mut self.texts, buffer, at)?;
         while end <= last {
-            let Some(next) = self.place_next(buffer, end) else {
+            let Some(next) = left.place_next(self.names, &mut self.texts, buffer, end) else {
                 break;
             };
             end = next;
         }
+        self.cells = left.cells;
+        self.wholes = left.wholes;
+        self.told = left.told;
         Some(end)
     }
 
@@ -198,47 +206,64 @@ impl<'a> TextReader<'a> {
             Err(_) => 0,
         }
     }
+}
+
+// The lines that are left, in places of their own while a buffer is filled.
+#[derive(Drop)]
+struct Left<'a> {
+    cells: &'a [Cell],
+    wholes: &'a [Line],
+    // The identifier that was told last.
+    told: GoalId,
+}
+
+impl<'a> Model for Left<'a> {
+    ghost use Rattle.std.specs.Prelude.{List};
+    ghost use Rattle.exec_msg.specs.declared.line.Line.{Line};
+    ghost use Rattle.exec_msg.specs.inner.Packed.{lines_in};
+
+    ghost Value = { List Line };
+
+    ghost view = { λ left. lines_in left.cells.now left.told left.wholes.now };
+}
+
+impl<'a> Left<'a> {
+    ghost use Rattle.std.specs.Prelude.{◌≡◌, ◌++◌, ◌+◌, ◌≤◌, [], length, take, IfSome, IfNone};
+    ghost use Rattle.exec_msg.specs.Line.{line_room, transcript_text};
 
     // Puts the text of the next line at a place, and gives its end, where a line is left.
     #[inline(always)]
-    fn place_next(&mut self, buffer: &mut [u8], at: usize) -> Option<usize>
-        requires { at + line_room self.old.names ≤ length buffer.old }
-        ensures text { IfSome result (λ end. take at buffer.old ++ transcript_text self.old.names self.old.lines ≡ take end buffer.new ++ transcript_text self.old.names self.new.lines) }
+    fn place_next(
+        &mut self,
+        names: &Names,
+        texts: &mut FieldTexts,
+        buffer: &mut [u8],
+        at: usize,
+    ) -> Option<usize>
+        requires { at + line_room names.now ≤ length buffer.old }
+        ensures text { IfSome result (λ end. take at buffer.old ++ transcript_text names.now self.old ≡ take end buffer.new ++ transcript_text names.now self.new) }
         ensures within { IfSome result (λ end. end ≤ length buffer.new) }
-        ensures shorter { IfSome result (λ _. length self.new.lines + 1 ≡ length self.old.lines) }
-        ensures none { IfNone result (self.old.lines ≡ []) }
+        ensures shorter { IfSome result (λ _. length self.new + 1 ≡ length self.old) }
+        ensures none { IfNone result (self.old ≡ []) }
         ensures same { IfNone result (self.new ≡ self.old) }
         ensures same_buffer { IfNone result (buffer.new ≡ buffer.old) }
-        ensures names { self.new.names ≡ self.old.names }
         ensures same_length { length buffer.new ≡ length buffer.old }
     {
         let (cells, told) = skip_ids(self.cells, self.told);
-        self.cells = cells;
-        self.told = told;
         let [cell, behind @ ..] = cells else {
             return None;
         };
-        if let Some((line, behind_it)) = cell.line(told) {
+        if let Some((line, told_behind)) = cell.line(told) {
             self.cells = behind;
-            self.told = behind_it;
-            return Some(self.place(&line, buffer, at));
+            self.told = told_behind;
+            return Some(place_line(&line, names, texts, buffer, at));
         }
         let [whole, wholes @ ..] = self.wholes else {
             return None;
         };
         self.cells = behind;
         self.wholes = wholes;
-        Some(self.place(whole, buffer, at))
-    }
-
-    #[inline(always)]
-    fn place(&mut self, line: &Line, buffer: &mut [u8], at: usize) -> usize
-        requires { at + line_room self.old.names ≤ length buffer.old }
-        ensures text { take result buffer.new ≡ take at buffer.old ++ line_text self.old.names line.now }
-        ensures within { result ≤ length buffer.new }
-        ensures same { self.new ≡ self.old }
-        ensures same_length { length buffer.new ≡ length buffer.old }
-    {
-        place_line(line, self.names, &mut self.texts, buffer, at)
+        self.told = told;
+        Some(place_line(whole, names, texts, buffer, at))
     }
 }

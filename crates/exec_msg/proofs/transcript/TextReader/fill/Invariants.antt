@@ -5,11 +5,11 @@ use Rattle.exec_msg.proofs.transcript.TextReader.fill.Given as goal
 -- what is placed and what is left are the whole, and something was placed
 abbrev pub invariant-loop-end : goal.invariant-loop-end
 invariant-loop-end l =
-    (take l.fn.at l.fn.buffer ++ transcript_text l.fn.self.names l.fn.self.lines ≡ take l.end l.buffer ++ transcript_text l.fn.self.names l.self.lines)
-    × (l.self.names ≡ l.fn.self.names)
+    (take l.fn.at l.fn.buffer ++ transcript_text l.fn.self.names l.fn.self.lines ≡ take l.end l.buffer ++ transcript_text l.fn.self.names l.left)
+    × (l.self-inside.names.now ≡ l.fn.self.names)
     × (l.end ≤ length l.buffer)
     × (length l.buffer ≡ length l.fn.buffer)
-    × (length l.self.lines < length l.fn.self.lines)
+    × (length l.left < length l.fn.self.lines)
 
 abbrev pub decreases-loop-end : goal.decreases-loop-end
-decreases-loop-end l = length l.self.lines
+decreases-loop-end l = length l.left
