@@ -1,7 +1,7 @@
 //! Lines in few bytes each.
 ghost use Rattle.std.specs.Prelude.{◌≡◌, ◌+◌, ◌*◌, ◌^◌, ◌≤◌, List, [], ◌∷◌, true, false, vec_len, vec_capacity};
 ghost use Rattle.exec_msg.specs.declared.line.Line.TheVariants as line;
-ghost use Rattle.exec_msg.specs.inner.Packed.{joined, said_by, said_line, lines_in, tells_no_id, HasLines};
+ghost use Rattle.exec_msg.specs.inner.Packed.{joined, id_told, said_by, said_line, lines_in, tells_no_id, HasLines};
 
 mod form;
 mod halves;
@@ -10,7 +10,7 @@ use crate::goal::GoalStatus;
 use crate::kind::Kind;
 use crate::line::Line;
 use crate::numbers::{EntityNo, GoalId, Moment};
-use form::{form_of, id_cell, near_form};
+use form::{form_of, near_cell, near_form, upper_cell};
 use halves::{join, join_value};
 use std::mem::size_of;
 
@@ -149,8 +149,9 @@ pub(crate) enum Cell {
         high: u32,
         low: u32,
     },
-    /// Tells an identifier.
+    /// Tells an identifier: its count and a short upper half, or that half alone of the one that was told.
     Id {
+        is_upper: bool,
         maker: u16,
         high: u32,
         low: u32,
@@ -416,6 +417,18 @@ fn round_line(upper: u16, number: u32, lower: u32) -> Line
     }
 }
 
+// The identifier that a cell tells where another was told: that one with another upper half, or one of a maker.
+#[inline(always)]
+fn id_told(is_upper: bool, maker: u16, half: u64, told: GoalId) -> GoalId
+    ensures { result ≡ id_told is_upper maker half told }
+{
+    if is_upper {
+        GoalId::of_halves(half, told.count())
+    } else {
+        GoalId::of_halves(u64::from(maker), half)
+    }
+}
+
 #[inline(always)]
 fn near_id(maker: u16, count: u16) -> GoalId
     ensures { result ≡ maker * 2 ^ 64 + count }
@@ -423,32 +436,35 @@ fn near_id(maker: u16, count: u16) -> GoalId
     GoalId::of_halves(u64::from(maker), u64::from(count))
 }
 
-/// Tells an identifier, if it is another than the one that was told last, and says whether that could be.
+/// Tells an identifier, if it is another than the one that was told last, behind cells that have the room of
+/// three.
 #[inline(always)]
-fn tell(cells: &mut Vec<Cell>, told: &mut GoalId, id: GoalId) -> bool
-    requires { vec_len cells.old + 2 ≤ vec_capacity cells.old }
-    ensures told { result ≡ true → HasLines cells.old.items cells.new.items told.old told.new [] }
-    ensures id { result ≡ true → told.new ≡ id }
-    ensures room { result ≡ true → vec_len cells.new + 1 ≤ vec_capacity cells.new }
-    ensures left { result ≡ false → (cells.new.items ≡ cells.old.items) × (told.new ≡ told.old) × (vec_len cells.new + 2 ≤ vec_capacity cells.new) }
+fn tell(cells: &mut Vec<Cell>, told: &mut GoalId, id: GoalId)
+    requires { vec_len cells.old + 3 ≤ vec_capacity cells.old }
+    ensures told { HasLines cells.old.items cells.new.items told.old told.new [] }
+    ensures id { told.new ≡ id }
+    ensures room { vec_len cells.new + 1 ≤ vec_capacity cells.new }
 {
     if id == *told {
-        return true;
+        return;
     }
-    let Some(cell) = id_cell(id) else {
-        return false;
-    };
-    cells.push_reserved(cell);
+    let (upper, count) = id.halves();
+    match u16::try_from(upper) {
+        Ok(maker) => cells.push_reserved(near_cell(maker, count)),
+        Err(_) => {
+            cells.push_reserved(near_cell(0, count));
+            cells.push_reserved(upper_cell(upper));
+        }
+    }
     *told = id;
-    true
 }
 
-/// Puts a line behind cells that have the room of two, and says whether it has a form in cells.
+/// Puts a line behind cells that have the room of three, and says whether it has a form in cells.
 #[inline(always)]
 pub(crate) fn push_line(cells: &mut Vec<Cell>, told: &mut GoalId, line: &Line) -> bool
-    requires { vec_len cells.old + 2 ≤ vec_capacity cells.old }
+    requires { vec_len cells.old + 3 ≤ vec_capacity cells.old }
     ensures pushed { result ≡ true → HasLines cells.old.items cells.new.items told.old told.new (line.now ∷ []) }
-    ensures left { result ≡ false → (cells.new.items ≡ cells.old.items) × (told.new ≡ told.old) × (vec_len cells.new + 2 ≤ vec_capacity cells.new) }
+    ensures left { result ≡ false → (cells.new.items ≡ cells.old.items) × (told.new ≡ told.old) × (vec_len cells.new + 1 ≤ vec_capacity cells.new) }
 {
     if let Some((cell, id)) = near_form(line) {
         cells.push_reserved(cell);
@@ -458,9 +474,7 @@ pub(crate) fn push_line(cells: &mut Vec<Cell>, told: &mut GoalId, line: &Line) -
     let Some((cell, id)) = form_of(line, *told) else {
         return false;
     };
-    if !tell(cells, told, id) {
-        return false;
-    }
+    tell(cells, told, id);
     cells.push_reserved(cell);
     true
 }
@@ -473,8 +487,17 @@ pub(crate) fn skip_ids(cells: &[Cell], told: GoalId) -> (&[Cell], GoalId)
 {
     let mut left = cells;
     let mut on = told;
-    while let [Cell::Id { maker, high, low }, behind @ ..] = left {
-        on = GoalId::of_halves(u64::from(*maker), join(*high, *low));
+    while let [
+        Cell::Id {
+            is_upper,
+            maker,
+            high,
+            low,
+        },
+        behind @ ..,
+    ] = left
+    {
+        on = id_told(*is_upper, *maker, join(*high, *low), on);
         left = behind;
     }
     (left, on)

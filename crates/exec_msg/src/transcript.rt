@@ -117,7 +117,7 @@ impl Lines for Transcript {
 
     #[inline(always)]
     fn add(&mut self, line: &Line) -> Result<(), Memory> {
-        self.cells.reserve(2)?;
+        self.cells.reserve(3)?;
         if push_line(&mut self.cells, &mut self.told, line) {
             return Ok(());
         }

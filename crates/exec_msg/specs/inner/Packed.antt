@@ -1,5 +1,5 @@
 -- Lines in few bytes each.
-use Rattle.std.specs.Prelude.{◌≡◌, ◌++◌, ◌+◌, ◌*◌, ◌%◌, ◌^◌, ℕ, ℤ, pos, List, [], ◌∷◌, Option, None, Some}
+use Rattle.std.specs.Prelude.{◌≡◌, ◌++◌, ◌+◌, ◌*◌, ◌%◌, ◌^◌, ℕ, ℤ, pos, Bool, true, false, List, [], ◌∷◌, Option, None, Some}
 use Rattle.std.specs.Bool.{⊤}
 use Rattle.std.specs.Int.{w64, cast_signed}
 use Rattle.exec_msg.specs.declared.line.Line.{Line}
@@ -26,6 +26,11 @@ pub data Said : Type 0 where
   an_id : ℕ → Said
   a_whole_line : Said
 
+-- the identifier that is told where another was: that one with another upper half, or one of a maker
+abbrev pub id_told : Bool → ℕ → ℕ → ℕ → ℕ
+id_told true maker half id = half * 2 ^ 64 + id % 2 ^ 64
+id_told false maker half id = maker * 2 ^ 64 + half
+
 -- what a cell says where an identifier was told
 abbrev pub said_by : Cell → ℕ → Said
 said_by (cell.Round upper number lower) id = a_line (line.Round number (joined upper lower)) id
@@ -51,7 +56,7 @@ said_by (cell.Decide decision server) id = a_line (line.Decide server id decisio
 said_by (cell.State status server) id = a_line (line.State server id status) id
 said_by (cell.Ask client) id = a_line (line.Ask client id) id
 said_by (cell.Result status server high low) id = a_line (line.Result server id status (value_by high low)) id
-said_by (cell.Id maker high low) id = an_id (maker * 2 ^ 64 + joined high low)
+said_by (cell.Id is_upper maker high low) id = an_id (id_told is_upper maker (joined high low) id)
 said_by cell.Whole id = a_whole_line
 
 -- the line, if it is one, and the identifier that is told behind it
@@ -100,5 +105,5 @@ HasLines cells new before behind lines = (more : List Cell) × (new ≡ cells ++
 -- cells don't begin with one that tells an identifier alone
 abbrev pub tells_no_id : List Cell → Type 0
 tells_no_id [] = ⊤
-tells_no_id (cell.Id maker high low ∷ cells) = ⊥
+tells_no_id (cell.Id is_upper maker high low ∷ cells) = ⊥
 tells_no_id (_ ∷ cells) = ⊤

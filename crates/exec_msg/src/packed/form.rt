@@ -234,18 +234,32 @@ pub(super) fn near_form(line: &Line) -> Option<(Cell, GoalId)>
     None
 }
 
-// The cell that tells an identifier.
+// The cell that tells an identifier with a short upper half.
 #[inline(always)]
-pub(super) fn id_cell(id: GoalId) -> Option<Cell>
-    ensures { IfSome result (λ cell. (told : _) → said_by cell told ≡ an_id id) }
+pub(super) fn near_cell(maker: u16, count: u64) -> Cell
+    ensures { (told : _) → said_by result told ≡ an_id (maker * 2 ^ 64 + count) }
 {
-    let (maker, count) = id.halves();
     let (high, low) = halves(count);
-    Some(Cell::Id {
-        maker: u16::try_from(maker).ok()?,
+    Cell::Id {
+        is_upper: false,
+        maker,
         high,
         low,
-    })
+    }
+}
+
+// The cell that tells an identifier's upper half.
+#[inline(always)]
+pub(super) fn upper_cell(upper: u64) -> Cell
+    ensures { (told : _) → said_by result told ≡ an_id (upper * 2 ^ 64 + told % 2 ^ 64) }
+{
+    let (high, low) = halves(upper);
+    Cell::Id {
+        is_upper: true,
+        maker: 0,
+        high,
+        low,
+    }
 }
 
 // The halves of an identifier that is near.
