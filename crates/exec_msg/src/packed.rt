@@ -14,12 +14,12 @@ use form::{form_of, near_cell, near_form, upper_cell};
 use halves::{join, join_value};
 use std::mem::size_of;
 
-/// A line in twelve bytes, with its smallest field first. A number of 64 bits stands in its upper half and
-/// its lower one.
+/// A line in twelve bytes, with its smallest field first. A number of 64 bits stands in two halves, or in
+/// its lower one alone where it is short, below 2^32.
 ///
-/// Of the goal that a line is on, and of a number beside its value, it has nothing where these are those
-/// of the identifier that was told last: by a cell before it that tells of no more, or by a line on a near
-/// goal, whose identifier is short. An identifier's lower half is its count, by which numbers are told.
+/// Most cells have neither the goal that their line is on, nor a number beside its value that isn't short:
+/// these are the identifier that was told last and its count, which is its lower half. An identifier is
+/// told by a cell that says no line, or by a run line on a near goal, one whose halves are below 2^16.
 #[derive(Clone, Copy)]
 pub(crate) enum Cell {
     Round {
