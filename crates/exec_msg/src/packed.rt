@@ -17,9 +17,9 @@ use std::mem::size_of;
 /// A line in twelve bytes, with its smallest field first. A number of 64 bits stands in two halves, or in
 /// its lower one alone where it is short, below 2^32.
 ///
-/// Most cells have neither the goal that their line is on, nor a number beside its value that isn't short:
-/// these are the identifier that was told last and its count, which is its lower half. An identifier is
-/// told by a cell that says no line, or by a run line on a near goal, one whose halves are below 2^16.
+/// Most cells have neither the goal that their line is on, nor a number beside its value: these are the
+/// identifier that was told last and its count, which is its lower half. An identifier is told by a cell
+/// that says no line, or by a run line on a near goal, one whose halves are below 2^16.
 #[derive(Clone, Copy)]
 pub(crate) enum Cell {
     Round {
@@ -27,20 +27,14 @@ pub(crate) enum Cell {
         number: u32,
         lower: u32,
     },
+    /// One with 0 beside its input.
     Run {
         kind: Kind,
         entity: EntityNo,
         high: u32,
         low: u32,
     },
-    /// One with a short input, and a short number beside it.
-    RunBeside {
-        kind: Kind,
-        entity: EntityNo,
-        aux: u32,
-        low: u32,
-    },
-    /// One with the count of the identifier that was told beside its input.
+    /// One with the count beside its input.
     RunCounted {
         kind: Kind,
         entity: EntityNo,
@@ -58,14 +52,8 @@ pub(crate) enum Cell {
         high: u32,
         low: u32,
     },
-    /// One with a short number and a short value.
+    /// One with the count as its number.
     Call {
-        client: EntityNo,
-        number: u32,
-        low: u32,
-    },
-    /// One with the count of the identifier that was told as its number.
-    CallCounted {
         client: EntityNo,
         high: u32,
         low: u32,
@@ -80,25 +68,28 @@ pub(crate) enum Cell {
         high: u32,
         low: u32,
     },
+    /// One with 0 beside its input.
     RunOnGoal {
         kind: Kind,
         entity: EntityNo,
         high: u32,
         low: u32,
     },
+    /// One with a short input and a short number beside it.
     RunOnGoalBeside {
         kind: Kind,
         entity: EntityNo,
         aux: u32,
         low: u32,
     },
+    /// One with the count beside its input.
     RunOnGoalCounted {
         kind: Kind,
         entity: EntityNo,
         high: u32,
         low: u32,
     },
-    /// One on a near goal, with a short input.
+    /// One on a near goal, with a short input and 0 beside it.
     RunOnNear {
         kind: Kind,
         entity: EntityNo,
@@ -106,7 +97,7 @@ pub(crate) enum Cell {
         count: u16,
         low: u32,
     },
-    /// The same, with the count of its goal beside it.
+    /// One on a near goal, with a short input and the goal's count beside it.
     RunOnNearCounted {
         kind: Kind,
         entity: EntityNo,
@@ -189,21 +180,6 @@ impl Cell {
                 };
                 Some((line, told))
             }
-            Cell::RunBeside {
-                entity,
-                kind,
-                aux,
-                low,
-            } => {
-                let line = Line::Run {
-                    entity,
-                    kind,
-                    input: i64::from(low),
-                    aux: i64::from(aux),
-                    id: None,
-                };
-                Some((line, told))
-            }
             Cell::RunCounted {
                 entity,
                 kind,
@@ -236,19 +212,7 @@ impl Cell {
                 let value = join_value(high, low);
                 Some((Line::Pub { topic, value }, told))
             }
-            Cell::Call {
-                client,
-                number,
-                low,
-            } => {
-                let line = Line::Call {
-                    client,
-                    number: u64::from(number),
-                    value: i64::from(low),
-                };
-                Some((line, told))
-            }
-            Cell::CallCounted { client, high, low } => {
+            Cell::Call { client, high, low } => {
                 let line = Line::Call {
                     client,
                     number: told.count(),

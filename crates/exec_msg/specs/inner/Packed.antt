@@ -35,12 +35,10 @@ id_told false maker half id = maker * 2 ^ 64 + half
 abbrev pub said_by : Cell → ℕ → Said
 said_by (cell.Round upper number lower) id = a_line (line.Round number (joined upper lower)) id
 said_by (cell.Run kind entity high low) id = a_line (line.Run entity kind (value_by high low) (pos 0) None) id
-said_by (cell.RunBeside kind entity aux low) id = a_line (line.Run entity kind (pos low) (pos aux) None) id
 said_by (cell.RunCounted kind entity high low) id = a_line (line.Run entity kind (value_by high low) (aux_by id) None) id
 said_by (cell.Drop kind entity high low) id = a_line (line.Drop entity kind (value_by high low)) id
 said_by (cell.Pub topic high low) id = a_line (line.Pub topic (value_by high low)) id
-said_by (cell.Call client number low) id = a_line (line.Call client number (pos low)) id
-said_by (cell.CallCounted client high low) id = a_line (line.Call client (id % 2 ^ 64) (value_by high low)) id
+said_by (cell.Call client high low) id = a_line (line.Call client (id % 2 ^ 64) (value_by high low)) id
 said_by (cell.Reply service high low) id = a_line (line.Reply service (value_by high low)) id
 said_by (cell.Log entity high low) id = a_line (line.Log entity (value_by high low)) id
 said_by (cell.RunOnGoal kind entity high low) id = a_line (line.Run entity kind (value_by high low) (pos 0) (Some id)) id

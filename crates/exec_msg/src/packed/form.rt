@@ -126,15 +126,6 @@ fn run_form(entity: EntityNo, kind: Kind, input: i64, aux: i64, told: GoalId) ->
         };
         return (cell, told);
     }
-    if let Some((aux, low)) = short_pair(aux, input) {
-        let cell = Cell::RunBeside {
-            kind,
-            entity,
-            aux,
-            low,
-        };
-        return (cell, told);
-    }
     let cell = Cell::RunCounted {
         kind,
         entity,
@@ -148,19 +139,8 @@ fn run_form(entity: EntityNo, kind: Kind, input: i64, aux: i64, told: GoalId) ->
 fn call_form(client: EntityNo, number: u64, value: i64, told: GoalId) -> (Cell, GoalId)
     ensures { said_by result.0 result.1 ≡ a_line (line.Call client number value) result.1 }
 {
-    if let Some((number, low)) = short_call(number, value) {
-        let cell = Cell::Call {
-            client,
-            number,
-            low,
-        };
-        return (cell, told);
-    }
     let (high, low) = value_halves(value);
-    (
-        Cell::CallCounted { client, high, low },
-        with_count(told, number),
-    )
+    (Cell::Call { client, high, low }, with_count(told, number))
 }
 
 // The cell of a run line on a goal, where that is told before.
@@ -277,14 +257,6 @@ fn short_pair(one: i64, other: i64) -> Option<(u32, u32)>
     ensures { IfSome result (λ pair. (pos pair.0 ≡ one) × (pos pair.1 ≡ other)) }
 {
     Some((u32::try_from(one).ok()?, u32::try_from(other).ok()?))
-}
-
-// A number and a value of 32 bits each.
-#[inline(always)]
-fn short_call(number: u64, value: i64) -> Option<(u32, u32)>
-    ensures { IfSome result (λ pair. (pair.0 ≡ number) × (pos pair.1 ≡ value)) }
-{
-    Some((u32::try_from(number).ok()?, u32::try_from(value).ok()?))
 }
 
 // An identifier of a count: the one that was told, if that has it.
