@@ -1,8 +1,10 @@
 -- Known bytes that are read or written one piece after another.
-use Rattle.std.proofs.Common.{◌≡◌, ℕ, ◌+◌, ◌≤◌, length, List, ◌++◌, take, drop, Option, Some, None, sym, ap, subst, ◌∙◌, append_assoc}
-use Rattle.std.proofs.Math.Seq.{take-add, take-append-add, take-append_seam}
+use Rattle.std.proofs.Common.{◌≡◌, ℕ, ◌+◌, ◌-◌, ◌≤◌, length, List, ◌++◌, take, drop, Option, Some, None, sym, ap, subst, ◌∙◌, append_assoc, take-take, take-append-drop, length-drop, arith}
+use Rattle.std.proofs.Math.Seq.{paste, take-add, take-append-add, take-append_seam}
 use Rattle.std.proofs.lemmas.List.{take-append-le}
+use Rattle.std.proofs.lemmas.List.Edits.{take-paste}
 use Rattle.std.specs.Io.KnownBytes.{Appends, Consumes, Keeps}
+use Rattle.std.specs.List.{copy_within}
 
 Appends-then : (a b c : Option (List ℕ)) (xs ys : List ℕ) → Appends a b xs → Appends b c ys → Appends a c (xs ++ ys)
 Appends-then None b c xs ys p q = tt
@@ -45,3 +47,35 @@ Appends-still (Some u) (Some v) (Some w) xs p kept = kept ∙ p
 -- a writer that took the front of a text, and keeps it
 pub Appends-kept : (a b c : Option (List ℕ)) (written rest text : List ℕ) → written ++ rest ≡ text → Appends a b written → Keeps b c → Appends a c (take (length written) text)
 Appends-kept a b c written rest text is p kept = subst (Appends a c) (sym (ap (take (length written)) (sym is) ∙ take-append_seam written rest)) (Appends-still a b c written p kept)
+
+-- the front of what stood before a text was written, and what is left of it stands before the rest
+pub front_written : (written front behind all rest before lines text : List ℕ) → front ++ behind ≡ all → before ++ lines ≡ all ++ rest → written ++ (before ++ lines) ≡ text → (written ++ front) ++ (behind ++ rest) ≡ text
+front_written written front behind all rest before lines text parts same whole =
+    append_assoc written front (behind ++ rest)
+    ∙ ap (λ (l : List ℕ). written ++ l) (sym (append_assoc front behind rest) ∙ ap (λ (l : List ℕ). l ++ rest) parts ∙ sym same)
+    ∙ whole
+
+-- a front of what is placed stands before the rest of the text
+pub front_and_rest : (written buffer rest before lines text : List ℕ) (count end : ℕ) → count ≤ end → before ++ lines ≡ take end buffer ++ rest → written ++ (before ++ lines) ≡ text
+    → written ++ (take count buffer ++ (drop count (take end buffer) ++ rest)) ≡ text
+front_and_rest written buffer rest before lines text count end within same whole =
+    ap (λ (l : List ℕ). written ++ l)
+    (
+    ap (λ (l : List ℕ). l ++ (drop count (take end buffer) ++ rest)) (sym (take-take count end buffer within))
+    ∙ sym (append_assoc (take count (take end buffer)) (drop count (take end buffer)) rest)
+    ∙ ap (λ (l : List ℕ). l ++ rest) (take-append-drop count (take end buffer))
+    ∙ sym same
+    )
+    ∙ whole
+
+-- the bytes up to an end, where the last of them were moved to the front
+pub moved_to_front : (buffer after : List ℕ) (end behind : ℕ) → behind ≤ end → end ≤ length buffer → after ≡ copy_within buffer (end - behind) end 0 → take (end - behind) buffer ++ take behind after ≡ take end buffer
+moved_to_front buffer after end behind within fits is =
+    let front : ℕ = end - behind in
+    let count : end - front ≡ behind = omega arith in
+    let same : behind ≡ 0 + behind = omega arith in
+    let left : behind ≤ length (drop front buffer) = omega (arith, length-drop front buffer) in
+    let whole : front + behind ≡ end = omega arith in
+    let placed : take behind after ≡ take behind (drop front buffer) =
+    ap (take behind) (is ∙ ap (paste buffer 0 (drop front buffer)) count) ∙ ap (λ n. take n (paste buffer 0 (drop front buffer) behind)) same ∙ take-paste buffer 0 (drop front buffer) behind (omega arith) left in
+    ap (λ (l : List ℕ). take front buffer ++ l) placed ∙ sym (take-add front behind buffer) ∙ ap (λ n. take n buffer) whole

@@ -1,5 +1,5 @@
 //! Streams that note whether they have failed.
-ghost use Rattle.std.specs.Prelude.{◌≡◌, ℕ, List, ◌+◌, ◌<◌, ◌≤◌, true, false, length, take, drop, vec_len, OnOk, OnErr, IfOk, IfSome};
+ghost use Rattle.std.specs.Prelude.{◌≡◌, ℕ, List, ◌+◌, ◌-◌, ◌++◌, ◌<◌, ◌≤◌, true, false, length, take, drop, vec_len, OnOk, OnErr, IfOk, IfSome};
 ghost use Rattle.std.specs.Io.KnownBytes.{Keeps, Appends, Consumes, IsAtEnd};
 ghost use Rattle.exec_msg.specs.Line.{line_room, transcript_text};
 
@@ -10,6 +10,9 @@ use std::io::{Read, Write};
 use std::marker::Model;
 
 const FIRST_ROOM: usize = 65_536;
+
+// A long text is written in blocks of so many bytes, which begin where a file's pages begin.
+const BLOCK: usize = 65_536;
 
 /// Why a document isn't read.
 #[derive(Clone, Copy, Debug, PartialEq, Eq)]
@@ -231,8 +234,46 @@ pub fn write_pieces<W: Write>(
     ensures front { (count : ℕ)
         × Appends output.old.contents output.new.contents (take count (transcript_text reader.old.names reader.old.lines)) }
 {
-    while let Some(end) = reader.fill(buffer, 0) {
-        write_all(output, &buffer[..end])?;
+    let mut at = 0;
+    while let Some(end) = reader.fill(buffer, at) {
+        at = bytes_behind(reader, buffer, end);
+        write_front(output, buffer, end, at)?;
     }
+    write_all(output, &buffer[..at])?;
     output.flush()
+}
+
+// How many of the bytes up to an end wait for the next block: those behind the last, where they leave a line its room.
+fn bytes_behind(reader: &TextReader<'_>, buffer: &[u8], end: usize) -> usize
+    requires { line_room reader.now.names ≤ length buffer.now }
+    ensures within { result ≤ end }
+    ensures room { result + line_room reader.now.names ≤ length buffer.now }
+{
+    let behind = end % BLOCK;
+    if reader.has_room(buffer, behind) {
+        behind
+    } else {
+        0
+    }
+}
+
+// Writes the bytes up to an end but for the last, so many, which are moved to the front.
+fn write_front<W: Write>(
+    output: &mut OutputStream<W>,
+    buffer: &mut [u8],
+    end: usize,
+    behind: usize,
+) -> Result<(), WriteFault>
+    requires { (behind ≤ end) × (end ≤ length buffer.old) }
+    ensures ok { OnOk result (Appends output.old.contents output.new.contents (take (end - behind) buffer.old)) }
+    ensures moved { OnOk result (take (end - behind) buffer.old ++ take behind buffer.new ≡ take end buffer.old) }
+    ensures failed { OnErr result (output.new.failed ≡ true) }
+    ensures front { (count : ℕ) × (count ≤ length (take (end - behind) buffer.old))
+        × Appends output.old.contents output.new.contents (take count (take (end - behind) buffer.old)) }
+    ensures same_length { length buffer.new ≡ length buffer.old }
+{
+    let count = end - behind;
+    write_all(output, &buffer[..count])?;
+    buffer.copy_within(count..end, 0);
+    Ok(())
 }

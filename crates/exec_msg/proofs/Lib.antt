@@ -1,6 +1,7 @@
 pub mod FirstPlaces
 pub mod Lengths
 mod Cells
+pub mod NameFields
 pub mod Places
 pub mod Queues
 pub mod NextCall

@@ -28,7 +28,7 @@ digits_written before after digits at start end starts ends front rest =
     ∙ ap (λ (n : ℕ). take n before ++ digits) starts
 
 -- the front of what was written at a place
-pub written_front : (before after text : List ℕ) (at most few end : ℕ) → at ≤ length before → few ≤ most → end ≡ at + most → take end after ≡ take at before ++ text →
+written_front : (before after text : List ℕ) (at most few end : ℕ) → at ≤ length before → few ≤ most → end ≡ at + most → take end after ≡ take at before ++ text →
     take (at + few) after ≡ take at before ++ take few text
 written_front before after text at most few end within fewer end_is written =
     let long : length (take at before) ≡ at = length-take-le at before within in

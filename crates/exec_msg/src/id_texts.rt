@@ -4,11 +4,11 @@ ghost use Rattle.exec_msg.specs.Line.{spaced, id_text};
 
 use crate::memory::Memory;
 use crate::numbers::GoalId;
-use crate::place::{place_cell, place_id};
+use crate::place::{place_id, place_pair};
 use std::alloc::Global;
 use std::marker::Model;
 
-// An identifier's field as a line has it, with the space before it, and spaces behind: three copies of sixteen bytes. Its
+// An identifier's field as a line has it, with the space before it, and spaces behind: two copies of a fixed length. Its
 // text is there from the second line in turn on that asks for it. Where so many goals take turns that no place keeps one until
 // it comes again, none is kept for nobody, and none is copied just after it was written, for which a processor waits.
 #[derive(Clone, Copy)]
@@ -67,7 +67,7 @@ impl IdField {
         ensures text { take result bytes.new ≡ take at bytes.old ++ spaced (id_text self.now.0 ∷ []) }
         ensures end { result ≡ at + 37 }
     {
-        place_cell::<48>(bytes, at, &self.text);
+        place_pair::<32, 16>(bytes, at, &self.text);
         at + 37
     }
 

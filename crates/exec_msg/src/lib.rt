@@ -13,6 +13,7 @@ pub mod limits;
 mod line;
 mod lines;
 mod memory;
+mod name_texts;
 mod names;
 mod numbers;
 mod packed;

@@ -41,6 +41,13 @@ impl Names {
         self.name(no)
     }
 
+    // All names, in their order.
+    pub(crate) fn texts(&self) -> &[String]
+        ensures { map string_bytes result.now ≡ self.now }
+    {
+        self.texts.as_slice()
+    }
+
     // The length of the longest name.
     pub(crate) fn longest(&self) -> usize
         ensures { result ≡ greatest_length self.now }

@@ -1,13 +1,14 @@
 //! Fields of lines, written at a place of bytes that have the room. Each function gives the end of what it wrote; what
 //! stands behind may change.
 
-ghost use Rattle.std.specs.Prelude.{◌≡◌, ◌+◌, ◌<◌, ◌≤◌, [], ◌∷◌, ◌++◌, length, take, decimal};
+ghost use Rattle.std.specs.Prelude.{◌≡◌, ◌+◌, ◌<◌, ◌≤◌, [], ◌∷◌, ◌++◌, pos, length, take, decimal, IfSome};
 ghost use Rattle.std.specs.Fmt.{signed_decimal};
-ghost use Rattle.exec_msg.specs.Line.{spaced, joined, word_of, id_text};
+ghost use Rattle.exec_msg.specs.Line.{greatest_length, spaced, joined, name_at, word_of, id_text};
 
 use crate::field_texts::FieldTexts;
 use crate::kind::Kind;
-use crate::numbers::GoalId;
+use crate::name_texts::{NameField, NameTexts};
+use crate::numbers::{EntityNo, GoalId};
 use itoa::write_digits;
 use std::simd::Simd;
 use uuid::Uuid;
@@ -23,17 +24,6 @@ pub(crate) fn place(bytes: &mut [u8], at: usize, text: &str) -> usize
     end
 }
 
-// Bytes of a fixed number: a few loads and stores.
-#[inline(always)]
-pub(crate) fn place_cell<const N: usize>(bytes: &mut [u8], at: usize, cell: &[u8; N]) -> usize
-    requires { at + N ≤ length bytes.old }
-    ensures text { take result bytes.new ≡ take at bytes.old ++ cell.now }
-    ensures end { result ≡ at + N }
-{
-    bytes[at..at + N].copy_from_slice(cell);
-    at + N
-}
-
 // The first bytes of a text, so many: one load and one store.
 #[inline(always)]
 fn place_front<const N: usize>(bytes: &mut [u8], at: usize, text: &[u8]) -> usize
@@ -43,6 +33,21 @@ fn place_front<const N: usize>(bytes: &mut [u8], at: usize, text: &[u8]) -> usiz
 {
     Simd::<u8, N>::from_slice(text).copy_to_slice(&mut bytes[at..]);
     at + N
+}
+
+// The first bytes of a text, so many and so many more: two copies of a fixed length.
+#[inline(always)]
+pub(crate) fn place_pair<const N: usize, const M: usize>(
+    bytes: &mut [u8],
+    at: usize,
+    text: &[u8],
+) -> usize
+    requires { (N + M ≤ length text.now) × (at + N + M ≤ length bytes.old) }
+    ensures text { take result bytes.new ≡ take at bytes.old ++ take (N + M) text.now }
+    ensures end { result ≡ at + N + M }
+{
+    let end = place_front::<N>(bytes, at, text);
+    place_front::<M>(bytes, end, &text[N..])
 }
 
 // Two copies of a fixed length, which overlap.
@@ -77,7 +82,7 @@ fn place_short(bytes: &mut [u8], at: usize, text: &str) -> usize
 
 // A field with a space before it.
 #[inline(always)]
-fn place_field(bytes: &mut [u8], at: usize, text: &str) -> usize
+pub(crate) fn place_field(bytes: &mut [u8], at: usize, text: &str) -> usize
     requires { at + length text.now + 1 ≤ length bytes.old }
     ensures text { take result bytes.new ≡ take at bytes.old ++ spaced (text.now ∷ []) }
     ensures end { result ≡ at + length text.now + 1 }
@@ -88,13 +93,30 @@ fn place_field(bytes: &mut [u8], at: usize, text: &str) -> usize
 
 // A line's word, and the name of what it speaks of.
 #[inline(always)]
-pub(crate) fn place_named(bytes: &mut [u8], at: usize, word: &str, name: &str) -> usize
-    requires { at + length word.now + length name.now + 1 ≤ length bytes.old }
-    ensures text { take result bytes.new ≡ take at bytes.old ++ joined (word.now ∷ name.now ∷ []) }
-    ensures within { result ≤ at + length word.now + length name.now + 1 }
+pub(crate) fn place_named(
+    bytes: &mut [u8],
+    at: usize,
+    word: &str,
+    names: &NameTexts<'_>,
+    no: EntityNo,
+) -> usize
+    requires { at + length word.now + greatest_length names.now + 49 ≤ length bytes.old }
+    ensures text { take result bytes.new ≡ take at bytes.old ++ joined (word.now ∷ name_at names.now no ∷ []) }
+    ensures within { result ≤ at + length word.now + greatest_length names.now + 1 }
 {
     let end = place_short(bytes, at, word);
-    place_field(bytes, end, name)
+    names.place(bytes, end, no)
+}
+
+// A line's word, and a short name.
+#[inline(always)]
+pub(crate) fn place_short_named(bytes: &mut [u8], at: usize, word: &str, name: &NameField) -> usize
+    requires { at + length word.now + 48 ≤ length bytes.old }
+    ensures text { take result bytes.new ≡ take at bytes.old ++ joined (word.now ∷ name.now ∷ []) }
+    ensures end { result ≡ at + length word.now + length name.now + 1 }
+{
+    let end = place_short(bytes, at, word);
+    name.place(bytes, end)
 }
 
 // A line's word, and the callback that it speaks of: its entity's name and its kind.
@@ -103,14 +125,15 @@ pub(crate) fn place_callback(
     bytes: &mut [u8],
     at: usize,
     word: &str,
-    name: &str,
+    names: &NameTexts<'_>,
+    no: EntityNo,
     kind: Kind,
 ) -> usize
-    requires { at + length word.now + length name.now + 17 ≤ length bytes.old }
-    ensures text { take result bytes.new ≡ take at bytes.old ++ joined (word.now ∷ name.now ∷ word_of kind ∷ []) }
-    ensures within { result ≤ at + length word.now + length name.now + 10 }
+    requires { at + length word.now + greatest_length names.now + 49 ≤ length bytes.old }
+    ensures text { take result bytes.new ≡ take at bytes.old ++ joined (word.now ∷ name_at names.now no ∷ word_of kind ∷ []) }
+    ensures within { result ≤ at + length word.now + greatest_length names.now + 10 }
 {
-    let end = place_named(bytes, at, word, name);
+    let end = place_named(bytes, at, word, names, no);
     place_kind(bytes, end, kind)
 }
 
@@ -129,7 +152,7 @@ fn kind_field(kind: Kind) -> &'static [u8]
 
 // A kind's word with a space before it: one copy of a fixed length.
 #[inline(always)]
-fn place_kind(bytes: &mut [u8], at: usize, kind: Kind) -> usize
+pub(crate) fn place_kind(bytes: &mut [u8], at: usize, kind: Kind) -> usize
     requires { at + 16 ≤ length bytes.old }
     ensures text { take result bytes.new ≡ take at bytes.old ++ spaced (word_of kind ∷ []) }
     ensures within { result ≤ at + 9 }
@@ -145,14 +168,15 @@ pub(crate) fn place_goal(
     bytes: &mut [u8],
     at: usize,
     word: &str,
-    name: &str,
+    names: &NameTexts<'_>,
+    no: EntityNo,
     id: GoalId,
 ) -> usize
-    requires { at + length word.now + length name.now + 49 ≤ length bytes.old }
-    ensures text { take result bytes.new ≡ take at bytes.old ++ joined (word.now ∷ name.now ∷ id_text id ∷ []) }
-    ensures within { result ≤ at + length word.now + length name.now + 38 }
+    requires { at + length word.now + greatest_length names.now + 49 ≤ length bytes.old }
+    ensures text { take result bytes.new ≡ take at bytes.old ++ joined (word.now ∷ name_at names.now no ∷ id_text id ∷ []) }
+    ensures within { result ≤ at + length word.now + greatest_length names.now + 38 }
 {
-    let end = place_named(bytes, at, word, name);
+    let end = place_named(bytes, at, word, names, no);
     texts.ids.place(bytes, end, id)
 }
 
@@ -174,11 +198,32 @@ pub(crate) fn place_value(texts: &mut FieldTexts, bytes: &mut [u8], at: usize, v
     ensures text { take result bytes.new ≡ take at bytes.old ++ spaced (signed_decimal value ∷ []) }
     ensures within { result ≤ at + 22 }
 {
-    if value < 0 || value >= 10_000 {
-        return texts.values.place(bytes, at, value);
+    match small(value) {
+        Some(number) => place_small(bytes, at, number),
+        None => texts.values.place(bytes, at, value),
     }
+}
+
+// The number that a value without a sign is, where that has up to four digits.
+#[inline(always)]
+pub(crate) fn small(value: i64) -> Option<u64>
+    ensures { IfSome result (λ number. (pos number ≡ value) × (number < 10000)) }
+{
+    match u64::try_from(value) {
+        Ok(number) if number < 10_000 => Some(number),
+        _ => None,
+    }
+}
+
+// A number of up to four digits with a space before it.
+#[inline(always)]
+pub(crate) fn place_small(bytes: &mut [u8], at: usize, number: u64) -> usize
+    requires { (number < 10000) × (at + 5 ≤ length bytes.old) }
+    ensures text { take result bytes.new ≡ take at bytes.old ++ spaced (decimal number ∷ []) }
+    ensures within { result ≤ at + 5 }
+{
     bytes[at] = b' ';
-    place_thousands(bytes, at + 1, value.unsigned_abs())
+    place_thousands(bytes, at + 1, number)
 }
 
 // A value with a space before it, with each of its digits made anew.
@@ -292,14 +337,15 @@ pub(crate) fn place_named_value(
     bytes: &mut [u8],
     at: usize,
     word: &str,
-    name: &str,
+    names: &NameTexts<'_>,
+    no: EntityNo,
     value: i64,
 ) -> usize
-    requires { at + length word.now + length name.now + 25 ≤ length bytes.old }
-    ensures text { take result bytes.new ≡ take at bytes.old ++ joined (word.now ∷ name.now ∷ signed_decimal value ∷ []) }
-    ensures within { result ≤ at + length word.now + length name.now + 23 }
+    requires { at + length word.now + greatest_length names.now + 49 ≤ length bytes.old }
+    ensures text { take result bytes.new ≡ take at bytes.old ++ joined (word.now ∷ name_at names.now no ∷ signed_decimal value ∷ []) }
+    ensures within { result ≤ at + length word.now + greatest_length names.now + 23 }
 {
-    let end = place_named(bytes, at, word, name);
+    let end = place_named(bytes, at, word, names, no);
     place_value(texts, bytes, end, value)
 }
 
@@ -309,14 +355,15 @@ pub(crate) fn place_named_count(
     bytes: &mut [u8],
     at: usize,
     word: &str,
-    name: &str,
+    names: &NameTexts<'_>,
+    no: EntityNo,
     count: u64,
 ) -> usize
-    requires { at + length word.now + length name.now + 22 ≤ length bytes.old }
-    ensures text { take result bytes.new ≡ take at bytes.old ++ joined (word.now ∷ name.now ∷ decimal count ∷ []) }
-    ensures within { result ≤ at + length word.now + length name.now + 22 }
+    requires { at + length word.now + greatest_length names.now + 49 ≤ length bytes.old }
+    ensures text { take result bytes.new ≡ take at bytes.old ++ joined (word.now ∷ name_at names.now no ∷ decimal count ∷ []) }
+    ensures within { result ≤ at + length word.now + greatest_length names.now + 22 }
 {
-    let end = place_named(bytes, at, word, name);
+    let end = place_named(bytes, at, word, names, no);
     place_count(bytes, end, count)
 }
 
@@ -327,14 +374,15 @@ pub(crate) fn place_goal_line(
     bytes: &mut [u8],
     at: usize,
     word: &str,
-    name: &str,
+    names: &NameTexts<'_>,
+    no: EntityNo,
     id: GoalId,
 ) -> usize
-    requires { at + length word.now + length name.now + 49 ≤ length bytes.old }
-    ensures text { take result bytes.new ≡ take at bytes.old ++ joined (word.now ∷ name.now ∷ id_text id ∷ []) }
-    ensures within { result ≤ at + length word.now + length name.now + 38 }
+    requires { at + length word.now + greatest_length names.now + 49 ≤ length bytes.old }
+    ensures text { take result bytes.new ≡ take at bytes.old ++ joined (word.now ∷ name_at names.now no ∷ id_text id ∷ []) }
+    ensures within { result ≤ at + length word.now + greatest_length names.now + 38 }
 {
-    place_goal(texts, bytes, at, word, name, id)
+    place_goal(texts, bytes, at, word, names, no, id)
 }
 
 // A line's word, the goal that it speaks of, and a value.
@@ -344,15 +392,16 @@ pub(crate) fn place_goal_value(
     bytes: &mut [u8],
     at: usize,
     word: &str,
-    name: &str,
+    names: &NameTexts<'_>,
+    no: EntityNo,
     id: GoalId,
     value: i64,
 ) -> usize
-    requires { at + length word.now + length name.now + 71 ≤ length bytes.old }
-    ensures text { take result bytes.new ≡ take at bytes.old ++ joined (word.now ∷ name.now ∷ id_text id ∷ signed_decimal value ∷ []) }
-    ensures within { result ≤ at + length word.now + length name.now + 60 }
+    requires { at + length word.now + greatest_length names.now + 71 ≤ length bytes.old }
+    ensures text { take result bytes.new ≡ take at bytes.old ++ joined (word.now ∷ name_at names.now no ∷ id_text id ∷ signed_decimal value ∷ []) }
+    ensures within { result ≤ at + length word.now + greatest_length names.now + 60 }
 {
-    let end = place_goal(texts, bytes, at, word, name, id);
+    let end = place_goal(texts, bytes, at, word, names, no, id);
     place_value(texts, bytes, end, value)
 }
 
@@ -363,14 +412,15 @@ pub(crate) fn place_goal_count(
     bytes: &mut [u8],
     at: usize,
     word: &str,
-    name: &str,
+    names: &NameTexts<'_>,
+    no: EntityNo,
     id: GoalId,
     count: u64,
 ) -> usize
-    requires { at + length word.now + length name.now + 70 ≤ length bytes.old }
-    ensures text { take result bytes.new ≡ take at bytes.old ++ joined (word.now ∷ name.now ∷ id_text id ∷ decimal count ∷ []) }
-    ensures within { result ≤ at + length word.now + length name.now + 59 }
+    requires { at + length word.now + greatest_length names.now + 70 ≤ length bytes.old }
+    ensures text { take result bytes.new ≡ take at bytes.old ++ joined (word.now ∷ name_at names.now no ∷ id_text id ∷ decimal count ∷ []) }
+    ensures within { result ≤ at + length word.now + greatest_length names.now + 59 }
 {
-    let end = place_goal(texts, bytes, at, word, name, id);
+    let end = place_goal(texts, bytes, at, word, names, no, id);
     place_count(bytes, end, count)
 }

@@ -1,18 +1,20 @@
-ghost use Rattle.std.specs.Prelude.{◌≡◌, ◌+◌, ◌<◌, ◌≤◌, [], ◌∷◌, ◌++◌, length, take, codes, decimal, ◌^◌, vec_capacity, vec_len, IfOk, OnErr};
+ghost use Rattle.std.specs.Prelude.{◌≡◌, ◌+◌, ◌<◌, ◌≤◌, [], ◌∷◌, ◌++◌, length, take, codes, decimal, pos, ◌^◌, vec_capacity, vec_len, IfOk, OnErr};
 ghost use Rattle.std.specs.Fmt.{signed_decimal};
 ghost use Rattle.exec_msg.specs.Goal.{status_number, code_number};
-ghost use Rattle.exec_msg.specs.Line.{IsAppended, greatest_length, line_room, joined, word_of, id_text, fields_of, line_text};
+ghost use Rattle.exec_msg.specs.Line.{IsAppended, greatest_length, line_room, joined, name_at, word_of, id_text, fields_of, line_text};
 
 use crate::field_texts::FieldTexts;
 use crate::goal::{GoalStatus, ReturnCode};
 use crate::kind::Kind;
 use crate::line::Line;
 use crate::memory::Memory;
+use crate::name_texts::NameTexts;
 use crate::names::Names;
-use crate::numbers::GoalId;
+use crate::numbers::{EntityNo, GoalId};
 use crate::place::{
     place, place_callback, place_count, place_goal_count, place_goal_line, place_goal_value,
-    place_named_count, place_named_value, place_value,
+    place_kind, place_named_count, place_named_value, place_short_named, place_small, place_value,
+    small,
 };
 
 /// Appends the text of a line. Where memory is refused, `out` stays as it was.
@@ -27,8 +29,9 @@ pub fn write_line(line: &Line, names: &Names, out: &mut Vec<u8>) -> Result<(), M
     let at = out.len();
     let room = room_behind(at, names)?;
     out.resize(room, 0)?;
+    let name_texts = NameTexts::new(*out.allocator(), names);
     let mut texts = FieldTexts::new(*out.allocator());
-    let end = place_line(line, names, &mut texts, out.as_mut_slice(), at);
+    let end = place_line(line, &name_texts, &mut texts, out.as_mut_slice(), at);
     out.truncate(end);
     Ok(())
 }
@@ -49,7 +52,7 @@ pub fn room_behind(at: usize, names: &Names) -> Result<usize, Memory>
 #[inline(always)]
 pub(crate) fn place_line(
     line: &Line,
-    names: &Names,
+    names: &NameTexts<'_>,
     texts: &mut FieldTexts,
     bytes: &mut [u8],
     at: usize,
@@ -67,7 +70,7 @@ pub(crate) fn place_line(
 #[inline(always)]
 fn place_fields(
     line: &Line,
-    names: &Names,
+    names: &NameTexts<'_>,
     texts: &mut FieldTexts,
     bytes: &mut [u8],
     at: usize,
@@ -79,95 +82,50 @@ fn place_fields(
     match *line {
         Line::Round { number, moment } => place_round(bytes, at, number, moment.ticks()),
         Line::Expire { server, id } => place_goal_line(
-            texts,
-            bytes,
-            at,
-            "expire",
-            names.bounded_name(server),
-            id,
+            texts, bytes, at, "expire", names, server, id,
         ),
+        Line::Run {
+            entity,
+            kind,
+            input,
+            aux: 0,
+            id: None,
+        } => place_run(texts, bytes, at, names, entity, kind, input),
         Line::Run {
             entity,
             kind,
             input,
             aux,
             id: None,
-        } => place_run(
-            texts,
-            bytes,
-            at,
-            names.bounded_name(entity),
-            kind,
-            input,
-            aux,
-        ),
+        } => place_run_beside(texts, bytes, at, names, entity, kind, input, aux),
         Line::Run {
             entity,
             kind,
             input,
             aux,
             id: Some(id),
-        } => place_goal_run(
-            texts,
-            bytes,
-            at,
-            names.bounded_name(entity),
-            kind,
-            input,
-            aux,
-            id,
-        ),
+        } => place_goal_run(texts, bytes, at, names, entity, kind, input, aux, id),
         Line::Drop {
             entity,
             kind,
             input,
-        } => place_drop(texts, bytes, at, names.bounded_name(entity), kind, input),
-        Line::Pub { topic, value } => place_pub(texts, bytes, at, names.bounded_name(topic), value),
+        } => place_drop(texts, bytes, at, names, entity, kind, input),
+        Line::Pub { topic, value } => place_pub(texts, bytes, at, names, topic, value),
         Line::Call {
             client,
             number,
             value,
-        } => place_call(texts, bytes, at, names.bounded_name(client), number, value),
-        Line::Reply { service, value } => place_reply(
-            texts,
-            bytes,
-            at,
-            names.bounded_name(service),
-            value,
-        ),
+        } => place_call(texts, bytes, at, names, client, number, value),
+        Line::Reply { service, value } => place_reply(texts, bytes, at, names, service, value),
         Line::Goal { client, id, value } => place_goal_value(
-            texts,
-            bytes,
-            at,
-            "goal",
-            names.bounded_name(client),
-            id,
-            value,
+            texts, bytes, at, "goal", names, client, id, value,
         ),
         Line::Cancel { client, id, stamp } => place_goal_count(
-            texts,
-            bytes,
-            at,
-            "cancel",
-            names.bounded_name(client),
-            id,
-            stamp,
+            texts, bytes, at, "cancel", names, client, id, stamp,
         ),
-        Line::Log { entity, value } => place_log(
-            texts,
-            bytes,
-            at,
-            names.bounded_name(entity),
-            value,
-        ),
+        Line::Log { entity, value } => place_log(texts, bytes, at, names, entity, value),
         Line::Feedback { server, id, value } => place_goal_value(
-            texts,
-            bytes,
-            at,
-            "feedback",
-            names.bounded_name(server),
-            id,
-            value,
+            texts, bytes, at, "feedback", names, server, id, value,
         ),
         Line::Decide {
             server,
@@ -178,7 +136,8 @@ fn place_fields(
             bytes,
             at,
             "decide",
-            names.bounded_name(server),
+            names,
+            server,
             id,
             decision as u64,
         ),
@@ -187,7 +146,8 @@ fn place_fields(
             bytes,
             at,
             "state",
-            names.bounded_name(server),
+            names,
+            server,
             id,
             status.number() as u64,
         ),
@@ -195,35 +155,16 @@ fn place_fields(
             server,
             code,
             moved,
-        } => place_code(bytes, at, names.bounded_name(server), code, moved),
-        Line::Ask { client, id } => place_goal_line(
-            texts,
-            bytes,
-            at,
-            "ask",
-            names.bounded_name(client),
-            id,
-        ),
+        } => place_code(bytes, at, names, server, code, moved),
+        Line::Ask { client, id } => place_goal_line(texts, bytes, at, "ask", names, client, id),
         Line::Result {
             server,
             id,
             status,
             value,
-        } => place_result(
-            texts,
-            bytes,
-            at,
-            names.bounded_name(server),
-            id,
-            status,
-            value,
-        ),
+        } => place_result(texts, bytes, at, names, server, id, status, value),
         Line::Pending { client, calls } => place_named_count(
-            bytes,
-            at,
-            "pending",
-            names.bounded_name(client),
-            calls,
+            bytes, at, "pending", names, client, calls,
         ),
         Line::End { rounds } => place_end(bytes, at, rounds),
     }
@@ -250,21 +191,55 @@ fn place_end(bytes: &mut [u8], at: usize, rounds: u64) -> usize
     place_count(bytes, end, rounds)
 }
 
+// A run line with 0 beside its input, as most have. A short name and an input whose text is at hand are placed with no call.
 #[inline(never)]
 fn place_run(
     texts: &mut FieldTexts,
     bytes: &mut [u8],
     at: usize,
-    name: &str,
+    names: &NameTexts<'_>,
+    no: EntityNo,
+    kind: Kind,
+    input: i64,
+) -> usize
+    requires { at + greatest_length names.now + 127 ≤ length bytes.old }
+    ensures text { take result bytes.new ≡ take at bytes.old ++ joined (codes "run" ∷ name_at names.now no ∷ word_of kind ∷ signed_decimal input ∷ signed_decimal (pos 0) ∷ []) }
+    ensures within { result ≤ at + greatest_length names.now + 57 }
+{
+    let Some(name) = names.short(no) else {
+        return place_run_beside(texts, bytes, at, names, no, kind, input, 0);
+    };
+    if let Some(number) = small(input) {
+        let end = place_short_named(bytes, at, "run", name);
+        let end = place_kind(bytes, end, kind);
+        let end = place_small(bytes, end, number);
+        return place_small(bytes, end, 0);
+    }
+    let Some(field) = texts.values.kept(input) else {
+        return place_run_beside(texts, bytes, at, names, no, kind, input, 0);
+    };
+    let end = place_short_named(bytes, at, "run", name);
+    let end = place_kind(bytes, end, kind);
+    let end = field.place(bytes, end);
+    place_small(bytes, end, 0)
+}
+
+#[inline(never)]
+fn place_run_beside(
+    texts: &mut FieldTexts,
+    bytes: &mut [u8],
+    at: usize,
+    names: &NameTexts<'_>,
+    no: EntityNo,
     kind: Kind,
     input: i64,
     aux: i64,
 ) -> usize
-    requires { at + length name.now + 68 ≤ length bytes.old }
-    ensures text { take result bytes.new ≡ take at bytes.old ++ joined (codes "run" ∷ name.now ∷ word_of kind ∷ signed_decimal input ∷ signed_decimal aux ∷ []) }
-    ensures within { result ≤ at + length name.now + 57 }
+    requires { at + greatest_length names.now + 68 ≤ length bytes.old }
+    ensures text { take result bytes.new ≡ take at bytes.old ++ joined (codes "run" ∷ name_at names.now no ∷ word_of kind ∷ signed_decimal input ∷ signed_decimal aux ∷ []) }
+    ensures within { result ≤ at + greatest_length names.now + 57 }
 {
-    let end = place_callback(bytes, at, "run", name, kind);
+    let end = place_callback(bytes, at, "run", names, no, kind);
     let end = place_value(texts, bytes, end, input);
     place_value(texts, bytes, end, aux)
 }
@@ -275,17 +250,18 @@ fn place_goal_run(
     texts: &mut FieldTexts,
     bytes: &mut [u8],
     at: usize,
-    name: &str,
+    names: &NameTexts<'_>,
+    no: EntityNo,
     kind: Kind,
     input: i64,
     aux: i64,
     id: GoalId,
 ) -> usize
-    requires { at + length name.now + 105 ≤ length bytes.old }
-    ensures text { take result bytes.new ≡ take at bytes.old ++ joined (codes "run" ∷ name.now ∷ word_of kind ∷ signed_decimal input ∷ signed_decimal aux ∷ id_text id ∷ []) }
-    ensures within { result ≤ at + length name.now + 94 }
+    requires { at + greatest_length names.now + 105 ≤ length bytes.old }
+    ensures text { take result bytes.new ≡ take at bytes.old ++ joined (codes "run" ∷ name_at names.now no ∷ word_of kind ∷ signed_decimal input ∷ signed_decimal aux ∷ id_text id ∷ []) }
+    ensures within { result ≤ at + greatest_length names.now + 94 }
 {
-    let end = place_callback(bytes, at, "run", name, kind);
+    let end = place_callback(bytes, at, "run", names, no, kind);
     let end = place_value(texts, bytes, end, input);
     let end = place_value(texts, bytes, end, aux);
     texts.ids.place(bytes, end, id)
@@ -296,43 +272,95 @@ fn place_drop(
     texts: &mut FieldTexts,
     bytes: &mut [u8],
     at: usize,
-    name: &str,
+    names: &NameTexts<'_>,
+    no: EntityNo,
     kind: Kind,
     input: i64,
 ) -> usize
-    requires { at + length name.now + 38 ≤ length bytes.old }
-    ensures text { take result bytes.new ≡ take at bytes.old ++ joined (codes "drop" ∷ name.now ∷ word_of kind ∷ signed_decimal input ∷ []) }
-    ensures within { result ≤ at + length name.now + 36 }
+    requires { at + greatest_length names.now + 53 ≤ length bytes.old }
+    ensures text { take result bytes.new ≡ take at bytes.old ++ joined (codes "drop" ∷ name_at names.now no ∷ word_of kind ∷ signed_decimal input ∷ []) }
+    ensures within { result ≤ at + greatest_length names.now + 36 }
 {
-    let end = place_callback(bytes, at, "drop", name, kind);
+    let end = place_callback(bytes, at, "drop", names, no, kind);
     place_value(texts, bytes, end, input)
 }
 
 #[inline(never)]
-fn place_pub(texts: &mut FieldTexts, bytes: &mut [u8], at: usize, name: &str, value: i64) -> usize
-    requires { at + length name.now + 28 ≤ length bytes.old }
-    ensures text { take result bytes.new ≡ take at bytes.old ++ joined (codes "pub" ∷ name.now ∷ signed_decimal value ∷ []) }
-    ensures within { result ≤ at + length name.now + 26 }
+fn place_pub(
+    texts: &mut FieldTexts,
+    bytes: &mut [u8],
+    at: usize,
+    names: &NameTexts<'_>,
+    no: EntityNo,
+    value: i64,
+) -> usize
+    requires { at + greatest_length names.now + 52 ≤ length bytes.old }
+    ensures text { take result bytes.new ≡ take at bytes.old ++ joined (codes "pub" ∷ name_at names.now no ∷ signed_decimal value ∷ []) }
+    ensures within { result ≤ at + greatest_length names.now + 26 }
 {
-    place_named_value(texts, bytes, at, "pub", name, value)
+    let Some(name) = names.short(no) else {
+        return place_long_named_value(texts, bytes, at, "pub", names, no, value);
+    };
+    let end = place_short_named(bytes, at, "pub", name);
+    place_value(texts, bytes, end, value)
 }
 
 #[inline(never)]
-fn place_reply(texts: &mut FieldTexts, bytes: &mut [u8], at: usize, name: &str, value: i64) -> usize
-    requires { at + length name.now + 30 ≤ length bytes.old }
-    ensures text { take result bytes.new ≡ take at bytes.old ++ joined (codes "reply" ∷ name.now ∷ signed_decimal value ∷ []) }
-    ensures within { result ≤ at + length name.now + 28 }
+fn place_reply(
+    texts: &mut FieldTexts,
+    bytes: &mut [u8],
+    at: usize,
+    names: &NameTexts<'_>,
+    no: EntityNo,
+    value: i64,
+) -> usize
+    requires { at + greatest_length names.now + 54 ≤ length bytes.old }
+    ensures text { take result bytes.new ≡ take at bytes.old ++ joined (codes "reply" ∷ name_at names.now no ∷ signed_decimal value ∷ []) }
+    ensures within { result ≤ at + greatest_length names.now + 28 }
 {
-    place_named_value(texts, bytes, at, "reply", name, value)
+    let Some(name) = names.short(no) else {
+        return place_long_named_value(texts, bytes, at, "reply", names, no, value);
+    };
+    let end = place_short_named(bytes, at, "reply", name);
+    place_value(texts, bytes, end, value)
 }
 
 #[inline(never)]
-fn place_log(texts: &mut FieldTexts, bytes: &mut [u8], at: usize, name: &str, value: i64) -> usize
-    requires { at + length name.now + 28 ≤ length bytes.old }
-    ensures text { take result bytes.new ≡ take at bytes.old ++ joined (codes "log" ∷ name.now ∷ signed_decimal value ∷ []) }
-    ensures within { result ≤ at + length name.now + 26 }
+fn place_log(
+    texts: &mut FieldTexts,
+    bytes: &mut [u8],
+    at: usize,
+    names: &NameTexts<'_>,
+    no: EntityNo,
+    value: i64,
+) -> usize
+    requires { at + greatest_length names.now + 52 ≤ length bytes.old }
+    ensures text { take result bytes.new ≡ take at bytes.old ++ joined (codes "log" ∷ name_at names.now no ∷ signed_decimal value ∷ []) }
+    ensures within { result ≤ at + greatest_length names.now + 26 }
 {
-    place_named_value(texts, bytes, at, "log", name, value)
+    let Some(name) = names.short(no) else {
+        return place_long_named_value(texts, bytes, at, "log", names, no, value);
+    };
+    let end = place_short_named(bytes, at, "log", name);
+    place_value(texts, bytes, end, value)
+}
+
+// A line's word, a name that has no field, and a value.
+#[inline(never)]
+fn place_long_named_value(
+    texts: &mut FieldTexts,
+    bytes: &mut [u8],
+    at: usize,
+    word: &str,
+    names: &NameTexts<'_>,
+    no: EntityNo,
+    value: i64,
+) -> usize
+    requires { at + length word.now + greatest_length names.now + 49 ≤ length bytes.old }
+    ensures text { take result bytes.new ≡ take at bytes.old ++ joined (word.now ∷ name_at names.now no ∷ signed_decimal value ∷ []) }
+    ensures within { result ≤ at + length word.now + greatest_length names.now + 23 }
+{
+    place_named_value(texts, bytes, at, word, names, no, value)
 }
 
 #[inline(never)]
@@ -340,25 +368,33 @@ fn place_call(
     texts: &mut FieldTexts,
     bytes: &mut [u8],
     at: usize,
-    name: &str,
+    names: &NameTexts<'_>,
+    no: EntityNo,
     number: u64,
     value: i64,
 ) -> usize
-    requires { at + length name.now + 50 ≤ length bytes.old }
-    ensures text { take result bytes.new ≡ take at bytes.old ++ joined (codes "call" ∷ name.now ∷ decimal number ∷ signed_decimal value ∷ []) }
-    ensures within { result ≤ at + length name.now + 48 }
+    requires { at + greatest_length names.now + 53 ≤ length bytes.old }
+    ensures text { take result bytes.new ≡ take at bytes.old ++ joined (codes "call" ∷ name_at names.now no ∷ decimal number ∷ signed_decimal value ∷ []) }
+    ensures within { result ≤ at + greatest_length names.now + 48 }
 {
-    let end = place_named_count(bytes, at, "call", name, number);
+    let end = place_named_count(bytes, at, "call", names, no, number);
     place_value(texts, bytes, end, value)
 }
 
 #[inline(never)]
-fn place_code(bytes: &mut [u8], at: usize, name: &str, code: ReturnCode, moved: u64) -> usize
-    requires { at + length name.now + 48 ≤ length bytes.old }
-    ensures text { take result bytes.new ≡ take at bytes.old ++ joined (codes "code" ∷ name.now ∷ decimal (code_number code) ∷ decimal moved ∷ []) }
-    ensures within { result ≤ at + length name.now + 48 }
+fn place_code(
+    bytes: &mut [u8],
+    at: usize,
+    names: &NameTexts<'_>,
+    no: EntityNo,
+    code: ReturnCode,
+    moved: u64,
+) -> usize
+    requires { at + greatest_length names.now + 53 ≤ length bytes.old }
+    ensures text { take result bytes.new ≡ take at bytes.old ++ joined (codes "code" ∷ name_at names.now no ∷ decimal (code_number code) ∷ decimal moved ∷ []) }
+    ensures within { result ≤ at + greatest_length names.now + 48 }
 {
-    let end = place_named_count(bytes, at, "code", name, code.number() as u64);
+    let end = place_named_count(bytes, at, "code", names, no, code.number() as u64);
     place_count(bytes, end, moved)
 }
 
@@ -367,15 +403,25 @@ fn place_result(
     texts: &mut FieldTexts,
     bytes: &mut [u8],
     at: usize,
-    name: &str,
+    names: &NameTexts<'_>,
+    no: EntityNo,
     id: GoalId,
     status: GoalStatus,
     value: i64,
 ) -> usize
-    requires { at + length name.now + 99 ≤ length bytes.old }
-    ensures text { take result bytes.new ≡ take at bytes.old ++ joined (codes "result" ∷ name.now ∷ id_text id ∷ decimal (status_number status) ∷ signed_decimal value ∷ []) }
-    ensures within { result ≤ at + length name.now + 88 }
+    requires { at + greatest_length names.now + 99 ≤ length bytes.old }
+    ensures text { take result bytes.new ≡ take at bytes.old ++ joined (codes "result" ∷ name_at names.now no ∷ id_text id ∷ decimal (status_number status) ∷ signed_decimal value ∷ []) }
+    ensures within { result ≤ at + greatest_length names.now + 88 }
 {
-    let end = place_goal_count(texts, bytes, at, "result", name, id, status.number() as u64);
+    let end = place_goal_count(
+        texts,
+        bytes,
+        at,
+        "result",
+        names,
+        no,
+        id,
+        status.number() as u64,
+    );
     place_value(texts, bytes, end, value)
 }

@@ -5,6 +5,7 @@ use crate::field_texts::FieldTexts;
 use crate::line::Line;
 use crate::lines::{Lines, push_copy};
 use crate::memory::Memory;
+use crate::name_texts::NameTexts;
 use crate::names::Names;
 use crate::numbers::GoalId;
 use crate::packed::{Cell, push_line, skip_ids};
@@ -56,12 +57,14 @@ impl Transcript {
     pub fn reader<'a>(&'a self, alloc: Global, names: &'a Names) -> Result<TextReader<'a>, Memory>
         ensures { IfOk result (λ reader. reader ≡ record { names = names.now; lines = self.now }) }
     {
+        let mut name_texts = NameTexts::new(alloc, names);
         let mut texts = FieldTexts::new(alloc);
         if self.cells.len() >= MANY_CELLS {
+            name_texts.fill()?;
             texts.fill()?;
         }
         Ok(TextReader {
-            names,
+            names: name_texts,
             texts,
             cells: self.cells.as_slice(),
             wholes: self.wholes.as_slice(),
@@ -130,7 +133,7 @@ impl Lines for Transcript {
 /// A transcript whose text is read piece by piece.
 #[derive(Drop)]
 pub struct TextReader<'a> {
-    names: &'a Names,
+    names: NameTexts<'a>,
     texts: FieldTexts,
     cells: &'a [Cell],
     wholes: &'a [Line],
@@ -144,11 +147,11 @@ impl<'a> Model for TextReader<'a> {
 
     ghost Value = { LinesLeft };
 
-    ghost view = { λ reader. record { names = reader.names.now; lines = lines_in reader.cells.now reader.told reader.wholes.now } };
+    ghost view = { λ reader. record { names = reader.names; lines = lines_in reader.cells.now reader.told reader.wholes.now } };
 }
 
 impl<'a> TextReader<'a> {
-    ghost use Rattle.std.specs.Prelude.{◌≡◌, ◌⊎◌, ◌++◌, ◌+◌, ◌<◌, ◌≤◌, [], length, take, IfSome, IfNone, IfOk};
+    ghost use Rattle.std.specs.Prelude.{◌≡◌, ◌⊎◌, ◌++◌, ◌+◌, ◌<◌, ◌≤◌, [], length, nat_le, take, IfSome, IfNone, IfOk};
     ghost use Rattle.exec_msg.specs.Line.{line_room, transcript_text};
 
     /// Bytes that have the room of some lines.
@@ -159,8 +162,18 @@ impl<'a> TextReader<'a> {
         ensures { IfOk result (λ buffer. line_room self.now.names ≤ length buffer.items) }
     {
         let mut buffer = Vec::new(alloc);
-        lengthen(&mut buffer, room_behind(0, self.names)?)?;
+        lengthen(&mut buffer, room_behind(0, self.names.names())?)?;
         Ok(buffer)
+    }
+
+    /// Whether a buffer has the room of a line at a place.
+    pub fn has_room(&self, buffer: &[u8], at: usize) -> bool
+        ensures { result ≡ nat_le (at + line_room self.now.names) (length buffer.now) }
+    {
+        match room_behind(at, self.names.names()) {
+            Ok(room) => room <= buffer.len(),
+            Err(_) => false,
+        }
     }
 
     /// Puts the text of the next lines, as many as there is room for, at a place of a buffer that has the
@@ -183,9 +196,9 @@ impl<'a> TextReader<'a> {
             wholes: self.wholes,
             told: self.told,
         };
-        let mut end = left.place_next(self.names, &mut self.texts, buffer, at)?;
+        let mut end = left.place_next(&self.names, &mut self.texts, buffer, at)?;
         while end <= last {
-            let Some(next) = left.place_next(self.names, &mut self.texts, buffer, end) else {
+            let Some(next) = left.place_next(&self.names, &mut self.texts, buffer, end) else {
                 break;
             };
             end = next;
@@ -201,7 +214,7 @@ impl<'a> TextReader<'a> {
         requires { line_room self.now.names ≤ length buffer.now }
         ensures { result + line_room self.now.names ≡ length buffer.now }
     {
-        match room_behind(0, self.names) {
+        match room_behind(0, self.names.names()) {
             Ok(room) => buffer.len() - room,
             Err(_) => 0,
         }
@@ -235,7 +248,7 @@ impl<'a> Left<'a> {
     #[inline(always)]
     fn place_next(
         &mut self,
-        names: &Names,
+        names: &NameTexts<'_>,
         texts: &mut FieldTexts,
         buffer: &mut [u8],
         at: usize,

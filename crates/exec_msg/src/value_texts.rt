@@ -1,16 +1,17 @@
 //! The texts of long numbers that lines had, for the lines that follow: what one callback sends, others run with.
-ghost use Rattle.std.specs.Prelude.{◌≡◌, ◌+◌, ◌≤◌, [], ◌∷◌, ◌++◌, length, take};
+ghost use Rattle.std.specs.Prelude.{◌≡◌, ◌+◌, ◌≤◌, [], ◌∷◌, ◌++◌, length, take, IfSome};
+ghost use Rattle.std.specs.Option.{option_copied};
 ghost use Rattle.std.specs.Fmt.{signed_decimal};
 ghost use Rattle.exec_msg.specs.Line.{spaced};
 
 use crate::memory::Memory;
-use crate::place::{place_cell, place_signed};
+use crate::place::{place_pair, place_signed};
 use std::alloc::Global;
 use std::marker::Model;
 
 // A value's field as a line has it, with the space before it, and spaces behind.
 #[derive(Clone, Copy)]
-struct ValueField {
+pub(crate) struct ValueField {
     value: i64,
     length: usize,
     text: [u8; 24],
@@ -60,13 +61,14 @@ impl ValueField {
         self.length = place_signed(&mut self.text, 0, value);
     }
 
+    /// Puts the value at a place of bytes, with a space before it. What stands behind its end may change.
     #[inline(always)]
-    fn place(&self, bytes: &mut [u8], at: usize) -> usize
+    pub(crate) fn place(&self, bytes: &mut [u8], at: usize) -> usize
         requires { at + 24 ≤ length bytes.old }
         ensures text { take result bytes.new ≡ take at bytes.old ++ spaced (signed_decimal self.now.0 ∷ []) }
         ensures within { result ≤ at + 22 }
     {
-        place_cell::<24>(bytes, at, &self.text);
+        place_pair::<16, 8>(bytes, at, &self.text);
         at + self.length
     }
 }
@@ -97,6 +99,17 @@ impl ValueTexts {
         Ok(())
     }
 
+    /// The field of a value, where it is kept.
+    #[inline(always)]
+    pub(crate) fn kept(&self, value: i64) -> Option<&ValueField>
+        ensures { IfSome (option_copied result) (λ field. field.0 ≡ value) }
+    {
+        match self.fields.get(row(value.unsigned_abs())) {
+            Some(field) if field.value == value => Some(field),
+            _ => None,
+        }
+    }
+
     /// Puts a value at a place of bytes, with a space before it. What stands behind its end may change.
     #[inline(never)]
     pub(crate) fn place(&mut self, bytes: &mut [u8], at: usize, value: i64) -> usize
@@ -108,7 +121,7 @@ impl ValueTexts {
         if number < LONG {
             return place_signed(bytes, at, value);
         }
-        match self.fields.get_mut((number.wrapping_mul(0x9e37_79b9_7f4a_7c15) >> 56) as usize) {
+        match self.fields.get_mut(row(number)) {
             None => place_signed(bytes, at, value),
             Some(field) => {
                 field.be(value);
@@ -116,4 +129,10 @@ impl ValueTexts {
             }
         }
     }
+}
+
+// The place of a number's field.
+#[inline(always)]
+fn row(number: u64) -> usize {
+    (number.wrapping_mul(0x9e37_79b9_7f4a_7c15) >> 56) as usize
 }

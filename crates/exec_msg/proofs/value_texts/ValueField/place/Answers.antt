@@ -1,13 +1,13 @@
 use Rattle.std.proofs.Common.{rules, ◌≡◌, ℕ, List, ◌∷◌, ◌++◌, take, sym, ap, ◌∙◌, arith}
 use Rattle.std.specs.Fmt.{signed_decimal}
 use Rattle.std.proofs.lemmas.List.{append-nil}
-use Rattle.exec_msg.proofs.Places.{written_front}
+use Rattle.exec_msg.proofs.Places.{front_written}
 use Rattle.exec_msg.proofs.value_texts.ValueField.place.Goals as goal
 
 pub returns-clause-text : goal.returns-clause-text
 returns-clause-text c =
     let digits : List ℕ = signed_decimal c.args.self.now.0 in
     let kept : take c.self.inside.length c.self.inside.text ≡ 32 ∷ digits = search rules in
-    written_front c.args.bytes.now c.place_cell.new.bytes c.self.inside.text c.args.at 24 c.self.inside.length c.place_cell.result (omega (arith, c.requires)) (omega (arith, c.self.invariant.1)) c.place_cell.ensures.end
-    c.place_cell.ensures.text
+    front_written c.args.bytes.now c.place_pair.new.bytes c.self.inside.text c.args.at 24 c.self.inside.length c.place_pair.result (omega (arith, c.requires)) (omega (arith, c.self.invariant.1)) (omega (arith, c.place_pair.ensures.end))
+    c.place_pair.ensures.text
     ∙ ap (λ (field : List ℕ). take c.args.at c.args.bytes.now ++ field) (kept ∙ ap (λ (text : List ℕ). 32 ∷ text) (sym (append-nil digits)))
