@@ -1,9 +1,7 @@
 //! What the executor's callbacks and its transcript are made of: moments, names, timers and lines.
 #![tactic(auto)]
 
-mod field_texts;
 mod goal;
-mod id_texts;
 mod items;
 mod keep_last;
 mod kind;

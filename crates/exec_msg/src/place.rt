@@ -1,17 +1,19 @@
 //! Fields of lines, written at a place of bytes that have the room. Each function gives the end of what it wrote; what
 //! stands behind may change.
 
-ghost use Rattle.std.specs.Prelude.{◌≡◌, ◌+◌, ◌<◌, ◌≤◌, [], ◌∷◌, ◌++◌, pos, length, take, decimal, IfSome};
+ghost use Rattle.std.specs.Prelude.{◌≡◌, ◌+◌, ◌<◌, ◌≤◌, [], ◌∷◌, ◌++◌, pos, length, take, map, decimal, IfSome};
 ghost use Rattle.std.specs.Fmt.{signed_decimal};
+ghost use Rattle.std.specs.Int.{w128, to_be_bytes};
+ghost use Rattle.uuid.specs.Text.{by_index, hex_digit, lower, nibble};
+ghost use Rattle.std.specs.Simd.Lanes.{Each1};
 ghost use Rattle.exec_msg.specs.Line.{greatest_length, spaced, joined, name_at, word_of, id_text};
 
-use crate::field_texts::FieldTexts;
 use crate::kind::Kind;
 use crate::name_texts::{NameField, NameTexts};
 use crate::numbers::{EntityNo, GoalId};
+use crate::value_texts::ValueTexts;
 use itoa::write_digits;
-use std::simd::Simd;
-use uuid::Uuid;
+use std::simd::{Simd, u8x4, u8x16, u64x2};
 
 #[inline(always)]
 pub(crate) fn place(bytes: &mut [u8], at: usize, text: &str) -> usize
@@ -24,6 +26,17 @@ pub(crate) fn place(bytes: &mut [u8], at: usize, text: &str) -> usize
     end
 }
 
+// Bytes that stand side by side: one store.
+#[inline(always)]
+fn place_lanes<const N: usize>(bytes: &mut [u8], at: usize, lanes: Simd<u8, N>) -> usize
+    requires { (length lanes ≡ N) × (at + N ≤ length bytes.old) }
+    ensures text { take result bytes.new ≡ take at bytes.old ++ lanes.entry }
+    ensures end { result ≡ at + N }
+{
+    lanes.copy_to_slice(&mut bytes[at..]);
+    at + N
+}
+
 // The first bytes of a text, so many: one load and one store.
 #[inline(always)]
 fn place_front<const N: usize>(bytes: &mut [u8], at: usize, text: &[u8]) -> usize
@@ -31,8 +44,7 @@ fn place_front<const N: usize>(bytes: &mut [u8], at: usize, text: &[u8]) -> usiz
     ensures text { take result bytes.new ≡ take at bytes.old ++ take N text.now }
     ensures end { result ≡ at + N }
 {
-    Simd::<u8, N>::from_slice(text).copy_to_slice(&mut bytes[at..]);
-    at + N
+    place_lanes(bytes, at, Simd::<u8, N>::from_slice(text))
 }
 
 // The first bytes of a text, so many and so many more: two copies of a fixed length.
@@ -164,7 +176,6 @@ pub(crate) fn place_kind(bytes: &mut [u8], at: usize, kind: Kind) -> usize
 // A line's word, and the goal that it speaks of: the name of its server or client and its identifier.
 #[inline(always)]
 pub(crate) fn place_goal(
-    texts: &mut FieldTexts,
     bytes: &mut [u8],
     at: usize,
     word: &str,
@@ -177,7 +188,7 @@ pub(crate) fn place_goal(
     ensures within { result ≤ at + length word.now + greatest_length names.now + 38 }
 {
     let end = place_named(bytes, at, word, names, no);
-    texts.ids.place(bytes, end, id)
+    place_id(bytes, end, id)
 }
 
 // A count with a space before it.
@@ -193,14 +204,14 @@ pub(crate) fn place_count(bytes: &mut [u8], at: usize, count: u64) -> usize
 
 // A value with a space before it. Most are small, and are written in place.
 #[inline(always)]
-pub(crate) fn place_value(texts: &mut FieldTexts, bytes: &mut [u8], at: usize, value: i64) -> usize
+pub(crate) fn place_value(texts: &mut ValueTexts, bytes: &mut [u8], at: usize, value: i64) -> usize
     requires { at + 24 ≤ length bytes.old }
     ensures text { take result bytes.new ≡ take at bytes.old ++ spaced (signed_decimal value ∷ []) }
     ensures within { result ≤ at + 22 }
 {
     match small(value) {
         Some(number) => place_small(bytes, at, number),
-        None => texts.values.place(bytes, at, value),
+        None => texts.place(bytes, at, value),
     }
 }
 
@@ -318,6 +329,9 @@ fn count_digits(number: u64) -> usize
     number.ilog10() as usize + 1
 }
 
+// What stands before the digits of an identifier, and between them.
+const BETWEEN: [u8; 16] = *b" -              ";
+
 // An identifier with a space before it.
 #[inline(always)]
 pub(crate) fn place_id(bytes: &mut [u8], at: usize, id: GoalId) -> usize
@@ -325,15 +339,52 @@ pub(crate) fn place_id(bytes: &mut [u8], at: usize, id: GoalId) -> usize
     ensures text { take result bytes.new ≡ take at bytes.old ++ spaced (id_text id ∷ []) }
     ensures end { result ≡ at + 37 }
 {
-    let mut buffer = Uuid::encode_buffer();
-    let text = Uuid::from_u128(id.number()).hyphenated();
-    place_field(bytes, at, text.encode_lower(&mut buffer))
+    let (front, back) = digits_of(id);
+    let between = u8x16::from_array(BETWEEN);
+    let first: u8x16 = front.shuffle(
+        between,
+        [16, 0, 1, 2, 3, 4, 5, 6, 7, 17, 8, 9, 10, 11, 17, 12],
+    );
+    let second: u8x4 = front.shuffle(between, [13, 14, 15, 17]);
+    let third: u8x16 = back.shuffle(
+        between,
+        [0, 1, 2, 3, 17, 4, 5, 6, 7, 8, 9, 10, 11, 12, 13, 14],
+    );
+    let end = place_lanes(bytes, at, first);
+    let end = place_lanes(bytes, end, second);
+    let end = place_lanes(bytes, end, third);
+    place_lanes(bytes, end, back.extract::<15, 1>())
+}
+
+// The digits of an identifier, highest first, by sixteen.
+#[inline(always)]
+fn digits_of(id: GoalId) -> (u8x16, u8x16)
+    ensures front { result.0 ≡ by_index 16 (λ k. hex_digit lower (nibble (to_be_bytes w128 id) k)) }
+    ensures back { result.1 ≡ by_index 16 (λ k. hex_digit lower (nibble (to_be_bytes w128 id) (16 + k))) }
+{
+    let (high, low) = id.halves();
+    let octets = u64x2::from_array([low, high]).to_le_bytes().reverse();
+    let firsts = hex_digits((octets >> u8x16::splat(4)) & u8x16::splat(15));
+    let seconds = hex_digits(octets & u8x16::splat(15));
+    firsts.interleave(seconds)
+}
+
+// In each lane the digit of the number there.
+#[inline(always)]
+fn hex_digits(numbers: u8x16) -> u8x16
+    requires { (length numbers ≡ 16) × Each1 (λ number. number < 16) numbers }
+    ensures { result ≡ map (hex_digit lower) numbers }
+{
+    let letters = numbers + u8x16::splat(b'a' - 10);
+    numbers
+        .simd_lt(u8x16::splat(10))
+        .select(numbers + u8x16::splat(b'0'), letters)
 }
 
 // A line's word, the name of what it speaks of, and a value.
 #[inline(always)]
 pub(crate) fn place_named_value(
-    texts: &mut FieldTexts,
+    texts: &mut ValueTexts,
     bytes: &mut [u8],
     at: usize,
     word: &str,
@@ -370,7 +421,6 @@ pub(crate) fn place_named_count(
 // A line's word, and the goal that it speaks of.
 #[inline(never)]
 pub(crate) fn place_goal_line(
-    texts: &mut FieldTexts,
     bytes: &mut [u8],
     at: usize,
     word: &str,
@@ -382,13 +432,13 @@ pub(crate) fn place_goal_line(
     ensures text { take result bytes.new ≡ take at bytes.old ++ joined (word.now ∷ name_at names.now no ∷ id_text id ∷ []) }
     ensures within { result ≤ at + length word.now + greatest_length names.now + 38 }
 {
-    place_goal(texts, bytes, at, word, names, no, id)
+    place_goal(bytes, at, word, names, no, id)
 }
 
 // A line's word, the goal that it speaks of, and a value.
 #[inline(never)]
 pub(crate) fn place_goal_value(
-    texts: &mut FieldTexts,
+    texts: &mut ValueTexts,
     bytes: &mut [u8],
     at: usize,
     word: &str,
@@ -401,14 +451,13 @@ pub(crate) fn place_goal_value(
     ensures text { take result bytes.new ≡ take at bytes.old ++ joined (word.now ∷ name_at names.now no ∷ id_text id ∷ signed_decimal value ∷ []) }
     ensures within { result ≤ at + length word.now + greatest_length names.now + 60 }
 {
-    let end = place_goal(texts, bytes, at, word, names, no, id);
+    let end = place_goal(bytes, at, word, names, no, id);
     place_value(texts, bytes, end, value)
 }
 
 // A line's word, the goal that it speaks of, and a count.
 #[inline(never)]
 pub(crate) fn place_goal_count(
-    texts: &mut FieldTexts,
     bytes: &mut [u8],
     at: usize,
     word: &str,
@@ -421,6 +470,6 @@ pub(crate) fn place_goal_count(
     ensures text { take result bytes.new ≡ take at bytes.old ++ joined (word.now ∷ name_at names.now no ∷ id_text id ∷ decimal count ∷ []) }
     ensures within { result ≤ at + length word.now + greatest_length names.now + 59 }
 {
-    let end = place_goal(texts, bytes, at, word, names, no, id);
+    let end = place_goal(bytes, at, word, names, no, id);
     place_count(bytes, end, count)
 }

@@ -3,7 +3,6 @@ ghost use Rattle.std.specs.Fmt.{signed_decimal};
 ghost use Rattle.exec_msg.specs.Goal.{status_number, code_number};
 ghost use Rattle.exec_msg.specs.Line.{IsAppended, greatest_length, line_room, joined, name_at, word_of, id_text, fields_of, line_text};
 
-use crate::field_texts::FieldTexts;
 use crate::goal::{GoalStatus, ReturnCode};
 use crate::kind::Kind;
 use crate::line::Line;
@@ -13,9 +12,10 @@ use crate::names::Names;
 use crate::numbers::{EntityNo, GoalId};
 use crate::place::{
     place, place_callback, place_count, place_goal_count, place_goal_line, place_goal_value,
-    place_kind, place_named_count, place_named_value, place_short_named, place_small, place_value,
-    small,
+    place_id, place_kind, place_named_count, place_named_value, place_short_named, place_small,
+    place_value, small,
 };
+use crate::value_texts::ValueTexts;
 
 /// Appends the text of a line. Where memory is refused, `out` stays as it was.
 ///
@@ -30,7 +30,7 @@ pub fn write_line(line: &Line, names: &Names, out: &mut Vec<u8>) -> Result<(), M
     let room = room_behind(at, names)?;
     out.resize(room, 0)?;
     let name_texts = NameTexts::new(*out.allocator(), names);
-    let mut texts = FieldTexts::new(*out.allocator());
+    let mut texts = ValueTexts::new(*out.allocator());
     let end = place_line(line, &name_texts, &mut texts, out.as_mut_slice(), at);
     out.truncate(end);
     Ok(())
@@ -53,7 +53,7 @@ pub fn room_behind(at: usize, names: &Names) -> Result<usize, Memory>
 pub(crate) fn place_line(
     line: &Line,
     names: &NameTexts<'_>,
-    texts: &mut FieldTexts,
+    texts: &mut ValueTexts,
     bytes: &mut [u8],
     at: usize,
 ) -> usize
@@ -71,7 +71,7 @@ pub(crate) fn place_line(
 fn place_fields(
     line: &Line,
     names: &NameTexts<'_>,
-    texts: &mut FieldTexts,
+    texts: &mut ValueTexts,
     bytes: &mut [u8],
     at: usize,
 ) -> usize
@@ -81,9 +81,7 @@ fn place_fields(
 {
     match *line {
         Line::Round { number, moment } => place_round(bytes, at, number, moment.ticks()),
-        Line::Expire { server, id } => place_goal_line(
-            texts, bytes, at, "expire", names, server, id,
-        ),
+        Line::Expire { server, id } => place_goal_line(bytes, at, "expire", names, server, id),
         Line::Run {
             entity,
             kind,
@@ -121,7 +119,7 @@ fn place_fields(
             texts, bytes, at, "goal", names, client, id, value,
         ),
         Line::Cancel { client, id, stamp } => place_goal_count(
-            texts, bytes, at, "cancel", names, client, id, stamp,
+            bytes, at, "cancel", names, client, id, stamp,
         ),
         Line::Log { entity, value } => place_log(texts, bytes, at, names, entity, value),
         Line::Feedback { server, id, value } => place_goal_value(
@@ -131,18 +129,8 @@ fn place_fields(
             server,
             id,
             decision,
-        } => place_goal_count(
-            texts,
-            bytes,
-            at,
-            "decide",
-            names,
-            server,
-            id,
-            decision as u64,
-        ),
+        } => place_goal_count(bytes, at, "decide", names, server, id, decision as u64),
         Line::State { server, id, status } => place_goal_count(
-            texts,
             bytes,
             at,
             "state",
@@ -156,7 +144,7 @@ fn place_fields(
             code,
             moved,
         } => place_code(bytes, at, names, server, code, moved),
-        Line::Ask { client, id } => place_goal_line(texts, bytes, at, "ask", names, client, id),
+        Line::Ask { client, id } => place_goal_line(bytes, at, "ask", names, client, id),
         Line::Result {
             server,
             id,
@@ -194,7 +182,7 @@ fn place_end(bytes: &mut [u8], at: usize, rounds: u64) -> usize
 // A run line with 0 beside its input, as most have. A short name and an input whose text is at hand are placed with no call.
 #[inline(never)]
 fn place_run(
-    texts: &mut FieldTexts,
+    texts: &mut ValueTexts,
     bytes: &mut [u8],
     at: usize,
     names: &NameTexts<'_>,
@@ -207,7 +195,7 @@ fn place_run(
     ensures within { result ≤ at + greatest_length names.now + 57 }
 {
     let Some(name) = names.short(no) else {
-        return place_run_beside(texts, bytes, at, names, no, kind, input, 0);
+        return place_any_run(texts, bytes, at, names, no, kind, input, 0);
     };
     if let Some(number) = small(input) {
         let end = place_short_named(bytes, at, "run", name);
@@ -215,8 +203,8 @@ fn place_run(
         let end = place_small(bytes, end, number);
         return place_small(bytes, end, 0);
     }
-    let Some(field) = texts.values.kept(input) else {
-        return place_run_beside(texts, bytes, at, names, no, kind, input, 0);
+    let Some(field) = texts.kept(input) else {
+        return place_any_run(texts, bytes, at, names, no, kind, input, 0);
     };
     let end = place_short_named(bytes, at, "run", name);
     let end = place_kind(bytes, end, kind);
@@ -224,9 +212,46 @@ fn place_run(
     place_small(bytes, end, 0)
 }
 
+// A run line with a small number beside its input, without a call where that is so of the others.
 #[inline(never)]
 fn place_run_beside(
-    texts: &mut FieldTexts,
+    texts: &mut ValueTexts,
+    bytes: &mut [u8],
+    at: usize,
+    names: &NameTexts<'_>,
+    no: EntityNo,
+    kind: Kind,
+    input: i64,
+    aux: i64,
+) -> usize
+    requires { at + greatest_length names.now + 127 ≤ length bytes.old }
+    ensures text { take result bytes.new ≡ take at bytes.old ++ joined (codes "run" ∷ name_at names.now no ∷ word_of kind ∷ signed_decimal input ∷ signed_decimal aux ∷ []) }
+    ensures within { result ≤ at + greatest_length names.now + 57 }
+{
+    let Some(name) = names.short(no) else {
+        return place_any_run(texts, bytes, at, names, no, kind, input, aux);
+    };
+    let Some(beside) = small(aux) else {
+        return place_any_run(texts, bytes, at, names, no, kind, input, aux);
+    };
+    if let Some(number) = small(input) {
+        let end = place_short_named(bytes, at, "run", name);
+        let end = place_kind(bytes, end, kind);
+        let end = place_small(bytes, end, number);
+        return place_small(bytes, end, beside);
+    }
+    let Some(field) = texts.kept(input) else {
+        return place_any_run(texts, bytes, at, names, no, kind, input, aux);
+    };
+    let end = place_short_named(bytes, at, "run", name);
+    let end = place_kind(bytes, end, kind);
+    let end = field.place(bytes, end);
+    place_small(bytes, end, beside)
+}
+
+#[inline(never)]
+fn place_any_run(
+    texts: &mut ValueTexts,
     bytes: &mut [u8],
     at: usize,
     names: &NameTexts<'_>,
@@ -247,7 +272,7 @@ fn place_run_beside(
 // A run line of a callback on a goal.
 #[inline(never)]
 fn place_goal_run(
-    texts: &mut FieldTexts,
+    texts: &mut ValueTexts,
     bytes: &mut [u8],
     at: usize,
     names: &NameTexts<'_>,
@@ -264,12 +289,12 @@ fn place_goal_run(
     let end = place_callback(bytes, at, "run", names, no, kind);
     let end = place_value(texts, bytes, end, input);
     let end = place_value(texts, bytes, end, aux);
-    texts.ids.place(bytes, end, id)
+    place_id(bytes, end, id)
 }
 
 #[inline(never)]
 fn place_drop(
-    texts: &mut FieldTexts,
+    texts: &mut ValueTexts,
     bytes: &mut [u8],
     at: usize,
     names: &NameTexts<'_>,
@@ -287,7 +312,7 @@ fn place_drop(
 
 #[inline(never)]
 fn place_pub(
-    texts: &mut FieldTexts,
+    texts: &mut ValueTexts,
     bytes: &mut [u8],
     at: usize,
     names: &NameTexts<'_>,
@@ -307,7 +332,7 @@ fn place_pub(
 
 #[inline(never)]
 fn place_reply(
-    texts: &mut FieldTexts,
+    texts: &mut ValueTexts,
     bytes: &mut [u8],
     at: usize,
     names: &NameTexts<'_>,
@@ -327,7 +352,7 @@ fn place_reply(
 
 #[inline(never)]
 fn place_log(
-    texts: &mut FieldTexts,
+    texts: &mut ValueTexts,
     bytes: &mut [u8],
     at: usize,
     names: &NameTexts<'_>,
@@ -348,7 +373,7 @@ fn place_log(
 // A line's word, a name that has no field, and a value.
 #[inline(never)]
 fn place_long_named_value(
-    texts: &mut FieldTexts,
+    texts: &mut ValueTexts,
     bytes: &mut [u8],
     at: usize,
     word: &str,
@@ -363,9 +388,43 @@ fn place_long_named_value(
     place_named_value(texts, bytes, at, word, names, no, value)
 }
 
+// A call, without another function's where its number is small and its value's text is at hand.
 #[inline(never)]
 fn place_call(
-    texts: &mut FieldTexts,
+    texts: &mut ValueTexts,
+    bytes: &mut [u8],
+    at: usize,
+    names: &NameTexts<'_>,
+    no: EntityNo,
+    number: u64,
+    value: i64,
+) -> usize
+    requires { at + greatest_length names.now + 127 ≤ length bytes.old }
+    ensures text { take result bytes.new ≡ take at bytes.old ++ joined (codes "call" ∷ name_at names.now no ∷ decimal number ∷ signed_decimal value ∷ []) }
+    ensures within { result ≤ at + greatest_length names.now + 48 }
+{
+    if number >= 10_000 {
+        return place_any_call(texts, bytes, at, names, no, number, value);
+    }
+    let Some(name) = names.short(no) else {
+        return place_any_call(texts, bytes, at, names, no, number, value);
+    };
+    if let Some(small) = small(value) {
+        let end = place_short_named(bytes, at, "call", name);
+        let end = place_small(bytes, end, number);
+        return place_small(bytes, end, small);
+    }
+    let Some(field) = texts.kept(value) else {
+        return place_any_call(texts, bytes, at, names, no, number, value);
+    };
+    let end = place_short_named(bytes, at, "call", name);
+    let end = place_small(bytes, end, number);
+    field.place(bytes, end)
+}
+
+#[inline(never)]
+fn place_any_call(
+    texts: &mut ValueTexts,
     bytes: &mut [u8],
     at: usize,
     names: &NameTexts<'_>,
@@ -400,7 +459,7 @@ fn place_code(
 
 #[inline(never)]
 fn place_result(
-    texts: &mut FieldTexts,
+    texts: &mut ValueTexts,
     bytes: &mut [u8],
     at: usize,
     names: &NameTexts<'_>,
@@ -413,15 +472,6 @@ fn place_result(
     ensures text { take result bytes.new ≡ take at bytes.old ++ joined (codes "result" ∷ name_at names.now no ∷ id_text id ∷ decimal (status_number status) ∷ signed_decimal value ∷ []) }
     ensures within { result ≤ at + greatest_length names.now + 88 }
 {
-    let end = place_goal_count(
-        texts,
-        bytes,
-        at,
-        "result",
-        names,
-        no,
-        id,
-        status.number() as u64,
-    );
+    let end = place_goal_count(bytes, at, "result", names, no, id, status.number() as u64);
     place_value(texts, bytes, end, value)
 }

@@ -1,7 +1,6 @@
 //! A transcript's lines, kept in few bytes each, and its text, made of them piece by piece.
 ghost use Rattle.std.specs.Prelude.{◌≡◌, ◌≤◌, take, vec_len, OnOk};
 
-use crate::field_texts::FieldTexts;
 use crate::line::Line;
 use crate::lines::{Lines, push_copy};
 use crate::memory::Memory;
@@ -10,6 +9,7 @@ use crate::names::Names;
 use crate::numbers::GoalId;
 use crate::packed::{Cell, push_line, skip_ids};
 use crate::text::{place_line, room_behind};
+use crate::value_texts::ValueTexts;
 use std::alloc::Global;
 use std::marker::Model;
 
@@ -58,7 +58,7 @@ impl Transcript {
         ensures { IfOk result (λ reader. reader ≡ record { names = names.now; lines = self.now }) }
     {
         let mut name_texts = NameTexts::new(alloc, names);
-        let mut texts = FieldTexts::new(alloc);
+        let mut texts = ValueTexts::new(alloc);
         if self.cells.len() >= MANY_CELLS {
             name_texts.fill()?;
             texts.fill()?;
@@ -134,7 +134,7 @@ impl Lines for Transcript {
 #[derive(Drop)]
 pub struct TextReader<'a> {
     names: NameTexts<'a>,
-    texts: FieldTexts,
+    texts: ValueTexts,
     cells: &'a [Cell],
     wholes: &'a [Line],
     // The identifier that was told last.
@@ -249,7 +249,7 @@ impl<'a> Left<'a> {
     fn place_next(
         &mut self,
         names: &NameTexts<'_>,
-        texts: &mut FieldTexts,
+        texts: &mut ValueTexts,
         buffer: &mut [u8],
         at: usize,
     ) -> Option<usize>
