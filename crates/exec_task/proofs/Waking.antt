@@ -13,7 +13,7 @@ woken_is_polled : (before : Context) (waker : Waker) → Wakes waker before → 
 woken_is_polled before waker (task, origin) = rw (task, origin) refl
 
 -- a slot with a waker of the polled task, or that stayed as it was since none could be made, is left as a poll must
-pub left_waker : (before after : Context) (slot : Option Waker) (name : ℕ) → Keeps before after → (after.lacks_waker ≡ true) ⊎ IsSomeAnd slot (λ waker. Wakes waker before) → LeftWaker before after (record { source = name; waker = waker_in slot })
+pub left_waker : (before after : Context) (slot : Option Waker) (name : ℕ) → Keeps before after → (after.lacks_waker ≡ true) ⊎ IsSomeAnd slot (λ waker. Wakes waker before) → LeftWaker before after (record { source = name; waker = waker_in false slot })
 left_waker before after slot name kept (inl lacks) = inr (after, kept, (λ fact holds. holds), lacks)
 left_waker before after None name kept (inr none) = absurd none
 left_waker before after (Some waker) name kept (inr wakes) = inl (ap Some (woken_is_polled before waker wakes))

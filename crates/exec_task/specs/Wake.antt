@@ -1,5 +1,5 @@
 -- The sources that a task owns, and what a poll leaves at them.
-use Rattle.std.specs.Prelude.{◌≡◌, ◌⊎◌, ℕ, true, Option, None, Some}
+use Rattle.std.specs.Prelude.{◌≡◌, ◌⊎◌, ℕ, Bool, true, false, Option, None, Some}
 use Rattle.futures.specs.Slot.{TaskId, polled_task, woken_task}
 use Rattle.futures.specs.Task.{Keeps}
 use Rattle.futures.specs.declared.task.context.Context.{Context}
@@ -10,10 +10,11 @@ pub record WakeState : Type 0 where
   pub source : ℕ
   pub waker : Option TaskId
 
--- which task's waker stands in a slot
-abbrev pub waker_in : Option Waker → Option TaskId
-waker_in None = None
-waker_in (Some waker) = Some (woken_task waker)
+-- which task's waker stands in a slot; one that is laid aside does not
+abbrev pub waker_in : Bool → Option Waker → Option TaskId
+waker_in true slot = None
+waker_in false None = None
+waker_in false (Some waker) = Some (woken_task waker)
 
 -- between these two moments of a poll no waker could be made, and the poll yielded
 abbrev pub LacksWaker : Context → Context → Type 0

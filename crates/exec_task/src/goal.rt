@@ -95,8 +95,8 @@ impl GoalTask {
         }
         match self.progress.waits() {
             Wait::NextRound => {
-                self.clock.clear();
-                self.cancellation.clear();
+                self.clock.lay_aside();
+                self.cancellation.lay_aside();
                 let _: Poll<()> = cx.yield_now();
             }
             Wait::Until(_) => {

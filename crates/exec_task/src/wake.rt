@@ -5,11 +5,13 @@ ghost use Rattle.exec_task.specs.Wake.{LeftWaker};
 use futures::task::{Context, Poll, Source, Waker};
 use std::marker::Model;
 
-// A source that a task owns, with the slot for the waker that a poll leaves there.
+// A source that a task owns, with the slot for the waker that a poll leaves there. A waker that is laid aside stands there no
+// longer; it is kept for the next poll that waits, which then makes none.
 #[derive(Drop)]
 pub(crate) struct WakeSource {
     source: Source,
     slot: Option<Waker>,
+    aside: bool,
 }
 
 impl Model for WakeSource {
@@ -17,7 +19,7 @@ impl Model for WakeSource {
 
     ghost Value = { WakeState };
 
-    ghost view = { λ own. record { source = own.source.id; waker = waker_in own.slot } };
+    ghost view = { λ own. record { source = own.source.id; waker = waker_in own.aside own.slot } };
 }
 
 impl WakeSource {
@@ -27,6 +29,7 @@ impl WakeSource {
         WakeSource {
             source: Source::new(),
             slot: None,
+            aside: false,
         }
     }
 
@@ -39,6 +42,7 @@ impl WakeSource {
         ensures heard { Hears cx.new self.old.source }
         ensures kept { Keeps cx.old cx.new }
     {
+        self.aside = false;
         cx.register(&self.source, &mut self.slot)
     }
 
@@ -47,5 +51,12 @@ impl WakeSource {
         ensures { self.new ≡ record self.old { waker = None } }
     {
         self.slot = None;
+    }
+
+    // The task that is polled has yielded, so that no waker needs to wake it: the one that stands there is laid aside.
+    pub(crate) fn lay_aside(&mut self)
+        ensures { self.new ≡ record self.old { waker = None } }
+    {
+        self.aside = true;
     }
 }
