@@ -1,10 +1,13 @@
 -- A server's polls, goal by goal.
-use Rattle.std.proofs.Common.{◌≡◌, Bool, true, false, List, [], ◌∷◌, map, Some, refl, ap}
+use Rattle.std.proofs.Common.{◌≡◌, ℕ, ◌+◌, ◌<◌, Bool, true, false, List, [], ◌∷◌, ◌++◌, length, get_or, take, map, Some, refl, sym, ap, ◌∙◌}
 use Rattle.std.specs.List.{filter, flat_map}
+use Rattle.std.proofs.lemmas.List.{flat_map_more, take_more}
 use Rattle.exec_goal.specs.Table.{GoalRecord}
 use Rattle.exec_rules.specs.Ready.{is_goal_awake, poll_ready, ready_for, woken}
 use Rattle.exec_rules.specs.World.{Moment, ServerEntry}
+use Rattle.exec_rules.specs.declared.ready.AwakeGoal.{AwakeGoal}
 use Rattle.exec_rules.specs.declared.ready.Ready.{Ready}
+use Rattle.exec_rules.specs.inner.Awake.{awake_goal, awake_goals, goal_awake}
 use Rattle.exec_entity.specs.inner.Polling.{goal_ready}
 
 pub polls_are : (moment : Moment) (entry : ServerEntry) → poll_ready moment entry ≡ flat_map (goal_ready moment entry) entry.goals
@@ -18,3 +21,24 @@ polls_are moment entry = each entry.goals
             map (λ one. ready_for moment entry.handler (woken one) [] (Some entry.handler.script)) (filter (is_goal_awake moment entry.held) (goal ∷ goals)) ≡ flat_map (goal_ready moment entry) (goal ∷ goals)
         by true e rest = rw e (ap (λ (readies : List Ready). ready_for moment entry.handler (woken goal) [] (Some entry.handler.script) ∷ readies) rest)
         by false e rest = rw e rest
+
+-- ---- goals that are awake, in a list of their own
+
+pub awake_are : (moment : Moment) (entry : ServerEntry) → awake_goals moment entry ≡ map (awake_goal entry.handler) (filter (is_goal_awake moment entry.held) entry.goals)
+awake_are moment entry = each entry.goals
+  where
+    each : (goals : List GoalRecord) → flat_map (goal_awake moment entry) goals ≡ map (awake_goal entry.handler) (filter (is_goal_awake moment entry.held) goals)
+    each [] = refl
+    each (goal ∷ goals) = by (is_goal_awake moment entry.held goal) refl (each goals)
+      where
+        by : (b : Bool) → is_goal_awake moment entry.held goal ≡ b → flat_map (goal_awake moment entry) goals ≡ map (awake_goal entry.handler) (filter (is_goal_awake moment entry.held) goals)
+            → flat_map (goal_awake moment entry) (goal ∷ goals) ≡ map (awake_goal entry.handler) (filter (is_goal_awake moment entry.held) (goal ∷ goals))
+        by true e rest = rw e (ap (λ (goals : List AwakeGoal). awake_goal entry.handler goal ∷ goals) rest)
+        by false e rest = rw e rest
+
+pub none_awake : (moment : Moment) (entry : ServerEntry) → filter (is_goal_awake moment entry.held) entry.goals ≡ [] → awake_goals moment entry ≡ []
+none_awake moment entry none = awake_are moment entry ∙ ap (map (awake_goal entry.handler)) none
+
+-- what an element gives is added next
+pub added_next : {A B : Type 0} (f : A → List B) (before : List B) (xs : List A) (i : ℕ) (d : A) → i < length xs → (before ++ flat_map f (take i xs)) ++ f (get_or xs i d) ≡ before ++ flat_map f (take (i + 1) xs)
+added_next f before xs i d within = flat_map_more f before (take i xs) (get_or xs i d) ∙ ap (λ (all : List _). before ++ flat_map f all) (sym (take_more xs i d within))

@@ -9,6 +9,7 @@ pub mod Later
 pub mod Listing
 pub mod OfKinds
 pub mod Pairs
+pub mod PolledAlike
 pub mod ReadyLists
 pub mod Running
 pub mod ScriptsHome

@@ -1,3 +1,4 @@
+pub mod Awake
 pub mod Homes
 pub mod Listing
 pub mod Places

@@ -17,6 +17,6 @@ pub use handler::Handler;
 pub use homes::{Home, Homes};
 pub use item::Item;
 pub use polling::poll_any;
-pub use ready::{Cause, Ready};
+pub use ready::{AwakeGoal, Cause, Ready};
 pub use ready_list::ReadyList;
 pub use shared::share;

@@ -1,11 +1,13 @@
 ghost use Rattle.std.specs.Prelude.{◌≡◌};
 ghost use Rattle.exec_rules.specs.Ready.{kind_of, id_for, input_at, input_of, line_of};
+ghost use Rattle.exec_rules.specs.inner.Awake.{poll_at};
 
 use crate::item::Item;
 use exec_goal::GoalInfo;
 use exec_msg::{EntityNo, GoalId, Items, Kind, Line, Moment};
 use exec_plan::{GroupNo, Script};
 use exec_script::Input;
+use std::alloc::Global;
 
 /// Why a callback is ready.
 #[derive(Clone, Copy, Debug, PartialEq, Eq)]
@@ -20,6 +22,23 @@ pub enum Cause {
         value: i64,
         canceling: bool,
     },
+}
+
+/// A goal that is awake at a snapshot: what its poll needs that runs where the list of these stands.
+#[derive(Clone, Copy, Debug, PartialEq, Eq)]
+pub struct AwakeGoal {
+    /// Its identifier.
+    pub id: GoalId,
+    /// Its value.
+    pub value: i64,
+    /// Its server.
+    pub server: EntityNo,
+    /// The server's callback group.
+    pub group: GroupNo,
+    /// Whether that is mutually exclusive.
+    pub exclusive: bool,
+    /// Whether the goal is being canceled.
+    pub canceling: bool,
 }
 
 /// A callback that is ready at a snapshot, with the input that the snapshot took for it.
@@ -66,6 +85,30 @@ impl Cause {
             Cause::Due => None,
             Cause::Took(item) => item.id(),
             Cause::Woke { id, .. } => Some(*id),
+        }
+    }
+}
+
+impl AwakeGoal {
+    /// The goal's poll at a moment. It has no place in a ready list and no share in a script; no poll asks for either. It takes
+    /// no memory.
+    #[inline(always)]
+    pub fn poll_at(&self, alloc: Global, moment: Moment) -> Ready
+        ensures { result ≡ poll_at moment self.now }
+    {
+        Ready {
+            position: 0,
+            entity: self.server,
+            group: self.group,
+            exclusive: self.exclusive,
+            moment,
+            cause: Cause::Woke {
+                id: self.id,
+                value: self.value,
+                canceling: self.canceling,
+            },
+            candidates: Items::new(alloc),
+            script: None,
         }
     }
 }

@@ -12,6 +12,7 @@ use Rattle.exec_rules.specs.World.{ClientEntry, Handler, Moment, Queue, ServerEn
 use Rattle.exec_rules.specs.declared.item.Item.{Item}
 use Rattle.exec_rules.specs.declared.item.Item.TheVariants as item
 use Rattle.exec_rules.specs.declared.ready.Ready.{Ready}
+use Rattle.exec_rules.specs.inner.Awake as awake
 use Rattle.exec_rules.specs.inner.Listing.{listed_behind}
 use Rattle.exec_world.specs.inner.Mail.{MailState, mail_of}
 use Rattle.exec_rules.specs.inner.Places.{places_from, places_where}
@@ -122,24 +123,29 @@ module _ {inner held : WorldState} (same : inner ≡ held) (read : List Queue) (
 
 -- ---- the whole
 
-in_turn : (due before polls behind : List Ready) → listed_behind (listed_behind (listed_behind (listed_behind [] due) before) polls) behind ≡ placed_from 1 (due ++ before ++ polls ++ behind)
-in_turn due before polls behind =
-    ap (λ (list : List Ready). listed_behind list behind)
-    (ap (λ (list : List Ready). listed_behind list polls) (listed_more [] due before) ∙ listed_more [] (due ++ before) polls)
-    ∙ listed_more [] (due ++ before ++ polls) behind
+-- what is ready before polls, listed part by part
+pub first_listed : {inner held : WorldState} (due : List TimerEntry) (moment : Moment) (list with_due with_before : List Ready)
+    → inner ≡ held → due ≡ inner.timers → list ≡ [] → with_due ≡ listed_behind list (flat_map (due_ready moment) due)
+    → with_before ≡ listed_behind with_due (flat_map (queue_ready moment inner) (queues_before_polls inner)) → with_before ≡ placed_from 1 (awake.ready_before moment held)
+first_listed {inner} {held} due moment list with_due with_before same reads clear is_due is_before =
+    is_before
+    ∙ ap (λ (so_far : List Ready). listed_behind so_far (flat_map (queue_ready moment inner) (queues_before_polls inner)))
+    (is_due ∙ (λ k. listed_behind (clear k) (flat_map (due_ready moment) (reads k))))
+    ∙ listed_more [] (flat_map (due_ready moment) inner.timers) (flat_map (queue_ready moment inner) (queues_before_polls inner))
+    ∙ ap (λ (world : WorldState). placed_from 1 (awake.ready_before moment world)) same
 
--- a list that is made part by part, the second half of it in a world that has other timers and clients
-pub all_listed : {inner held second : WorldState} (timers due : List TimerEntry) (clients : List ClientEntry) (servers : List ServerEntry) (moment : Moment) (list with_due with_before with_polls whole : List Ready)
-    → inner ≡ held → second ≡ record inner { timers = timers; clients = clients } → due ≡ inner.timers → servers ≡ second.servers → list ≡ [] → with_due ≡ listed_behind list (flat_map (due_ready moment) due)
-    → with_before ≡ listed_behind with_due (flat_map (queue_ready moment inner) (queues_before_polls inner)) → with_polls ≡ listed_behind with_before (flat_map (poll_ready moment) servers)
+-- the whole list, the part behind polls in a world that has other timers and clients
+pub all_listed : (held : WorldState) {second : WorldState} (timers : List TimerEntry) (clients : List ClientEntry) (servers : List ServerEntry) (moment : Moment) (with_before with_polls whole : List Ready)
+    → second ≡ record held { timers = timers; clients = clients } → servers ≡ second.servers → with_before ≡ placed_from 1 (awake.ready_before moment held)
+    → with_polls ≡ listed_behind with_before (flat_map (poll_ready moment) servers)
     → whole ≡ listed_behind with_polls (flat_map (queue_ready moment second) (queues_behind_polls second)) → whole ≡ ready_list moment held
-all_listed {inner} {held} {second} timers due clients servers moment list with_due with_before with_polls whole same later reads there clear is_due is_before is_polls is_whole =
+all_listed held timers clients servers moment with_before with_polls whole later there is_before is_polls is_whole =
+    let before : List Ready = awake.ready_before moment held in
+    let polls : List Ready = flat_map (poll_ready moment) held.servers in
+    let behind : List Ready = awake.ready_behind moment held in
     is_whole
     ∙ (λ i. listed_behind
-    ((is_polls ∙ (λ j. listed_behind
-    ((is_before ∙ ap (λ (so_far : List Ready). listed_behind so_far (flat_map (queue_ready moment inner) (queues_before_polls inner)))
-    (is_due ∙ (λ k. listed_behind (clear k) (flat_map (due_ready moment) (reads k))))) j)
-    (flat_map (poll_ready moment) ((there ∙ ap (λ (world : WorldState). world.servers) later) j)))) i)
+    ((is_polls ∙ (λ j. listed_behind (is_before j) (flat_map (poll_ready moment) ((there ∙ ap (λ (world : WorldState). world.servers) later) j)))) i)
     (flat_map (queue_ready moment (later i)) (queues_behind_polls (later i))))
-    ∙ in_turn (flat_map (due_ready moment) inner.timers) (flat_map (queue_ready moment inner) (queues_before_polls inner)) (flat_map (poll_ready moment) inner.servers) (flat_map (queue_ready moment inner) (queues_behind_polls inner))
-    ∙ ap (ready_list moment) same
+    ∙ ap (λ (list : List Ready). listed_behind list behind) (listed_more [] before polls)
+    ∙ listed_more [] (before ++ polls) behind

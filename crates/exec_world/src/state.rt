@@ -14,6 +14,7 @@ use exec_entity::{ActionClients, Clients, Servers, Topics};
 use exec_msg::{EntityNo, Line, Lines, Memory};
 use exec_plan::{Graph, GroupNo};
 use exec_queue::EntityTimer;
+use exec_rules::AwakeGoal;
 use exec_script::Bank;
 use std::alloc::Global;
 use std::marker::Model;
@@ -32,6 +33,8 @@ pub(crate) struct State<L: Lines> {
     mail: Mail<L>,
     // The places of queues that a snapshot takes from; room that is used again.
     places: Vec<usize>,
+    // The goals that are awake at a snapshot; room that is used again.
+    awake: Vec<AwakeGoal>,
 }
 
 impl<L: Lines> Model for State<L> {
@@ -71,6 +74,7 @@ impl<L: Lines> State<L> {
             banks: new_banks(alloc, graph)?,
             mail: Mail::new(new_queues(alloc, graph)?, lines),
             places: Vec::new(alloc),
+            awake: Vec::new(alloc),
         })
     }
 

@@ -3,7 +3,7 @@ use super::{GoalRequest, Server};
 use crate::by_number::{ByNumber, Numbered};
 use exec_goal::{Asked, CancelAnswer, CancelRequest, Goals, State};
 use exec_msg::{EntityNo, Event, GoalId, Memory, Moment};
-use exec_rules::ReadyList;
+use exec_rules::{AwakeGoal, ReadyList};
 use exec_script::{Bank, Close, EffectList};
 use exec_task::{GoalTask, Turn};
 use futures::task::Context;
@@ -30,6 +30,7 @@ impl ByNumber<Server> {
     ghost use Rattle.exec_rules.specs.Close.{server_accepting};
     ghost use Rattle.exec_rules.specs.Ready.{poll_ready};
     ghost use Rattle.exec_rules.specs.World.{has_room_for, is_server_at, is_for, work_of, goals_in, held_in, work_in};
+    ghost use Rattle.exec_rules.specs.inner.Awake.{awake_goals};
     ghost use Rattle.exec_rules.specs.inner.Listing.{listed_behind};
     ghost use Rattle.exec_rules.specs.Callback.{poll_listed};
     ghost use Rattle.exec_entity.specs.inner.Polling.{server_polled, server_with_work};
@@ -204,6 +205,20 @@ impl ByNumber<Server> {
             return;
         };
         entry.put_task(id, task);
+    }
+
+    /// Makes the list that of the goals that are awake at a moment, server by server, each in the order of acceptance.
+    ///
+    /// # Errors
+    /// [`Memory`] where a growth was refused.
+    pub fn awake_goals(&self, moment: Moment, goals: &mut Vec<AwakeGoal>) -> Result<(), Memory>
+        ensures { OnOk result (goals.new.items ≡ flat_map (awake_goals moment) self.now) }
+    {
+        goals.clear();
+        for entry in &self.entries {
+            entry.add_awake(moment, goals)?;
+        }
+        Ok(())
     }
 
     /// Lists a poll for each goal that is awake at a moment, server by server, each in the order of acceptance.

@@ -9,7 +9,7 @@ ghost use Rattle.exec_rules.specs.World.{work_of};
 use super::{Held, Server};
 use exec_goal::GoalInfo;
 use exec_msg::{GoalId, Items, Memory, Moment};
-use exec_rules::{Cause, Ready, ReadyList, poll_any};
+use exec_rules::{AwakeGoal, Cause, Ready, ReadyList, poll_any};
 use exec_script::{Bank, Close, EffectList};
 use exec_task::{Answer, GoalTask, Turn, is_awake, poll_goal_into};
 use futures::task::Context;
@@ -17,13 +17,14 @@ use std::alloc::Global;
 use std::mem;
 
 impl Server {
-    ghost use Rattle.std.specs.Prelude.{ℕ, ◌<◌, None, length, map, filter, find, slice_get, slice_index_or, IfNone, IfSome};
+    ghost use Rattle.std.specs.Prelude.{ℕ, ◌<◌, ◌++◌, None, length, map, filter, find, slice_get, slice_index_or, IfNone, IfSome};
     ghost use Rattle.std.specs.Option.{option_and_then};
     ghost use Rattle.exec_goal.specs.Info.{info_of};
     ghost use Rattle.exec_goal.specs.State.{is_canceling};
     ghost use Rattle.exec_goal.specs.Table.{GoalRecord, working};
     ghost use Rattle.exec_rules.specs.Ready.{is_goal_awake, is_task_awake, poll_ready, ready_for, woken};
     ghost use Rattle.exec_rules.specs.World.{is_for};
+    ghost use Rattle.exec_rules.specs.inner.Awake.{awake_goal, awake_goals, goal_awake};
     ghost use Rattle.exec_rules.specs.inner.Listing.{listed_behind};
     ghost use Rattle.exec_entity.specs.inner.Keeping.{IsFor};
     ghost use Rattle.exec_entity.specs.inner.Polling.{goal_polled, goal_ready, server_polled, server_with_work};
@@ -107,6 +108,68 @@ impl Server {
             list.push(self.poll_of(alloc, moment, info)?)?;
         }
         Ok(())
+    }
+
+    // Adds each goal that is awake at a moment, in the order of acceptance.
+    pub(crate) fn add_awake(&self, moment: Moment, goals: &mut Vec<AwakeGoal>) -> Result<(), Memory>
+        ensures { OnOk result (goals.new.items ≡ goals.old.items ++ awake_goals moment self.now) }
+    {
+        if self.working() == 0 {
+            return Ok(());
+        }
+        self.add_each_awake(moment, goals)
+    }
+
+    fn add_each_awake(&self, moment: Moment, goals: &mut Vec<AwakeGoal>) -> Result<(), Memory>
+        ensures { OnOk result (goals.new.items ≡ goals.old.items ++ awake_goals moment self.now) }
+    {
+        for index in 0..self.len() {
+            self.add_where_awake(moment, index, goals)?;
+        }
+        Ok(())
+    }
+
+    // Adds the goal at this place, from 0, in the order of acceptance, where it is awake.
+    fn add_where_awake(
+        &self,
+        moment: Moment,
+        index: usize,
+        goals: &mut Vec<AwakeGoal>,
+    ) -> Result<(), Memory>
+        requires { index < length self.now.goals }
+        ensures { OnOk result ((d : GoalRecord) → goals.new.items ≡ goals.old.items ++ goal_awake moment self.now (slice_index_or self.now.goals index d)) }
+    {
+        let goal = self.goal_at(index);
+        self.add_goal(moment, index, &goal, goals)
+    }
+
+    fn add_goal(
+        &self,
+        moment: Moment,
+        index: usize,
+        info: &GoalInfo,
+        goals: &mut Vec<AwakeGoal>,
+    ) -> Result<(), Memory>
+        requires { slice_get (map info_of self.now.goals) index ≡ Some info.now }
+        ensures { OnOk result ((goal : GoalRecord) → info.now ≡ info_of goal → goals.new.items ≡ goals.old.items ++ goal_awake moment self.now goal) }
+    {
+        if self.is_goal_awake(index, info, moment) {
+            goals.push(self.awake_goal(info))?;
+        }
+        Ok(())
+    }
+
+    fn awake_goal(&self, info: &GoalInfo) -> AwakeGoal
+        ensures { (goal : GoalRecord) → info.now ≡ info_of goal → result ≡ awake_goal self.now.handler goal }
+    {
+        AwakeGoal {
+            id: info.id,
+            value: info.value,
+            server: self.handler.entity,
+            group: self.handler.group,
+            exclusive: self.handler.exclusive,
+            canceling: info.state.is_canceling(),
+        }
     }
 
     fn poll_of(&self, alloc: Global, moment: Moment, info: &GoalInfo) -> Result<Ready, Memory>

@@ -10,16 +10,19 @@ use exec_goal::CancelRequest;
 use exec_msg::{Line, Lines, Memory, Moment};
 use exec_plan::{Fed, Feed};
 use exec_queue::bring_home_to_timers;
-use exec_rules::{Homes, Item, Ready, ReadyList};
+use exec_rules::{AwakeGoal, Homes, Item, Ready, ReadyList};
 use exec_script::EffectList;
 use futures::task::Context;
+use std::{mem, slice};
 
 impl<L: Lines> State<L> {
-    ghost use Rattle.std.specs.Prelude.{◌≡◌, OnOk};
+    ghost use Rattle.std.specs.Prelude.{◌≡◌, ◌≤◌, length, map, take, drop, OnOk};
     ghost use Rattle.exec_msg.specs.declared.line.Line.TheVariants as line;
     ghost use Rattle.exec_rules.specs.Ready.{ready_list, take_inputs};
+    ghost use Rattle.exec_rules.specs.Run.{run};
     ghost use Rattle.exec_rules.specs.Transcript.{expire, feed, feed_one, finish, run_all, snapshot_and_run};
     ghost use Rattle.exec_rules.specs.World.{add_line};
+    ghost use Rattle.exec_rules.specs.inner.Awake.{poll_at};
     ghost use Rattle.exec_rules.specs.inner.Homes.{AreHomes, queue_handlers, timer_handlers};
 
     // Begins the round of a number at a moment, and takes each input. The list then has the callbacks that are ready, and these
@@ -56,9 +59,83 @@ impl<L: Lines> State<L> {
     ) -> Result<(), Memory>
         ensures { OnOk result (self.new ≡ snapshot_and_run moment (feed fed.now (expire moment (add_line (line.Round number moment) self.old)))) }
     {
-        self.begin_round(number, moment, fed, list, homes)?;
-        self.run_all(list.as_slice(), effects, cx)?;
+        self.open_round(number, moment, fed)?;
+        let mut goals = self.take_room();
+        let before = self.snapshot_in_parts(moment, list, &mut goals, homes)?;
+        self.run_parts(
+            moment,
+            list.as_slice(),
+            before,
+            goals.as_slice(),
+            effects,
+            cx,
+        )?;
+        self.put_room(goals);
         self.bring_scripts_home(list, homes);
+        Ok(())
+    }
+
+    // The room for goals that are awake, which is used again.
+    fn take_room(&mut self) -> Vec<AwakeGoal>
+        ensures { self.new ≡ self.old }
+    {
+        mem::replace(&mut self.awake, Vec::new(self.alloc))
+    }
+
+    fn put_room(&mut self, goals: Vec<AwakeGoal>)
+        ensures { self.new ≡ self.old }
+    {
+        self.awake = goals;
+    }
+
+    // Runs so many callbacks of a list, polls these goals, and runs the others of the list, one after another.
+    fn run_parts(
+        &mut self,
+        moment: Moment,
+        list: &[Ready],
+        before: usize,
+        goals: &[AwakeGoal],
+        effects: &mut EffectList,
+        cx: &mut Context<'_>,
+    ) -> Result<(), Memory>
+        requires { before ≤ length list.now }
+        ensures { OnOk result (self.new ≡ run_all (drop before list.now) (run_all (map (poll_at moment) goals.now) (run_all (take before list.now) self.old))) }
+    {
+        self.run_all(&list[..before], effects, cx)?;
+        self.run_polls(moment, goals, effects, cx)?;
+        self.run_all(&list[before..], effects, cx)?;
+        Ok(())
+    }
+
+    // Polls goals that are awake at a moment, one after another.
+    fn run_polls(
+        &mut self,
+        moment: Moment,
+        goals: &[AwakeGoal],
+        effects: &mut EffectList,
+        cx: &mut Context<'_>,
+    ) -> Result<(), Memory>
+        ensures { OnOk result (self.new ≡ run_all (map (poll_at moment) goals.now) self.old) }
+    {
+        for goal in goals {
+            self.run_poll(moment, goal, effects, cx)?;
+        }
+        Ok(())
+    }
+
+    // Polls a goal as a list of one callback is run: where `run` is called from two places, it isn't written in place in either.
+    #[inline(always)]
+    fn run_poll(
+        &mut self,
+        moment: Moment,
+        goal: &AwakeGoal,
+        effects: &mut EffectList,
+        cx: &mut Context<'_>,
+    ) -> Result<(), Memory>
+        ensures { OnOk result (self.new ≡ run (poll_at moment goal.now) self.old) }
+    {
+        let one = goal.poll_at(self.alloc, moment);
+        self.run_all(slice::from_ref(&one), effects, cx)?;
         Ok(())
     }
 

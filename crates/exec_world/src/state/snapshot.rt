@@ -7,12 +7,13 @@ use super::State;
 use exec_entity::Clients;
 use exec_msg::{EntityNo, Lines, Memory, Moment};
 use exec_queue::{Queues, take_due_into};
-use exec_rules::{Home, Homes, Item, ReadyList};
+use exec_rules::{AwakeGoal, Home, Homes, Item, ReadyList};
 
 impl<L: Lines> State<L> {
-    ghost use Rattle.std.specs.Prelude.{◌≡◌, OnOk};
+    ghost use Rattle.std.specs.Prelude.{◌≡◌, ◌+◌, ◌≤◌, length, map, take, drop, IfOk, OnOk};
     ghost use Rattle.std.specs.List.{flat_map, fold};
-    ghost use Rattle.exec_rules.specs.Ready.{queue_ready, queues_before_polls, queues_behind_polls, ready_list, reply_taken, take_inputs};
+    ghost use Rattle.exec_rules.specs.Ready.{placed_from, queue_ready, queues_before_polls, queues_behind_polls, ready_list, reply_taken, take_inputs, timer_taken};
+    ghost use Rattle.exec_rules.specs.inner.Awake.{awake_goals, ready_before, ready_behind};
     ghost use Rattle.exec_rules.specs.inner.Homes.{AreHomes, queue_handlers, timer_handlers};
     ghost use Rattle.exec_rules.specs.inner.Listing.{listed_behind};
 
@@ -28,6 +29,51 @@ impl<L: Lines> State<L> {
         ensures timers { OnOk result (AreHomes (timer_handlers self.old) list.new homes.new.timers.items) }
         ensures queues { OnOk result (AreHomes (queue_handlers self.old) list.new homes.new.queues.items) }
     {
+        self.list_first(moment, list, homes)?;
+        self.servers.list_polls(self.alloc, moment, list)?;
+        self.list_behind_polls(moment, list, &mut homes.queues)?;
+        self.mail.take_first();
+        Ok(())
+    }
+
+    // Takes each input at a moment, and makes a list of the goals that are awake. The other list then has the callbacks that are
+    // ready but for polls, and these alone; so many of them are ready before polls.
+    pub(crate) fn snapshot_in_parts(
+        &mut self,
+        moment: Moment,
+        list: &mut ReadyList,
+        goals: &mut Vec<AwakeGoal>,
+        homes: &mut Homes,
+    ) -> Result<usize, Memory>
+        ensures within { IfOk result (λ before. before ≤ length list.new) }
+        ensures first { IfOk result (λ before. take before list.new ≡ placed_from 1 (ready_before moment self.old)) }
+        ensures goals { OnOk result (goals.new.items ≡ flat_map (awake_goals moment) self.old.servers) }
+        ensures last { IfOk result (λ before. drop before list.new ≡ placed_from (before + 1) (ready_behind moment self.old)) }
+        ensures taken { OnOk result (self.new ≡ take_inputs moment self.old) }
+        ensures timers { OnOk result (AreHomes (timer_handlers self.old) list.new homes.new.timers.items) }
+        ensures queues { OnOk result (AreHomes (queue_handlers self.old) list.new homes.new.queues.items) }
+    {
+        self.list_first(moment, list, homes)?;
+        let before = list.as_slice().len();
+        self.servers.awake_goals(moment, goals)?;
+        self.list_behind_polls(moment, list, &mut homes.queues)?;
+        self.mail.take_first();
+        Ok(before)
+    }
+
+    // Lists the callbacks that are ready before polls, and these alone. Timers are called, and calls have the replies that are
+    // taken.
+    fn list_first(
+        &mut self,
+        moment: Moment,
+        list: &mut ReadyList,
+        homes: &mut Homes,
+    ) -> Result<(), Memory>
+        ensures list { OnOk result (list.new ≡ placed_from 1 (ready_before moment self.old)) }
+        ensures taken { OnOk result (self.new ≡ record self.old { timers = map (timer_taken moment) self.old.timers; clients = fold reply_taken self.old.clients (queues_before_polls self.old) }) }
+        ensures timers { OnOk result (AreHomes (timer_handlers self.old) list.new homes.new.timers.items) }
+        ensures queues { OnOk result (AreHomes (queue_handlers self.old) list.new homes.new.queues.items) }
+    {
         list.clear();
         homes.clear();
         take_due_into(
@@ -38,9 +84,6 @@ impl<L: Lines> State<L> {
             &mut homes.timers,
         )?;
         self.list_before_polls(moment, list, &mut homes.queues)?;
-        self.servers.list_polls(self.alloc, moment, list)?;
-        self.list_behind_polls(moment, list, &mut homes.queues)?;
-        self.mail.take_first();
         Ok(())
     }
 

@@ -1,32 +1,25 @@
-use Rattle.std.proofs.Common.{List, map, ap, subst, sym, ◌∙◌}
-use Rattle.exec_rules.proofs.ScriptsHome.{grown_by, no_homes}
+use Rattle.std.proofs.Common.{List, ap, subst, sym}
+use Rattle.exec_rules.proofs.ScriptsHome.{grown_by}
 use Rattle.exec_world.proofs.Snapshots.{all_listed}
-use Rattle.exec_rules.specs.World.{Handler, TimerEntry, WorldState}
-use Rattle.exec_rules.specs.inner.Homes.{AreHomes, handlers_of, queue_handlers, timer_handlers}
+use Rattle.exec_rules.specs.World.{Handler, WorldState}
+use Rattle.exec_rules.specs.inner.Homes.{AreHomes, queue_handlers, timer_handlers}
 use Rattle.exec_world.proofs.state.State.snapshot.Goals as goal
 
 pub returns-clause-list : goal.returns-clause-list
 returns-clause-list g c =
-    all_listed _ c.deref_mut.result.now _ c.self-2.inside.servers c.args.moment c.clear.new.self c.take_due_into.new.list c.list_before_polls.new.list c.list_polls.new.list c.list_behind_polls.new.list
-    c.self.view_is c.in_ok-list_before_polls.ensures.taken c.deref_mut.ensures.value (ap (λ (world : WorldState). world.servers) c.self-2.view_is) c.clear.ensures c.in_ok-take_due_into.ensures.listed
-    c.in_ok-list_before_polls.ensures.list c.in_ok-list_polls.ensures c.in_ok-list_behind_polls.ensures.list
+    all_listed c.args.self.now _ _ c.self.inside.servers c.args.moment c.list_first.new.list c.list_polls.new.list c.list_behind_polls.new.list
+    c.in_ok-list_first.ensures.taken (ap (λ (world : WorldState). world.servers) c.self.view_is) c.in_ok-list_first.ensures.list c.in_ok-list_polls.ensures c.in_ok-list_behind_polls.ensures.list
 
 pub returns-clause-timers : goal.returns-clause-timers
 returns-clause-timers g c =
-    let handlers = map (λ (entry : TimerEntry). entry.handler) c.deref_mut.result.now in
-    let first = c.in_ok-take_due_into.ensures.homes (no_homes handlers c.clear.new.self c.clear-2.new.self.timers.items c.clear-2.ensures.timers) in
-    let homes = c.take_due_into.new.homes.items in
-    subst (λ (of : List Handler). AreHomes of c.list_behind_polls.new.list homes)
-    (ap (map (λ (entry : TimerEntry). entry.handler)) c.deref_mut.ensures.value ∙ ap timer_handlers c.self.view_is)
-    (grown_by handlers c.list_polls.new.list c.list_behind_polls.new.list _ homes c.in_ok-list_behind_polls.ensures.list
-    (grown_by handlers c.list_before_polls.new.list c.list_polls.new.list _ homes c.in_ok-list_polls.ensures
-    (grown_by handlers c.take_due_into.new.list c.list_before_polls.new.list _ homes c.in_ok-list_before_polls.ensures.list first)))
+    let handlers = timer_handlers c.args.self.now in
+    let homes = c.list_first.new.homes.timers.items in
+    grown_by handlers c.list_polls.new.list c.list_behind_polls.new.list _ homes c.in_ok-list_behind_polls.ensures.list
+    (grown_by handlers c.list_first.new.list c.list_polls.new.list _ homes c.in_ok-list_polls.ensures c.in_ok-list_first.ensures.timers)
 
 pub returns-clause-queues : goal.returns-clause-queues
 returns-clause-queues g c =
-    let handlers = handlers_of c.self.inside.mail.queues in
-    let first = c.in_ok-list_before_polls.ensures.homes (no_homes handlers c.take_due_into.new.list c.clear-2.new.self.queues.items c.clear-2.ensures.queues) in
-    let later = ap (λ (world : WorldState). handlers_of world.queues) c.in_ok-list_before_polls.ensures.taken in
-    let polled = grown_by handlers c.list_before_polls.new.list c.list_polls.new.list _ c.list_before_polls.new.homes.items c.in_ok-list_polls.ensures first in
-    let all = c.in_ok-list_behind_polls.ensures.homes (subst (λ (of : List Handler). AreHomes of c.list_polls.new.list c.list_before_polls.new.homes.items) (sym later) polled) in
-    subst (λ (of : List Handler). AreHomes of c.list_behind_polls.new.list c.list_behind_polls.new.homes.items) (later ∙ ap queue_handlers c.self.view_is) all
+    let later = ap queue_handlers c.in_ok-list_first.ensures.taken in
+    let polled = grown_by (queue_handlers c.args.self.now) c.list_first.new.list c.list_polls.new.list _ c.list_first.new.homes.queues.items c.in_ok-list_polls.ensures c.in_ok-list_first.ensures.queues in
+    subst (λ (of : List Handler). AreHomes of c.list_behind_polls.new.list c.list_behind_polls.new.homes.items) later
+    (c.in_ok-list_behind_polls.ensures.homes (subst (λ (of : List Handler). AreHomes of c.list_polls.new.list c.list_first.new.homes.queues.items) (sym later) polled))

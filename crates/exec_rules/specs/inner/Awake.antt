@@ -1,0 +1,49 @@
+-- Goals that are awake at a snapshot, in a list of their own.
+use Rattle.std.specs.Prelude.{List, [], ◌∷◌, ◌++◌, if◌then◌else◌, None}
+use Rattle.std.specs.List.{flat_map}
+use Rattle.exec_goal.specs.State.{is_canceling}
+use Rattle.exec_goal.specs.Table.{GoalRecord}
+use Rattle.exec_rules.specs.Ready.{due_ready, is_goal_awake, queue_ready, queues_before_polls, queues_behind_polls}
+use Rattle.exec_rules.specs.World.{Handler, Moment, ServerEntry, WorldState}
+use Rattle.exec_rules.specs.declared.ready.AwakeGoal.{AwakeGoal}
+use Rattle.exec_rules.specs.declared.ready.Cause.TheVariants as cause
+use Rattle.exec_rules.specs.declared.ready.Ready.{Ready}
+
+-- the poll of a goal at a moment, without a place in a ready list and without a script
+abbrev pub poll_at : Moment → AwakeGoal → Ready
+poll_at moment goal = record {
+  position = 0;
+  entity = goal.server;
+  group = goal.group;
+  exclusive = goal.exclusive;
+  moment = moment;
+  cause = cause.Woke goal.id goal.value goal.canceling;
+  candidates = [];
+  script = None;
+}
+
+-- what the poll of a goal needs that this callback polls
+abbrev pub awake_goal : Handler → GoalRecord → AwakeGoal
+awake_goal handler goal = record {
+  id = goal.id;
+  value = goal.value;
+  server = handler.entity;
+  group = handler.group;
+  exclusive = handler.exclusive;
+  canceling = is_canceling goal.state;
+}
+
+-- the same where a server's goal is awake at a moment
+abbrev pub goal_awake : Moment → ServerEntry → GoalRecord → List AwakeGoal
+goal_awake moment entry goal = if is_goal_awake moment entry.held goal then awake_goal entry.handler goal ∷ [] else []
+
+-- a server's goals that are awake at a moment, in order of acceptance
+abbrev pub awake_goals : Moment → ServerEntry → List AwakeGoal
+awake_goals moment entry = flat_map (goal_awake moment entry) entry.goals
+
+-- the callbacks that are ready before polls, and those that are ready behind them
+abbrev pub ready_before : Moment → WorldState → List Ready
+ready_before moment world = flat_map (due_ready moment) world.timers ++ flat_map (queue_ready moment world) (queues_before_polls world)
+
+abbrev pub ready_behind : Moment → WorldState → List Ready
+ready_behind moment world = flat_map (queue_ready moment world) (queues_behind_polls world)
