@@ -1,9 +1,8 @@
--- Lengths of names, of numbers and of identifiers.
-use Rattle.std.proofs.Common.{◌≡◌, ℕ, zero, suc, ◌+◌, ◌*◌, ◌/◌, ◌%◌, ◌^◌, ◌<◌, ◌≤◌, List, [], ◌∷◌, ◌++◌, length, get_or, refl, subst, arith, length-append}
+-- Lengths of names and of numbers.
+use Rattle.std.proofs.Common.{◌≡◌, ℕ, zero, suc, ◌+◌, ◌*◌, ◌/◌, ◌%◌, ◌^◌, ◌<◌, ◌≤◌, List, [], ◌∷◌, ◌++◌, length, get_or, subst, arith, length-append}
 use Rattle.std.proofs.Math.Nat.{pow-suc, one-le-pow}
 use Rattle.std.proofs.lemmas.Fmt.{decimal_by_steps, length-decimal-le}
 use Rattle.std.specs.Fmt.{decimal}
-use Rattle.uuid.specs.Text.{by_index, hyphenated_text, lower}
 use Rattle.exec_msg.specs.Line.{greatest_length}
 
 -- no name is longer than the longest
@@ -33,8 +32,3 @@ digits_from number zeros small few least most =
     let next : number < 10 ^ suc zeros = omega (arith, most, pow-suc 10 zeros) in
     let more : suc zeros ≡ zeros + 1 = omega arith in
     omega (arith, above, length-decimal-le (zeros + 1) number (omega arith) (subst (λ (n : ℕ). number < 10 ^ n) more next) small)
-
--- an identifier's text has 36 characters
-pub hyphenated_length : (bytes : List ℕ) → length (hyphenated_text lower bytes) ≡ 36
-unfolding by_index
-hyphenated_length bytes = refl

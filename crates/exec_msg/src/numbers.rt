@@ -105,13 +105,6 @@ impl GoalId {
     {
         GoalId { high, low }
     }
-
-    // A number in whose upper bits identifiers differ, by which they are spread over a table.
-    #[inline(always)]
-    pub(crate) fn spread(self) -> u64 {
-        let mixed = self.high.wrapping_mul(31).wrapping_add(self.low);
-        mixed.wrapping_mul(0x9e37_79b9_7f4a_7c15)
-    }
 }
 
 /// The number of an entity: its place among the names of a graph, from 0.

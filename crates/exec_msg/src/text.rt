@@ -212,7 +212,8 @@ fn place_run(
     place_small(bytes, end, 0)
 }
 
-// A run line with a small number beside its input, without a call where that is so of the others.
+// A run line with a number beside its input. Where that is small, the name short and the input's text at hand, it is placed
+// with no call.
 #[inline(never)]
 fn place_run_beside(
     texts: &mut ValueTexts,
@@ -388,7 +389,8 @@ fn place_long_named_value(
     place_named_value(texts, bytes, at, word, names, no, value)
 }
 
-// A call, without another function's where its number is small and its value's text is at hand.
+// The line of a client's call. Where its number is small, the name short and the value's text at hand, it is placed with no
+// function called.
 #[inline(never)]
 fn place_call(
     texts: &mut ValueTexts,
