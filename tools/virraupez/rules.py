@@ -120,17 +120,33 @@ class Never(Rule):
             self.fail(number, line, now)
 
 
-class Order(Rule):
-    """No line of a pattern before, or after, the first line of another."""
+class Pair(Rule):
+    """A rule on lines of two patterns, which belong together where they have the same words for the same variables."""
+
+    def __init__(self, number, text, patterns):
+        super().__init__(number, text, patterns)
+        first, second = ({name for _, name in pattern.variables} for pattern in patterns)
+        self.shared = sorted(first & second)
+
+    def key(self, pattern, words):
+        """What the shared variables stand for on a line of a pattern; None on any other line."""
+        found = pattern.bound(words) if pattern.matches(words) else None
+        return None if found is None else tuple(found[name] for name in self.shared)
+
+
+class Order(Pair):
+    """No line of a pattern before, or after, the first line of another that belongs to it."""
 
     def __init__(self, number, text, patterns, fails_after):
         super().__init__(number, text, patterns)
-        self.fails_after, self.seen = fails_after, False
+        self.fails_after, self.seen = fails_after, set()
 
     def line(self, number, line, words, now):
-        if self.patterns[0].matches(words) and self.seen == self.fails_after:
+        first, second = (self.key(pattern, words) for pattern in self.patterns)
+        if first is not None and (first in self.seen) == self.fails_after:
             self.fail(number, line, now, "" if self.fails_after else "before any of the others")
-        self.seen = self.seen or self.patterns[1].matches(words)
+        if second is not None:
+            self.seen.add(second)
 
 
 class Count(Rule):
@@ -149,30 +165,21 @@ class Count(Rule):
             self.fail(number, "(the end)", now, f"there are {self.count} of these lines")
 
 
-class Then(Rule):
-    """Behind every line of a pattern comes one of another, with the same words for the same variables."""
+class Then(Pair):
+    """Behind every line of a pattern comes one of another that belongs to it."""
 
     def __init__(self, number, text, patterns, within, unit):
         super().__init__(number, text, patterns)
         self.within, self.unit = within, unit
-        shared = {name for _, name in patterns[0].variables} & {name for _, name in patterns[1].variables}
-        self.shared = sorted(shared)
         self.open = collections.OrderedDict()
 
-    def key(self, found):
-        return tuple(found[name] for name in self.shared)
-
     def line(self, number, line, words, now):
-        first, second = self.patterns
+        first, second = (self.key(pattern, words) for pattern in self.patterns)
         self.overdue(now)
-        if second.matches(words) and self.open:
-            found = second.bound(words)
-            if found is not None:
-                self.open.pop(self.key(found), None)
-        if first.matches(words):
-            found = first.bound(words)
-            if found is not None:
-                self.open.setdefault(self.key(found), (number, line, now))
+        if second is not None:
+            self.open.pop(second, None)
+        if first is not None:
+            self.open.setdefault(first, (number, line, now))
 
     def overdue(self, now):
         """Fails where the time of the oldest line is over."""
