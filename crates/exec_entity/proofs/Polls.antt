@@ -8,21 +8,7 @@ use Rattle.exec_rules.specs.World.{Moment, ServerEntry}
 use Rattle.exec_rules.specs.declared.ready.AwakeGoal.{AwakeGoal}
 use Rattle.exec_rules.specs.declared.ready.Ready.{Ready}
 use Rattle.exec_rules.specs.inner.Awake.{awake_goal, awake_goals, goal_awake}
-use Rattle.exec_entity.specs.inner.Polling.{goal_ready}
-
-pub polls_are : (moment : Moment) (entry : ServerEntry) → poll_ready moment entry ≡ flat_map (goal_ready moment entry) entry.goals
-polls_are moment entry = each entry.goals
-  where
-    each : (goals : List GoalRecord) → map (λ goal. ready_for moment entry.handler (woken goal) [] (Some entry.handler.script)) (filter (is_goal_awake moment entry.held) goals) ≡ flat_map (goal_ready moment entry) goals
-    each [] = refl
-    each (goal ∷ goals) = by (is_goal_awake moment entry.held goal) refl (each goals)
-      where
-        by : (b : Bool) → is_goal_awake moment entry.held goal ≡ b → map (λ one. ready_for moment entry.handler (woken one) [] (Some entry.handler.script)) (filter (is_goal_awake moment entry.held) goals) ≡ flat_map (goal_ready moment entry) goals →
-            map (λ one. ready_for moment entry.handler (woken one) [] (Some entry.handler.script)) (filter (is_goal_awake moment entry.held) (goal ∷ goals)) ≡ flat_map (goal_ready moment entry) (goal ∷ goals)
-        by true e rest = rw e (ap (λ (readies : List Ready). ready_for moment entry.handler (woken goal) [] (Some entry.handler.script) ∷ readies) rest)
-        by false e rest = rw e rest
-
--- ---- goals that are awake, in a list of their own
+use Rattle.exec_entity.specs.inner.Polling.{poll_by}
 
 pub awake_are : (moment : Moment) (entry : ServerEntry) → awake_goals moment entry ≡ map (awake_goal entry.handler) (filter (is_goal_awake moment entry.held) entry.goals)
 awake_are moment entry = each entry.goals
@@ -35,6 +21,14 @@ awake_are moment entry = each entry.goals
             → flat_map (goal_awake moment entry) (goal ∷ goals) ≡ map (awake_goal entry.handler) (filter (is_goal_awake moment entry.held) (goal ∷ goals))
         by true e rest = rw e (ap (λ (goals : List AwakeGoal). awake_goal entry.handler goal ∷ goals) rest)
         by false e rest = rw e rest
+
+-- a server's polls are those of its goals that are awake
+pub polls_are : (moment : Moment) (entry : ServerEntry) → flat_map (poll_by moment entry.handler) (awake_goals moment entry) ≡ poll_ready moment entry
+polls_are moment entry = ap (flat_map (poll_by moment entry.handler)) (awake_are moment entry) ∙ each (filter (is_goal_awake moment entry.held) entry.goals)
+  where
+    each : (goals : List GoalRecord) → flat_map (poll_by moment entry.handler) (map (awake_goal entry.handler) goals) ≡ map (λ goal. ready_for moment entry.handler (woken goal) [] (Some entry.handler.script)) goals
+    each [] = refl
+    each (goal ∷ goals) = ap (λ (readies : List Ready). ready_for moment entry.handler (woken goal) [] (Some entry.handler.script) ∷ readies) (each goals)
 
 pub none_awake : (moment : Moment) (entry : ServerEntry) → filter (is_goal_awake moment entry.held) entry.goals ≡ [] → awake_goals moment entry ≡ []
 none_awake moment entry none = awake_are moment entry ∙ ap (map (awake_goal entry.handler)) none

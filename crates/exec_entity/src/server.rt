@@ -56,7 +56,8 @@ pub struct Server {
     timeout: Option<u64>,
     goals: Goals,
     held: IndexMap<GoalId, Held>,
-    // The place behind the goal that was polled last: goals are polled in their order, so that the next one stands there.
+    // The place behind the goal that was polled last, or 0 where that was the last one: goals are polled in their order, so that
+    // the next one mostly stands there.
     next: usize,
 }
 

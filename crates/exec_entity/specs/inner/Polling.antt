@@ -1,8 +1,7 @@
 -- What a poll makes of a server, and what a task that is taken from it leaves.
-use Rattle.std.specs.Prelude.{List, [], ◌∷◌, if◌then◌else◌, Option, None, Some}
+use Rattle.std.specs.Prelude.{List, [], ◌∷◌, Option, None, Some}
 use Rattle.std.specs.List.{find}
 use Rattle.std.specs.Option.{option_and_then, option_map}
-use Rattle.exec_goal.specs.Table.{GoalRecord}
 use Rattle.exec_plan.specs.Entity.{EntityNo}
 use Rattle.exec_msg.specs.Lists.{change_first}
 use Rattle.exec_script.specs.declared.effects.Effect.{Effect}
@@ -10,8 +9,9 @@ use Rattle.exec_task.specs.Task.{TaskState}
 use Rattle.exec_task.specs.declared.wait.Turn.{Turn}
 use Rattle.exec_rules.specs.Callback.{Outcome, poll_listed}
 use Rattle.exec_rules.specs.Item.{GoalId}
-use Rattle.exec_rules.specs.Ready.{is_goal_awake, ready_for, woken}
-use Rattle.exec_rules.specs.World.{GoalWork, HeldGoal, Moment, ServerEntry, Variables, is_for, is_server_at}
+use Rattle.exec_rules.specs.Ready.{ready_for}
+use Rattle.exec_rules.specs.World.{GoalWork, Handler, HeldGoal, Moment, ServerEntry, Variables, is_for, is_server_at}
+use Rattle.exec_rules.specs.declared.ready.AwakeGoal.{AwakeGoal}
 use Rattle.exec_rules.specs.declared.ready.Cause.{Cause}
 use Rattle.exec_rules.specs.declared.ready.Cause.TheVariants as cause
 use Rattle.exec_rules.specs.declared.ready.Ready.{Ready}
@@ -38,7 +38,6 @@ polled_by server _ task servers = servers
 abbrev pub goal_polled : Turn → GoalId → ServerEntry → Variables → Outcome (List Effect)
 goal_polled turn id entry variables = poll_listed turn (option_and_then (λ held. held.work) (find (is_for id) entry.held)) variables
 
--- the poll of a server's goal where that is awake at a moment
-abbrev pub goal_ready : Moment → ServerEntry → GoalRecord → List Ready
-goal_ready moment entry goal =
-    if is_goal_awake moment entry.held goal then ready_for moment entry.handler (woken goal) [] (Some entry.handler.script) ∷ [] else []
+-- the poll of a server's goal that is awake at a moment, alone
+abbrev pub poll_by : Moment → Handler → AwakeGoal → List Ready
+poll_by moment handler goal = ready_for moment handler (cause.Woke goal.id goal.value goal.canceling) [] (Some handler.script) ∷ []

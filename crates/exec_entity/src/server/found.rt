@@ -221,7 +221,8 @@ impl ByNumber<Server> {
         Ok(())
     }
 
-    /// Lists a poll for each goal that is awake at a moment, server by server, each in the order of acceptance.
+    /// Lists a poll for each goal that is awake at a moment, server by server, each in the order of acceptance. The room is used
+    /// again and again.
     ///
     /// # Errors
     /// [`Memory`] where a growth was refused.
@@ -229,12 +230,13 @@ impl ByNumber<Server> {
         &self,
         alloc: Global,
         moment: Moment,
+        room: &mut Vec<AwakeGoal>,
         list: &mut ReadyList,
     ) -> Result<(), Memory>
         ensures { OnOk result (list.new ≡ listed_behind list.old (flat_map (poll_ready moment) self.now)) }
     {
         for entry in &self.entries {
-            entry.list_polls(alloc, moment, list)?;
+            entry.list_polls(alloc, moment, room, list)?;
         }
         Ok(())
     }

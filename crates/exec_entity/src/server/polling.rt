@@ -17,7 +17,8 @@ use std::alloc::Global;
 use std::mem;
 
 impl Server {
-    ghost use Rattle.std.specs.Prelude.{ℕ, ◌<◌, ◌++◌, None, length, map, filter, find, slice_get, slice_index_or, IfNone, IfSome};
+    ghost use Rattle.std.specs.Prelude.{ℕ, ◌<◌, ◌∷◌, ◌++◌, None, length, map, filter, find, slice_get, slice_index_or, IfNone, IfSome};
+    ghost use Rattle.std.specs.List.{flat_map};
     ghost use Rattle.std.specs.Option.{option_and_then};
     ghost use Rattle.exec_goal.specs.Info.{info_of};
     ghost use Rattle.exec_goal.specs.State.{is_canceling};
@@ -27,7 +28,7 @@ impl Server {
     ghost use Rattle.exec_rules.specs.inner.Awake.{awake_goal, awake_goals, goal_awake};
     ghost use Rattle.exec_rules.specs.inner.Listing.{listed_behind};
     ghost use Rattle.exec_entity.specs.inner.Keeping.{IsFor};
-    ghost use Rattle.exec_entity.specs.inner.Polling.{goal_polled, goal_ready, server_polled, server_with_work};
+    ghost use Rattle.exec_entity.specs.inner.Polling.{goal_polled, poll_by, server_polled, server_with_work};
 
     // How many goals the server works on; where there are none, none is awake. It looks at no goal.
     pub(crate) fn working(&self) -> usize
@@ -54,58 +55,33 @@ impl Server {
         is_any_awake(&entry.1.task, moment, goal.state.is_canceling())
     }
 
-    // Lists a poll for each goal that is awake at a moment, in the order of acceptance.
+    // Lists a poll for each goal that is awake at a moment, in the order of acceptance. The room is used again.
     pub(crate) fn list_polls(
         &self,
         alloc: Global,
         moment: Moment,
+        room: &mut Vec<AwakeGoal>,
         list: &mut ReadyList,
     ) -> Result<(), Memory>
         ensures { OnOk result (list.new ≡ listed_behind list.old (poll_ready moment self.now)) }
     {
-        if self.working() == 0 {
-            return Ok(());
-        }
-        self.list_awake(alloc, moment, list)
-    }
-
-    fn list_awake(&self, alloc: Global, moment: Moment, list: &mut ReadyList) -> Result<(), Memory>
-        ensures { OnOk result (list.new ≡ listed_behind list.old (poll_ready moment self.now)) }
-    {
-        for index in 0..self.len() {
-            self.list_poll(alloc, moment, index, list)?;
-        }
+        room.clear();
+        self.add_awake(moment, room)?;
+        self.list_each(alloc, moment, room.as_slice(), list)?;
         Ok(())
     }
 
-    // Lists a poll of the goal at this place, from 0, in the order of acceptance, where it is awake.
-    fn list_poll(
+    fn list_each(
         &self,
         alloc: Global,
         moment: Moment,
-        index: usize,
+        goals: &[AwakeGoal],
         list: &mut ReadyList,
     ) -> Result<(), Memory>
-        requires { index < length self.now.goals }
-        ensures { OnOk result ((d : GoalRecord) → list.new ≡ listed_behind list.old (goal_ready moment self.now (slice_index_or self.now.goals index d))) }
+        ensures { OnOk result (list.new ≡ listed_behind list.old (flat_map (poll_by moment self.now.handler) goals.now)) }
     {
-        let goal = self.goal_at(index);
-        self.list_goal(alloc, moment, index, &goal, list)
-    }
-
-    fn list_goal(
-        &self,
-        alloc: Global,
-        moment: Moment,
-        index: usize,
-        info: &GoalInfo,
-        list: &mut ReadyList,
-    ) -> Result<(), Memory>
-        requires { slice_get (map info_of self.now.goals) index ≡ Some info.now }
-        ensures { OnOk result ((goal : GoalRecord) → info.now ≡ info_of goal → list.new ≡ listed_behind list.old (goal_ready moment self.now goal)) }
-    {
-        if self.is_goal_awake(index, info, moment) {
-            list.push(self.poll_of(alloc, moment, info)?)?;
+        for goal in goals {
+            list.push(self.poll_of(alloc, moment, goal)?)?;
         }
         Ok(())
     }
@@ -172,14 +148,14 @@ impl Server {
         }
     }
 
-    fn poll_of(&self, alloc: Global, moment: Moment, info: &GoalInfo) -> Result<Ready, Memory>
-        ensures { IfOk result (λ ready. (goal : GoalRecord) → info.now ≡ info_of goal → ready ≡ ready_for moment self.now.handler (woken goal) [] (Some self.now.handler.script)) }
+    fn poll_of(&self, alloc: Global, moment: Moment, goal: &AwakeGoal) -> Result<Ready, Memory>
+        ensures { IfOk result (λ ready. poll_by moment self.now.handler goal.now ≡ ready ∷ []) }
     {
         let script = self.handler.share_script()?;
         let cause = Cause::Woke {
-            id: info.id,
-            value: info.value,
-            canceling: info.state.is_canceling(),
+            id: goal.id,
+            value: goal.value,
+            canceling: goal.canceling,
         };
         Ok(
             self.handler
@@ -210,10 +186,17 @@ impl Server {
             effects.clear();
             return Ok(Close::Pending);
         };
-        self.next = place.wrapping_add(1);
+        self.next = self.behind(place);
         let held = self.held.get_index_mut(place).unwrap();
         let close = poll_any(&mut held.task, turn, bank, cx, effects)?;
         Ok(close)
+    }
+
+    // The place behind this one, and the first one behind the last.
+    #[inline(always)]
+    fn behind(&self, place: usize) -> usize {
+        let next = place.wrapping_add(1);
+        if next < self.held.len() { next } else { 0 }
     }
 
     // The place of a goal's work, from 0, if it is held.

@@ -76,13 +76,13 @@ impl<L: Lines> State<L> {
     }
 
     // The room for goals that are awake, which is used again.
-    fn take_room(&mut self) -> Vec<AwakeGoal>
+    pub(super) fn take_room(&mut self) -> Vec<AwakeGoal>
         ensures { self.new ≡ self.old }
     {
         mem::replace(&mut self.awake, Vec::new(self.alloc))
     }
 
-    fn put_room(&mut self, goals: Vec<AwakeGoal>)
+    pub(super) fn put_room(&mut self, goals: Vec<AwakeGoal>)
         ensures { self.new ≡ self.old }
     {
         self.awake = goals;

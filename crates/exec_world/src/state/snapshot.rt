@@ -12,7 +12,7 @@ use exec_rules::{AwakeGoal, Home, Homes, Item, ReadyList};
 impl<L: Lines> State<L> {
     ghost use Rattle.std.specs.Prelude.{◌≡◌, ◌+◌, ◌≤◌, length, map, take, drop, IfOk, OnOk};
     ghost use Rattle.std.specs.List.{flat_map, fold};
-    ghost use Rattle.exec_rules.specs.Ready.{placed_from, queue_ready, queues_before_polls, queues_behind_polls, ready_list, reply_taken, take_inputs, timer_taken};
+    ghost use Rattle.exec_rules.specs.Ready.{placed_from, poll_ready, queue_ready, queues_before_polls, queues_behind_polls, ready_list, reply_taken, take_inputs, timer_taken};
     ghost use Rattle.exec_rules.specs.inner.Awake.{awake_goals, ready_before, ready_behind};
     ghost use Rattle.exec_rules.specs.inner.Homes.{AreHomes, queue_handlers, timer_handlers};
     ghost use Rattle.exec_rules.specs.inner.Listing.{listed_behind};
@@ -30,7 +30,7 @@ impl<L: Lines> State<L> {
         ensures queues { OnOk result (AreHomes (queue_handlers self.old) list.new homes.new.queues.items) }
     {
         self.list_first(moment, list, homes)?;
-        self.servers.list_polls(self.alloc, moment, list)?;
+        self.list_polls(moment, list)?;
         self.list_behind_polls(moment, list, &mut homes.queues)?;
         self.mail.take_first();
         Ok(())
@@ -101,6 +101,18 @@ impl<L: Lines> State<L> {
         self.mail.filled(true, &mut self.places)?;
         self.mail.list_fronts(self.alloc, moment, &self.places, &self.servers, list, homes)?;
         answer_calls(&mut self.clients, self.mail.queues(), &self.places);
+        Ok(())
+    }
+
+    // Lists a poll for each goal that is awake.
+    fn list_polls(&mut self, moment: Moment, list: &mut ReadyList) -> Result<(), Memory>
+        ensures list { OnOk result (list.new ≡ listed_behind list.old (flat_map (poll_ready moment) self.old.servers)) }
+        ensures same { self.new ≡ self.old }
+    {
+        let mut room = self.take_room();
+        self.servers
+            .list_polls(self.alloc, moment, &mut room, list)?;
+        self.put_room(room);
         Ok(())
     }
 
