@@ -1,4 +1,4 @@
-ghost use Rattle.std.specs.Prelude.{◌≡◌, ◌+◌, ◌-◌, ◌<◌, ◌≤◌, ◌^◌, ℤ, List, [], Option, None, length, vec_len, vec_capacity, OnOk, OnErr, IfOk};
+ghost use Rattle.std.specs.Prelude.{◌≡◌, ◌+◌, ◌-◌, ◌<◌, ◌≤◌, ◌^◌, ℤ, List, [], Option, None, length, vec_len, vec_capacity, IsOk, OnOk, OnErr, IfOk};
 ghost use Rattle.exec_script.specs.Script.{at_least_0, step_of, PausesWithin, WaitsWithin, listed, resumed, decision_within, close_of, HasCalled};
 ghost use Rattle.exec_script.specs.declared.effects.Effect.{Effect};
 
@@ -34,8 +34,8 @@ impl Model for Input {
     ghost inverse = { λ call. record { first = call.first; aux = call.aux; moment = call.moment } };
 }
 
-/// Runs a script from its top to its end, with registers of 0, and closes it by its role. Where memory is
-/// refused, the bank stays as it was.
+/// Runs a script from its top to its end, with registers of 0, and closes it by its role. An empty one takes no memory. Where
+/// memory is refused, the bank stays as it was.
 pub fn run_call(
     alloc: Global,
     script: &[Instr],
@@ -44,6 +44,7 @@ pub fn run_call(
     input: &Input,
 ) -> Result<Effects, Memory>
     ensures called { IfOk result (λ effects. HasCalled script.now role input.now bank.old bank.new [] effects.list effects.close) }
+    ensures memory { script.now ≡ [] → IsOk result }
     ensures err { OnErr result (bank.new ≡ bank.old) }
 {
     let mut list = EffectList::new(alloc);
@@ -61,6 +62,7 @@ pub fn run_call_into(
     effects: &mut EffectList,
 ) -> Result<Close, Memory>
     ensures called { IfOk result (λ close. HasCalled script.now role input.now bank.old bank.new effects.old effects.new close) }
+    ensures memory { script.now ≡ [] → IsOk result }
     ensures err_variables { OnErr result (bank.new ≡ bank.old) }
     ensures err_effects { OnErr result (effects.new ≡ effects.old) }
 {
@@ -81,6 +83,7 @@ pub fn run_call_closing(
     close: &mut Close,
 ) -> Result<(), Memory>
     ensures called { OnOk result (HasCalled script.now role input.now bank.old bank.new effects.old effects.new close.new) }
+    ensures memory { script.now ≡ [] → IsOk result }
     ensures err_variables { OnErr result (bank.new ≡ bank.old) }
     ensures err_effects { OnErr result (effects.new ≡ effects.old) }
 {
@@ -99,8 +102,8 @@ pub fn run_call_closing(
 }
 
 /// Goes on with a script at a place, from these registers, until it stops, and says where. Its effects go behind
-/// those that are listed. A wait is for fewer than 2^63 ticks. Where memory is refused, the registers, the bank and the
-/// effects stay as they were.
+/// those that are listed. A wait is for fewer than 2^63 ticks. At the script's end it takes no memory. Where memory is
+/// refused, the registers, the bank and the effects stay as they were.
 pub fn run_from(
     script: &[Instr],
     place: usize,
@@ -114,11 +117,15 @@ pub fn run_from(
     ensures registers { OnOk result (regs.new ≡ (resumed listed script.now place regs.old bank.old None input.now effects.old).registers) }
     ensures variables { OnOk result (bank.new ≡ (resumed listed script.now place regs.old bank.old None input.now effects.old).variables) }
     ensures effects { OnOk result (effects.new ≡ (resumed listed script.now place regs.old bank.old None input.now effects.old).given) }
+    ensures memory { length script.now ≤ place → IsOk result }
     ensures err_registers { OnErr result (regs.new ≡ regs.old) }
     ensures err_variables { OnErr result (bank.new ≡ bank.old) }
     ensures err_effects { OnErr result (effects.new ≡ effects.old) }
 {
-    effects.items.reserve(script.len().saturating_sub(place))?;
+    if place >= script.len() {
+        return Ok(Stop::End);
+    }
+    effects.items.reserve(script.len() - place)?;
     let mut frame = Frame::new();
     frame.fill(regs, bank, input);
     let mut answer = None;

@@ -14,6 +14,7 @@ returns c =
         effects = ap (λ (state : ScriptState (List Effect)). state.given) ends;
         close = c.close_of-2.ensures ∙ ap (λ (state : ScriptState (List Effect)). close_of c.args.role state.answer) ends;
       };
+      memory = search rules;
       err_variables = search rules;
       err_effects = search rules;
     }
