@@ -89,10 +89,7 @@ fn is_reentrant(groups: &[CallbackGroup], group: GroupNo) -> bool
 pub(crate) fn is_any_faulty(faults: &[ScriptFault]) -> bool
     ensures { result ≡ list_any (λ fault. not (is_of_variable fault)) faults.now }
 {
-    for fault in faults {
-        if !matches!(fault, ScriptFault::GroupVariable) {
-            return true;
-        }
-    }
-    false
+    faults
+        .iter()
+        .any(|fault| !matches!(fault, ScriptFault::GroupVariable))
 }

@@ -42,12 +42,9 @@ fn has_few_groups(nodes: &[NodeDraft]) -> bool
 fn are_small(entities: &[PlacedEntity<'_>]) -> bool
     ensures { result ≡ list_all (λ placed. is_within placed.entity.is && has_short_scripts placed.entity.is) entities.now }
 {
-    for placed in entities {
-        if !is_entity_small(&placed.entity.is) {
-            return false;
-        }
-    }
-    true
+    entities
+        .iter()
+        .all(|placed| is_entity_small(&placed.entity.is))
 }
 
 fn is_entity_small(entity: &Drafted) -> bool
