@@ -15,7 +15,7 @@ use Rattle.exec_board.specs.Board.{ClaimView, IsClaimOf, IsSized, MayRelease}
 use Rattle.exec_board.specs.Rule.{held, is_same, tally}
 use Rattle.exec_board.specs.Seats.{Hold, IsLast, Refusal, SeatView, Segment, holding, let_go, refused, seen_at, start_of}
 use Rattle.exec_board.specs.Sweeps.{FirstSeen, GotOn, HasSome, IsBusy, IsShort, IsSwept, numbers}
-use Rattle.exec_board.specs.inner.Visits.{HasGotOn, HasRun, HasWorked, Turning, Visited, WasRefused, left_for, left_in, worked}
+use Rattle.exec_board.specs.inner.Visits.{HasGotOn, HasRunSome, HasWorked, Turning, Visited, WasRefused, left_for, left_in, worked}
 use Rattle.exec_board.proofs.Holding.{start_here, without_here}
 use Rattle.exec_board.proofs.Moved.{index-set, index-set-else}
 
@@ -97,7 +97,7 @@ let_go_held lane first end view =
     }
 
 module _ (lane quantum : ℕ) (before held_ : SeatView) (claim : ClaimView) (after : Lane) (ended : _) (claimed : IsClaimOf before lane claim) (holds : held_ ≡ holding lane claim.start before)
-    (ran : HasRun quantum claim.work after ended) where
+    (ran : HasRunSome quantum claim.work after ended) where
   of_lane : IsLaneOf (opened_lane before.opening lane) after
   of_lane = record { variables = ran.same.variables ∙ claimed.work.same.variables; entries = ran.same.entries ∙ claimed.work.same.entries }
 
@@ -247,9 +247,9 @@ turning_next board lane quantum claimed did a b c within sized so visited =
 
 -- what a visit answers, from what it did
 module _ (lane quantum : ℕ) (before held_ released : SeatView) (claim : ClaimView) (box after : Lane) (ended : _) (claimed : IsClaimOf before lane claim) (holds : held_ ≡ holding lane claim.start before)
-    (box_is : box ≡ claim.work) (ran : HasRun quantum box after ended) where
-  ran_so : HasRun quantum claim.work after ended
-  ran_so = subst (λ (b : Lane). HasRun quantum b after ended) box_is ran
+    (box_is : box ≡ claim.work) (ran : HasRunSome quantum box after ended) where
+  ran_so : HasRunSome quantum claim.work after ended
+  ran_so = subst (λ (b : Lane). HasRunSome quantum b after ended) box_is ran
 
   pub visit_may_release : MayRelease held_ (record claim { work = after })
   visit_may_release = may_release lane quantum before held_ claim after ended claimed holds ran_so

@@ -2,7 +2,7 @@
 ghost use Rattle.std.specs.Prelude.{◌≡◌, ◌<◌, [], length, IfOk, IsOk, OnErr};
 ghost use Rattle.exec_board.specs.Board.{IsSized};
 ghost use Rattle.exec_board.specs.Sweeps.{EndsSweep, IsSwept};
-ghost use Rattle.exec_board.specs.inner.Visits.{HasRun, Turning, Visited};
+ghost use Rattle.exec_board.specs.inner.Visits.{HasRunSome, Turning, Visited};
 
 use crate::board::Board;
 use crate::pass::Pass;
@@ -75,7 +75,7 @@ impl Board {
 fn run_some<G: Gate>(lane: &mut LaneBox, quantum: usize, gate: &G) -> Result<(), Memory>
     requires unfinished { lane.old.done < length lane.old.entries }
     requires quantum { 0 < quantum }
-    ensures { HasRun quantum lane.old lane.new result }
+    ensures { HasRunSome quantum lane.old lane.new result }
 {
     let mut left = quantum;
     while left > 0 && !lane.is_finished() {

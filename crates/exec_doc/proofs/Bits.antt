@@ -8,7 +8,7 @@ use Rattle.serde_json.specs.Data.{Data}
 use Rattle.serde_json.specs.Find.{as_array, get}
 use Rattle.exec_doc.specs.Document.{resolved_fed, resolved_entry}
 use Rattle.exec_doc.specs.Draft.{DocumentDraft}
-use Rattle.exec_doc.specs.Forms.{id_in_text, text, count, integer, identifier, values_of, list_of, needed, or_default, required, list, Fields, fields_of, message_in, goal_in, cancel_in, form_in, fed_in, entry, declared, draft_of}
+use Rattle.exec_doc.specs.Forms.{id_in_text, text, count, integer, identifier, values_of, list_of, needed, or_default, required, list, Fields, entry_fields, message_in, goal_in, cancel_in, form_in, fed_draft_in, entry, declared, draft_of}
 use Rattle.exec_plan.specs.Entity.{if_there}
 use Rattle.exec_doc.specs.declared.draft.EntryDraft.{EntryDraft}
 use Rattle.exec_doc.specs.declared.draft.FedDraft.{FedDraft}
@@ -79,9 +79,9 @@ form_small false false false fields fed e = absurd cc
 
 entry_small : (value : Data) (drafted : EntryDraft) → entry value ≡ Some drafted → has_bits drafted.fed ≡ true
 entry_small value drafted e =
-    let fields : Fields = fields_of value in
+    let fields : Fields = entry_fields value in
     then_read _ (needed count fields.round) _ drafted e (λ round found e1.
-    then_read _ (fed_in fields) _ drafted e1 (λ is said e2.
+    then_read _ (fed_draft_in fields) _ drafted e1 (λ is said e2.
     subst (λ (drafted : EntryDraft). has_bits drafted.fed ≡ true) (same_Some (record { round = round; fed = is }) drafted e2) (form_small _ _ _ fields is said)))
 
 -- all entries' have

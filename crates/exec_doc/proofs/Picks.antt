@@ -13,13 +13,13 @@ use Rattle.serde_json.proofs.Views.{Entry}
 use Rattle.serde_json.specs.Data.{Data, object}
 use Rattle.serde_json.specs.Find.{get_member}
 use Rattle.serde_json.specs.View.{view, members_view}
-use Rattle.exec_doc.specs.Forms.{Fields, fields_of}
-use Rattle.exec_doc.specs.inner.Picking.{if_named, noted}
+use Rattle.exec_doc.specs.Forms.{Fields, entry_fields}
+use Rattle.exec_doc.specs.inner.Picking.{if_named, field_noted}
 
 -- the fields with each of these members in turn
 abbrev pub picked : Fields → List Entry → Fields
 picked before [] = before
-picked before (e ∷ es) = picked (noted (string_bytes e.0) (view e.1) before) es
+picked before (e ∷ es) = picked (field_noted (string_bytes e.0) (view e.1) before) es
 
 -- no field yet
 abbrev pub none_yet : Fields
@@ -41,7 +41,7 @@ or_none None = refl
 or_none (Some value) = refl
 
 module _ (sought : List ℕ) (field : Fields → Option Data)
-    (takes : (name : List ℕ) (value : Data) (before : Fields) → field (noted name value before) ≡ if_named sought name value (field before)) where
+    (takes : (name : List ℕ) (value : Data) (before : Fields) → field (field_noted name value before) ≡ if_named sought name value (field before)) where
   -- a field is the member that is found, or else what it was
   found_in : (es : List Entry) (before : Fields) → IsStrictlySortedBy string_cmp (keys_of es) → field (picked before es) ≡ option_or (get_member sought (members_view es)) (field before)
   unfolding IsStrictlySortedBy
@@ -53,7 +53,7 @@ module _ (sought : List ℕ) (field : Fields → Option Data)
       let none : order ≡ Equal → get_member sought (members_view es) ≡ None = λ equal.
       let is : sought ≡ name = (bytes_eq-Decides sought name).0 (sym (is_eq-slice_cmp sought name) ∙ ap is_eq equal) in
       absent sought es (subst (λ (text : List ℕ). AllByRecursion (λ key. slice_cmp nat_cmp text (string_bytes key) ≡ Less) (keys_of es)) (sym is) sorted.0) in
-      found_in es (noted name (view e.1) before) sorted.1
+      found_in es (field_noted name (view e.1) before) sorted.1
       ∙ ap (option_or (get_member sought (members_view es))) (takes name (view e.1) before)
       ∙ step order (bytes_eq name sought) (get_member sought (members_view es)) (field before) (view e.1) same none
 
@@ -62,7 +62,7 @@ module _ (sought : List ℕ) (field : Fields → Option Data)
   member_found es sorted none = found_in es none_yet sorted ∙ ap (option_or (get_member sought (members_view es))) none ∙ or_none (get_member sought (members_view es))
 
 -- a pass over all members finds each field as a look-up does
-pub all_picked : (members : List Entry) → IsStrictlySortedBy string_cmp (keys_of members) → picked none_yet members ≡ fields_of (object (members_view members))
+pub all_picked : (members : List Entry) → IsStrictlySortedBy string_cmp (keys_of members) → picked none_yet members ≡ entry_fields (object (members_view members))
 all_picked members sorted = λ i. record {
   round = member_found (codes "round") (λ fields. fields.round) (λ name value before. refl) members sorted refl i;
   topic = member_found (codes "topic") (λ fields. fields.topic) (λ name value before. refl) members sorted refl i;

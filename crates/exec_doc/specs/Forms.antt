@@ -193,8 +193,8 @@ pub record Fields : Type 0 where
   pub stamp : Option Data
 
 -- those of a value
-abbrev pub fields_of : Data → Fields
-fields_of holder = record {
+abbrev pub entry_fields : Data → Fields
+entry_fields holder = record {
   round = get (codes "round") holder;
   topic = get (codes "topic") holder;
   goal = get (codes "goal") holder;
@@ -235,19 +235,19 @@ form_in false false true = cancel_in
 form_in _ _ _ = λ fields. None
 
 -- what an entry feeds
-abbrev pub fed_in : Fields → Option FedDraft
-fed_in fields = form_in (is_some fields.topic) (is_some fields.goal) (is_some fields.cancel) fields
+abbrev pub fed_draft_in : Fields → Option FedDraft
+fed_draft_in fields = form_in (is_some fields.topic) (is_some fields.goal) (is_some fields.cancel) fields
 
 -- what an entry with these fields says
-abbrev pub entry_in : Fields → Option EntryDraft
-entry_in fields = do
+abbrev pub entry_draft_in : Fields → Option EntryDraft
+entry_draft_in fields = do
   round ← needed count fields.round
-  is ← fed_in fields
+  is ← fed_draft_in fields
   Some (record { round = round; fed = is })
 
 -- an entry of the feed
 abbrev pub entry : Data → Option EntryDraft
-entry value = entry_in (fields_of value)
+entry value = entry_draft_in (entry_fields value)
 
 -- ---- the document
 

@@ -7,7 +7,7 @@ use Rattle.exec_msg.specs.Lists.{drop_first}
 use Rattle.exec_goal.specs.Held.{record_of, records_of}
 use Rattle.exec_goal.specs.Info.{info_of}
 use Rattle.exec_goal.specs.Table.{GoalRecord}
-use Rattle.exec_goal.specs.declared.held.HeldGoal.{HeldGoal}
+use Rattle.exec_goal.specs.declared.held.GoalEntry.{GoalEntry}
 use Rattle.exec_goal.specs.declared.info.GoalInfo.{GoalInfo}
 use Rattle.std.proofs.lemmas.Option.{get_or_from_slice_get, slice_get-map}
 use Rattle.std.specs.Option.{option_map}
@@ -147,21 +147,21 @@ told-at (goal ∷ goals) zero info is = (goal, (cc), refl)
 told-at (goal ∷ goals) (suc i) info is = told-at goals i info is
 
 -- the record of an entry at a place
-pub record-at : (entries : List (ℕ × HeldGoal)) (goals : List GoalRecord) (i : ℕ) (entry : ℕ × HeldGoal) → records_of entries ≡ goals → slice_get entries i ≡ Some entry → (d : GoalRecord) → get_or goals i d ≡ record_of entry
+pub record-at : (entries : List (ℕ × GoalEntry)) (goals : List GoalRecord) (i : ℕ) (entry : ℕ × GoalEntry) → records_of entries ≡ goals → slice_get entries i ≡ Some entry → (d : GoalRecord) → get_or goals i d ≡ record_of entry
 record-at entries goals i entry are is d =
     get_or_from_slice_get goals i (record_of entry) d (ap (λ (goals : List GoalRecord). slice_get goals i) (sym are) ∙ slice_get-map record_of entries i ∙ ap (option_map record_of) is)
 
 -- a change of an entry's value by its place
-pub records-set_value_at : (entries : List (ℕ × HeldGoal)) (i : ℕ) (entry : ℕ × HeldGoal) (held : HeldGoal) → slice_get entries i ≡ Some entry →
+pub records-set_value_at : (entries : List (ℕ × GoalEntry)) (i : ℕ) (entry : ℕ × GoalEntry) (held : GoalEntry) → slice_get entries i ≡ Some entry →
     records_of (set_value_at entries i held) ≡ slice_set (records_of entries) i (record_of (entry.0, held))
 records-set_value_at [] i entry held is = absurd cc
 records-set_value_at (first ∷ entries) zero entry held is =
     let same : first ≡ entry = cc in
-    ap (λ (entry : ℕ × HeldGoal). record_of (entry.0, held) ∷ records_of entries) same
+    ap (λ (entry : ℕ × GoalEntry). record_of (entry.0, held) ∷ records_of entries) same
 records-set_value_at (first ∷ entries) (suc i) entry held is = ap (λ goals. record_of first ∷ goals) (records-set_value_at entries i entry held is)
 
 -- an entry is taken out by its place
-pub records-remove : (entries : List (ℕ × HeldGoal)) (i : ℕ) → records_of (remove entries i) ≡ remove (records_of entries) i
+pub records-remove : (entries : List (ℕ × GoalEntry)) (i : ℕ) → records_of (remove entries i) ≡ remove (records_of entries) i
 records-remove [] zero = refl
 records-remove [] (suc i) = refl
 records-remove (entry ∷ entries) zero = refl

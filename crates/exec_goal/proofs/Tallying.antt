@@ -14,7 +14,7 @@ use Rattle.exec_goal.specs.Calls.{IsFirst}
 use Rattle.exec_goal.specs.Held.{record_of, records_of}
 use Rattle.exec_goal.specs.State.{is_worked_on, is_terminal}
 use Rattle.exec_goal.specs.Table.{GoalRecord, has_id, working, is_expired, expired}
-use Rattle.exec_goal.specs.declared.held.HeldGoal.{HeldGoal}
+use Rattle.exec_goal.specs.declared.held.GoalEntry.{GoalEntry}
 use Rattle.exec_goal.specs.declared.state.State.{State}
 use Rattle.exec_goal.specs.declared.state.State.TheVariants as state
 use Rattle.exec_goal.specs.declared.tally.Tally.{Tally}
@@ -245,7 +245,7 @@ all-ends first (goal ∷ goals) ends = (ends 0 goal (omega arith), all-ends firs
 pub unmoved : (before : State) (ended : ℕ) (tally : Tally) → is_terminal before ≡ false → CountsMove before before ended tally tally
 unmoved before ended tally is = record { working = refl; first = ap (λ (b : Bool). first_with b ended tally.first_end) (sym is) }
 
-module _ (test : ℕ → Bool) (id : ℕ) (same : (key : ℕ) → test key ≡ (key == id)) (held : HeldGoal) (entries : List (ℕ × HeldGoal)) (found : Some held ≡ lookup test entries) where
+module _ (test : ℕ → Bool) (id : ℕ) (same : (key : ℕ) → test key ≡ (key == id)) (held : GoalEntry) (entries : List (ℕ × GoalEntry)) (found : Some held ≡ lookup test entries) where
   -- a goal that is found by its identifier is counted
   pub counted-in : (tally : Tally) → IsTallied tally (records_of entries) → one_where (is_worked_on held.state) ≤ tally.working
   counted-in tally tallied =
@@ -254,7 +254,7 @@ module _ (test : ℕ → Bool) (id : ℕ) (same : (key : ℕ) → test key ≡ (
       (replaced-first (has_id id) (λ _. goal) goal (records_of entries) (found-in test id same entries (records_of entries) (Some held) refl found)) tallied
 
   -- another value is written in its place
-  pub tallied-in : (after : HeldGoal) (set : List (ℕ × HeldGoal)) (old new : Tally) → set ≡ set_value test entries after → CountsMove held.state after.state after.ended old new →
+  pub tallied-in : (after : GoalEntry) (set : List (ℕ × GoalEntry)) (old new : Tally) → set ≡ set_value test entries after → CountsMove held.state after.state after.ended old new →
       IsTallied old (records_of entries) → IsTallied new (records_of set)
   tallied-in after set old new is counts tallied =
       let goal = record_of (id, held) in
@@ -264,20 +264,20 @@ module _ (test : ℕ → Bool) (id : ℕ) (same : (key : ℕ) → test key ≡ (
       (replaced-first (has_id id) (λ _. other) goal (records_of entries) (found-in test id same entries (records_of entries) (Some held) refl found)) counts tallied)
 
   -- it is written back as it was
-  pub tallied-kept : (set : List (ℕ × HeldGoal)) (tally : Tally) → set ≡ set_value test entries held → IsTallied tally (records_of entries) → IsTallied tally (records_of set)
+  pub tallied-kept : (set : List (ℕ × GoalEntry)) (tally : Tally) → set ≡ set_value test entries held → IsTallied tally (records_of entries) → IsTallied tally (records_of set)
   tallied-kept set tally is tallied =
       subst (λ goals. IsTallied tally goals)
       (sym (changed-in test id same (λ (goal : GoalRecord). goal) held held refl entries set (records_of entries) refl found is ∙ change_first-same id (records_of entries))) tallied
 
 -- the same by a place
-module _ (entries : List (ℕ × HeldGoal)) (i : ℕ) (entry : ℕ × HeldGoal) (found : slice_get entries i ≡ Some entry) where
+module _ (entries : List (ℕ × GoalEntry)) (i : ℕ) (entry : ℕ × GoalEntry) (found : slice_get entries i ≡ Some entry) where
   goal-at : slice_get (records_of entries) i ≡ Some (record_of entry)
   goal-at = slice_get-map record_of entries i ∙ ap (option_map record_of) found
 
   pub counted-at : (tally : Tally) → IsTallied tally (records_of entries) → one_where (is_worked_on entry.1.state) ≤ tally.working
   counted-at tally tallied = tallied-counted (record_of entry) (record_of entry) tally (records_of entries) _ (replaced-at (record_of entry) (record_of entry) (records_of entries) i goal-at) tallied
 
-  pub tallied-at : (after : HeldGoal) (old new : Tally) → CountsMove entry.1.state after.state after.ended old new → IsTallied old (records_of entries) → IsTallied new (records_of (set_value_at entries i after))
+  pub tallied-at : (after : GoalEntry) (old new : Tally) → CountsMove entry.1.state after.state after.ended old new → IsTallied old (records_of entries) → IsTallied new (records_of (set_value_at entries i after))
   tallied-at after old new counts tallied =
       let other = record_of (entry.0, after) in
       subst (λ goals. IsTallied new goals) (sym (records-set_value_at entries i entry after found))

@@ -3,7 +3,7 @@ mod canceling;
 mod expiring;
 mod moving;
 
-use crate::held::HeldGoal;
+use crate::held::GoalEntry;
 use crate::info::GoalInfo;
 use crate::refusals::Reject;
 use crate::state::State;
@@ -19,7 +19,7 @@ use std::marker::Model;
 #[derive(Debug, Drop)]
 pub struct Goals {
     alloc: Global,
-    held: IndexMap<GoalId, HeldGoal>,
+    held: IndexMap<GoalId, GoalEntry>,
     tally: Tally,
 }
 
@@ -131,7 +131,7 @@ impl Goals {
         if self.is_full() {
             return Err(Reject::Full);
         }
-        let goal = HeldGoal::accepted(self.alloc, value, moment, decision);
+        let goal = GoalEntry::accepted(self.alloc, value, moment, decision);
         let state = goal.state;
         self.held.insert(id, goal)?;
         self.tally.count_move(State::Accepted, state, moment);

@@ -6,7 +6,7 @@ use std::alloc::Global;
 
 // A goal that a server holds, but for its identifier, by which the table finds it.
 #[derive(Debug, Drop)]
-pub(crate) struct HeldGoal {
+pub(crate) struct GoalEntry {
     pub(crate) value: i64,
     pub(crate) stamp: Moment,
     pub(crate) state: State,
@@ -22,7 +22,7 @@ pub(crate) struct HeldGoal {
 // one that accepts, 3, ACCEPT_AND_DEFER, doesn't.
 const ACCEPT_AND_EXECUTE: u8 = 2;
 
-impl HeldGoal {
+impl GoalEntry {
     ghost use Rattle.std.specs.Prelude.{◌≡◌, ℕ, Some};
     ghost use Rattle.exec_goal.specs.Cancel.{after_answer_by};
     ghost use Rattle.exec_goal.specs.Held.{record_of};
@@ -30,7 +30,7 @@ impl HeldGoal {
     ghost use Rattle.exec_goal.specs.Table.{accepted_state, new_goal, is_expired};
 
     // A goal that is accepted at a moment by decision 2 or 3. It takes no memory.
-    pub(crate) fn accepted(alloc: Global, value: i64, moment: Moment, decision: u8) -> HeldGoal
+    pub(crate) fn accepted(alloc: Global, value: i64, moment: Moment, decision: u8) -> GoalEntry
         ensures stands_for { (id : ℕ) → record_of (id, result) ≡ new_goal id value moment decision }
         ensures state { result.state ≡ accepted_state decision }
     {
@@ -39,7 +39,7 @@ impl HeldGoal {
         } else {
             State::Accepted
         };
-        HeldGoal {
+        GoalEntry {
             value,
             stamp: moment,
             state,

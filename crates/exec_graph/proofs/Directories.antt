@@ -11,11 +11,11 @@ joined_by true rest first next is = is
 joined_by false rest first next is = refl
 
 -- texts, and then others
-joined : (names texts others : List (List ℕ)) → names_from names (texts ++ others) ≡ option_and_then (λ more. names_from more others) (names_from names texts)
-joined names [] others = refl
-joined names (text ∷ texts) others =
+names_joined : (names texts others : List (List ℕ)) → names_from names (texts ++ others) ≡ option_and_then (λ more. names_from more others) (names_from names texts)
+names_joined names [] others = refl
+names_joined names (text ∷ texts) others =
     joined_by (is_new names text) (names_from (names ++ text ∷ []) (texts ++ others)) (names_from (names ++ text ∷ []) texts) (λ more. names_from more others)
-    (joined (names ++ text ∷ []) texts others)
+    (names_joined (names ++ text ∷ []) texts others)
 
 refused_by : {A : Type 0} (h n : Bool) (names : List (List ℕ)) (all : A) → None ≡ then_some n names → None ≡ then_some (h && n) all
 refused_by true true names all is = absurd cc
@@ -24,7 +24,7 @@ refused_by false n names all is = refl
 
 module _ (topics others start after : List (List ℕ)) (a : Bool) (empty : start ≡ []) (added : names_from start topics ≡ then_some a after) where
   both : names_from [] (topics ++ others) ≡ option_and_then (λ more. names_from more others) (then_some a after)
-  both = joined [] topics others ∙ ap (option_and_then (λ more. names_from more others)) (ap (λ (names : List (List ℕ)). names_from names topics) (sym empty) ∙ added)
+  both = names_joined [] topics others ∙ ap (option_and_then (λ more. names_from more others)) (ap (λ (names : List (List ℕ)). names_from names topics) (sym empty) ∙ added)
 
   -- a topic's name is refused
   pub topic_refused : {A : Type 0} (h : Bool) (all : A) → a ≡ false → None ≡ then_some (h && are_names (topics ++ others)) all

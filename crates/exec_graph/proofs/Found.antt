@@ -1,8 +1,6 @@
 -- What a graph finds by name: what its draft names, at the same number.
-use Rattle.std.proofs.Common.{◌≡◌, ℕ, ◌+◌, Bool, true, false, cond, ◌&&◌, length, map, List, [], ◌∷◌, ◌++◌, Option, None, Some, bytes_eq, slice_get, refl, ap, ap₂, ◌∙◌, subst, arith, zero-add}
+use Rattle.std.proofs.Common.{◌≡◌, ℕ, ◌+◌, Bool, false, cond, ◌&&◌, length, map, List, [], ◌∷◌, ◌++◌, Option, None, Some, bytes_eq, refl, ap, ap₂, ◌∙◌, subst, arith, zero-add}
 use Rattle.std.specs.List.{position_from}
-use Rattle.std.specs.Option.{option_map_or}
-use Rattle.std.proofs.lemmas.Bool.{and_parts}
 use Rattle.std.proofs.lemmas.Option.{same_Some}
 use Rattle.exec_graph.specs.declared.draft.GraphDraft.{GraphDraft}
 use Rattle.exec_plan.specs.Graph.{EntityData, GraphData, is_topic, is_server, topic_at, server_at}
@@ -11,7 +9,6 @@ use Rattle.exec_graph.specs.Numbers.{Placed, entities_of, topic_named, server_na
 use Rattle.exec_plan.specs.Options.{each}
 use Rattle.exec_graph.specs.Resolved.{entity_in, topic_in, graph_in}
 use Rattle.exec_plan.specs.declared.entity.EntityKind.TheVariants as kind
-use Rattle.exec_plan.proofs.Positions.{at_position}
 use Rattle.exec_plan.proofs.Reading.{then_read, AreRead, are_read}
 use Rattle.exec_graph.proofs.Resolving.{graph_of, AreEntities, built, no_topic, same_kind}
 

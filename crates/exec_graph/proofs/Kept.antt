@@ -1,5 +1,5 @@
 -- What a graph's draft keeps that has no fault.
-use Rattle.std.proofs.Common.{◌≡◌, Bool, true, false, cond, not, ◌&&◌, ◌||◌, length, map, nat_le, sum_by, List, [], ◌∷◌, Option, None, Some, find, refl}
+use Rattle.std.proofs.Common.{◌≡◌, Bool, true, false, not, ◌&&◌, ◌||◌, length, map, nat_le, sum_by, List, [], ◌∷◌, None, refl}
 use Rattle.std.specs.List.{list_all, list_any}
 use Rattle.std.proofs.lemmas.Bool.{and_parts, or_parts, not-false}
 use Rattle.exec_graph.specs.declared.draft.GraphDraft.{GraphDraft}

@@ -11,7 +11,7 @@ use Rattle.std.proofs.lemmas.List.Sums.{fold-append}
 use Rattle.exec_plan.specs.Entity.{EntityNo}
 use Rattle.exec_lane.proofs.Putting.{put_past, task_put, variables_left, variables_put, variables_turned, variables_twice}
 use Rattle.exec_lane.specs.Gather.{ran_each}
-use Rattle.exec_lane.specs.Lane.{Done, Entry, LaneState, done_by, entry_in, goes_into, is_beside, opened, run_entry, task_home, tasks_home, variables_at, variables_home, with_callback}
+use Rattle.exec_lane.specs.Lane.{Done, Entry, LaneState, done_by, entry_in, goes_into, is_beside, run_entry, task_home, tasks_home, variables_at, variables_home, with_callback}
 use Rattle.exec_lane.specs.declared.gathering.Ran.{Ran}
 use Rattle.exec_msg.specs.Lists.{change_first}
 use Rattle.exec_script.specs.declared.effects.Effect.{Effect}

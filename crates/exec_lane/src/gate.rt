@@ -4,7 +4,8 @@ pub trait Gate: Sync {
     /// A worker is about to run the callback at this position of the ready list, from 1.
     fn pass(&self, position: usize);
 
-    /// What the callback at this position did has reached the collector of a streamed round.
+    /// What the callback at this position did has reached whoever collects it, where that goes on while others still run. No
+    /// round does so today.
     fn took(&self, position: usize);
 
     /// Whether nobody watches, so that a round may run in any way that gives its transcript.

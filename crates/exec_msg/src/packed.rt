@@ -1,7 +1,7 @@
 //! Lines in few bytes each.
 ghost use Rattle.std.specs.Prelude.{◌≡◌, ◌+◌, ◌*◌, ◌^◌, ◌≤◌, List, [], ◌∷◌, true, false, vec_len, vec_capacity};
 ghost use Rattle.exec_msg.specs.declared.line.Line.TheVariants as line;
-ghost use Rattle.exec_msg.specs.inner.Packed.{joined, id_told, said_by, said_line, lines_in, tells_no_id, HasLines};
+ghost use Rattle.exec_msg.specs.inner.Packed.{joined_halves, id_told, said_by, said_line, lines_in, tells_no_id, HasLines};
 
 mod form;
 mod halves;
@@ -370,7 +370,7 @@ impl Cell {
 
 #[inline(always)]
 fn round_line(upper: u16, number: u32, lower: u32) -> Line
-    ensures { result ≡ line.Round number (joined upper lower) }
+    ensures { result ≡ line.Round number (joined_halves upper lower) }
 {
     match Moment::new(join(u32::from(upper), lower)) {
         Some(moment) => Line::Round {

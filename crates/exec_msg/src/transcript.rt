@@ -94,8 +94,8 @@ impl Transcript {
     }
 }
 
-// From so many cells on the texts of identifiers and long numbers are kept for the lines that follow:
-// to make their room takes longer than the lines of fewer cells do.
+// From so many cells on names are kept as lines have them, and the texts of long numbers for the
+// lines that follow: to make their room takes longer than the lines of fewer cells do.
 const MANY_CELLS: usize = 8_192;
 
 // Bytes are made longer by so many more than asked.

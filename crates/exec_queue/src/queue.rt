@@ -13,7 +13,7 @@ ghost use Rattle.exec_rules.specs.Item.{taker_of};
 ghost use Rattle.exec_rules.specs.Ready.{is_before_polls, item_ready, queue_taken};
 ghost use Rattle.exec_rules.specs.World.{Handler, Queue, is_queue, queue_after, lost_from};
 ghost use Rattle.exec_rules.specs.declared.homes.Home.{Home as HomeAt};
-ghost use Rattle.exec_rules.specs.inner.Homes.{AreHomes, IsHome, handlers_of};
+ghost use Rattle.exec_rules.specs.inner.Homes.{AreHomes, IsScriptHome, handlers_of};
 ghost use Rattle.exec_rules.specs.inner.Listing.{listed_behind};
 ghost use Rattle.exec_msg.specs.Places.{change_at};
 ghost use Rattle.exec_rules.specs.inner.Places.{change_each, places_where};
@@ -226,7 +226,7 @@ pub fn bring_home_to_queues(queues: &mut Queues, list: &mut ReadyList, homes: &[
 
 #[inline(always)]
 fn bring_script_home(queues: &mut Queues, list: &mut ReadyList, home: &Home)
-    requires { IsHome (handlers_of queues.old) list.old home.now }
+    requires { IsScriptHome (handlers_of queues.old) list.old home.now }
     ensures queues { queues.new ≡ queues.old }
     ensures others { (handlers : List Handler) (others : List HomeAt) → AreHomes handlers list.old others → AreHomes handlers list.new others }
 {

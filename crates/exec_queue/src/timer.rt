@@ -3,7 +3,7 @@ ghost use Rattle.std.specs.List.{flat_map};
 ghost use Rattle.exec_rules.specs.Ready.{due_ready, timer_taken};
 ghost use Rattle.exec_rules.specs.World.{Handler, TimerEntry};
 ghost use Rattle.exec_rules.specs.declared.homes.Home.{Home};
-ghost use Rattle.exec_rules.specs.inner.Homes.{AreHomes, IsHome};
+ghost use Rattle.exec_rules.specs.inner.Homes.{AreHomes, IsScriptHome};
 ghost use Rattle.exec_rules.specs.inner.Listing.{listed_behind};
 
 use exec_msg::{Items, Memory, Moment, Timer};
@@ -114,7 +114,7 @@ pub fn bring_home_to_timers(timers: &mut Vec<EntityTimer>, list: &mut ReadyList,
 
 #[inline(always)]
 fn bring_script_home(timers: &mut Vec<EntityTimer>, list: &mut ReadyList, home: &Home)
-    requires { IsHome (map (λ (entry : TimerEntry). entry.handler) timers.old.items) list.old home.now }
+    requires { IsScriptHome (map (λ (entry : TimerEntry). entry.handler) timers.old.items) list.old home.now }
     ensures timers { timers.new.items ≡ timers.old.items }
     ensures others { (handlers : List Handler) (others : List Home) → AreHomes handlers list.old others → AreHomes handlers list.new others }
 {

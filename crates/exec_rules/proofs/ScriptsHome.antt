@@ -14,7 +14,7 @@ use Rattle.exec_rules.specs.Transcript.{run_all}
 use Rattle.exec_rules.specs.World.{Handler, Moment, Queue, TimerEntry, WorldState}
 use Rattle.exec_rules.specs.declared.homes.Home.{Home}
 use Rattle.exec_rules.specs.declared.ready.Ready.{Ready}
-use Rattle.exec_rules.specs.inner.Homes.{AreHomes, HasScriptOf, IsHome, queue_handlers, timer_handlers, without_script}
+use Rattle.exec_rules.specs.inner.Homes.{AreHomes, HasScriptOf, IsScriptHome, queue_handlers, timer_handlers, without_script}
 use Rattle.exec_rules.specs.inner.Listing.{listed_behind}
 
 -- what stands in front stays where it is
@@ -31,7 +31,7 @@ slice_end (y ∷ xs) x = slice_end xs x
 -- callbacks that are listed behind change no home
 pub grown : (handlers : List Handler) (list more : List Ready) (homes : List Home) → AreHomes handlers list homes → AreHomes handlers (list ++ more) homes
 grown handlers list more homes are =
-    All-weaker (IsHome handlers list) (IsHome handlers (list ++ more))
+    All-weaker (IsScriptHome handlers list) (IsScriptHome handlers (list ++ more))
     (λ home is. (omega (arith, is.0, length-append list more), λ one at. is.1 one (sym (slice_front list more home.at is.0) ∙ at))) homes are
 
 -- a callback that is listed with its home
@@ -39,7 +39,7 @@ pub pushed : (handlers : List Handler) (list : List Ready) (ready : Ready) (home
     AreHomes handlers list homes → AreHomes handlers (listed_behind list (ready ∷ [])) (homes ++ record { at = at; place = place } ∷ [])
 pushed handlers list ready homes at place behind has are =
     let placed : Ready = record ready { position = length list + 1 } in
-    All-push (IsHome handlers (listed_behind list (ready ∷ []))) homes (record { at = at; place = place }) (grown handlers list (placed ∷ []) homes are) (
+    All-push (IsScriptHome handlers (listed_behind list (ready ∷ []))) homes (record { at = at; place = place }) (grown handlers list (placed ∷ []) homes are) (
       omega (arith, behind, length-append list (placed ∷ [])),
       λ one there. subst (HasScriptOf (slice_get handlers place)) (same_Some placed one (sym (slice_end list placed) ∙ ap (slice_get (list ++ placed ∷ [])) (sym behind) ∙ there)) has,
     )
@@ -61,7 +61,7 @@ left found (first ∷ list) (suc at) (suc place) one has there = left found list
 -- a script that is taken changes no home
 pub taken_out : (handlers : List Handler) (list : List Ready) (at : ℕ) (homes : List Home) → AreHomes handlers list homes → AreHomes handlers (change_at at without_script list) homes
 taken_out handlers list at homes are =
-    All-weaker (IsHome handlers list) (IsHome handlers (change_at at without_script list))
+    All-weaker (IsScriptHome handlers list) (IsScriptHome handlers (change_at at without_script list))
     (λ home is. (omega (arith, is.0, length_changed without_script at list), λ one there. left (slice_get handlers home.place) list at home.at one is.1 there)) homes are
 
 -- a callback with the script of a handler that stands at a place
@@ -71,7 +71,7 @@ has_script found ready own taken given is there =
 
 -- a script that is taken at a home is that of the handler there
 pub script_home : {E : Type 0} (handler_of : E → Handler) (entries : List E) (list : List Ready) (home : Home) (script : Script) (entry : E) →
-    IsHome (map handler_of entries) list home → Some script ≡ option_map_or (λ (one : Ready). one.script) (slice_get list home.at) None → slice_get entries home.place ≡ Some entry → script ≡ (handler_of entry).script
+    IsScriptHome (map handler_of entries) list home → Some script ≡ option_map_or (λ (one : Ready). one.script) (slice_get list home.at) None → slice_get entries home.place ≡ Some entry → script ≡ (handler_of entry).script
 script_home {E} handler_of entries list home script entry is given there = by (slice_get list home.at) refl
   where
     by : (found : Option Ready) → slice_get list home.at ≡ found → script ≡ (handler_of entry).script
@@ -93,7 +93,7 @@ grown_by handlers before after more homes is are =
 
 -- no homes
 pub no_homes : (handlers : List Handler) (list : List Ready) (homes : List Home) → homes ≡ [] → AreHomes handlers list homes
-no_homes handlers list homes none = subst (AreHomes handlers list) (sym none) (All-nil (IsHome handlers list))
+no_homes handlers list homes none = subst (AreHomes handlers list) (sym none) (All-nil (IsScriptHome handlers list))
 
 timer_same : (moment : Moment) (entry : TimerEntry) → (timer_taken moment entry).handler ≡ entry.handler
 timer_same moment entry = by (is_due entry.timer moment) refl

@@ -10,7 +10,7 @@ use Rattle.exec_board.specs.Seats.{IsLast, Refusal, SeatView, refused}
 use Rattle.exec_board.specs.Sweeps.{FirstSeen, GotOn, IsSwept, numbers}
 
 -- callbacks of a lane ran: at most so many, and at least one where none was refused memory
-pub record HasRun (quantum : ℕ) (before after : Lane) (ended : Result Unit Memory) : Type 0 where
+pub record HasRunSome (quantum : ℕ) (before after : Lane) (ended : Result Unit Memory) : Type 0 where
   pub same : IsLaneOf before after
   pub since : before.done ≤ after.done
   pub few : after.done ≤ before.done + quantum

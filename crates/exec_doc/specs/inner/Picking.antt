@@ -30,8 +30,8 @@ abbrev pub if_named : List ℕ → List ℕ → Data → Option Data → Option 
 if_named sought name value before = if bytes_eq name sought then Some value else before
 
 -- the fields with a member that is one of them, or is none
-abbrev pub noted : List ℕ → Data → Fields → Fields
-noted name value before = record {
+abbrev pub field_noted : List ℕ → Data → Fields → Fields
+field_noted name value before = record {
   round = if_named (codes "round") name value before.round;
   topic = if_named (codes "topic") name value before.topic;
   goal = if_named (codes "goal") name value before.goal;

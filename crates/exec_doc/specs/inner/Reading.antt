@@ -15,5 +15,5 @@ ReadingGives view (Ok found) said = said ≡ Some (view found)
 ReadingGives view (Err code) said = ReadingFails code said
 
 -- what the form says is there, behind what was there before
-abbrev pub IsAppended : {X : Type 0} → Option (List X) → List X → List X → Type 0
-IsAppended {X} said before after = (here : List X) × (said ≡ Some here) × (after ≡ before ++ here)
+abbrev pub IsReadBehind : {X : Type 0} → Option (List X) → List X → List X → Type 0
+IsReadBehind {X} said before after = (here : List X) × (said ≡ Some here) × (after ≡ before ++ here)

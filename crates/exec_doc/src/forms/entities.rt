@@ -2,7 +2,7 @@ ghost use Rattle.std.specs.Prelude.{OnOk, IfErr, map};
 ghost use Rattle.serde_json.specs.View.{view};
 ghost use Rattle.exec_doc.specs.Forms.{depth_field, form_of, entity, list};
 ghost use Rattle.exec_plan.specs.Options.{each};
-ghost use Rattle.exec_doc.specs.inner.Reading.{ReadingGives, ReadingFails, IsAppended};
+ghost use Rattle.exec_doc.specs.inner.Reading.{ReadingGives, ReadingFails, IsReadBehind};
 
 use crate::forms::fields::{optional, required};
 use crate::forms::scripts::script_field;
@@ -24,7 +24,7 @@ pub fn append_entities(
     kind: EntityKind,
     entities: &mut Vec<EntityDraft>,
 ) -> Result<(), Refused>
-    ensures ok { OnOk result (IsAppended (list (entity (form_of kind)) name.now (view node.now)) entities.old.items entities.new.items) }
+    ensures ok { OnOk result (IsReadBehind (list (entity (form_of kind)) name.now (view node.now)) entities.old.items entities.new.items) }
     ensures err { IfErr result (λ code. ReadingFails code (list (entity (form_of kind)) name.now (view node.now))) }
 {
     match node.get(name) {
@@ -44,7 +44,7 @@ fn append_each(
     kind: EntityKind,
     entities: &mut Vec<EntityDraft>,
 ) -> Result<(), Refused>
-    ensures ok { OnOk result (IsAppended (each (entity (form_of kind)) (map view values.now)) entities.old.items entities.new.items) }
+    ensures ok { OnOk result (IsReadBehind (each (entity (form_of kind)) (map view values.now)) entities.old.items entities.new.items) }
     ensures err { IfErr result (λ code. ReadingFails code (each (entity (form_of kind)) (map view values.now))) }
 {
     for value in values {

@@ -1,5 +1,5 @@
 ghost use Rattle.std.specs.Prelude.{◌≡◌};
-ghost use Rattle.exec_doc.specs.Forms.{id_in_text, identifier, message_in, goal_in, cancel_in, fed_in, entry_in, entry};
+ghost use Rattle.exec_doc.specs.Forms.{id_in_text, identifier, message_in, goal_in, cancel_in, fed_draft_in, entry_draft_in, entry};
 ghost use Rattle.exec_doc.specs.inner.Picking.{seen};
 ghost use Rattle.exec_doc.specs.inner.Reading.{ReadingGives};
 
@@ -21,7 +21,7 @@ impl Form for EntryDraft {
 }
 
 fn entry(alloc: Global, fields: &EntryFields<'_>) -> Result<EntryDraft, Refused>
-    ensures { ReadingGives (λ found. found) result (entry_in (seen fields.now)) }
+    ensures { ReadingGives (λ found. found) result (entry_draft_in (seen fields.now)) }
 {
     Ok(EntryDraft {
         round: needed(alloc, fields.round)?,
@@ -30,7 +30,7 @@ fn entry(alloc: Global, fields: &EntryFields<'_>) -> Result<EntryDraft, Refused>
 }
 
 fn fed(alloc: Global, fields: &EntryFields<'_>) -> Result<FedDraft, Refused>
-    ensures { ReadingGives (λ found. found) result (fed_in (seen fields.now)) }
+    ensures { ReadingGives (λ found. found) result (fed_draft_in (seen fields.now)) }
 {
     match (
         fields.topic.is_some(),

@@ -4,7 +4,7 @@ ghost use Rattle.serde_json.specs.View.{view};
 ghost use Rattle.exec_plan.specs.Options.{each};
 ghost use Rattle.exec_doc.specs.Forms.{text, list_of, declared};
 ghost use Rattle.exec_plan.specs.Entity.{if_there};
-ghost use Rattle.exec_doc.specs.inner.Reading.{ReadingGives, ReadingFails, IsAppended};
+ghost use Rattle.exec_doc.specs.inner.Reading.{ReadingGives, ReadingFails, IsReadBehind};
 
 use crate::forms::fields::list;
 use crate::forms::owned::{into_array, into_field, into_text};
@@ -35,7 +35,7 @@ fn declare_nodes(nodes: Vec<NodeDraft>, graph: &mut GraphBuilder) -> Result<(), 
 
 #[tactic(auto, using(crate::proofs::Lists::any_list))]
 fn declare_topics(field: Option<Value>, graph: &mut GraphBuilder) -> Result<(), Refused>
-    ensures ok { OnOk result (IsAppended (option_map (λ found. unwrap_or found []) (if_there (list_of text) (option_map view field))) graph.old.topics graph.new.topics) }
+    ensures ok { OnOk result (IsReadBehind (option_map (λ found. unwrap_or found []) (if_there (list_of text) (option_map view field))) graph.old.topics graph.new.topics) }
     ensures nodes { graph.new.nodes ≡ graph.old.nodes }
     ensures err { IfErr result (λ code. ReadingFails code (option_map (λ found. unwrap_or found []) (if_there (list_of text) (option_map view field)))) }
 {
@@ -46,7 +46,7 @@ fn declare_topics(field: Option<Value>, graph: &mut GraphBuilder) -> Result<(), 
 }
 
 fn declare_each(names: Vec<Value>, graph: &mut GraphBuilder) -> Result<(), Refused>
-    ensures ok { OnOk result (IsAppended (each text (map view names.items)) graph.old.topics graph.new.topics) }
+    ensures ok { OnOk result (IsReadBehind (each text (map view names.items)) graph.old.topics graph.new.topics) }
     ensures nodes { graph.new.nodes ≡ graph.old.nodes }
     ensures err { IfErr result (λ code. ReadingFails code (each text (map view names.items))) }
 {

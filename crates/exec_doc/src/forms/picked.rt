@@ -1,8 +1,8 @@
 //! The fields of an entry of a feed, found in one pass over what it holds.
 ghost use Rattle.std.specs.Prelude.{◌≡◌};
 ghost use Rattle.serde_json.specs.View.{view};
-ghost use Rattle.exec_doc.specs.Forms.{fields_of};
-ghost use Rattle.exec_doc.specs.inner.Picking.{noted, seen};
+ghost use Rattle.exec_doc.specs.Forms.{entry_fields};
+ghost use Rattle.exec_doc.specs.inner.Picking.{field_noted, seen};
 
 use serde_json::Value;
 
@@ -28,7 +28,7 @@ pub struct EntryFields<'a> {
 impl<'a> EntryFields<'a> {
     /// Those of a value, which has none where it is no object.
     pub fn of(holder: &'a Value) -> EntryFields<'a>
-        ensures { seen result ≡ fields_of (view holder.now) }
+        ensures { seen result ≡ entry_fields (view holder.now) }
     {
         let mut fields = EntryFields {
             round: None,
@@ -48,7 +48,7 @@ impl<'a> EntryFields<'a> {
     }
 
     fn note(&mut self, name: &str, value: &'a Value)
-        ensures { seen self.new ≡ noted name.now (view value.now) (seen self.old) }
+        ensures { seen self.new ≡ field_noted name.now (view value.now) (seen self.old) }
     {
         match name {
             "round" => self.round = Some(value),

@@ -8,12 +8,12 @@ use Rattle.exec_msg.specs.declared.packed.Cell.{Cell}
 use Rattle.exec_msg.specs.declared.packed.Cell.TheVariants as cell
 
 -- the number of an upper half and a lower one, of 32 bits each
-abbrev pub joined : ℕ → ℕ → ℕ
-joined high low = high * 2 ^ 32 + low
+abbrev pub joined_halves : ℕ → ℕ → ℕ
+joined_halves high low = high * 2 ^ 32 + low
 
 -- the value of these halves
 abbrev pub value_by : ℕ → ℕ → ℤ
-value_by high low = cast_signed w64 (joined high low)
+value_by high low = cast_signed w64 (joined_halves high low)
 
 -- the value beside an input that is the count of an identifier
 abbrev pub aux_by : ℕ → ℤ
@@ -33,7 +33,7 @@ id_told false maker half id = maker * 2 ^ 64 + half
 
 -- what a cell says where an identifier was told
 abbrev pub said_by : Cell → ℕ → Said
-said_by (cell.Round upper number lower) id = a_line (line.Round number (joined upper lower)) id
+said_by (cell.Round upper number lower) id = a_line (line.Round number (joined_halves upper lower)) id
 said_by (cell.Run kind entity high low) id = a_line (line.Run entity kind (value_by high low) (pos 0) None) id
 said_by (cell.RunCounted kind entity high low) id = a_line (line.Run entity kind (value_by high low) (aux_by id) None) id
 said_by (cell.Drop kind entity high low) id = a_line (line.Drop entity kind (value_by high low)) id
@@ -48,13 +48,13 @@ said_by (cell.RunOnNear kind entity maker count low) id = a_line (line.Run entit
 said_by (cell.RunOnNearCounted kind entity maker count low) id = a_line (line.Run entity kind (pos low) (pos count) (Some (maker * 2 ^ 64 + count))) (maker * 2 ^ 64 + count)
 said_by (cell.Expire server) id = a_line (line.Expire server id) id
 said_by (cell.Goal client high low) id = a_line (line.Goal client id (value_by high low)) id
-said_by (cell.Cancel client high low) id = a_line (line.Cancel client id (joined high low)) id
+said_by (cell.Cancel client high low) id = a_line (line.Cancel client id (joined_halves high low)) id
 said_by (cell.Feedback server high low) id = a_line (line.Feedback server id (value_by high low)) id
 said_by (cell.Decide decision server) id = a_line (line.Decide server id decision) id
 said_by (cell.State status server) id = a_line (line.State server id status) id
 said_by (cell.Ask client) id = a_line (line.Ask client id) id
 said_by (cell.Result status server high low) id = a_line (line.Result server id status (value_by high low)) id
-said_by (cell.Id is_upper maker high low) id = an_id (id_told is_upper maker (joined high low) id)
+said_by (cell.Id is_upper maker high low) id = an_id (id_told is_upper maker (joined_halves high low) id)
 said_by cell.Whole id = a_whole_line
 
 -- the line, if it is one, and the identifier that is told behind it

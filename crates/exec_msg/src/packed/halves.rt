@@ -1,18 +1,18 @@
 //! Numbers of 64 bits in two halves of 32.
 ghost use Rattle.std.specs.Prelude.{◌≡◌};
-ghost use Rattle.exec_msg.specs.inner.Packed.{joined, value_by};
+ghost use Rattle.exec_msg.specs.inner.Packed.{joined_halves, value_by};
 
 // The upper half of a number and its lower one.
 #[inline(always)]
 pub(super) fn halves(number: u64) -> (u32, u32)
-    ensures { joined result.0 result.1 ≡ number }
+    ensures { joined_halves result.0 result.1 ≡ number }
 {
     ((number >> 32) as u32, (number & 0xffff_ffff) as u32)
 }
 
 #[inline(always)]
 pub(super) fn join(high: u32, low: u32) -> u64
-    ensures { result ≡ joined high low }
+    ensures { result ≡ joined_halves high low }
 {
     high as u64 * 0x1_0000_0000 + low as u64
 }

@@ -11,12 +11,12 @@ abbrev pub HasScriptOf : Option Handler → Ready → Type 0
 HasScriptOf found ready = (script : Script) (handler : Handler) → ready.script ≡ Some script → found ≡ Some handler → script ≡ handler.script
 
 -- the callback at a home's place in the ready list has the script of the handler at its other place
-abbrev pub IsHome : List Handler → List Ready → Home → Type 0
-IsHome handlers list home = (home.at < length list) × ((one : Ready) → slice_get list home.at ≡ Some one → HasScriptOf (slice_get handlers home.place) one)
+abbrev pub IsScriptHome : List Handler → List Ready → Home → Type 0
+IsScriptHome handlers list home = (home.at < length list) × ((one : Ready) → slice_get list home.at ≡ Some one → HasScriptOf (slice_get handlers home.place) one)
 
 -- so it is at each of these
 abbrev pub AreHomes : List Handler → List Ready → List Home → Type 0
-AreHomes handlers list homes = All (IsHome handlers list) homes
+AreHomes handlers list homes = All (IsScriptHome handlers list) homes
 
 -- a ready callback whose script is taken from it
 abbrev pub without_script : Ready → Ready

@@ -4,14 +4,14 @@ use Rattle.exec_goal.specs.Calls.{is_among}
 use Rattle.exec_goal.specs.Cancel.{after_answer_by}
 use Rattle.exec_goal.specs.Held.{record_of, records_of}
 use Rattle.exec_goal.specs.Table.{GoalRecord}
-use Rattle.exec_goal.specs.declared.held.HeldGoal.{HeldGoal}
+use Rattle.exec_goal.specs.declared.held.GoalEntry.{GoalEntry}
 use Rattle.exec_goal.proofs.Tallying.{tallied-fits, counted-at, tallied-at}
 use Rattle.exec_goal.proofs.goals.Goals.cancel_at.Goals as goal
 
 pub returns : goal.returns
 returns c = λ d.
     let at = c.pair_mut-goal.ensures.value in
-    let entry : ℕ × HeldGoal = (c.pair_mut-goal.result.0.now, c.pair_mut-goal.result.1.now) in
+    let entry : ℕ × GoalEntry = (c.pair_mut-goal.result.0.now, c.pair_mut-goal.result.1.now) in
     let after = record_of (entry.0, c.cancel_where.new.self) in
     records-set_value_at c.self.inside.held.entries c.args.index entry c.cancel_where.new.self at
     ∙ ap (λ (goals : List GoalRecord). slice_set goals c.args.index after) c.self.view_is
@@ -21,7 +21,7 @@ returns c = λ d.
 
 pub count_move-requires-clause-counted : goal.count_move-requires-clause-counted
 count_move-requires-clause-counted c =
-    let entry : ℕ × HeldGoal = (c.pair_mut-goal.result.0.now, c.pair_mut-goal.result.1.now) in
+    let entry : ℕ × GoalEntry = (c.pair_mut-goal.result.0.now, c.pair_mut-goal.result.1.now) in
     counted-at c.self.inside.held.entries c.args.index entry c.pair_mut-goal.ensures.value c.self.inside.tally c.self.invariant
 
 pub count_move-requires-clause-fits : goal.count_move-requires-clause-fits
@@ -29,5 +29,5 @@ count_move-requires-clause-fits c = tallied-fits c.self.inside.tally (records_of
 
 pub invariant_of-self : goal.invariant_of-self
 invariant_of-self c =
-    let entry : ℕ × HeldGoal = (c.pair_mut-goal.result.0.now, c.pair_mut-goal.result.1.now) in
+    let entry : ℕ × GoalEntry = (c.pair_mut-goal.result.0.now, c.pair_mut-goal.result.1.now) in
     tallied-at c.self.inside.held.entries c.args.index entry c.pair_mut-goal.ensures.value c.cancel_where.new.self c.self.inside.tally c.count_move.new.self c.count_move.ensures c.self.invariant

@@ -2,7 +2,7 @@ use Rattle.std.proofs.Common.{◌≡◌, sym, ap, ◌∙◌, rules}
 use Rattle.serde_json.proofs.Views.{view-Object}
 use Rattle.serde_json.specs.View.{view}
 use Rattle.serde_json.specs.declared.value.Value.{Value}
-use Rattle.exec_doc.specs.Forms.{fields_of}
+use Rattle.exec_doc.specs.Forms.{entry_fields}
 use Rattle.exec_doc.specs.inner.Picking.{seen}
 use Rattle.exec_doc.proofs.Picks.{picked, none_yet, all_picked}
 use Rattle.exec_doc.proofs.forms.picked.EntryFields.of.Goals as goal
@@ -15,5 +15,5 @@ returns-in-None c =
     ∙ c.loop-name.invariant
     ∙ ap (picked none_yet) all
     ∙ all_picked members.entries c.iter-name-items.ensures.ordered
-    ∙ ap fields_of (sym (view-Object members))
-    ∙ sym (ap (λ (value : Value). fields_of (view value)) c.in-Object.is)
+    ∙ ap entry_fields (sym (view-Object members))
+    ∙ sym (ap (λ (value : Value). entry_fields (view value)) c.in-Object.is)
