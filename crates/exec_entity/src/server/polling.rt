@@ -23,7 +23,7 @@ impl Server {
     ghost use Rattle.exec_goal.specs.Info.{info_of};
     ghost use Rattle.exec_goal.specs.State.{is_canceling};
     ghost use Rattle.exec_goal.specs.Table.{GoalRecord, working};
-    ghost use Rattle.exec_rules.specs.Ready.{is_goal_awake, is_task_awake, poll_ready, ready_for, woken};
+    ghost use Rattle.exec_rules.specs.Ready.{is_goal_awake, is_task_awake, poll_ready};
     ghost use Rattle.exec_rules.specs.World.{is_for};
     ghost use Rattle.exec_rules.specs.inner.Awake.{awake_goal, awake_goals, goal_awake};
     ghost use Rattle.exec_rules.specs.inner.Listing.{listed_behind};
