@@ -4,7 +4,7 @@ use Rattle.std.specs.List.{list_all}
 use Rattle.std.specs.Option.{option_map_or}
 use Rattle.std.proofs.lemmas.Bool.{and_parts, or_parts, not-false}
 use Rattle.exec_doc.specs.Draft.{DocumentDraft}
-use Rattle.exec_doc.specs.Refusals.{feeds, is_identified, has_small_schedule, has_declared_names, is_clocked, has_fault, codes_in_order}
+use Rattle.exec_doc.specs.Refusals.{feeds, has_identifier, has_small_schedule, has_declared_names, is_clocked, has_fault_of, codes_in_order}
 use Rattle.exec_doc.specs.declared.refused.Refused.{Refused}
 use Rattle.exec_doc.specs.declared.refused.Refused.TheVariants as refused
 use Rattle.exec_graph.specs.Faults.{has_faulty_script, shares_variables, is_well_named, is_small}
@@ -18,18 +18,18 @@ pub record IsKept (document : DocumentDraft) : Type 0 where
   pub feeding : list_all (λ entry. feeds document.graph entry.fed) document.feed ≡ true
   pub within : has_small_schedule document ≡ true
   pub clock : is_clocked document ≡ true
-  pub identified : list_all (λ entry. is_identified entry.fed) document.feed ≡ true
+  pub identified : list_all (λ entry. has_identifier entry.fed) document.feed ≡ true
 
 -- the test of codes on what may be a draft
 abbrev pub holds_of : Option DocumentDraft → Refused → Bool
 holds_of draft refused.NotJson = false
 holds_of draft refused.Shape = is_none draft
-holds_of draft code = option_map_or (has_fault code) draft false
+holds_of draft code = option_map_or (has_fault_of code) draft false
 
 -- a document that no code refuses keeps what each of them asks
 pub kept : (document : DocumentDraft) → find (holds_of (Some document)) codes_in_order ≡ None → IsKept document
 kept document found =
-    let ids = list_all (λ entry. is_identified entry.fed) document.feed in
+    let ids = list_all (λ entry. has_identifier entry.fed) document.feed in
     let feeding = list_all (λ entry. feeds document.graph entry.fed) document.feed in
     let limits = is_small document.graph && has_small_schedule document in
     let last = not ids || false in

@@ -13,12 +13,11 @@ use Rattle.exec_plan.specs.Feeding.{goes_somewhere, has_128_bits}
 use Rattle.exec_plan.specs.Graph.{GraphData, is_topic, is_server}
 use Rattle.exec_plan.specs.Lawful.{IsLawful, IsLawfulPlan, is_at}
 use Rattle.exec_graph.specs.Numbers.{topic_named, server_named}
-use Rattle.exec_plan.specs.Options.{◌>>=◌, each}
-use Rattle.exec_plan.specs.Plan.{PlanData}
+use Rattle.exec_msg.specs.Options.{◌>>=◌, each}
+use Rattle.exec_plan.specs.Plan.{PlanData, Feed}
 use Rattle.exec_graph.specs.Refusals.{fault_in}
 use Rattle.exec_graph.specs.Resolved.{graph_in}
 use Rattle.exec_plan.specs.Schedule.{plan_fault_in}
-use Rattle.exec_plan.specs.declared.plan.Feed.{Feed}
 use Rattle.exec_plan.proofs.Reading.{then_read, are_read}
 use Rattle.exec_doc.proofs.Bits.{has_bits, draft_small, feed_small}
 use Rattle.exec_doc.proofs.Feeding.{feed_of, feed_without_fault}

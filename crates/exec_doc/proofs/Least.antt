@@ -3,9 +3,9 @@ use Rattle.std.proofs.Common.{◌≡◌, ℕ, suc, ◌<◌, ◌≤◌, ◌⊎◌
 use Rattle.std.specs.Option.{option_map_or}
 use Rattle.exec_doc.specs.Draft.{DocumentDraft}
 use Rattle.exec_doc.specs.Forms.{draft_of}
-use Rattle.exec_plan.specs.Options.{◌>>=◌}
+use Rattle.exec_msg.specs.Options.{◌>>=◌}
 use Rattle.serde_json.specs.Data.{Data}
-use Rattle.exec_doc.specs.Refusals.{number_of, has_fault, holds, codes_in_order, refusal_in}
+use Rattle.exec_doc.specs.Refusals.{number_of, has_fault_of, holds, codes_in_order, refusal_in}
 use Rattle.exec_doc.specs.declared.refused.Refused.{Refused}
 use Rattle.exec_doc.specs.declared.refused.Refused.TheVariants as refused
 
@@ -99,7 +99,7 @@ found_none test (first ∷ codes) n most counted from below found =
 
 memory_never : (value : Option Data) → holds refused.Memory value ≡ false
 memory_never value = by (value >>= draft_of) where
-  by : (draft : Option DocumentDraft) → option_map_or (has_fault refused.Memory) draft false ≡ false
+  by : (draft : Option DocumentDraft) → option_map_or (has_fault_of refused.Memory) draft false ≡ false
   by None = refl
   by (Some document) = refl
 

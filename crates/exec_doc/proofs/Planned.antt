@@ -5,16 +5,14 @@ use Rattle.std.specs.Option.{option_map_or}
 use Rattle.std.proofs.lemmas.Bool.{and_parts, and_from}
 use Rattle.serde_json.specs.Data.{Data}
 use Rattle.exec_doc.specs.Document.{resolved_fed, resolved_entry, plan_of, unless_refused, plan_in}
-use Rattle.exec_doc.specs.declared.draft.FedDraft.{FedDraft}
-use Rattle.exec_doc.specs.declared.draft.FedDraft.TheVariants.{Message, Goal, Cancel}
-use Rattle.exec_doc.specs.declared.draft.EntryDraft.{EntryDraft}
-use Rattle.exec_doc.specs.Draft.{DocumentDraft}
+use Rattle.exec_plan.specs.declared.plan.FedOf.TheVariants.{Message, Goal, Cancel}
+use Rattle.exec_doc.specs.Draft.{DocumentDraft, FedDraft, EntryDraft}
 use Rattle.exec_doc.specs.Forms.{draft_of}
-use Rattle.exec_doc.specs.Refusals.{feeds, is_identified, codes_in_order, refusal_in}
+use Rattle.exec_doc.specs.Refusals.{feeds, has_identifier, codes_in_order, refusal_in}
 use Rattle.exec_doc.specs.declared.refused.Refused.{Refused}
 use Rattle.exec_graph.specs.declared.draft.GraphDraft.{GraphDraft}
 use Rattle.exec_graph.specs.Numbers.{topic_named, server_named}
-use Rattle.exec_plan.specs.Options.{◌>>=◌, each}
+use Rattle.exec_msg.specs.Options.{◌>>=◌, each}
 use Rattle.exec_graph.specs.Refusals.{fault_in}
 use Rattle.exec_graph.specs.Resolved.{graph_in}
 use Rattle.exec_plan.proofs.Reading.{goes_on, each_some}
@@ -26,21 +24,21 @@ identified : (id : Option ℕ) (test : ℕ → Bool) → option_map_or test id f
 identified None test e = e
 identified (Some id) test e = refl
 
-is_fed : (source : GraphDraft) (fed : FedDraft) → feeds source fed ≡ true → is_identified fed ≡ true → is_some (resolved_fed source fed) ≡ true
+is_fed : (source : GraphDraft) (fed : FedDraft) → feeds source fed ≡ true → has_identifier fed ≡ true → is_some (resolved_fed source fed) ≡ true
 is_fed source (Message name value) feeding has_id = goes_on (topic_named source name) _ feeding (λ topic. refl)
 is_fed source (Goal name id value) feeding has_id =
     goes_on (server_named source name) _ feeding (λ server. goes_on id _ (identified id _ has_id) (λ id. refl))
 is_fed source (Cancel name id stamp) feeding has_id =
     goes_on (server_named source name) _ feeding (λ server. goes_on id _ has_id (λ id. refl))
 
-are_fed : (source : GraphDraft) (feed : List EntryDraft) → list_all (λ entry. feeds source entry.fed) feed ≡ true → list_all (λ entry. is_identified entry.fed) feed ≡ true → list_all (λ entry. is_some (resolved_entry source entry)) feed ≡ true
+are_fed : (source : GraphDraft) (feed : List EntryDraft) → list_all (λ entry. feeds source entry.fed) feed ≡ true → list_all (λ entry. has_identifier entry.fed) feed ≡ true → list_all (λ entry. is_some (resolved_entry source entry)) feed ≡ true
 are_fed source [] feeding has_ids = refl
 are_fed source (entry ∷ others) feeding has_ids =
     and_from (is_some (resolved_entry source entry)) (list_all (λ entry. is_some (resolved_entry source entry)) others)
     (goes_on (resolved_fed source entry.fed) _
-    (is_fed source entry.fed (and_parts (feeds source entry.fed) (list_all (λ entry. feeds source entry.fed) others) feeding).0 (and_parts (is_identified entry.fed) (list_all (λ entry. is_identified entry.fed) others) has_ids).0)
+    (is_fed source entry.fed (and_parts (feeds source entry.fed) (list_all (λ entry. feeds source entry.fed) others) feeding).0 (and_parts (has_identifier entry.fed) (list_all (λ entry. has_identifier entry.fed) others) has_ids).0)
     (λ fed. refl))
-    (are_fed source others (and_parts (feeds source entry.fed) (list_all (λ entry. feeds source entry.fed) others) feeding).1 (and_parts (is_identified entry.fed) (list_all (λ entry. is_identified entry.fed) others) has_ids).1)
+    (are_fed source others (and_parts (feeds source entry.fed) (list_all (λ entry. feeds source entry.fed) others) feeding).1 (and_parts (has_identifier entry.fed) (list_all (λ entry. has_identifier entry.fed) others) has_ids).1)
 
 -- ---- the plan
 

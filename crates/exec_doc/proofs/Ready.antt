@@ -3,26 +3,24 @@ use Rattle.std.proofs.Common.{◌≡◌, ℕ, ◌⊎◌, inl, inr, Bool, true, f
 use Rattle.std.specs.List.{list_all}
 use Rattle.exec_doc.specs.inner.Answering.{Answers, IsReady, draft_refusal, graph_refusal, plan_refusal}
 use Rattle.exec_doc.specs.Document.{resolved_entry, plan_of}
-use Rattle.exec_doc.specs.Draft.{DocumentDraft}
-use Rattle.exec_doc.specs.declared.draft.EntryDraft.{EntryDraft}
-use Rattle.exec_doc.specs.inner.Placing.{entry_by}
-use Rattle.exec_doc.specs.Refusals as refusals
-use Rattle.exec_doc.specs.Refusals.{feeds, has_small_schedule, is_clocked}
+use Rattle.exec_doc.specs.Draft.{DocumentDraft, EntryDraft}
+use Rattle.exec_doc.specs.inner.Placing.{entry_by, is_cancel_identified}
+use Rattle.exec_doc.specs.Refusals.{feeds, has_small_schedule, has_identifier, is_clocked}
 use Rattle.exec_doc.specs.declared.refused.Refused.{Refused}
 use Rattle.exec_doc.specs.declared.refused.Refused.TheVariants as refused
 use Rattle.exec_graph.specs.declared.draft.GraphDraft.{GraphDraft}
 use Rattle.exec_plan.specs.Graph.{GraphData}
-use Rattle.exec_plan.specs.Options.{each}
-use Rattle.exec_plan.specs.Plan.{PlanData}
+use Rattle.exec_msg.specs.Options.{each}
+use Rattle.exec_plan.specs.Plan.{PlanData, Feed}
 use Rattle.exec_graph.specs.Resolved.{graph_in}
 use Rattle.exec_plan.specs.Schedule.{schedule_fits, greatest, stamp_of, is_in_order, is_identified, plan_fault_in}
 use Rattle.exec_graph.specs.Refusals.{fault_in}
 use Rattle.exec_graph.specs.declared.fault.GraphFault.{GraphFault}
 use Rattle.exec_graph.specs.declared.fault.GraphFault.TheVariants as graph_fault
 use Rattle.exec_plan.specs.declared.fault.PlanFault.{PlanFault}
-use Rattle.exec_plan.specs.declared.plan.Feed.{Feed}
 use Rattle.exec_msg.specs.declared.limits.TheConstants.{MOMENTS, FEED, TICKS}
-use Rattle.exec_doc.proofs.Placed.{has_schedule, feed_there, are_declared, are_said}
+use Rattle.exec_plan.proofs.Scheduled.{scheduled as scheduled_plan}
+use Rattle.exec_doc.proofs.Placed.{has_schedule, feed_there, are_declared, are_said, cancels_decide}
 use Rattle.exec_doc.proofs.Refusing.{plan_by, undeclared, of_graph, scheduled, by_schedule, plan_tests, IsScheduled, is_scheduled}
 
 -- the same with the moments that were made
@@ -40,8 +38,8 @@ ready_there document graph moments entries ready none = by (list_all (λ entry. 
 record IsFed (document : DocumentDraft) (moments : List ℕ) (feed : List Feed) : Type 0 where
   pub within : schedule_fits moments (length feed) (greatest (map (λ entry. stamp_of entry.fed) feed)) ≡ has_small_schedule document
   pub clocked : is_in_order moments (map (λ entry. entry.round) feed) ≡ is_clocked document
-  pub said : list_all (λ entry. refusals.is_identified entry.fed) document.feed ≡ true → each (resolved_entry document.graph) document.feed ≡ Some feed
-  pub identified : list_all (λ entry. refusals.is_identified entry.fed) document.feed ≡ true → list_all (λ entry. is_identified entry.fed) feed ≡ true
+  pub said : list_all (λ entry. has_identifier entry.fed) document.feed ≡ true → each (resolved_entry document.graph) document.feed ≡ Some feed
+  pub identified : list_all (λ entry. has_identifier entry.fed) document.feed ≡ true → list_all (λ entry. is_identified Some entry.fed) feed ≡ true
 
 fed_ready : (document : DocumentDraft) (graph : GraphData) (moments : List ℕ) (entries : List EntryDraft) (feed : List Feed) → IsReady document graph moments entries → each (entry_by graph) entries ≡ Some feed → IsFed document moments feed
 fed_ready document graph moments entries feed ready read =
@@ -57,7 +55,7 @@ fed_ready document graph moments entries feed ready read =
 
 -- its refusal by the schedule and identifiers
 ready_refusal : (document : DocumentDraft) (graph : GraphData) (moments : List ℕ) (entries : List EntryDraft) (feed : List Feed) → IsReady document graph moments entries → each (entry_by graph) entries ≡ Some feed
-    → draft_refusal document ≡ scheduled (has_small_schedule document) (is_clocked document) (list_all (λ entry. refusals.is_identified entry.fed) document.feed)
+    → draft_refusal document ≡ scheduled (has_small_schedule document) (is_clocked document) (list_all (λ entry. has_identifier entry.fed) document.feed)
 ready_refusal document graph moments entries feed ready read =
     by_schedule document ready.version
     (ap (λ (es : List EntryDraft). list_all (λ entry. feeds document.graph entry.fed) es) ready.entries ∙ are_declared document.graph graph entries feed ready.made read)
@@ -77,18 +75,18 @@ ready_limit document graph moments entries feed ready read late_moment =
     let late : list_all (λ moment. nat_le moment TICKS) document.moments ≡ false = ap (list_all (λ moment. nat_le moment TICKS)) ready.ticks ∙ late_moment in
     let few = nat_le (length document.moments) MOMENTS in
     let fed = nat_le (length document.feed) FEED in
-    let stamped = nat_le (greatest (map (λ entry. refusals.stamp_of entry.fed) document.feed)) TICKS in
+    let stamped = nat_le (greatest (map (λ entry. stamp_of entry.fed) document.feed)) TICKS in
     let within : has_small_schedule document ≡ false = ap (λ (b : Bool). few && b && fed && stamped) late ∙ beyond few fed stamped in
     ready_refusal document graph moments entries feed ready read
-    ∙ ap (λ (b : Bool). scheduled b (is_clocked document) (list_all (λ entry. refusals.is_identified entry.fed) document.feed)) within
+    ∙ ap (λ (b : Bool). scheduled b (is_clocked document) (list_all (λ entry. has_identifier entry.fed) document.feed)) within
 
 -- a fault of its plan is its refusal
 pub ready_fault : (document : DocumentDraft) (graph : GraphData) (moments : List ℕ) (entries : List EntryDraft) (feed : List Feed) (fault : PlanFault) → IsReady document graph moments entries → each (entry_by graph) entries ≡ Some feed
     → plan_fault_in moments feed ≡ Some fault → draft_refusal document ≡ Some (plan_refusal fault)
 ready_fault document graph moments entries feed fault ready read found =
     let fed = fed_ready document graph moments entries feed ready read in
-    let these = list_all (λ entry. is_identified entry.fed) feed in
-    let ids = list_all (λ entry. refusals.is_identified entry.fed) document.feed in
+    let these = list_all (λ entry. is_identified Some entry.fed) feed in
+    let ids = list_all (λ entry. has_identifier entry.fed) document.feed in
     let by : plan_by (has_small_schedule document) (is_clocked document) these ≡ Some fault =
     subst (λ (a : Bool). plan_by a (is_clocked document) these ≡ Some fault) fed.within
     (subst (λ (b : Bool). plan_by (schedule_fits moments (length feed) (greatest (map (λ entry. stamp_of entry.fed) feed))) b these ≡ Some fault) fed.clocked found) in
@@ -99,7 +97,7 @@ ready_scheduled : (document : DocumentDraft) (graph : GraphData) (moments : List
     → plan_fault_in moments feed ≡ None → IsScheduled (has_small_schedule document) (is_clocked document)
 ready_scheduled document graph moments entries feed ready read none =
     let fed = fed_ready document graph moments entries feed ready read in
-    let scheduled = is_scheduled (schedule_fits moments (length feed) (greatest (map (λ entry. stamp_of entry.fed) feed))) (is_in_order moments (map (λ entry. entry.round) feed)) (list_all (λ entry. is_identified entry.fed) feed) none in
+    let scheduled = is_scheduled (schedule_fits moments (length feed) (greatest (map (λ entry. stamp_of entry.fed) feed))) (is_in_order moments (map (λ entry. entry.round) feed)) (list_all (λ entry. is_identified Some entry.fed) feed) none in
     record { fits = sym fed.within ∙ scheduled.fits; ordered = sym fed.clocked ∙ scheduled.ordered }
 
 plan_is : (document : DocumentDraft) (graph : GraphData) (moments : List ℕ) (feed : List Feed) → graph_in document.graph ≡ Some graph → each (resolved_entry document.graph) document.feed ≡ Some feed → document.moments ≡ moments
@@ -108,23 +106,28 @@ plan_is document graph moments feed made said ticks = rw (made, said) (ap (λ (m
 
 -- without a fault it is a plan, where its identifiers are ones
 pub ready_plan : (document : DocumentDraft) (graph : GraphData) (moments : List ℕ) (entries : List EntryDraft) (feed : List Feed) (plan : PlanData) → IsReady document graph moments entries → each (entry_by graph) entries ≡ Some feed
-    → plan_fault_in moments feed ≡ None → plan ≡ record { graph = graph; moments = moments; feed = feed } → list_all (λ entry. refusals.is_identified entry.fed) entries ≡ true
+    → plan_fault_in moments feed ≡ None → plan ≡ record { graph = graph; moments = moments; feed = feed } → list_all (λ entry. has_identifier entry.fed) entries ≡ true
     → (draft_refusal document ≡ None) × (plan_of document ≡ Some plan)
 ready_plan document graph moments entries feed plan ready read none is ids =
     let fed = fed_ready document graph moments entries feed ready read in
     let keeps = ready_scheduled document graph moments entries feed ready read none in
-    let all : list_all (λ entry. refusals.is_identified entry.fed) document.feed ≡ true = ap (λ (es : List EntryDraft). list_all (λ entry. refusals.is_identified entry.fed) es) ready.entries ∙ ids in (
+    let all : list_all (λ entry. has_identifier entry.fed) document.feed ≡ true = ap (λ (es : List EntryDraft). list_all (λ entry. has_identifier entry.fed) es) ready.entries ∙ ids in (
       ready_refusal document graph moments entries feed ready read ∙ scheduled_by (has_small_schedule document) (is_clocked document) _ true true true keeps.fits keeps.ordered all,
       plan_is document graph moments feed ready.made (fed.said all) ready.ticks ∙ ap (λ (p : PlanData). Some p) (sym is),
     )
 
 -- and refused for its identifiers where not all are ones
 pub ready_id : (document : DocumentDraft) (graph : GraphData) (moments : List ℕ) (entries : List EntryDraft) (feed : List Feed) → IsReady document graph moments entries → each (entry_by graph) entries ≡ Some feed
-    → plan_fault_in moments feed ≡ None → list_all (λ entry. refusals.is_identified entry.fed) entries ≡ false → draft_refusal document ≡ Some refused.Id
+    → plan_fault_in moments feed ≡ None → list_all (λ entry. has_identifier entry.fed) entries ≡ false → draft_refusal document ≡ Some refused.Id
 ready_id document graph moments entries feed ready read none ids =
     let keeps = ready_scheduled document graph moments entries feed ready read none in
-    let some : list_all (λ entry. refusals.is_identified entry.fed) document.feed ≡ false = ap (λ (es : List EntryDraft). list_all (λ entry. refusals.is_identified entry.fed) es) ready.entries ∙ ids in
+    let some : list_all (λ entry. has_identifier entry.fed) document.feed ≡ false = ap (λ (es : List EntryDraft). list_all (λ entry. has_identifier entry.fed) es) ready.entries ∙ ids in
     ready_refusal document graph moments entries feed ready read ∙ scheduled_by (has_small_schedule document) (is_clocked document) _ true true false keeps.fits keeps.ordered some
+
+-- whether they are is decided by cancel requests
+pub ready_cancels : (graph : GraphData) (moments : List ℕ) (entries : List EntryDraft) (feed : List Feed) → each (entry_by graph) entries ≡ Some feed → plan_fault_in moments feed ≡ None
+    → list_all (λ entry. has_identifier entry.fed) entries ≡ list_all (λ entry. is_cancel_identified entry.fed) entries
+ready_cancels graph moments entries feed read none = cancels_decide graph entries feed read (scheduled_plan moments feed none).identified
 
 -- ---- what is answered
 
@@ -140,9 +143,9 @@ declared_is document builder feed answer b same entries is e =
     ap₂ (λ (g : GraphDraft) (es : List EntryDraft). list_all (λ entry. feeds g entry.fed) es) (sym same) (sym entries) ∙ sym is ∙ e
 
 pub within_is : (document : DocumentDraft) (moments : List ℕ) (feed : List EntryDraft) → moments ≡ document.moments → feed ≡ document.feed
-    → schedule_fits moments (length feed) (greatest (map (λ entry. refusals.stamp_of entry.fed) feed)) ≡ has_small_schedule document
+    → schedule_fits moments (length feed) (greatest (map (λ entry. stamp_of entry.fed) feed)) ≡ has_small_schedule document
 within_is document moments feed ticks entries =
-    ap₂ (λ (ms : List ℕ) (es : List EntryDraft). schedule_fits ms (length es) (greatest (map (λ entry. refusals.stamp_of entry.fed) es))) ticks entries
+    ap₂ (λ (ms : List ℕ) (es : List EntryDraft). schedule_fits ms (length es) (greatest (map (λ entry. stamp_of entry.fed) es))) ticks entries
 
 -- the code of a graph's fault
 pub by_graph : (document : DocumentDraft) (within : Bool) (fault : GraphFault) (code : Refused) → document.version ≡ 1 → list_all (λ entry. feeds document.graph entry.fed) document.feed ≡ true → within ≡ has_small_schedule document

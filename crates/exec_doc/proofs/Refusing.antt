@@ -5,7 +5,7 @@ use Rattle.std.specs.Bool.{then_some}
 use Rattle.std.specs.List.{list_all}
 use Rattle.exec_doc.specs.inner.Answering.{draft_refusal, graph_refusal, plan_refusal}
 use Rattle.exec_doc.specs.Draft.{DocumentDraft}
-use Rattle.exec_doc.specs.Refusals.{feeds, is_identified, has_small_schedule, is_clocked}
+use Rattle.exec_doc.specs.Refusals.{feeds, has_identifier, has_small_schedule, is_clocked}
 use Rattle.exec_doc.specs.declared.refused.Refused.{Refused}
 use Rattle.exec_doc.specs.declared.refused.Refused.TheVariants as refused
 use Rattle.exec_graph.specs.Faults.{has_faulty_script, shares_variables, is_small, is_well_named}
@@ -64,7 +64,7 @@ version_1 document version = ap (λ n. n == 1) version
 -- something is fed to what isn't declared
 pub undeclared : (document : DocumentDraft) → document.version ≡ 1 → list_all (λ entry. feeds document.graph entry.fed) document.feed ≡ false → draft_refusal document ≡ Some refused.Name
 undeclared document version missing = names_by
-    (document.version == 1) (is_well_named document.graph) (list_all (λ entry. feeds document.graph entry.fed) document.feed) (is_small document.graph) (has_small_schedule document) (has_faulty_script document.graph) (shares_variables document.graph) (is_clocked document) (list_all (λ entry. is_identified entry.fed) document.feed)
+    (document.version == 1) (is_well_named document.graph) (list_all (λ entry. feeds document.graph entry.fed) document.feed) (is_small document.graph) (has_small_schedule document) (has_faulty_script document.graph) (shares_variables document.graph) (is_clocked document) (list_all (λ entry. has_identifier entry.fed) document.feed)
     (version_1 document version) missing
 
 -- ---- the graph
@@ -85,7 +85,7 @@ pub of_graph : (document : DocumentDraft) (within : Bool) (code : Refused) → d
     → within ≡ has_small_schedule document → graph_refusal document.graph within ≡ Some code → draft_refusal document ≡ Some code
 of_graph document within code version fed same found =
     graph_tests
-    (document.version == 1) (is_well_named document.graph) (list_all (λ entry. feeds document.graph entry.fed) document.feed) (is_small document.graph) (has_small_schedule document) (has_faulty_script document.graph) (shares_variables document.graph) (is_clocked document) (list_all (λ entry. is_identified entry.fed) document.feed)
+    (document.version == 1) (is_well_named document.graph) (list_all (λ entry. feeds document.graph entry.fed) document.feed) (is_small document.graph) (has_small_schedule document) (has_faulty_script document.graph) (shares_variables document.graph) (is_clocked document) (list_all (λ entry. has_identifier entry.fed) document.feed)
     code (version_1 document version) fed (subst (λ (b : Bool). graph_refusal document.graph b ≡ Some code) same found)
 
 -- ---- the schedule and identifiers
@@ -106,9 +106,9 @@ schedule_tests true true true true false false false o i version fed none = refl
 
 -- the graph has no fault, and what is fed goes to what is declared
 pub by_schedule : (document : DocumentDraft) → document.version ≡ 1 → list_all (λ entry. feeds document.graph entry.fed) document.feed ≡ true
-    → fault_in document.graph ≡ None → draft_refusal document ≡ scheduled (has_small_schedule document) (is_clocked document) (list_all (λ entry. is_identified entry.fed) document.feed)
+    → fault_in document.graph ≡ None → draft_refusal document ≡ scheduled (has_small_schedule document) (is_clocked document) (list_all (λ entry. has_identifier entry.fed) document.feed)
 by_schedule document version fed none = schedule_tests
-    (document.version == 1) (is_well_named document.graph) (list_all (λ entry. feeds document.graph entry.fed) document.feed) (is_small document.graph) (has_small_schedule document) (has_faulty_script document.graph) (shares_variables document.graph) (is_clocked document) (list_all (λ entry. is_identified entry.fed) document.feed)
+    (document.version == 1) (is_well_named document.graph) (list_all (λ entry. feeds document.graph entry.fed) document.feed) (is_small document.graph) (has_small_schedule document) (has_faulty_script document.graph) (shares_variables document.graph) (is_clocked document) (list_all (λ entry. has_identifier entry.fed) document.feed)
     (version_1 document version) fed none
 
 -- a plan's fault is the refusal, where its goals are identified where the document's are

@@ -1,34 +1,29 @@
 -- Which document says which plan.
 use Rattle.std.specs.Prelude.{ℕ, List, Option, None, Some}
 use Rattle.serde_json.specs.Data.{Data}
-use Rattle.exec_doc.specs.declared.draft.FedDraft.{FedDraft}
-use Rattle.exec_doc.specs.declared.draft.EntryDraft.{EntryDraft}
-use Rattle.exec_doc.specs.Draft.{DocumentDraft}
+use Rattle.exec_doc.specs.Draft.{DocumentDraft, FedDraft, EntryDraft}
 use Rattle.exec_graph.specs.declared.draft.GraphDraft.{GraphDraft}
-use Rattle.exec_doc.specs.declared.draft.FedDraft.TheVariants as draft
 use Rattle.exec_doc.specs.Forms.{draft_of}
 use Rattle.exec_graph.specs.Numbers.{topic_named, server_named}
 use Rattle.exec_graph.specs.Resolved.{graph_in}
-use Rattle.exec_plan.specs.Options.{◌>>=◌, each}
-use Rattle.exec_doc.specs.Refusals.{value_read, refusal_in}
+use Rattle.exec_msg.specs.Options.{◌>>=◌, each}
+use Rattle.exec_doc.specs.Refusals.{document_value, refusal_in}
 use Rattle.exec_doc.specs.declared.refused.Refused.{Refused}
-use Rattle.exec_plan.specs.Plan.{PlanData}
-use Rattle.exec_plan.specs.declared.plan.Feed.{Feed}
-use Rattle.exec_plan.specs.declared.plan.Fed.{Fed}
-use Rattle.exec_plan.specs.declared.plan.Fed.TheVariants.{Message, Goal, Cancel}
+use Rattle.exec_plan.specs.Plan.{PlanData, Feed, Fed}
+use Rattle.exec_plan.specs.declared.plan.FedOf.TheVariants.{Message, Goal, Cancel}
 
 -- ---- the feed
 
 -- what is fed
 abbrev pub resolved_fed : GraphDraft → FedDraft → Option Fed
-resolved_fed drafted (draft.Message name value) = do
+resolved_fed drafted (Message name value) = do
   topic ← topic_named drafted name
   Some (Message topic value)
-resolved_fed drafted (draft.Goal name said value) = do
+resolved_fed drafted (Goal name said value) = do
   server ← server_named drafted name
   id ← said
   Some (Goal server id value)
-resolved_fed drafted (draft.Cancel name said stamp) = do
+resolved_fed drafted (Cancel name said stamp) = do
   server ← server_named drafted name
   id ← said
   Some (Cancel server id stamp)
@@ -59,4 +54,4 @@ plan_in value = unless_refused (refusal_in value) (value >>= draft_of >>= plan_o
 
 -- the plan that bytes say, where they are a document
 abbrev pub document_of : List ℕ → Option PlanData
-document_of bytes = plan_in (value_read bytes)
+document_of bytes = plan_in (document_value bytes)

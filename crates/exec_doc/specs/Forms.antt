@@ -4,18 +4,16 @@ use Rattle.std.specs.Int.{from_be_bytes, w128}
 use Rattle.std.specs.Map.{lookup}
 use Rattle.std.specs.Option.{option_map, unwrap_or}
 use Rattle.std.specs.Str.{bytes_eq}
-use Rattle.serde_json.specs.Data.{Data, null, boolean, number, string, array, object, Items, no_items, item}
+use Rattle.serde_json.specs.Data.{Data, number, string, Items, no_items, item}
 use Rattle.serde_json.specs.Find.{get, as_number, as_str, as_array, as_i64, as_u64}
-use Rattle.exec_doc.specs.declared.draft.FedDraft.{FedDraft}
-use Rattle.exec_doc.specs.declared.draft.FedDraft.TheVariants.{Message, Goal, Cancel}
-use Rattle.exec_doc.specs.declared.draft.EntryDraft.{EntryDraft}
-use Rattle.exec_doc.specs.Draft.{DocumentDraft}
+use Rattle.exec_plan.specs.declared.plan.FedOf.TheVariants.{Message, Goal, Cancel}
+use Rattle.exec_doc.specs.Draft.{DocumentDraft, FedDraft, EntryDraft}
 use Rattle.exec_graph.specs.declared.draft.GroupDraft.{GroupDraft}
 use Rattle.exec_graph.specs.declared.draft.NodeDraft.{NodeDraft}
 use Rattle.exec_graph.specs.declared.draft.EntityDraft.{EntityDraft}
 use Rattle.exec_graph.specs.declared.draft.GraphDraft.{GraphDraft}
 use Rattle.exec_plan.specs.Entity.{Drafted, Spelled, if_there}
-use Rattle.exec_plan.specs.Options.{◌>>=◌, each}
+use Rattle.exec_msg.specs.Options.{◌>>=◌, each}
 use Rattle.exec_plan.specs.declared.entity.EntityKind.{EntityKind}
 use Rattle.exec_plan.specs.declared.entity.EntityKind.TheVariants as kind
 use Rattle.exec_plan.specs.declared.entity.EntityOf.TheVariants.{Timer, Subscription, Service, Client, Server, ActionClient}
@@ -58,43 +56,36 @@ list_of form value = as_array value >>= (λ items. each form (values_of items))
 -- ---- fields
 
 -- what a form says of a field that is needed
-abbrev pub needed : {A : Type 0} → (Data → Option A) → Option Data → Option A
-needed form field = field >>= form
+abbrev pub field_value : {A : Type 0} → (Data → Option A) → Option Data → Option A
+field_value form field = field >>= form
 
 -- what a form says of a field with what stands for it where it is missing
 abbrev pub or_default : {A : Type 0} → (Data → Option A) → A → Option Data → Option A
 or_default form default field = option_map (λ found. unwrap_or found default) (if_there form field)
 
 -- a required field
-abbrev pub required : {A : Type 0} → (Data → Option A) → List ℕ → Data → Option A
-required form name holder = needed form (get name holder)
+abbrev pub required_field : {A : Type 0} → (Data → Option A) → List ℕ → Data → Option A
+required_field form name holder = field_value form (get name holder)
 
 -- an optional field
-abbrev pub optional : {A : Type 0} → (Data → Option A) → List ℕ → Data → Option (Option A)
-optional form name holder = if_there form (get name holder)
-
--- an optional field with what stands for it where it is missing
-abbrev pub defaulted : {A : Type 0} → (Data → Option A) → A → List ℕ → Data → Option A
-defaulted form default name holder = or_default form default (get name holder)
+abbrev pub optional_field : {A : Type 0} → (Data → Option A) → List ℕ → Data → Option (Option A)
+optional_field form name holder = if_there form (get name holder)
 
 -- a list, which is empty where it is missing
 abbrev pub list : {A : Type 0} → (Data → Option A) → List ℕ → Data → Option (List A)
-list form name holder = defaulted (list_of form) [] name holder
+list form name holder = or_default (list_of form) [] (get name holder)
 
 -- the depth of a queue
 abbrev pub depth_field : Data → Option ℕ
-depth_field holder = defaulted count DEFAULT_DEPTH (codes "depth") holder
+depth_field holder = or_default count DEFAULT_DEPTH (get (codes "depth") holder)
 
 -- ---- scripts
 
 -- a word is a text or a value
 abbrev pub word : Data → Option Word
-word null = None
-word (boolean b) = None
 word (number n) = option_map Number (as_i64 n)
 word (string s) = Some (Text s)
-word (array items) = None
-word (object fields) = None
+word _ = None
 
 -- a script is a list of instructions, each of which is a list of words
 abbrev pub script : Data → Option Spelled
@@ -102,7 +93,7 @@ script value = list_of (list_of word) value
 
 -- a script, which is empty where it is missing
 abbrev pub script_field : List ℕ → Data → Option Spelled
-script_field name holder = defaulted script [] name holder
+script_field name holder = or_default script [] (get name holder)
 
 -- ---- callback groups
 
@@ -117,8 +108,8 @@ group_kind value = text value >>= exclusive_named
 -- a named callback group
 abbrev pub group : Data → Option GroupDraft
 group value = do
-  name ← required text (codes "name") value
-  exclusive ← required group_kind (codes "kind") value
+  name ← required_field text (codes "name") value
+  exclusive ← required_field group_kind (codes "kind") value
   Some (record { name = name; exclusive = exclusive })
 
 -- ---- entities
@@ -126,11 +117,11 @@ group value = do
 -- what an entity of a kind is said to be
 abbrev pub form_of : EntityKind → Data → Option Drafted
 form_of kind.Timer value = do
-  period ← required count (codes "period") value
+  period ← required_field count (codes "period") value
   called ← script_field (codes "script") value
   Some (Timer (record { period = period; script = called }))
 form_of kind.Subscription value = do
-  topic ← required text (codes "topic") value
+  topic ← required_field text (codes "topic") value
   depth ← depth_field value
   called ← script_field (codes "script") value
   Some (Subscription (record { topic = topic; depth = depth; script = called }))
@@ -139,38 +130,38 @@ form_of kind.Service value = do
   called ← script_field (codes "script") value
   Some (Service (record { depth = depth; script = called }))
 form_of kind.Client value = do
-  of ← required text (codes "service") value
+  of ← required_field text (codes "service") value
   depth ← depth_field value
   called ← script_field (codes "script") value
   Some (Client (record { service = of; depth = depth; script = called }))
 form_of kind.Server value = do
   depth ← depth_field value
-  result_timeout ← optional count (codes "result_timeout") value
+  result_timeout ← optional_field count (codes "result_timeout") value
   on_goal ← script_field (codes "on_goal") value
   on_cancel ← script_field (codes "on_cancel") value
   called ← script_field (codes "script") value
   Some (Server (record { depth = depth; result_timeout = result_timeout; on_goal = on_goal; on_cancel = on_cancel; script = called }))
 form_of kind.ActionClient value = do
-  of ← required text (codes "action") value
+  of ← required_field text (codes "action") value
   depth ← depth_field value
   on_response ← script_field (codes "on_response") value
   on_code ← script_field (codes "on_code") value
   on_feedback ← script_field (codes "on_feedback") value
-  on_result ← optional script (codes "on_result") value
+  on_result ← optional_field script (codes "on_result") value
   Some (ActionClient (record { server = of; depth = depth; on_response = on_response; on_code = on_code; on_feedback = on_feedback; on_result = on_result }))
 
 -- an entity of a kind: its name, its callback group where it names one, and what its kind says
 abbrev pub entity : (Data → Option Drafted) → Data → Option EntityDraft
 entity form value = do
-  name ← required text (codes "name") value
-  group ← optional text (codes "group") value
+  name ← required_field text (codes "name") value
+  group ← optional_field text (codes "group") value
   is ← form value
   Some (record { name = name; group = group; is = is })
 
 -- a node
 abbrev pub node : Data → Option NodeDraft
 node value = do
-  name ← required text (codes "name") value
+  name ← required_field text (codes "name") value
   groups ← list group (codes "groups") value
   timers ← list (entity (form_of kind.Timer)) (codes "timers") value
   subscriptions ← list (entity (form_of kind.Subscription)) (codes "subscriptions") value
@@ -207,23 +198,23 @@ entry_fields holder = record {
 -- a message to a topic
 abbrev pub message_in : Fields → Option FedDraft
 message_in fields = do
-  topic ← needed text fields.topic
-  sent ← needed integer fields.value
+  topic ← field_value text fields.topic
+  sent ← field_value integer fields.value
   Some (Message topic sent)
 
 -- a goal request
 abbrev pub goal_in : Fields → Option FedDraft
 goal_in fields = do
-  action ← needed text fields.action
-  id ← needed identifier fields.goal
-  sent ← needed integer fields.value
+  action ← field_value text fields.action
+  id ← field_value identifier fields.goal
+  sent ← field_value integer fields.value
   Some (Goal action id sent)
 
 -- a cancel request; a stamp of 0 is none
 abbrev pub cancel_in : Fields → Option FedDraft
 cancel_in fields = do
-  action ← needed text fields.action
-  id ← needed identifier fields.cancel
+  action ← field_value text fields.action
+  id ← field_value identifier fields.cancel
   stamp ← or_default count 0 fields.stamp
   Some (Cancel action id stamp)
 
@@ -241,7 +232,7 @@ fed_draft_in fields = form_in (is_some fields.topic) (is_some fields.goal) (is_s
 -- what an entry with these fields says
 abbrev pub entry_draft_in : Fields → Option EntryDraft
 entry_draft_in fields = do
-  round ← needed count fields.round
+  round ← field_value count fields.round
   is ← fed_draft_in fields
   Some (record { round = round; fed = is })
 
@@ -252,8 +243,8 @@ entry value = entry_draft_in (entry_fields value)
 -- ---- the document
 
 -- what a document declares
-abbrev pub declared : Data → Option GraphDraft
-declared value = do
+abbrev pub declarations : Data → Option GraphDraft
+declarations value = do
   topics ← list text (codes "topics") value
   nodes ← list node (codes "nodes") value
   Some (record { topics = topics; nodes = nodes })
@@ -261,8 +252,8 @@ declared value = do
 -- the draft of a document, where the value has the forms of one
 abbrev pub draft_of : Data → Option DocumentDraft
 draft_of value = do
-  version ← required count (codes "version") value
-  graph ← declared value
+  version ← required_field count (codes "version") value
+  graph ← declarations value
   moments ← list count (codes "moments") value
   feed ← list entry (codes "feed") value
   Some (record { version = version; graph = graph; moments = moments; feed = feed })

@@ -1,27 +1,26 @@
 -- Why a document is refused: the predicate of each code, and the least code whose predicate holds.
-use Rattle.std.specs.Prelude.{ℕ, List, [], ◌∷◌, length, map, Bool, true, false, not, ◌&&◌, ◌==◌, nat_le, is_some, is_none, if◌then◌else◌, Option, None, find}
+use Rattle.std.specs.Prelude.{ℕ, List, [], ◌∷◌, length, map, Bool, false, not, ◌&&◌, ◌==◌, is_some, is_none, if◌then◌else◌, Option, None, find}
 use Rattle.std.specs.List.{list_all}
 use Rattle.std.specs.Option.{option_map_or}
 use Rattle.std.specs.Str.{is_utf8}
 use Rattle.serde_json.specs.Data.{Data}
 use Rattle.serde_json.specs.Read.{read}
-use Rattle.exec_doc.specs.declared.draft.FedDraft.{FedDraft}
-use Rattle.exec_doc.specs.declared.draft.FedDraft.TheVariants.{Message, Goal, Cancel}
-use Rattle.exec_doc.specs.Draft.{DocumentDraft}
+use Rattle.exec_plan.specs.declared.plan.FedOf.TheVariants.{Message, Goal, Cancel}
+use Rattle.exec_doc.specs.Draft.{DocumentDraft, FedDraft}
 use Rattle.exec_graph.specs.declared.draft.GraphDraft.{GraphDraft}
 use Rattle.exec_doc.specs.Forms.{draft_of}
 use Rattle.exec_graph.specs.Faults.{has_faulty_script, shares_variables, is_small, is_well_named}
-use Rattle.exec_plan.specs.Options.{◌>>=◌}
+use Rattle.exec_msg.specs.Options.{◌>>=◌}
 use Rattle.exec_graph.specs.Numbers.{topic_named, server_named}
 use Rattle.exec_doc.specs.declared.refused.Refused.{Refused}
 use Rattle.exec_doc.specs.declared.refused.Refused.TheVariants as refused
-use Rattle.exec_plan.specs.Schedule.{schedule_fits, greatest, is_in_order}
+use Rattle.exec_plan.specs.Schedule.{schedule_fits, greatest_stamp, is_in_order, is_identified}
 
 -- ---- 1: no JSON
 
 -- the value that bytes have: they are UTF-8, and JSON that nests at most 127 levels deep
-abbrev pub value_read : List ℕ → Option Data
-value_read bytes = if is_utf8 bytes then read bytes else None
+abbrev pub document_value : List ℕ → Option Data
+document_value bytes = if is_utf8 bytes then read bytes else None
 
 -- ---- 4: names
 
@@ -37,15 +36,9 @@ has_declared_names document = is_well_named document.graph && list_all (λ entry
 
 -- ---- 5: limits
 
--- the stamp of what is fed; that of a message or of a goal request is 0
-abbrev pub stamp_of : FedDraft → ℕ
-stamp_of (Message name value) = 0
-stamp_of (Goal name id value) = 0
-stamp_of (Cancel name id stamp) = stamp
-
 -- no moment, no stamp, and no number of moments or entries is beyond its limit
 abbrev pub has_small_schedule : DocumentDraft → Bool
-has_small_schedule document = schedule_fits document.moments (length document.feed) (greatest (map (λ entry. stamp_of entry.fed) document.feed))
+has_small_schedule document = schedule_fits document.moments (length document.feed) (greatest_stamp document.feed)
 
 -- ---- 8: the clock
 
@@ -56,10 +49,8 @@ is_clocked document = is_in_order document.moments (map (λ entry. entry.round) 
 -- ---- 9: identifiers
 
 -- each identifier is one, and a goal's isn't 0
-abbrev pub is_identified : FedDraft → Bool
-is_identified (Message name value) = true
-is_identified (Goal name id value) = option_map_or (λ id. nat_le 1 id) id false
-is_identified (Cancel name id stamp) = is_some id
+abbrev pub has_identifier : FedDraft → Bool
+has_identifier = is_identified (λ id. id)
 
 -- ---- the refusal
 
@@ -77,22 +68,22 @@ number_of refused.Id = 9
 number_of refused.Memory = 10
 
 -- whether a draft has what a code refuses, each code being read on drafts that no lesser one refuses
-abbrev pub has_fault : Refused → DocumentDraft → Bool
-has_fault refused.Version document = not (document.version == 1)
-has_fault refused.Name document = not (has_declared_names document)
-has_fault refused.Limit document = not (is_small document.graph && has_small_schedule document)
-has_fault refused.Script document = has_faulty_script document.graph
-has_fault refused.GroupVariable document = shares_variables document.graph
-has_fault refused.Clock document = not (is_clocked document)
-has_fault refused.Id document = not (list_all (λ entry. is_identified entry.fed) document.feed)
-has_fault _ document = false
+abbrev pub has_fault_of : Refused → DocumentDraft → Bool
+has_fault_of refused.Version document = not (document.version == 1)
+has_fault_of refused.Name document = not (has_declared_names document)
+has_fault_of refused.Limit document = not (is_small document.graph && has_small_schedule document)
+has_fault_of refused.Script document = has_faulty_script document.graph
+has_fault_of refused.GroupVariable document = shares_variables document.graph
+has_fault_of refused.Clock document = not (is_clocked document)
+has_fault_of refused.Id document = not (list_all (λ entry. has_identifier entry.fed) document.feed)
+has_fault_of _ document = false
 
 -- whether a code holds of the value that was read: it isn't there, or hasn't the forms of a document, or its draft has
 -- what the code refuses
 abbrev pub holds : Refused → Option Data → Bool
 holds refused.NotJson value = is_none value
 holds refused.Shape value = is_none (value >>= draft_of)
-holds code value = option_map_or (has_fault code) (value >>= draft_of) false
+holds code value = option_map_or (has_fault_of code) (value >>= draft_of) false
 
 -- the codes by which documents are refused
 abbrev pub codes_in_order : List Refused
@@ -106,4 +97,4 @@ refusal_in value = find (λ code. holds code value) codes_in_order
 
 -- the refusal of bytes
 abbrev pub refusal_of : List ℕ → Option Refused
-refusal_of bytes = refusal_in (value_read bytes)
+refusal_of bytes = refusal_in (document_value bytes)

@@ -1,8 +1,7 @@
 -- Words of the worked examples.
 use Rattle.std.specs.Prelude.{ℕ, pos, List, [], ◌∷◌, codes, true, None}
 use Rattle.exec_plan.specs.Graph.{EntityData}
-use Rattle.exec_plan.specs.Plan.{PlanData}
-use Rattle.exec_plan.specs.declared.plan.Feed.{Feed}
+use Rattle.exec_plan.specs.Plan.{PlanData, Feed}
 use Rattle.exec_script.specs.declared.instr.Operand.{Operand}
 use Rattle.exec_script.specs.declared.instr.Operand.TheVariants as operand
 

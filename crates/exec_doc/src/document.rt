@@ -3,12 +3,12 @@ ghost use Rattle.serde_json.specs.View.{view};
 ghost use Rattle.exec_doc.specs.inner.Answering.{Answers, IsReady, draft_refusal, graph_refusal};
 ghost use Rattle.exec_doc.specs.Draft.{DocumentDraft};
 ghost use Rattle.exec_doc.specs.Document.{plan_of, document_of};
-ghost use Rattle.exec_doc.specs.Refusals.{value_read, refusal_of};
+ghost use Rattle.exec_doc.specs.Refusals.{document_value, refusal_of};
 ghost use Rattle.exec_graph.specs.declared.draft.GraphDraft.{GraphDraft};
 ghost use Rattle.exec_graph.specs.Refusals.{fault_in};
 
 use crate::draft::{DocumentDraft, EntryDraft};
-use crate::fed::{are_declared, are_identified, feed_of};
+use crate::fed::{are_cancels_identified, are_declared, feed_of};
 use crate::forms::draft_of;
 use crate::refused::Refused;
 use crate::schedule::{moments_of, moments_within};
@@ -24,14 +24,14 @@ pub fn read_document(alloc: Global, bytes: &[u8]) -> Result<Plan, Refused>
     ensures plan { IfOk result (λ plan. document_of bytes.now ≡ Some plan) }
     ensures refused { IfErr result (λ code. (code ≡ Refused.Memory) ⊎ (refusal_of bytes.now ≡ Some code)) }
 {
-    let value = value_read(alloc, bytes)?;
+    let value = document_value(alloc, bytes)?;
     let draft = draft_of(alloc, value)?;
     plan_of(alloc, draft)
 }
 
-fn value_read(alloc: Global, bytes: &[u8]) -> Result<Value, Refused>
-    ensures value { IfOk result (λ value. value_read bytes.now ≡ Some (view value)) }
-    ensures refused { IfErr result (λ code. (code ≡ Refused.Memory) ⊎ ((code ≡ Refused.NotJson) × (value_read bytes.now ≡ None))) }
+fn document_value(alloc: Global, bytes: &[u8]) -> Result<Value, Refused>
+    ensures value { IfOk result (λ value. document_value bytes.now ≡ Some (view value)) }
+    ensures refused { IfErr result (λ code. (code ≡ Refused.Memory) ⊎ ((code ≡ Refused.NotJson) × (document_value bytes.now ≡ None))) }
 {
     match Value::from_slice(alloc, bytes) {
         Ok(value) => Ok(value),
@@ -52,9 +52,9 @@ fn plan_of(alloc: Global, draft: DocumentDraft) -> Result<Plan, Refused>
     if version != 1 {
         return Err(Refused::Version);
     }
-    let named = graph.named()?;
+    let named = graph.named_graph()?;
     match named.graph() {
-        Ok(graph) => planned(alloc, graph, &moments, &feed),
+        Ok(graph) => plan_on(alloc, graph, &moments, &feed),
         Err(fault) => Err(refusal_by(alloc, &named, fault, &moments, &feed)),
     }
 }
@@ -95,7 +95,7 @@ fn code_of(fault: GraphFault, fits: bool) -> Refused
 }
 
 // The plan of a graph without a fault. What may still be refused: a name that is fed, the schedule, an identifier.
-fn planned(
+fn plan_on(
     alloc: Global,
     graph: Graph,
     moments: &[u64],
@@ -108,7 +108,7 @@ fn planned(
         return Err(Refused::Limit);
     };
     let plan = Plan::new(graph, moments, feed)?;
-    if are_identified(entries) {
+    if are_cancels_identified(entries) {
         Ok(plan)
     } else {
         Err(Refused::Id)

@@ -1,46 +1,13 @@
-use exec_graph::GraphBuilder;
+use exec_graph::{FedOf, FeedOf, GraphBuilder};
 use exec_msg::GoalId;
 use exec_script::WordText;
 use std::marker::Model;
 
-/// What is said to be fed.
-#[derive(Debug, Drop)]
-pub enum FedDraft {
-    /// A message to a topic.
-    Message {
-        /// The name of the topic.
-        topic: WordText,
-        /// What is sent.
-        value: i64,
-    },
-    /// A goal request to an action server.
-    Goal {
-        /// The name of the server.
-        action: WordText,
-        /// The goal's identifier, or `None` where the text is none.
-        id: Option<GoalId>,
-        /// What is asked for.
-        value: i64,
-    },
-    /// A cancel request to an action server.
-    Cancel {
-        /// The name of the server.
-        action: WordText,
-        /// The identifier of a goal, or 0 for no goal, or `None` where the text is no identifier.
-        id: Option<GoalId>,
-        /// In ticks; 0 is none.
-        stamp: u64,
-    },
-}
+/// What is said to be fed, to topics and action servers by their names. An identifier is `None` where its text is none.
+pub type FedDraft = FedOf<WordText, Option<GoalId>>;
 
-/// An entry of a feed.
-#[derive(Debug, Drop)]
-pub struct EntryDraft {
-    /// The number of its round; the rounds of a document are numbered from 1.
-    pub round: u64,
-    /// What it feeds.
-    pub fed: FedDraft,
-}
+/// An entry of a feed, as a document says it.
+pub type EntryDraft = FeedOf<WordText, Option<GoalId>>;
 
 /// What a document says, its references still names, and its scripts still words.
 #[derive(Drop)]

@@ -3,10 +3,10 @@ ghost use Rattle.std.specs.List.{All, list_all};
 ghost use Rattle.std.specs.Option.{option_map};
 ghost use Rattle.exec_plan.specs.Feeding.{goes_somewhere};
 ghost use Rattle.exec_plan.specs.Graph.{topic_at, server_at};
-ghost use Rattle.exec_doc.specs.inner.Placing.{id_or_0, fed_by, entry_by};
-ghost use Rattle.exec_doc.specs.Refusals.{feeds, is_identified};
-ghost use Rattle.exec_plan.specs.Options.{each};
-ghost use Rattle.exec_plan.specs.declared.plan.Fed.TheVariants.{Message, Goal, Cancel};
+ghost use Rattle.exec_doc.specs.inner.Placing.{id_or_0, fed_by, entry_by, is_cancel_identified};
+ghost use Rattle.exec_doc.specs.Refusals.{feeds};
+ghost use Rattle.exec_msg.specs.Options.{each};
+ghost use Rattle.exec_plan.specs.declared.plan.FedOf.TheVariants.{Message, Goal, Cancel};
 
 use crate::draft::{EntryDraft, FedDraft};
 use crate::refused::Refused;
@@ -27,26 +27,25 @@ fn is_declared(named: &NamedGraph<'_>, fed: &FedDraft) -> bool
 {
     match fed {
         FedDraft::Message { topic, .. } => named.topic_named(topic.as_str()),
-        FedDraft::Goal { action, .. } | FedDraft::Cancel { action, .. } => {
-            named.action_named(action.as_str())
+        FedDraft::Goal { server, .. } | FedDraft::Cancel { server, .. } => {
+            named.action_named(server.as_str())
         }
     }
 }
 
-/// Whether each identifier is one, and no goal's is 0.
-pub fn are_identified(feed: &[EntryDraft]) -> bool
-    ensures { result ≡ list_all (λ entry. is_identified entry.fed) feed.now }
+/// Whether each cancel request has an identifier. A goal request's is asked for by the plan.
+pub fn are_cancels_identified(feed: &[EntryDraft]) -> bool
+    ensures { result ≡ list_all (λ entry. is_cancel_identified entry.fed) feed.now }
 {
-    feed.iter().all(|entry| is_identified(&entry.fed))
+    feed.iter().all(|entry| is_cancel_identified(&entry.fed))
 }
 
-fn is_identified(fed: &FedDraft) -> bool
-    ensures { result ≡ is_identified fed.now }
+fn is_cancel_identified(fed: &FedDraft) -> bool
+    ensures { result ≡ is_cancel_identified fed.now }
 {
     match fed {
-        FedDraft::Message { .. } => true,
-        FedDraft::Goal { id, .. } => (*id).is_some_and(|id| id.number() > 0),
         FedDraft::Cancel { id, .. } => id.is_some(),
+        _ => true,
     }
 }
 
@@ -75,8 +74,8 @@ fn fed_by(graph: &Graph, fed: &FedDraft) -> Option<Fed>
 {
     match fed {
         FedDraft::Message { topic, value } => message(graph, topic, *value),
-        FedDraft::Goal { action, id, value } => goal(graph, action, *id, *value),
-        FedDraft::Cancel { action, id, stamp } => cancel(graph, action, *id, *stamp),
+        FedDraft::Goal { server, id, value } => goal(graph, server, *id, *value),
+        FedDraft::Cancel { server, id, stamp } => cancel(graph, server, *id, *stamp),
     }
 }
 

@@ -14,8 +14,8 @@ ghost use Rattle.exec_doc.specs.inner.Reading.{ReadingGives};
 
 use crate::draft::DocumentDraft;
 use crate::refused::Refused;
-use fields::{list, required};
-use graph::declared;
+use fields::{list, required_field};
+use graph::declarations;
 use serde_json::Value;
 use std::alloc::Global;
 
@@ -27,9 +27,9 @@ pub fn draft_of(alloc: Global, document: Value) -> Result<DocumentDraft, Refused
     ensures { ReadingGives (λ draft. draft) result (draft_of (view document)) }
 {
     Ok(DocumentDraft {
-        version: required(alloc, &document, "version")?,
+        version: required_field(alloc, &document, "version")?,
         moments: list(alloc, &document, "moments")?,
         feed: list(alloc, &document, "feed")?,
-        graph: declared(alloc, document)?,
+        graph: declarations(alloc, document)?,
     })
 }

@@ -1,17 +1,17 @@
 //! Laws of documents: each function's contract says one, and its body is empty or calls the laws that it rests on.
 ghost use Rattle.std.specs.Prelude.{◌≡◌, ℕ, ◌<◌, List, Some, None, is_some, true, false};
 ghost use Rattle.exec_doc.specs.Document.{document_of};
-ghost use Rattle.exec_doc.specs.Refusals.{value_read, number_of, holds, refusal_of};
+ghost use Rattle.exec_doc.specs.Refusals.{document_value, number_of, holds, refusal_of};
 ghost use Rattle.exec_doc.specs.declared.refused.Refused.{Refused};
 ghost use Rattle.exec_plan.specs.Lawful.{IsLawfulPlan};
 ghost use Rattle.exec_plan.specs.Plan.{PlanData};
 
 /// Bytes are refused by a code that holds of what was read, and no lesser one does; where they aren't refused none holds.
 pub fn the_least_code_counts()
-    ensures holds { (bytes : List ℕ) (code : Refused) → refusal_of bytes ≡ Some code → holds code (value_read bytes) ≡ true }
+    ensures holds { (bytes : List ℕ) (code : Refused) → refusal_of bytes ≡ Some code → holds code (document_value bytes) ≡ true }
     ensures least { (bytes : List ℕ) (code : Refused) → refusal_of bytes ≡ Some code →
-        (lesser : Refused) → number_of lesser < number_of code → holds lesser (value_read bytes) ≡ false }
-    ensures none { (bytes : List ℕ) (code : Refused) → refusal_of bytes ≡ None → holds code (value_read bytes) ≡ false }
+        (lesser : Refused) → number_of lesser < number_of code → holds lesser (document_value bytes) ≡ false }
+    ensures none { (bytes : List ℕ) (code : Refused) → refusal_of bytes ≡ None → holds code (document_value bytes) ≡ false }
 {}
 
 /// Bytes are refused or say a plan, and never both.

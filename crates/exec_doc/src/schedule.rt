@@ -1,14 +1,13 @@
 ghost use Rattle.std.specs.Bool.{then_some};
-ghost use Rattle.std.specs.Prelude.{◌≡◌, length, map, nat_le, IfOk, OnErr};
+ghost use Rattle.std.specs.Prelude.{◌≡◌, length, nat_le, IfOk, OnErr};
 ghost use Rattle.std.specs.List.{list_all};
 ghost use Rattle.std.specs.Option.{option_map};
-ghost use Rattle.exec_doc.specs.Refusals.{stamp_of};
-ghost use Rattle.exec_plan.specs.Schedule.{schedule_fits, greatest};
+ghost use Rattle.exec_plan.specs.Schedule.{schedule_fits, greatest_stamp};
 ghost use Rattle.exec_msg.specs.declared.limits.TheConstants.{TICKS};
 
-use crate::draft::{EntryDraft, FedDraft};
+use crate::draft::EntryDraft;
 use crate::refused::Refused;
-use exec_graph::schedule_fits;
+use exec_graph::{greatest_stamp, schedule_fits};
 use exec_msg::Moment;
 use std::alloc::Global;
 
@@ -22,7 +21,7 @@ pub fn moments_within(
     feed: &[EntryDraft],
 ) -> Result<Option<Vec<Moment>>, Refused>
     ensures moments { IfOk result (λ found. option_map (λ moments. moments.items) found
-        ≡ then_some (schedule_fits ticks.now (length feed.now) (greatest (map (λ entry. stamp_of entry.fed) feed.now))) ticks.now) }
+        ≡ then_some (schedule_fits ticks.now (length feed.now) (greatest_stamp feed.now)) ticks.now) }
     ensures memory { OnErr result (result ≡ Err Refused.Memory) }
 {
     let Some(moments) = moments_of(alloc, ticks)? else {
@@ -52,23 +51,4 @@ pub fn moments_of(alloc: Global, ticks: &[u64]) -> Result<Option<Vec<Moment>>, R
         moments.push(moment)?;
     }
     Ok(Some(moments))
-}
-
-fn greatest_stamp(feed: &[EntryDraft]) -> u64
-    ensures { result ≡ greatest (map (λ entry. stamp_of entry.fed) feed.now) }
-{
-    let mut greatest: u64 = 0;
-    for entry in feed {
-        greatest = greatest.max(stamp_of(&entry.fed));
-    }
-    greatest
-}
-
-fn stamp_of(fed: &FedDraft) -> u64
-    ensures { result ≡ stamp_of fed.now }
-{
-    match fed {
-        FedDraft::Cancel { stamp, .. } => *stamp,
-        FedDraft::Message { .. } | FedDraft::Goal { .. } => 0,
-    }
 }

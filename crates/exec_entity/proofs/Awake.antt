@@ -10,7 +10,8 @@ use Rattle.exec_msg.specs.Lists.{change_first}
 use Rattle.exec_task.specs.Task.{TaskState}
 use Rattle.exec_task.specs.declared.wait.Turn.{Turn}
 use Rattle.exec_rules.specs.Ready.{is_goal_awake}
-use Rattle.exec_rules.specs.World.{GoalWork, HeldGoal, ServerEntry, Variables, is_for}
+use Rattle.exec_script.specs.Script.{Variables}
+use Rattle.exec_rules.specs.World.{GoalWork, HeldGoal, ServerEntry, is_for}
 use Rattle.exec_rules.specs.Run.{work_after}
 use Rattle.exec_entity.proofs.Serving.{goal_ids, held_ids}
 use Rattle.exec_entity.specs.declared.server.Held.{Held}

@@ -9,7 +9,7 @@ use Rattle.exec_goal.specs.Calls.{askers_of, askers_in, end_state, moved_to, whe
 use Rattle.exec_goal.specs.State.{after, is_terminal, status_of}
 use Rattle.exec_goal.specs.Table.{GoalRecord, has_id, after_end}
 use Rattle.exec_goal.specs.declared.state.State.{State}
-use Rattle.exec_plan.specs.Entity.{EntityNo}
+use Rattle.exec_msg.specs.Numbers.{EntityNo, GoalId, Moment}
 use Rattle.exec_msg.specs.declared.goal.Event.{Event}
 use Rattle.exec_msg.specs.declared.goal.GoalStatus.{GoalStatus}
 use Rattle.exec_msg.specs.declared.goal.GoalStatus.TheVariants as status
@@ -19,8 +19,7 @@ use Rattle.exec_msg.specs.declared.line.Line.TheVariants as line
 use Rattle.exec_msg.specs.Lists.{change_first}
 use Rattle.exec_entity.proofs.FoundEntries.{found_number}
 use Rattle.exec_rules.specs.Close.{ask_where, respond, moved_lines, answer_cancel, cancel, tell, tell_end, with_ended, end_in, end}
-use Rattle.exec_rules.specs.Item.{GoalId}
-use Rattle.exec_rules.specs.World.{WorldState, Moment, ServerEntry, ActionClientEntry, is_server_at, add_line, add_lines, push, push_any, goals_of, action_client_at, goals_in}
+use Rattle.exec_rules.specs.World.{WorldState, ServerEntry, ActionClientEntry, is_server_at, add_line, add_lines, push, push_any, goals_of, action_client_at, goals_in}
 use Rattle.exec_rules.specs.declared.item.Item.TheVariants as item
 use Rattle.exec_entity.specs.inner.Numbered.{FindsByNumber}
 use Rattle.exec_msg.specs.Places.{first_place}

@@ -3,7 +3,8 @@ use Rattle.std.proofs.Common.{◌≡◌, ℕ, zero, suc, ◌≤◌, ◌==◌, �
 use Rattle.std.specs.List.{find, filter}
 use Rattle.std.specs.Option.{option_map, unwrap_or}
 use Rattle.std.proofs.lemmas.Bool.{eqb-true, eq-eqb, ne_eqb, or_parts, or_from, or_left, or_right, both_ways}
-use Rattle.exec_goal.specs.Calls.{is_among, next_state, moved_to}
+use Rattle.exec_goal.specs.Calls.{next_state, moved_to}
+use Rattle.exec_goal.specs.inner.Ids.{is_among}
 use Rattle.exec_goal.specs.Info.{info_of}
 use Rattle.exec_goal.specs.State.{after, is_accepted}
 use Rattle.exec_goal.specs.Table.{GoalRecord, has_id, holds_id, after_event, is_expired, expired, unexpired}

@@ -9,7 +9,7 @@ use Rattle.exec_msg.specs.declared.goal.Event.TheVariants as event
 use Rattle.exec_task.specs.Task.{TaskState}
 use Rattle.exec_msg.proofs.FirstPlaces.{set_same}
 use Rattle.exec_entity.proofs.FoundByNumber.{unfound, found_at, changed_at}
-use Rattle.exec_rules.specs.Item.{GoalId}
+use Rattle.exec_msg.specs.Numbers.{GoalId}
 use Rattle.exec_rules.specs.World.{GoalWork, HeldGoal, ServerEntry, is_for, is_server_at, goals_in, work_in}
 use Rattle.exec_entity.specs.inner.Keeping.{executed}
 use Rattle.exec_rules.specs.inner.Places.{place_in}

@@ -6,7 +6,7 @@ use Rattle.std.specs.Option.{option_map}
 use Rattle.std.proofs.lemmas.Bool.{eqb-true, eq-eqb}
 use Rattle.std.proofs.lemmas.List.Quantifiers.{position-Some}
 use Rattle.indexmap.specs.IndexMap.{set_value_at}
-use Rattle.exec_goal.specs.Calls.{is_among}
+use Rattle.exec_goal.specs.inner.Ids.{is_among}
 use Rattle.exec_goal.specs.Table.{GoalRecord}
 use Rattle.exec_msg.specs.Lists.{change_first}
 use Rattle.exec_rules.specs.World.{HeldGoal, is_for}

@@ -4,7 +4,8 @@ use Rattle.std.specs.List.{filter, flat_map}
 use Rattle.std.proofs.lemmas.List.{flat_map_more, take_more}
 use Rattle.exec_goal.specs.Table.{GoalRecord}
 use Rattle.exec_rules.specs.Ready.{is_goal_awake, poll_ready, ready_for, woken}
-use Rattle.exec_rules.specs.World.{Moment, ServerEntry}
+use Rattle.exec_msg.specs.Numbers.{Moment}
+use Rattle.exec_rules.specs.World.{ServerEntry}
 use Rattle.exec_rules.specs.declared.ready.AwakeGoal.{AwakeGoal}
 use Rattle.exec_rules.specs.declared.ready.Ready.{Ready}
 use Rattle.exec_rules.specs.inner.Awake.{awake_goal, awake_goals, goal_awake}

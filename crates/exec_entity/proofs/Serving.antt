@@ -3,7 +3,8 @@ use Rattle.std.proofs.Common.{◌≡◌, ℕ, ◌==◌, ◌||◌, List, [], ◌�
 use Rattle.std.specs.List.{list_any}
 use Rattle.std.proofs.lemmas.Bool.{eqb-false, ne_eqb, or_parts, not-true, or_from}
 use Rattle.std.proofs.lemmas.List.{map_push}
-use Rattle.exec_goal.specs.Calls.{is_among, noted, after_asking}
+use Rattle.exec_goal.specs.Calls.{noted, after_asking}
+use Rattle.exec_goal.specs.inner.Ids.{is_among}
 use Rattle.exec_goal.specs.Cancel.{Decided, is_moved, table_after}
 use Rattle.exec_goal.specs.Table.{GoalRecord, Asked, told, later, unknown, has_id, holds_id, is_full, after_event, asked_for, asked_by}
 use Rattle.exec_msg.specs.declared.goal.Event.TheVariants as event

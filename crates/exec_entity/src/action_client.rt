@@ -65,7 +65,7 @@ impl ActionClient {
     pub(crate) fn send_goal(&mut self) -> Result<u64, Memory>
         ensures number { IfOk result (λ number. number ≡ self.old.goals + 1) }
         ensures sent { OnOk result (self.new ≡ record self.old { goals = self.old.goals + 1 }) }
-        ensures refused { OnErr result (self.new ≡ self.old) }
+        ensures unchanged { OnErr result (self.new ≡ self.old) }
     {
         // No run of a lawful plan comes to a number that doesn't fit (law `numbers_stay_below_their_limit`).
         self.goals = self.goals.checked_add(1).ok_or(Memory)?;

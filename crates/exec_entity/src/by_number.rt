@@ -53,7 +53,7 @@ impl<E: Numbered> ByNumber<E> {
     /// [`Memory`] where a growth was refused.
     pub fn declare(&mut self, entry: E) -> Result<(), Memory>
         ensures declared { OnOk result (self.new ≡ self.old ++ entry ∷ []) }
-        ensures refused { OnErr result (self.new ≡ self.old) }
+        ensures unchanged { OnErr result (self.new ≡ self.old) }
     {
         let number = entry.number().0 as usize;
         self.places.reserve(number)?;

@@ -57,7 +57,7 @@ impl Client {
     pub(crate) fn call(&mut self) -> Result<u64, Memory>
         ensures number { IfOk result (λ number. number ≡ self.old.calls + 1) }
         ensures called { OnOk result (self.new ≡ client_called self.old) }
-        ensures refused { OnErr result (self.new ≡ self.old) }
+        ensures unchanged { OnErr result (self.new ≡ self.old) }
     {
         // No run of a lawful plan comes to a number that doesn't fit (law `numbers_stay_below_their_limit`).
         let number = self.calls.checked_add(1).ok_or(Memory)?;
@@ -77,7 +77,7 @@ impl Client {
     }
 
     /// How many calls pend.
-    pub fn pending(&self) -> usize
+    pub fn count_pending(&self) -> usize
         ensures { result ≡ length self.now.pending }
     {
         self.pending.len()

@@ -155,7 +155,7 @@ impl Server {
         requires decision { (decision ≡ 2) ⊎ (decision ≡ 3) }
         requires room { has_room_for request.now.id self.old.goals ≡ true }
         ensures accepted { OnOk result (self.new ≡ server_accepting moment decision request.now self.old) }
-        ensures refused { OnErr result (self.new ≡ self.old) }
+        ensures unchanged { OnErr result (self.new ≡ self.old) }
     {
         let task = self.new_task(request.value)?;
         let held = Held {
@@ -204,7 +204,7 @@ impl Server {
         ensures code { IfOk result (λ answer. answer.code ≡ code_of request.now decisions.now self.old.goals) }
         ensures moved { IfOk result (λ answer. answer.moved ≡ map (λ goal. goal.id) (moved decisions.now self.old.goals)) }
         ensures table { OnOk result (self.new ≡ record self.old { goals = table_after decisions.now self.old.goals }) }
-        ensures refused { OnErr result (self.new ≡ self.old) }
+        ensures unchanged { OnErr result (self.new ≡ self.old) }
     {
         let answer = self.goals.answer(request, decisions)?;
         Ok(answer)
@@ -215,7 +215,7 @@ impl Server {
     pub(crate) fn ask(&mut self, id: GoalId, client: EntityNo) -> Result<Asked, Memory>
         ensures told { IfOk result (λ told. told ≡ answer_of (asked_for id self.old.goals)) }
         ensures noted { OnOk result (self.new ≡ record self.old { goals = after_asking id client self.old.goals }) }
-        ensures refused { OnErr result (self.new ≡ self.old) }
+        ensures unchanged { OnErr result (self.new ≡ self.old) }
     {
         let told = self.goals.ask_result(id, client)?;
         Ok(told)
@@ -254,7 +254,7 @@ impl Server {
     ) -> Option<State>
         ensures reached { result ≡ end_state id event self.old.goals }
         ensures ended { IfSome result (λ _. self.new ≡ record self.old { goals = change_first (has_id id) (after_end event value moment) self.old.goals }) }
-        ensures refused { IfNone result (self.new ≡ self.old) }
+        ensures unchanged { IfNone result (self.new ≡ self.old) }
     {
         let Ok(reached) = self.goals.end(id, event, value, moment) else {
             return None;

@@ -5,7 +5,7 @@ use Rattle.std.proofs.lemmas.Bool.{and_parts, and_from, eqb-true, eq-eqb}
 use Rattle.std.proofs.lemmas.List.{length-map, get_or-map, get_or_default}
 use Rattle.std.proofs.lemmas.List.Elements.{filter_passes, All-weaker}
 use Rattle.std.proofs.lemmas.List.Folds.{Any-from_list_any, list_any-from_Any}
-use Rattle.exec_goal.specs.Cancel.{CancelRequest, Decided, is_acceptance, is_accepted_for, candidates, is_moved, moved, table_after}
+use Rattle.exec_goal.specs.Cancel.{CancelRequest, Decided, decided_goal, decision_of, is_acceptance, is_accepted_for, candidates, is_moved, moved, table_after}
 use Rattle.exec_goal.specs.State.{is_cancelable}
 use Rattle.exec_goal.specs.Table.{GoalRecord, after_event}
 use Rattle.exec_goal.specs.declared.state.State.{State}
@@ -24,14 +24,14 @@ cancelable_from held (inr is) = ap is_cancelable is
 -- a goal is accepted for cancelling where a decision of 2 names it
 pub accepted_to : (decisions : List Decided) (id : ℕ) → is_accepted_for decisions id ≡ true → Contains decisions (id, 2)
 accepted_to decisions id is =
-    let found = Any-from_list_any (λ (decided : Decided). (decided.0 == id) && is_acceptance decided) decisions is in
-    let parts = and_parts (found.1.0 == id) (is_acceptance found.1) found.4 in
-    let same : found.1 ≡ (id, 2) = λ i. (eqb-true found.1.0 id parts.0 i, eqb-true found.1.1 2 parts.1 i) in
+    let found = Any-from_list_any (λ (decided : Decided). (decided_goal decided == id) && is_acceptance decided) decisions is in
+    let parts = and_parts (decided_goal found.1 == id) (is_acceptance found.1) found.4 in
+    let same : found.1 ≡ (id, 2) = λ i. (eqb-true (decided_goal found.1) id parts.0 i, eqb-true (decision_of found.1) 2 parts.1 i) in
     (found.0, found.2, get_or_default decisions found.0 (id, 2) found.1 found.2 ∙ found.3 ∙ same)
 
 pub accepted_from : (decisions : List Decided) (id : ℕ) → Contains decisions (id, 2) → is_accepted_for decisions id ≡ true
 accepted_from decisions id has =
-    list_any-from_Any (λ (decided : Decided). (decided.0 == id) && is_acceptance decided) decisions
+    list_any-from_Any (λ (decided : Decided). (decided_goal decided == id) && is_acceptance decided) decisions
     (has.0, (id, 2), has.1, has.2, and_from (id == id) true (eq-eqb id id refl) refl)
 
 -- an answer leaves a goal's identifier
@@ -58,12 +58,12 @@ Any-map f xs n d has =
 
 -- where the decisions are on the candidates of a request, each goal that moves has the identifier of a candidate
 pub moved_among : (request : CancelRequest) (decisions : List Decided) (before goals : List GoalRecord) →
-    map (λ decided. decided.0) decisions ≡ map (λ goal. goal.id) (candidates request before) →
+    map decided_goal decisions ≡ map (λ goal. goal.id) (candidates request before) →
     All (λ goal. Any (λ candidate. candidate.id ≡ goal.id) (candidates request before)) (moved decisions goals)
 moved_among request decisions before goals same =
     All-weaker (λ goal. is_moved decisions goal ≡ true) (λ goal. Any (λ candidate. candidate.id ≡ goal.id) (candidates request before))
     (λ goal moves.
     let accepted = accepted_to decisions goal.id (and_parts (is_accepted_for decisions goal.id) (is_cancelable goal.state) moves).0 in
     Any-map (λ goal. goal.id) (candidates request before) goal.id goal
-    (subst (λ ids. Contains ids goal.id) same (Contains-map (λ decided. decided.0) decisions (goal.id, 2) accepted)))
+    (subst (λ ids. Contains ids goal.id) same (Contains-map decided_goal decisions (goal.id, 2) accepted)))
     (moved decisions goals) (filter_passes (is_moved decisions) goals)

@@ -1,7 +1,7 @@
 -- The entries of a table's map, whose keys are the goals' identifiers.
-use Rattle.std.proofs.Common.{◌≡◌, ℕ, ◌+◌, ◌<◌, ◌*◌, ◌/◌, ◌%◌, ◌^◌, ◌==◌, ◌&&◌, ◌||◌, List, [], ◌∷◌, ◌++◌, map, length, Bool, true, false, cond, if◌then◌else◌, Option, None, Some, is_some, Result, Ok, Err, OnErr, refl, ap, sym, subst, ◌∙◌, arith}
+use Rattle.std.proofs.Common.{◌≡◌, ℕ, zero, suc, slice_get, ◌+◌, ◌<◌, ◌*◌, ◌/◌, ◌%◌, ◌^◌, ◌==◌, ◌&&◌, ◌||◌, List, [], ◌∷◌, ◌++◌, map, length, Bool, true, false, not, cond, if◌then◌else◌, Option, None, Some, is_some, Result, Ok, Err, OnErr, refl, ap, sym, subst, ◌∙◌, arith}
 use Rattle.std.specs.Bool.{Decides}
-use Rattle.std.specs.List.{find, IsDistinct}
+use Rattle.std.specs.List.{find, IsDistinct, position, position_or_len}
 use Rattle.std.specs.Map.{keys_of, lookup, set_value}
 use Rattle.std.specs.Option.{option_map}
 use Rattle.std.proofs.lemmas.Bool.{and_parts, and_from, eqb-true, eq-eqb}
@@ -9,9 +9,11 @@ use Rattle.std.proofs.lemmas.Bool.Decides.{same_from_decides}
 use Rattle.std.proofs.lemmas.List.{get_or-map, length-map}
 use Rattle.std.proofs.lemmas.Map.Made.{AllPairs-from_IsDistinct}
 use Rattle.std.proofs.lemmas.Nat.{div-add-mod'}
-use Rattle.indexmap.specs.IndexMap.{insert_entry}
+use Rattle.indexmap.specs.IndexMap.{insert_entry, set_value_at}
+use Rattle.indexmap.proofs.MapLemmas.{Found-position}
+use Rattle.std.proofs.lemmas.Option.{slice_get-map}
 use Rattle.exec_goal.specs.Calls.{next_state, moved_to, where_terminal}
-use Rattle.exec_goal.specs.Held.{record_of, records_of}
+use Rattle.exec_goal.specs.inner.Held.{record_of, records_of}
 use Rattle.exec_goal.specs.State.{is_terminal, status_of}
 use Rattle.exec_goal.specs.declared.state.State.{State}
 use Rattle.exec_goal.specs.Table.{GoalRecord, told, later, unknown, has_id, holds_id, HaveDistinctIds, answer_to, asked_for}
@@ -131,6 +133,41 @@ module _ (test : ℕ → Bool) (id : ℕ) (same : (key : ℕ) → test key ≡ (
     pub changed-in : (entries set : List (ℕ × GoalEntry)) (goals : List GoalRecord) → records_of entries ≡ goals → Some held ≡ lookup test entries → set ≡ set_value test entries after →
         records_of set ≡ change_first (has_id id) change goals
     changed-in entries set goals are found is = ap records_of is ∙ changed-set_value entries (sym found) ∙ ap (λ (goals : List GoalRecord). change_first (has_id id) change goals) are
+
+-- a key that the map hasn't is found nowhere
+pub none-looked : (test : ℕ → Bool) (entries : List (ℕ × GoalEntry)) → false ≡ is_some (lookup test entries) → None ≡ lookup test entries
+none-looked test entries is = by (lookup test entries) is
+  where
+    by : (found : Option GoalEntry) → false ≡ is_some found → None ≡ found
+    by None is = refl
+    by (Some held) is = absurd cc
+
+-- the value of the first entry whose key passes is the one at its place
+set-first : (test : ℕ → Bool) (entries : List (ℕ × GoalEntry)) (place : ℕ) (after : GoalEntry) → position_or_len test (keys_of entries) ≡ place → set_value_at entries place after ≡ set_value test entries after
+set-first test [] place after is = refl
+set-first test (entry ∷ entries) place after is = by (test entry.0) place (λ behind same. set-first test entries behind after same) is
+  where
+    by : (b : Bool) (place : ℕ) → ((behind : ℕ) → position_or_len test (keys_of entries) ≡ behind → set_value_at entries behind after ≡ set_value test entries after) → cond (not b) (1 + position_or_len test (keys_of entries)) 0 ≡ place → set_value_at (entry ∷ entries) place after ≡ cond b ((entry.0, after) ∷ entries) (entry ∷ set_value test entries after)
+    by true zero rest is = refl
+    by true (suc place) rest is = absurd (omega (arith, is))
+    by false zero rest is = absurd (omega (arith, is))
+    by false (suc place) rest is = ap (λ entries. entry ∷ entries) (rest place (omega (arith, is)))
+
+-- a key that the map has at a place
+module _ (test : ℕ → Bool) (entries : List (ℕ × GoalEntry)) (place : ℕ) (entry : ℕ × GoalEntry) (looked : Some place ≡ position test (keys_of entries)) (at : slice_get entries place ≡ Some entry) where
+  pub found-there : Some entry.1 ≡ lookup test entries
+  found-there = sym ((Found-position test entries place (sym looked)).value ∙ slice_get-map (λ (one : ℕ × GoalEntry). one.1) entries place ∙ ap (option_map (λ (one : ℕ × GoalEntry). one.1)) at)
+
+  pub set-there : (after : GoalEntry) → set_value_at entries place after ≡ set_value test entries after
+  set-there after = set-first test entries place after (Found-position test entries place (sym looked)).or_len
+
+-- an entry that is written back as it was
+pub set_value_at-same : (entries : List (ℕ × GoalEntry)) (place : ℕ) (entry : ℕ × GoalEntry) → slice_get entries place ≡ Some entry → set_value_at entries place entry.1 ≡ entries
+set_value_at-same [] place entry at = refl
+set_value_at-same (first ∷ entries) zero entry at =
+    let same : first ≡ entry = cc in
+    ap (λ (held : GoalEntry). (first.0, held) ∷ entries) (sym (ap (λ (one : ℕ × GoalEntry). one.1) same))
+set_value_at-same (first ∷ entries) (suc place) entry at = ap (λ rest. first ∷ rest) (set_value_at-same entries place entry at)
 
 same_goal : (b : Bool) (goal : GoalRecord) (goals others : List GoalRecord) → others ≡ goals → (if b then goal ∷ goals else goal ∷ others) ≡ goal ∷ goals
 same_goal true goal goals others same = refl

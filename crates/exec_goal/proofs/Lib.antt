@@ -1,6 +1,7 @@
 pub mod Answering
 pub mod Asking
 pub mod Changing
+pub mod EndedPlaces
 pub mod Entries
 pub mod Filtering
 pub mod Looping

@@ -2,9 +2,9 @@
 use Rattle.std.proofs.Common.{◌≡◌, ◌≢◌, ℕ, zero, suc, ◌+◌, ◌<◌, ◌≤◌, ◌==◌, List, [], ◌∷◌, ◌++◌, map, length, drop, get_or, Bool, true, false, not, cond, if◌then◌else◌, Option, Some, slice_get, slice_set, refl, ap, sym, ◌∙◌, arith, append_assoc, add-one, drop-cons, remove}
 use Rattle.std.specs.List.{filter, find, list_any}
 use Rattle.std.proofs.lemmas.Bool.{eqb-true}
-use Rattle.exec_goal.specs.Calls.{IsFirst}
+use Rattle.exec_goal.specs.inner.Places.{IsFirst}
 use Rattle.exec_msg.specs.Lists.{drop_first}
-use Rattle.exec_goal.specs.Held.{record_of, records_of}
+use Rattle.exec_goal.specs.inner.Held.{record_of, records_of}
 use Rattle.exec_goal.specs.Info.{info_of}
 use Rattle.exec_goal.specs.Table.{GoalRecord}
 use Rattle.exec_goal.specs.declared.held.GoalEntry.{GoalEntry}

@@ -5,7 +5,7 @@ use Rattle.std.proofs.lemmas.Bool.{not-true, not_from_false, false_from_ne_true,
 use Rattle.std.proofs.lemmas.List.Elements.{All-weaker}
 use Rattle.std.proofs.lemmas.List.Folds.{list_any_none}
 use Rattle.exec_goal.proofs.Filtering.{filter-none, none-filter, find-none, none-find, All-none}
-use Rattle.exec_goal.specs.Cancel.{CancelRequest, Decided, is_acceptance, is_refused, is_moved, moved, code_by, code_of}
+use Rattle.exec_goal.specs.Cancel.{CancelRequest, Decided, decision_of, is_acceptance, is_refused, is_moved, moved, code_by, code_of}
 use Rattle.exec_goal.specs.LawWords.{AllRefused}
 use Rattle.exec_goal.specs.State.{is_terminal}
 use Rattle.exec_goal.specs.Table.{GoalRecord, has_id, holds_id}
@@ -16,13 +16,13 @@ pub refused_from : (decisions : List Decided) → AllRefused decisions → is_re
 refused_from [] refused = absurd (refused.0 refl)
 refused_from (decided ∷ others) refused =
     not_from_false (list_any is_acceptance (decided ∷ others))
-    (list_any_none is_acceptance (decided ∷ others) (All-weaker (λ decided. decided.1 ≢ 2) (λ decided. is_acceptance decided ≡ false) (λ decided differs. ne_eqb decided.1 2 differs) (decided ∷ others) refused.1))
+    (list_any_none is_acceptance (decided ∷ others) (All-weaker (λ decided. decision_of decided ≢ 2) (λ decided. is_acceptance decided ≡ false) (λ decided differs. ne_eqb (decision_of decided) 2 differs) (decided ∷ others) refused.1))
 
 pub refused_to : (decisions : List Decided) → is_refused decisions ≡ true → AllRefused decisions
 refused_to [] refused = absurd cc
 refused_to (decided ∷ others) refused = (
   (λ none. cc),
-  All-weaker (λ decided. is_acceptance decided ≡ false) (λ decided. decided.1 ≢ 2) (λ decided fails. eqb-false decided.1 2 fails) (decided ∷ others)
+  All-weaker (λ decided. is_acceptance decided ≡ false) (λ decided. decision_of decided ≢ 2) (λ decided fails. eqb-false (decision_of decided) 2 fails) (decided ∷ others)
       (All-none is_acceptance (decided ∷ others) (not-true (list_any is_acceptance (decided ∷ others)) refused)),
 )
 
@@ -39,10 +39,10 @@ parts_of true refused by wanted not_none not_rejected is = absurd (not_none is)
 parts_of false true by wanted not_none not_rejected is = absurd (not_rejected is)
 parts_of false false by wanted not_none not_rejected is = (refl, refl, is)
 
-moved_by : (any refused : Bool) (by : ReturnCode) → by ≢ code.None → (if any then code.None else (if refused then code.Rejected else by)) ≡ code.None → any ≡ true
-moved_by true refused by other is = refl
-moved_by false true by other is = absurd cc
-moved_by false false by other is = absurd (other is)
+any_moves : (any refused : Bool) (by : ReturnCode) → by ≢ code.None → (if any then code.None else (if refused then code.Rejected else by)) ≡ code.None → any ≡ true
+any_moves true refused by other is = refl
+any_moves false true by other is = absurd cc
+any_moves false false by other is = absurd (other is)
 
 by_state : (ended : Bool) → (if ended then code.GoalTerminated else code.Rejected) ≢ code.None
 by_state true is = cc
@@ -55,7 +55,7 @@ by_none (suc id) (Some goal) is = by_state (is_terminal goal.state) is
 
 pub none_to : (request : CancelRequest) (decisions : List Decided) (goals : List GoalRecord) → code_of request decisions goals ≡ code.None → moved decisions goals ≢ []
 none_to request decisions goals is none =
-    let any : list_any (is_moved decisions) goals ≡ true = moved_by (list_any (is_moved decisions) goals) (is_refused decisions) (code_by request.id (find (has_id request.id) goals)) (by_none request.id (find (has_id request.id) goals)) is in
+    let any : list_any (is_moved decisions) goals ≡ true = any_moves (list_any (is_moved decisions) goals) (is_refused decisions) (code_by request.id (find (has_id request.id) goals)) (by_none request.id (find (has_id request.id) goals)) is in
     let not_any : list_any (is_moved decisions) goals ≡ false = none-filter (is_moved decisions) goals none in
     cc
 

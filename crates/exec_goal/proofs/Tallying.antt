@@ -3,22 +3,26 @@ use Rattle.std.proofs.Common.{◌≡◌, ℕ, zero, suc, ◌+◌, ◌≤◌, ◌
 use Rattle.std.specs.List.{filter, find, AllByRecursion}
 use Rattle.std.specs.Map.{lookup, set_value}
 use Rattle.std.specs.Option.{option_map}
-use Rattle.std.proofs.lemmas.Bool.{and_parts, leb-true, leb-false, lt-leb, eqb-true, eqb-false}
+use Rattle.std.proofs.lemmas.Bool.{and_parts, leb-true, leb-false, lt-leb}
 use Rattle.std.proofs.lemmas.Option.{slice_get-map}
 use Rattle.indexmap.specs.IndexMap.{set_value_at}
 use Rattle.exec_msg.specs.Lists.{change_first}
 use Rattle.exec_msg.specs.declared.limits.TheConstants.{GOALS}
 use Rattle.exec_goal.proofs.Entries.{found-in, changed-in, change_first-same}
 use Rattle.exec_goal.proofs.Looping.{records-set_value_at}
-use Rattle.exec_goal.specs.Calls.{IsFirst}
-use Rattle.exec_goal.specs.Held.{record_of, records_of}
-use Rattle.exec_goal.specs.State.{is_worked_on, is_terminal}
-use Rattle.exec_goal.specs.Table.{GoalRecord, has_id, working, is_expired, expired}
+use Rattle.exec_goal.specs.inner.Places.{IsFirst}
+use Rattle.exec_goal.specs.inner.Held.{record_of, records_of}
+use Rattle.exec_goal.specs.Cancel.{after_answer_by}
+use Rattle.exec_goal.specs.State.{is_cancelable, is_worked_on, is_terminal}
+use Rattle.exec_msg.specs.declared.goal.Event.TheVariants as event
+use Rattle.exec_goal.specs.Table.{GoalRecord, after_event, has_id, working, is_expired, expired}
 use Rattle.exec_goal.specs.declared.held.GoalEntry.{GoalEntry}
 use Rattle.exec_goal.specs.declared.state.State.{State}
 use Rattle.exec_goal.specs.declared.state.State.TheVariants as state
 use Rattle.exec_goal.specs.declared.tally.Tally.{Tally}
-use Rattle.exec_goal.specs.inner.Tally.{one_where, first_with, first_with_goal, may_expire, CountsMove, EndsFrom, IsTallied}
+use Rattle.exec_goal.proofs.EndedPlaces.{IsWalked, next-walked, flag-at, flag-within, flags-remove, flags-set, flags-append, length-flags, room-places, last-there, set-last, places-append}
+use Rattle.exec_goal.specs.inner.Ended.{flagged_places, ended_flags, ended_places}
+use Rattle.exec_goal.specs.inner.Tally.{one_where, first_with, first_with_goal, may_expire, CountsMove, NotesEnd, EndsFrom, IsTallied}
 
 -- ---- how many goals are worked on
 
@@ -94,6 +98,10 @@ module _ (old new : GoalRecord) where
   replaced-length _ _ (here goals) = refl
   replaced-length _ _ (later goal goals others replaced) = ap suc (replaced-length goals others replaced)
 
+  replaced-flags : (goals others : List GoalRecord) → Replaced old new goals others → is_terminal new.state ≡ is_terminal old.state → ended_flags others ≡ ended_flags goals
+  replaced-flags _ _ (here goals) same = ap (λ flag. flag ∷ ended_flags goals) same
+  replaced-flags _ _ (later goal goals others replaced) same = ap (λ flags. is_terminal goal.state ∷ flags) (replaced-flags goals others replaced same)
+
   replaced-ends : (b : Bool) (ended : ℕ) (first : Option ℕ) (goals others : List GoalRecord) → EndsFrom (first_with b ended first) new → Replaced old new goals others →
       AllByRecursion (EndsFrom first) goals → AllByRecursion (EndsFrom (first_with b ended first)) others
   replaced-ends b ended first _ _ ends-new (here goals) ends = (ends-new, all-weaker b ended first goals ends.1)
@@ -101,11 +109,12 @@ module _ (old new : GoalRecord) where
 
   -- the tally after it
   pub tallied-replaced : (before after : Tally) (goals others : List GoalRecord) → Replaced old new goals others → CountsMove old.state new.state new.ended before after →
-      IsTallied before goals → IsTallied after others
-  tallied-replaced before after goals others replaced counts tallied = record {
+      after.ended ≡ ended_places others → IsTallied before goals → IsTallied after others
+  tallied-replaced before after goals others replaced counts ended tallied = record {
     counted = omega (arith, tallied.counted, counts.working, replaced-working goals others replaced);
     ends = subst (λ first. AllByRecursion (EndsFrom first) others) (sym counts.first)
         (replaced-ends (is_terminal new.state) new.ended before.first_end goals others (ends-here (is_terminal new.state) before.first_end new refl) replaced tallied.ends);
+    ended = ended;
     within = omega (arith, tallied.within, replaced-length goals others replaced);
   }
 
@@ -145,16 +154,44 @@ length-append : (goals : List GoalRecord) (goal : GoalRecord) → length (goals 
 length-append [] goal = refl
 length-append (one ∷ goals) goal = ap suc (length-append goals goal)
 
+-- a new goal behind the others
+ended_behind : (place : ℕ) (goals : List GoalRecord) (goal : GoalRecord) (old new : List ℕ) → place ≡ length goals → NotesEnd place state.Accepted goal.state old new → old ≡ ended_places goals → new ≡ ended_places (goals ++ goal ∷ [])
+ended_behind place goals goal old new last notes are =
+    let flags = ended_flags goals in
+    let end : place ≡ length flags = last ∙ sym (length-flags goals) in
+    notes (flags ++ false ∷ []) (ap (slice_get (flags ++ false ∷ [])) end ∙ last-there flags false) (are ∙ sym (places-append flags 0))
+    ∙ ap (λ (i : ℕ). flagged_places (slice_set (flags ++ false ∷ []) i (is_terminal goal.state))) end
+    ∙ ap flagged_places (set-last flags false (is_terminal goal.state) ∙ sym (flags-append goals goal))
+
 -- a new goal, which counts as one that was ACCEPTED
-pub tallied-accepted : (before after : Tally) (goals : List GoalRecord) (goal : GoalRecord) → length goals < GOALS → CountsMove state.Accepted goal.state goal.ended before after →
-    IsTallied before goals → IsTallied after (goals ++ goal ∷ [])
-tallied-accepted before after goals goal room counts tallied = record {
+pub tallied-accepted : (before after : Tally) (goals : List GoalRecord) (goal : GoalRecord) (place : ℕ) → place ≡ length goals → length goals < GOALS → CountsMove state.Accepted goal.state goal.ended before after →
+    NotesEnd place state.Accepted goal.state before.ended after.ended → IsTallied before goals → IsTallied after (goals ++ goal ∷ [])
+tallied-accepted before after goals goal place last room counts notes tallied = record {
   counted = omega (arith, tallied.counted, counts.working, working-append goals goal);
   ends = subst (λ first. AllByRecursion (EndsFrom first) (goals ++ goal ∷ [])) (sym counts.first)
       (ends-append (first_with (is_terminal goal.state) goal.ended before.first_end) goals goal (all-weaker (is_terminal goal.state) goal.ended before.first_end goals tallied.ends)
       (ends-here (is_terminal goal.state) before.first_end goal refl));
+  ended = ended_behind place goals goal before.ended after.ended last notes tallied.ended;
   within = omega (arith, room, length-append goals goal);
 }
+
+uncancelable : (held : State) → is_terminal held ≡ true → is_cancelable held ≡ false
+uncancelable state.Accepted is = absurd cc
+uncancelable state.Executing is = absurd cc
+uncancelable state.Canceling is = refl
+uncancelable state.Succeeded is = refl
+uncancelable state.Canceled is = refl
+uncancelable state.Aborted is = refl
+
+and_false : (b : Bool) → (b && false) ≡ false
+and_false true = refl
+and_false false = refl
+
+-- an answer to a cancel request leaves a goal that has ended so
+pub answered-ended : (accepted : Bool) (goal : GoalRecord) → is_terminal goal.state ≡ true → is_terminal (after_answer_by (λ _. accepted) goal).state ≡ true
+answered-ended accepted goal ended =
+    ap (λ (moves : Bool). is_terminal (if moves then after_event event.CancelGoal goal else goal).state) (ap (λ (b : Bool). accepted && b) (uncancelable goal.state ended) ∙ and_false accepted)
+    ∙ ended
 
 idle_ended : (before : State) → is_terminal before ≡ true → one_where (is_worked_on before) ≡ 0
 idle_ended state.Accepted is = absurd cc
@@ -182,14 +219,25 @@ removed-length [] (suc i) = omega arith
 removed-length (goal ∷ goals) zero = omega arith
 removed-length (goal ∷ goals) (suc i) = omega (arith, removed-length goals i)
 
+-- a goal that has ended is forgotten
+ended_left : (goals : List GoalRecord) (i : ℕ) (old left : List ℕ) → i < length goals → ((d : GoalRecord) → is_terminal (get_or goals i d).state ≡ true) →
+    ((flags : List Bool) → old ≡ flagged_places flags → slice_get flags i ≡ Some true → left ≡ flagged_places (remove flags i)) → old ≡ ended_places goals → left ≡ ended_places (remove goals i)
+ended_left [] i old left within ended forgets are = absurd (omega (arith, within))
+ended_left (goal ∷ goals) i old left within ended forgets are =
+    forgets (ended_flags (goal ∷ goals)) are (flag-at (goal ∷ goals) i goal within ∙ ap Some (ended goal))
+    ∙ ap flagged_places (sym (flags-remove (goal ∷ goals) i))
+
 -- a goal that has expired is taken out
-pub tallied-removed : (moment timeout : ℕ) (tally : Tally) (goals : List GoalRecord) (i : ℕ) → IsFirst (is_expired moment (Some timeout)) goals i → IsTallied tally goals → IsTallied tally (remove goals i)
-tallied-removed moment timeout tally goals i first tallied =
+pub tallied-removed : (moment timeout : ℕ) (tally : Tally) (goals : List GoalRecord) (i : ℕ) (left : List ℕ) → IsFirst (is_expired moment (Some timeout)) goals i →
+    ((flags : List Bool) → tally.ended ≡ flagged_places flags → slice_get flags i ≡ Some true → left ≡ flagged_places (remove flags i)) →
+    IsTallied tally goals → IsTallied (record tally { ended = left }) (remove goals i)
+tallied-removed moment timeout tally goals i left first forgets tallied =
     let ended : (d : GoalRecord) → is_terminal (get_or goals i d).state ≡ true =
     λ d. (and_parts (is_terminal (get_or goals i d).state) (nat_le ((get_or goals i d).ended + timeout) moment) (first.passes d)).0 in
     record {
       counted = omega (arith, tallied.counted, removed-working goals i first.within ended);
       ends = removed-ends tally.first_end goals i tallied.ends;
+      ended = ended_left goals i tally.ended left first.within ended forgets tallied.ended;
       within = omega (arith, tallied.within, removed-length goals i);
     }
 
@@ -219,20 +267,19 @@ unexpired (Some first) moment timeout (goal ∷ goals) is ends =
 
 -- ---- the first end is looked up
 
--- one more goal is looked at
-pub next-ends : (goals : List GoalRecord) (i : ℕ) (first next : Option ℕ) → ((d : GoalRecord) → next ≡ first_with_goal (get_or goals i d) first) →
-    ((k : ℕ) (d : GoalRecord) → k < i → EndsFrom first (get_or goals k d)) → (k : ℕ) (d : GoalRecord) → k < i + 1 → EndsFrom next (get_or goals k d)
-next-ends goals i first next is ends k d below = by (k == i) refl
-  where
-    by : (b : Bool) → (k == i) ≡ b → EndsFrom next (get_or goals k d)
-    by true same =
-        let goal = get_or goals i d in
-        subst (λ k. EndsFrom next (get_or goals k d)) (sym (eqb-true k i same))
-        (subst (λ next. EndsFrom next goal) (sym (is d)) (ends-here (is_terminal goal.state) first goal refl))
-    by false other =
-        let goal = get_or goals i d in
-        subst (λ next. EndsFrom next (get_or goals k d)) (sym (is d))
-        (ends-weaker (is_terminal goal.state) goal.ended first (get_or goals k d) (ends k d (omega (arith, below, eqb-false k i other))))
+-- one more goal that has ended is looked at
+pub next-ends : (goals : List GoalRecord) (i place : ℕ) (first next : Option ℕ) → slice_get (ended_places goals) i ≡ Some place → ((d : GoalRecord) → next ≡ first_with_goal (get_or goals place d) first) →
+    IsWalked (EndsFrom first) goals i → IsWalked (EndsFrom next) goals (i + 1)
+next-ends goals i place first next there is walked =
+    next-walked (EndsFrom next) goals i place there
+    (λ d. subst (λ next. EndsFrom next (get_or goals place d)) (sym (is d)) (ends-here (is_terminal (get_or goals place d).state) first (get_or goals place d) refl))
+    (λ j other d below at. subst (λ next. EndsFrom next (get_or goals other d)) (sym (is d))
+    (ends-weaker (is_terminal (get_or goals place d).state) (get_or goals place d).ended first (get_or goals other d) (walked j other d below at)))
+
+-- a goal that hasn't ended ends after each moment
+pub ends-idle : (first : Option ℕ) (goal : GoalRecord) → is_terminal goal.state ≡ false → EndsFrom first goal
+ends-idle None goal is = is
+ends-idle (Some first) goal is = λ ended. absurd cc
 
 -- all were looked at
 pub all-ends : (first : Option ℕ) (goals : List GoalRecord) → ((k : ℕ) (d : GoalRecord) → k < length goals → EndsFrom first (get_or goals k d)) → AllByRecursion (EndsFrom first) goals
@@ -254,14 +301,15 @@ module _ (test : ℕ → Bool) (id : ℕ) (same : (key : ℕ) → test key ≡ (
       (replaced-first (has_id id) (λ _. goal) goal (records_of entries) (found-in test id same entries (records_of entries) (Some held) refl found)) tallied
 
   -- another value is written in its place
-  pub tallied-in : (after : GoalEntry) (set : List (ℕ × GoalEntry)) (old new : Tally) → set ≡ set_value test entries after → CountsMove held.state after.state after.ended old new →
-      IsTallied old (records_of entries) → IsTallied new (records_of set)
-  tallied-in after set old new is counts tallied =
+  pub tallied-in : (after : GoalEntry) (set : List (ℕ × GoalEntry)) (tally : Tally) → set ≡ set_value test entries after → CountsMove held.state after.state after.ended tally tally →
+      is_terminal after.state ≡ is_terminal held.state → IsTallied tally (records_of entries) → IsTallied tally (records_of set)
+  tallied-in after set tally is counts same_end tallied =
       let goal = record_of (id, held) in
       let other = record_of (id, after) in
-      subst (λ goals. IsTallied new goals) (sym (changed-in test id same (λ _. other) held after refl entries set (records_of entries) refl found is))
-      (tallied-replaced goal other old new (records_of entries) _
-      (replaced-first (has_id id) (λ _. other) goal (records_of entries) (found-in test id same entries (records_of entries) (Some held) refl found)) counts tallied)
+      let replaced = replaced-first (has_id id) (λ _. other) goal (records_of entries) (found-in test id same entries (records_of entries) (Some held) refl found) in
+      subst (λ goals. IsTallied tally goals) (sym (changed-in test id same (λ _. other) held after refl entries set (records_of entries) refl found is))
+      (tallied-replaced goal other tally tally (records_of entries) _ replaced counts
+      (tallied.ended ∙ ap flagged_places (sym (replaced-flags goal other (records_of entries) _ replaced same_end))) tallied)
 
   -- it is written back as it was
   pub tallied-kept : (set : List (ℕ × GoalEntry)) (tally : Tally) → set ≡ set_value test entries held → IsTallied tally (records_of entries) → IsTallied tally (records_of set)
@@ -274,11 +322,25 @@ module _ (entries : List (ℕ × GoalEntry)) (i : ℕ) (entry : ℕ × GoalEntry
   goal-at : slice_get (records_of entries) i ≡ Some (record_of entry)
   goal-at = slice_get-map record_of entries i ∙ ap (option_map record_of) found
 
+  flag-of : slice_get (ended_flags (records_of entries)) i ≡ Some (is_terminal entry.1.state)
+  flag-of = slice_get-map (λ (goal : GoalRecord). is_terminal goal.state) (records_of entries) i ∙ ap (option_map (λ (goal : GoalRecord). is_terminal goal.state)) goal-at
+
+  -- where the goal hasn't ended there is room for its place
+  pub room-at : (tally : Tally) → IsTallied tally (records_of entries) → is_terminal entry.1.state ≡ false → (i < GOALS) × (length tally.ended < GOALS)
+  room-at tally tallied is =
+      let goals = records_of entries in
+      let flag = flag-of ∙ ap Some is in (
+        omega (arith, flag-within goals i false flag, tallied.within),
+        omega (arith, ap length tallied.ended, room-places (ended_flags goals) 0 i flag, length-flags goals, tallied.within),
+      )
+
   pub counted-at : (tally : Tally) → IsTallied tally (records_of entries) → one_where (is_worked_on entry.1.state) ≤ tally.working
   counted-at tally tallied = tallied-counted (record_of entry) (record_of entry) tally (records_of entries) _ (replaced-at (record_of entry) (record_of entry) (records_of entries) i goal-at) tallied
 
-  pub tallied-at : (after : GoalEntry) (old new : Tally) → CountsMove entry.1.state after.state after.ended old new → IsTallied old (records_of entries) → IsTallied new (records_of (set_value_at entries i after))
-  tallied-at after old new counts tallied =
+  pub tallied-at : (after : GoalEntry) (old new : Tally) → CountsMove entry.1.state after.state after.ended old new → NotesEnd i entry.1.state after.state old.ended new.ended →
+      IsTallied old (records_of entries) → IsTallied new (records_of (set_value_at entries i after))
+  tallied-at after old new counts notes tallied =
       let other = record_of (entry.0, after) in
       subst (λ goals. IsTallied new goals) (sym (records-set_value_at entries i entry after found))
-      (tallied-replaced (record_of entry) other old new (records_of entries) _ (replaced-at (record_of entry) other (records_of entries) i goal-at) counts tallied)
+      (tallied-replaced (record_of entry) other old new (records_of entries) _ (replaced-at (record_of entry) other (records_of entries) i goal-at) counts
+      (notes (ended_flags (records_of entries)) flag-of tallied.ended ∙ ap flagged_places (sym (flags-set (records_of entries) i other))) tallied)

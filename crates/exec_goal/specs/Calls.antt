@@ -1,7 +1,8 @@
 -- What the calls on a server's table of goals answer, and the table after them.
-use Rattle.std.specs.Prelude.{◌≡◌, ℕ, ◌<◌, List, [], length, slice_index_or, ◌==◌, Bool, true, false, if◌then◌else◌, Option, None, Some}
-use Rattle.std.specs.List.{find, list_any}
+use Rattle.std.specs.Prelude.{ℕ, List, [], if◌then◌else◌, Option, None, Some}
+use Rattle.std.specs.List.{find}
 use Rattle.std.specs.Option.{option_map}
+use Rattle.exec_msg.specs.Numbers.{EntityNo, GoalId, Moment, Ticks}
 use Rattle.exec_msg.specs.Lists.{change_first, drop_first}
 use Rattle.exec_msg.specs.declared.goal.Event.{Event}
 use Rattle.exec_goal.specs.State.{after, is_terminal}
@@ -11,15 +12,15 @@ use Rattle.exec_goal.specs.declared.refusals.Reject.TheVariants as reject
 use Rattle.exec_goal.specs.declared.state.State.{State}
 
 -- the state of the goal of an identifier
-abbrev pub state_in : ℕ → List GoalRecord → Option State
+abbrev pub state_in : GoalId → List GoalRecord → Option State
 state_in id goals = option_map (λ goal. goal.state) (find (has_id id) goals)
 
 -- the action clients that asked for the result of the goal of an identifier, of which there are none where it isn't held
-abbrev pub askers_of : Option GoalRecord → List ℕ
+abbrev pub askers_of : Option GoalRecord → List EntityNo
 askers_of None = []
 askers_of (Some goal) = goal.askers
 
-abbrev pub askers_in : ℕ → List GoalRecord → List ℕ
+abbrev pub askers_in : GoalId → List GoalRecord → List EntityNo
 askers_in id goals = askers_of (find (has_id id) goals)
 
 -- the state that an event leads to, where there is a state and such a transition
@@ -33,35 +34,25 @@ where_terminal None = None
 where_terminal (Some reached) = if is_terminal reached then Some reached else None
 
 -- the state that an event moves the goal of an identifier to
-abbrev pub next_state : ℕ → Event → List GoalRecord → Option State
+abbrev pub next_state : GoalId → Event → List GoalRecord → Option State
 next_state id event goals = moved_to event (state_in id goals)
 
 -- the terminal state in which an event ends the goal of an identifier
-abbrev pub end_state : ℕ → Event → List GoalRecord → Option State
+abbrev pub end_state : GoalId → Event → List GoalRecord → Option State
 end_state id event goals = where_terminal (next_state id event goals)
 
 -- the table after a result request that is told so: where the result comes later, the client is noted
-abbrev pub noted : Asked → ℕ → ℕ → List GoalRecord → List GoalRecord
+abbrev pub noted : Asked → GoalId → EntityNo → List GoalRecord → List GoalRecord
 noted (told status value) id client goals = goals
 noted later id client goals = change_first (has_id id) (asked_by client) goals
 noted unknown id client goals = goals
 
-abbrev pub after_asking : ℕ → ℕ → List GoalRecord → List GoalRecord
+abbrev pub after_asking : GoalId → EntityNo → List GoalRecord → List GoalRecord
 after_asking id client goals = noted (asked_for id goals) id client goals
 
 -- the table without the first goal that has expired
-abbrev pub after_expiry : ℕ → Option ℕ → List GoalRecord → List GoalRecord
+abbrev pub after_expiry : Moment → Option Ticks → List GoalRecord → List GoalRecord
 after_expiry moment timeout goals = drop_first (is_expired moment timeout) goals
-
--- the place of the first element that passes a test
-pub record IsFirst {A : Type 0} (test : A → Bool) (xs : List A) (place : ℕ) : Type 0 where
-  pub within : place < length xs
-  pub passes : (d : A) → test (slice_index_or xs place d) ≡ true
-  pub before : (k : ℕ) (d : A) → k < place → test (slice_index_or xs k d) ≡ false
-
--- identifiers that are accepted for cancelling, as a list
-abbrev pub is_among : List ℕ → ℕ → Bool
-is_among ids id = list_any (λ one. one == id) ids
 
 -- the numbers of refusals
 abbrev pub reject_number : Reject → ℕ

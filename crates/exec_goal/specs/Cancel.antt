@@ -1,6 +1,7 @@
 -- Cancel requests: `action_msgs/srv/CancelGoal`.
 use Rattle.std.specs.Prelude.{ℕ, zero, suc, List, [], ◌∷◌, map, Bool, true, false, not, ◌&&◌, ◌||◌, ◌==◌, nat_le, if◌then◌else◌, Option, None, Some}
 use Rattle.std.specs.List.{find, filter, list_any}
+use Rattle.exec_msg.specs.Numbers.{GoalId, Moment}
 use Rattle.exec_msg.specs.declared.goal.Event.TheVariants as event
 use Rattle.exec_msg.specs.declared.goal.ReturnCode.{ReturnCode}
 use Rattle.exec_msg.specs.declared.goal.ReturnCode.TheVariants as code
@@ -9,12 +10,12 @@ use Rattle.exec_goal.specs.Table.{GoalRecord, has_id, after_event}
 
 -- a cancel request: an identifier and a stamp in ticks, of which 0 is none
 pub record CancelRequest : Type 0 where
-  pub id : ℕ
-  pub stamp : ℕ
+  pub id : GoalId
+  pub stamp : Moment
 
 -- the policy: with neither all goals; with a stamp all goals accepted at or before it; with an identifier that goal,
 -- whenever accepted; with both that goal and all goals accepted at or before the stamp
-abbrev pub selects : ℕ → ℕ → GoalRecord → Bool
+abbrev pub selects : GoalId → Moment → GoalRecord → Bool
 selects zero zero goal = true
 selects zero (suc before) goal = nat_le goal.stamp (suc before)
 selects (suc id) zero goal = has_id (suc id) goal
@@ -28,20 +29,28 @@ is_candidate request goal = selects request.id request.stamp goal && is_cancelab
 abbrev pub candidates : CancelRequest → List GoalRecord → List GoalRecord
 candidates request goals = filter (is_candidate request) goals
 
--- what a cancel handler decided: a candidate's identifier, and its decision
+-- what a cancel handler decided of a candidate
 abbrev pub Decided : Type 0
-Decided = ℕ × ℕ
+Decided = GoalId × ℕ
+
+-- the candidate's identifier
+abbrev pub decided_goal : Decided → GoalId
+decided_goal decided = decided.0
+
+-- the decision
+abbrev pub decision_of : Decided → ℕ
+decision_of decided = decided.1
 
 -- a decision that accepts: ACCEPT is 2, and any other number rejects
 abbrev pub is_acceptance : Decided → Bool
-is_acceptance decided = decided.1 == 2
+is_acceptance decided = decision_of decided == 2
 
 -- whether the goal of an identifier is accepted for cancelling
-abbrev pub is_accepted_for : List Decided → ℕ → Bool
-is_accepted_for decisions id = list_any (λ decided. (decided.0 == id) && is_acceptance decided) decisions
+abbrev pub is_accepted_for : List Decided → GoalId → Bool
+is_accepted_for decisions id = list_any (λ decided. (decided_goal decided == id) && is_acceptance decided) decisions
 
 -- an accepted candidate moves where it still may, by which identifiers are accepted
-abbrev pub moves_by : (ℕ → Bool) → GoalRecord → Bool
+abbrev pub moves_by : (GoalId → Bool) → GoalRecord → Bool
 moves_by accepts goal = accepts goal.id && is_cancelable goal.state
 
 -- whether a goal moves by the decisions
@@ -53,7 +62,7 @@ abbrev pub moved : List Decided → List GoalRecord → List GoalRecord
 moved decisions goals = filter (is_moved decisions) goals
 
 -- a goal after the answer, by which identifiers are accepted
-abbrev pub after_answer_by : (ℕ → Bool) → GoalRecord → GoalRecord
+abbrev pub after_answer_by : (GoalId → Bool) → GoalRecord → GoalRecord
 after_answer_by accepts goal = if moves_by accepts goal then after_event event.CancelGoal goal else goal
 
 -- a goal after the answer
@@ -66,7 +75,7 @@ table_after decisions goals = map (after_answer decisions) goals
 
 -- the code where no goal moved, by the goal that the request's identifier names: unknown where there is none, terminated
 -- where it has ended, and else rejected
-abbrev pub code_by : ℕ → Option GoalRecord → ReturnCode
+abbrev pub code_by : GoalId → Option GoalRecord → ReturnCode
 code_by zero named = code.Rejected
 code_by (suc id) None = code.UnknownGoalId
 code_by (suc id) (Some goal) = if is_terminal goal.state then code.GoalTerminated else code.Rejected

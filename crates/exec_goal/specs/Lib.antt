@@ -1,7 +1,6 @@
 pub mod Calls
 pub mod Cancel
 pub mod Examples
-pub mod Held
 pub mod Info
 pub mod LawWords
 pub mod State

@@ -42,44 +42,28 @@ status_of state.Aborted = status.Aborted
 -- a goal that is accepted and not executed yet
 abbrev pub is_accepted : State → Bool
 is_accepted state.Accepted = true
-is_accepted state.Executing = false
-is_accepted state.Canceling = false
-is_accepted state.Succeeded = false
-is_accepted state.Canceled = false
-is_accepted state.Aborted = false
+is_accepted _ = false
 
 -- a goal that a cancel request may move
 abbrev pub is_cancelable : State → Bool
 is_cancelable state.Accepted = true
 is_cancelable state.Executing = true
-is_cancelable state.Canceling = false
-is_cancelable state.Succeeded = false
-is_cancelable state.Canceled = false
-is_cancelable state.Aborted = false
+is_cancelable _ = false
 
 -- a goal that is being canceled
 abbrev pub is_canceling : State → Bool
-is_canceling state.Accepted = false
-is_canceling state.Executing = false
 is_canceling state.Canceling = true
-is_canceling state.Succeeded = false
-is_canceling state.Canceled = false
-is_canceling state.Aborted = false
+is_canceling _ = false
 
 -- a goal that the server works on
 abbrev pub is_worked_on : State → Bool
-is_worked_on state.Accepted = false
 is_worked_on state.Executing = true
 is_worked_on state.Canceling = true
-is_worked_on state.Succeeded = false
-is_worked_on state.Canceled = false
-is_worked_on state.Aborted = false
+is_worked_on _ = false
 
 -- a goal that has ended
 abbrev pub is_terminal : State → Bool
-is_terminal state.Accepted = false
-is_terminal state.Executing = false
-is_terminal state.Canceling = false
 is_terminal state.Succeeded = true
 is_terminal state.Canceled = true
 is_terminal state.Aborted = true
+is_terminal _ = false

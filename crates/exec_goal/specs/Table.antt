@@ -2,6 +2,7 @@
 use Rattle.std.specs.Prelude.{◌≢◌, ℕ, ℤ, pos, ◌+◌, List, [], ◌∷◌, ◌++◌, length, Bool, false, not, ◌&&◌, ◌==◌, nat_le, if◌then◌else◌, Option, None, Some, AllPairs}
 use Rattle.std.specs.Option.{unwrap_or}
 use Rattle.std.specs.List.{find, filter, list_any}
+use Rattle.exec_msg.specs.Numbers.{EntityNo, GoalId, Moment, Ticks}
 use Rattle.exec_msg.specs.declared.goal.Event.{Event}
 use Rattle.exec_msg.specs.declared.goal.Event.TheVariants as event
 use Rattle.exec_msg.specs.declared.goal.GoalStatus.{GoalStatus}
@@ -13,20 +14,20 @@ use Rattle.exec_goal.specs.declared.state.State.TheVariants as state
 -- a goal: its identifier, its value, the moment of its acceptance, its state, its result and the moment of its end (its
 -- stamp until it ends), and the action clients that asked for its result, in that order
 pub record GoalRecord : Type 0 where
-  pub id : ℕ
+  pub id : GoalId
   pub value : ℤ
-  pub stamp : ℕ
+  pub stamp : Moment
   pub state : State
   pub result : ℤ
-  pub ended : ℕ
-  pub askers : List ℕ
+  pub ended : Moment
+  pub askers : List EntityNo
 
 -- whether a goal has this identifier
-abbrev pub has_id : ℕ → GoalRecord → Bool
+abbrev pub has_id : GoalId → GoalRecord → Bool
 has_id id goal = goal.id == id
 
 -- whether the table holds a goal of this identifier
-abbrev pub holds_id : ℕ → List GoalRecord → Bool
+abbrev pub holds_id : GoalId → List GoalRecord → Bool
 holds_id id goals = list_any (has_id id) goals
 
 -- no two goals of the table have one identifier
@@ -54,11 +55,11 @@ abbrev pub accepted_state : ℕ → State
 accepted_state decision = if decision == 2 then moved_by event.Execute state.Accepted else state.Accepted
 
 -- a goal that is accepted at a moment
-abbrev pub new_goal : ℕ → ℤ → ℕ → ℕ → GoalRecord
+abbrev pub new_goal : GoalId → ℤ → Moment → ℕ → GoalRecord
 new_goal id value moment decision = record { id = id; value = value; stamp = moment; state = accepted_state decision; result = pos 0; ended = moment; askers = [] }
 
 -- a goal accepted by decision 2 or 3 stands at the end of the table
-abbrev pub with_accepted : ℕ → ℤ → ℕ → ℕ → List GoalRecord → List GoalRecord
+abbrev pub with_accepted : GoalId → ℤ → Moment → ℕ → List GoalRecord → List GoalRecord
 with_accepted id value moment decision goals = goals ++ new_goal id value moment decision ∷ []
 
 -- a goal after an event
@@ -66,20 +67,20 @@ abbrev pub after_event : Event → GoalRecord → GoalRecord
 after_event event goal = record goal { state = moved_by event goal.state }
 
 -- a goal that an event ends at a moment, with its result
-abbrev pub after_end : Event → ℤ → ℕ → GoalRecord → GoalRecord
+abbrev pub after_end : Event → ℤ → Moment → GoalRecord → GoalRecord
 after_end event value moment goal = record goal { state = moved_by event goal.state; result = value; ended = moment }
 
 -- whether a server that keeps results for so many ticks forgets a goal at a moment; without a timeout it never does
-abbrev pub is_expired : ℕ → Option ℕ → GoalRecord → Bool
+abbrev pub is_expired : Moment → Option Ticks → GoalRecord → Bool
 is_expired moment None goal = false
 is_expired moment (Some timeout) goal = is_terminal goal.state && nat_le (goal.ended + timeout) moment
 
 -- the goals that it forgets, in order of acceptance
-abbrev pub expired : ℕ → Option ℕ → List GoalRecord → List GoalRecord
+abbrev pub expired : Moment → Option Ticks → List GoalRecord → List GoalRecord
 expired moment timeout goals = filter (is_expired moment timeout) goals
 
 -- the goals that it keeps
-abbrev pub unexpired : ℕ → Option ℕ → List GoalRecord → List GoalRecord
+abbrev pub unexpired : Moment → Option Ticks → List GoalRecord → List GoalRecord
 unexpired moment timeout goals = filter (λ goal. not (is_expired moment timeout goal)) goals
 
 -- what a result request is told: a goal's status and result, that the goal hasn't ended, or that there is no such goal
@@ -94,9 +95,9 @@ answer_to None = unknown
 answer_to (Some goal) = if is_terminal goal.state then told (status_of goal.state) goal.result else later
 
 -- what a result request for an identifier is told
-abbrev pub asked_for : ℕ → List GoalRecord → Asked
+abbrev pub asked_for : GoalId → List GoalRecord → Asked
 asked_for id goals = answer_to (find (has_id id) goals)
 
 -- a goal whose result another action client has asked for
-abbrev pub asked_by : ℕ → GoalRecord → GoalRecord
+abbrev pub asked_by : EntityNo → GoalRecord → GoalRecord
 asked_by client goal = record goal { askers = goal.askers ++ client ∷ [] }

@@ -1,1 +1,5 @@
+pub mod Ended
+pub mod Held
+pub mod Ids
+pub mod Places
 pub mod Tally

@@ -1,6 +1,6 @@
 ghost use Rattle.std.specs.Prelude.{◌≡◌, ℕ, IfOk};
 ghost use Rattle.std.specs.List.{list_any};
-ghost use Rattle.exec_goal.specs.Calls.{is_among};
+ghost use Rattle.exec_goal.specs.inner.Ids.{is_among};
 ghost use Rattle.exec_goal.specs.Cancel.{selects, is_candidate, is_acceptance, is_accepted_for, is_refused, moves_by};
 ghost use Rattle.exec_goal.specs.Info.{info_of};
 ghost use Rattle.exec_goal.specs.Table.{GoalRecord};
@@ -119,5 +119,5 @@ pub(crate) fn is_refused(decisions: &[(GoalId, u8)]) -> bool
 fn accepts_any(decisions: &[(GoalId, u8)]) -> bool
     ensures { result ≡ list_any is_acceptance decisions.now }
 {
-    decisions.iter().any(|decided| decided.1 == ACCEPT)
+    decisions.iter().any(|&(_, decision)| decision == ACCEPT)
 }

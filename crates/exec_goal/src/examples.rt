@@ -34,7 +34,7 @@ pub fn accepted_goals()
 {}
 
 /// A stamp of 20 selects the goals that were accepted at 10 and 20, of which the first is accepted for cancelling.
-pub fn canceled_before_a_stamp()
+pub fn cancel_before_a_stamp()
     ensures candidates { map (λ goal. goal.id) (candidates cancel_until_20 three_goals) ≡ 1 ∷ 2 ∷ [] }
     ensures code { code_of cancel_until_20 one_accepted three_goals ≡ code.None }
     ensures moved { map (λ goal. goal.id) (moved one_accepted three_goals) ≡ 1 ∷ [] }
@@ -42,7 +42,7 @@ pub fn canceled_before_a_stamp()
 {}
 
 /// A goal that is CANCELING already is no candidate, and the request is rejected.
-pub fn canceled_again()
+pub fn cancel_again()
     ensures candidates { candidates cancel_1 one_canceling ≡ [] }
     ensures code { code_of cancel_1 [] one_canceling ≡ code.Rejected }
     ensures moved { moved [] one_canceling ≡ [] }

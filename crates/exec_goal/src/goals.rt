@@ -25,7 +25,7 @@ pub struct Goals {
 
 impl Model for Goals {
     ghost use Rattle.std.specs.Prelude.{List};
-    ghost use Rattle.exec_goal.specs.Held.{records_of};
+    ghost use Rattle.exec_goal.specs.inner.Held.{records_of};
     ghost use Rattle.exec_goal.specs.Table.{GoalRecord};
     ghost use Rattle.exec_goal.specs.inner.Tally.{IsTallied};
 
@@ -85,7 +85,7 @@ impl Goals {
 
     /// How many of the goals the server works on: those that are EXECUTING or CANCELING. It looks
     /// at no goal.
-    pub fn working(&self) -> usize
+    pub fn count_working(&self) -> usize
         ensures { result ≡ working self.now }
     {
         self.tally.working
@@ -123,7 +123,7 @@ impl Goals {
         ensures accepted { OnOk result (self.new ≡ with_accepted id value moment decision self.old) }
         ensures held { (result ≡ Err reject.Held) ↔ (holds_id id self.old ≡ true) }
         ensures full { (result ≡ Err reject.Full) ↔ ((holds_id id self.old ≡ false) × (is_full self.old ≡ true)) }
-        ensures refused { OnErr result (self.new ≡ self.old) }
+        ensures unchanged { OnErr result (self.new ≡ self.old) }
     {
         if self.holds(id) {
             return Err(Reject::Held);
@@ -131,10 +131,11 @@ impl Goals {
         if self.is_full() {
             return Err(Reject::Full);
         }
-        let goal = GoalEntry::accepted(self.alloc, value, moment, decision);
+        let goal = GoalEntry::new(self.alloc, value, moment, decision);
         let state = goal.state;
+        let place = self.len();
         self.held.insert(id, goal)?;
-        self.tally.count_move(State::Accepted, state, moment);
+        self.tally.count_move(place, State::Accepted, state, moment);
         Ok(Accepted { state })
     }
 }

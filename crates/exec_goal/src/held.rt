@@ -25,12 +25,12 @@ const ACCEPT_AND_EXECUTE: u8 = 2;
 impl GoalEntry {
     ghost use Rattle.std.specs.Prelude.{◌≡◌, ℕ, Some};
     ghost use Rattle.exec_goal.specs.Cancel.{after_answer_by};
-    ghost use Rattle.exec_goal.specs.Held.{record_of};
+    ghost use Rattle.exec_goal.specs.inner.Held.{record_of};
     ghost use Rattle.exec_goal.specs.Info.{info_of};
     ghost use Rattle.exec_goal.specs.Table.{accepted_state, new_goal, is_expired};
 
     // A goal that is accepted at a moment by decision 2 or 3. It takes no memory.
-    pub(crate) fn accepted(alloc: Global, value: i64, moment: Moment, decision: u8) -> GoalEntry
+    pub(crate) fn new(alloc: Global, value: i64, moment: Moment, decision: u8) -> GoalEntry
         ensures stands_for { (id : ℕ) → record_of (id, result) ≡ new_goal id value moment decision }
         ensures state { result.state ≡ accepted_state decision }
     {

@@ -3,7 +3,7 @@
 
 ghost use Rattle.std.specs.Prelude.{◌≡◌, ◌≢◌, ◌↔◌, ◌⊎◌, ℕ, ◌+◌, ◌≤◌, ℤ, List, [], ◌∷◌, ◌++◌, length, map, take, drop, true, false, find, All, Any, Contains, IsPermutation, Option, None, Some};
 ghost use Rattle.std.specs.Option.{option_map};
-ghost use Rattle.exec_goal.specs.Cancel.{CancelRequest, Decided, selects, is_candidate, candidates, is_moved, moved, after_answer, table_after, code_of};
+ghost use Rattle.exec_goal.specs.Cancel.{CancelRequest, Decided, decided_goal, selects, is_candidate, candidates, is_moved, moved, after_answer, table_after, code_of};
 ghost use Rattle.exec_goal.specs.LawWords.{IsSublist, AllRefused};
 ghost use Rattle.exec_goal.specs.State.{Transition, after, status_of, is_terminal};
 ghost use Rattle.exec_goal.specs.Table.{GoalRecord, has_id, holds_id, HaveDistinctIds, is_full, is_accepting, new_goal, with_accepted, is_expired, expired, unexpired, told, later, unknown, asked_for};
@@ -194,7 +194,7 @@ pub fn answers_leave_ended_goals()
 /// a candidate.
 pub fn only_candidates_move()
     ensures { (request : CancelRequest) (decisions : List Decided) (before goals : List GoalRecord) →
-        map (λ decided. decided.0) decisions ≡ map (λ goal. goal.id) (candidates request before) →
+        map decided_goal decisions ≡ map (λ goal. goal.id) (candidates request before) →
         All (λ goal. Any (λ candidate. candidate.id ≡ goal.id) (candidates request before)) (moved decisions goals) }
 {}
 

@@ -3,6 +3,7 @@
 
 mod asked;
 mod cancel;
+mod ended;
 pub mod examples;
 mod goals;
 mod held;

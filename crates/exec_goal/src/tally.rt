@@ -1,17 +1,21 @@
-ghost use Rattle.std.specs.Prelude.{◌≡◌, ◌≤◌, ◌<◌, ◌+◌, ◌^◌, nat_le, None};
-ghost use Rattle.exec_goal.specs.State.{is_worked_on};
-ghost use Rattle.exec_goal.specs.inner.Tally.{CountsMove, one_where, earlier, first_with, may_expire};
+ghost use Rattle.std.specs.Prelude.{◌≡◌, ◌≤◌, ◌<◌, ◌+◌, ◌^◌, [], false, length, nat_le, true, None};
+ghost use Rattle.exec_goal.specs.State.{is_worked_on, is_terminal};
+ghost use Rattle.exec_msg.specs.declared.limits.TheConstants.{GOALS};
+ghost use Rattle.exec_goal.specs.inner.Tally.{CountsMove, NotesEnd, one_where, earlier, first_with, may_expire};
 
+use crate::ended::EndedPlaces;
 use crate::state::State;
 use exec_msg::Moment;
 
 // What a table knows of its goals without a look at each.
-#[derive(Clone, Copy, Debug)]
+#[derive(Debug, Drop)]
 pub(crate) struct Tally {
     // How many goals are EXECUTING or CANCELING.
     pub(crate) working: usize,
     // A moment before which no goal has ended, or `None` where none has.
     pub(crate) first_end: Option<Moment>,
+    // Which goals have ended.
+    pub(crate) ended: EndedPlaces,
 }
 
 impl Tally {
@@ -19,10 +23,12 @@ impl Tally {
     pub(crate) fn new() -> Tally
         ensures working { result.working ≡ 0 }
         ensures first { result.first_end ≡ None }
+        ensures ended { result.ended ≡ [] }
     {
         Tally {
             working: 0,
             first_end: None,
+            ended: EndedPlaces::new(),
         }
     }
 
@@ -36,20 +42,41 @@ impl Tally {
         }
     }
 
-    // Counts that a goal which was of one state is of another, and ended at a moment where that
-    // one is terminal.
-    pub(crate) fn count_move(&mut self, before: State, after: State, ended: Moment)
+    // Counts that the goal at a place which was of one state is of another, and ended at a moment
+    // where that one is terminal.
+    pub(crate) fn count_move(&mut self, place: usize, before: State, after: State, ended: Moment)
         requires counted { one_where (is_worked_on before) ≤ self.old.working }
         requires fits { self.old.working < 2 ^ 63 }
-        ensures { CountsMove before after ended self.old self.new }
+        requires stays { is_terminal before ≡ true → is_terminal after ≡ true }
+        requires room { is_terminal before ≡ false → (place < GOALS) × (length self.old.ended < GOALS) }
+        ensures counts { CountsMove before after ended self.old self.new }
+        ensures notes { NotesEnd place before after self.old.ended self.new.ended }
     {
-        if after.is_worked_on() {
-            self.working += 1;
-        }
-        if before.is_worked_on() {
-            self.working -= 1;
-        }
+        self.working = count_working(self.working, before, after);
         self.first_end = first_with(after.is_terminal(), ended, self.first_end);
+        note_end(&mut self.ended, place, before, after);
+    }
+}
+
+// How many goals are EXECUTING or CANCELING once one that was of one state is of another.
+fn count_working(working: usize, before: State, after: State) -> usize
+    requires counted { one_where (is_worked_on before) ≤ working }
+    requires fits { working < 2 ^ 63 }
+    ensures { result + one_where (is_worked_on before) ≡ working + one_where (is_worked_on after) }
+{
+    let entering = usize::from(after.is_worked_on());
+    let leaving = usize::from(before.is_worked_on());
+    working + entering - leaving
+}
+
+// Notes that the goal at a place has ended, where it was of a state in which it hadn't.
+fn note_end(ended: &mut EndedPlaces, place: usize, before: State, after: State)
+    requires stays { is_terminal before ≡ true → is_terminal after ≡ true }
+    requires room { is_terminal before ≡ false → (place < GOALS) × (length ended.old < GOALS) }
+    ensures { NotesEnd place before after ended.old ended.new }
+{
+    if after.is_terminal() && !before.is_terminal() {
+        ended.note(place);
     }
 }
 

@@ -7,15 +7,14 @@ use Rattle.std.proofs.lemmas.Bool.{and_parts, or_parts, not-true, and_from, or_f
 use Rattle.std.proofs.lemmas.List.{map-append}
 use Rattle.std.proofs.lemmas.List.Folds.{list_any-append}
 use Rattle.indexmap.specs.IndexMap.{insert_entry}
-use Rattle.exec_graph.specs.inner.Directory.{DirectoryData, directory_of}
 use Rattle.exec_graph.specs.declared.draft.GraphDraft.{GraphDraft}
-use Rattle.exec_plan.specs.inner.Entries.{entity_of}
+use Rattle.exec_plan.specs.inner.Entries.{entry_data}
 use Rattle.exec_plan.specs.inner.Entries.{entities_in as entries_of}
 use Rattle.exec_graph.specs.Faults.{drafted_names}
 use Rattle.exec_plan.specs.Graph.{EntityData}
 use Rattle.exec_plan.specs.Names.{are_distinct}
 use Rattle.exec_graph.specs.Numbers.{Placed, entities_of}
-use Rattle.exec_plan.specs.Options.{each}
+use Rattle.exec_msg.specs.Options.{each}
 use Rattle.exec_graph.specs.Resolved.{entity_in, topic_in}
 use Rattle.exec_plan.specs.declared.entity.Declared.{Declared}
 use Rattle.exec_graph.proofs.NameLists.{from_place}
@@ -38,9 +37,9 @@ abbrev keys_eq : String Global → String Global → Bool
 keys_eq a b = bytes_eq (string_bytes a) (string_bytes b)
 
 put : (b : Bool) (entry : String Global × Declared) (entries set : List (String Global × Declared)) (is : Declared) (last : List EntityData) → b ≡ false → entries_of set ≡ last →
-    entries_of (if b then (entry.0, is) ∷ entries else entry ∷ set) ≡ entity_of entry ∷ last
+    entries_of (if b then (entry.0, is) ∷ entries else entry ∷ set) ≡ entry_data entry ∷ last
 put true entry entries set is last none others = absurd cc
-put false entry entries set is last none others = ap (λ (es : List EntityData). entity_of entry ∷ es) others
+put false entry entries set is last none others = ap (λ (es : List EntityData). entry_data entry ∷ es) others
 
 -- an entry of a new name goes last
 new_entry : (entries : List (String Global × Declared)) (key : String Global) (is : Declared) → list_any (is_text (string_bytes key)) (map title (entries_of entries)) ≡ false →
@@ -72,7 +71,7 @@ not_in_front (other ∷ front) text rest distinct =
     (not_in_front front text rest (and_parts (not (list_any (is_text other) (front ++ text ∷ rest))) (are_distinct (front ++ text ∷ rest)) distinct).1)
 
 -- those in front differ where all do
-front_distinct : (front rest : List (List ℕ)) → are_distinct (front ++ rest) ≡ true → are_distinct front ≡ true
+pub front_distinct : (front rest : List (List ℕ)) → are_distinct (front ++ rest) ≡ true → are_distinct front ≡ true
 front_distinct [] rest distinct = refl
 front_distinct (text ∷ front) rest distinct =
     let apart : list_any (is_text text) (front ++ rest) ≡ false = not-true (list_any (is_text text) (front ++ rest)) (and_parts (not (list_any (is_text text) (front ++ rest))) (are_distinct (front ++ rest)) distinct).0 in
@@ -96,65 +95,68 @@ one_more all front after rest next distinct are appends =
 -- the topics so far gain the next
 pub next_topic : (topics : List (List ℕ)) (i : ℕ) (topic : List ℕ) (front after : List EntityData) (text : List ℕ) → i < length topics → topic ≡ get_or topics i topic → text ≡ topic →
     (list_any (is_text text) (map title front) ≡ false → after ≡ front ++ topic_in text ∷ []) →
-    (are_distinct topics ≡ true → front ++ map topic_in (drop i topics) ≡ map topic_in topics) →
-    are_distinct topics ≡ true → after ++ map topic_in (drop (i + 1) topics) ≡ map topic_in topics
-next_topic topics i topic front after text within there same appends holds distinct =
+    are_distinct topics ≡ true → front ++ map topic_in (drop i topics) ≡ map topic_in topics →
+    after ++ map topic_in (drop (i + 1) topics) ≡ map topic_in topics
+next_topic topics i topic front after text within there same appends distinct holds =
     let here : drop i topics ≡ topic ∷ drop (i + 1) topics = from_place topics i topic within there in
     one_more (map topic_in topics) front after (map topic_in (drop (i + 1) topics)) (topic_in text)
     (ap are_distinct (topic_names topics) ∙ distinct)
     (ap (λ (name : List ℕ). front ++ topic_in name ∷ map topic_in (drop (i + 1) topics)) same
-    ∙ ap (λ (ts : List (List ℕ)). front ++ map topic_in ts) (sym here) ∙ holds distinct)
+    ∙ ap (λ (ts : List (List ℕ)). front ++ map topic_in ts) (sym here) ∙ holds)
     appends
 
 -- ---- entities
 
 -- what stands so far, and then what is left, is all
-abbrev pub Stands : List (List ℕ) → DirectoryData → List Placed → List EntityData → Type 0
-Stands topics directory left front =
-    (source : GraphDraft) → are_distinct (drafted_names source) ≡ true → topics ≡ source.topics → directory ≡ directory_of source →
-    (map title front ++ map name_of left ≡ drafted_names source)
-    × (option_map (λ others. front ++ others) (each (entity_in source) left) ≡ option_map (λ others. map topic_in source.topics ++ others) (each (entity_in source) (entities_of source)))
+abbrev pub Stands : GraphDraft → List Placed → List EntityData → Type 0
+Stands draft left front =
+    (map title front ++ map name_of left ≡ drafted_names draft)
+    × (option_map (λ others. front ++ others) (each (entity_in draft) left) ≡ option_map (λ others. map topic_in draft.topics ++ others) (each (entity_in draft) (entities_of draft)))
 
 -- the topics stand first
-pub starts : (topics : List (List ℕ)) (directory : DirectoryData) (left : List Placed) (front : List EntityData) → left ≡ directory.entities → (are_distinct topics ≡ true → front ≡ map topic_in topics) → Stands topics directory left front
-starts topics directory left front all are = λ source distinct named from.
-    let those : left ≡ entities_of source = all ∙ ap (λ (d : DirectoryData). d.entities) from in
-    let first : front ≡ map topic_in source.topics = are (ap are_distinct named ∙ front_distinct source.topics (map name_of (entities_of source)) distinct) ∙ ap (map topic_in) named in (
-      ap (λ (es : List EntityData). map title es ++ map name_of left) first ∙ ap (λ (ts : List (List ℕ)). ts ++ map name_of left) (topic_names source.topics) ∙ ap (λ (ps : List Placed). source.topics ++ map name_of ps) those,
-      (λ i. option_map (λ others. first i ++ others) (each (entity_in source) (those i))),
-    )
+pub starts : (draft : GraphDraft) (left : List Placed) (front : List EntityData) → left ≡ entities_of draft → front ≡ map topic_in draft.topics → Stands draft left front
+starts draft left front those first = (
+  ap (λ (es : List EntityData). map title es ++ map name_of left) first ∙ ap (λ (ts : List (List ℕ)). ts ++ map name_of left) (topic_names draft.topics) ∙ ap (λ (ps : List Placed). draft.topics ++ map name_of ps) those,
+  (λ i. option_map (λ others. first i ++ others) (each (entity_in draft) (those i))),
+)
 
 read_one : (front : List EntityData) (next : EntityData) (rest : Option (List EntityData)) → option_map (λ others. (front ++ next ∷ []) ++ others) rest ≡ option_map (λ others. front ++ others) (option_and_then (λ ys. Some (next ∷ ys)) rest)
 read_one front next None = refl
 read_one front next (Some others) = ap (λ (es : List EntityData). Some es) (append_assoc front (next ∷ []) others)
 
 -- what stands gains the next
-pub next_stands : (topics : List (List ℕ)) (directory : DirectoryData) (left rest : List Placed) (placed : Placed) (front after : List EntityData) (text : List ℕ) (is : Declared) → left ≡ placed ∷ rest → text ≡ name_of placed →
-    ((source : GraphDraft) → are_distinct (drafted_names source) ≡ true → directory ≡ directory_of source → entity_in source placed ≡ Some (entity (name_of placed) is)) →
+pub next_stands : (draft : GraphDraft) (left rest : List Placed) (placed : Placed) (front after : List EntityData) (text : List ℕ) (is : Declared) → left ≡ placed ∷ rest → text ≡ name_of placed →
+    are_distinct (drafted_names draft) ≡ true → entity_in draft placed ≡ Some (entity (name_of placed) is) →
     (list_any (is_text text) (map title front) ≡ false → after ≡ front ++ entity text is ∷ []) →
-    Stands topics directory left front → Stands topics directory rest after
-next_stands topics directory left rest placed front after text is here same gives appends holds = λ source distinct named from.
-    let before = holds source distinct named from in
-    let names : map title front ++ text ∷ map name_of rest ≡ drafted_names source =
+    Stands draft left front → Stands draft rest after
+next_stands draft left rest placed front after text is here same distinct gives appends before =
+    let names : map title front ++ text ∷ map name_of rest ≡ drafted_names draft =
     ap (λ (name : List ℕ). map title front ++ name ∷ map name_of rest) same ∙ ap (λ (ps : List Placed). map title front ++ map name_of ps) (sym here) ∙ before.0 in
     let last : after ≡ front ++ entity text is ∷ [] = appends (not_in_front (map title front) text (map name_of rest) (ap are_distinct names ∙ distinct)) in (
       ap (λ (es : List EntityData). map title es ++ map name_of rest) last
           ∙ ap (λ (ns : List (List ℕ)). ns ++ map name_of rest) (map-append title front (entity text is ∷ []))
           ∙ append_assoc (map title front) (text ∷ []) (map name_of rest)
           ∙ names,
-      ap (λ (es : List EntityData). option_map (λ others. es ++ others) (each (entity_in source) rest)) last
-          ∙ read_one front (entity text is) (each (entity_in source) rest)
-          ∙ ap (λ (name : List ℕ). option_map (λ others. front ++ others) (option_and_then (λ ys. Some (entity name is ∷ ys)) (each (entity_in source) rest))) same
-          ∙ ap (λ (o : Option EntityData). option_map (λ others. front ++ others) (option_and_then (λ y. option_and_then (λ ys. Some (y ∷ ys)) (each (entity_in source) rest)) o)) (sym (gives source distinct from))
-          ∙ ap (λ (ps : List Placed). option_map (λ others. front ++ others) (each (entity_in source) ps)) (sym here)
+      ap (λ (es : List EntityData). option_map (λ others. es ++ others) (each (entity_in draft) rest)) last
+          ∙ read_one front (entity text is) (each (entity_in draft) rest)
+          ∙ ap (λ (name : List ℕ). option_map (λ others. front ++ others) (option_and_then (λ ys. Some (entity name is ∷ ys)) (each (entity_in draft) rest))) same
+          ∙ ap (λ (o : Option EntityData). option_map (λ others. front ++ others) (option_and_then (λ y. option_and_then (λ ys. Some (y ∷ ys)) (each (entity_in draft) rest)) o)) (sym gives)
+          ∙ ap (λ (ps : List Placed). option_map (λ others. front ++ others) (each (entity_in draft) ps)) (sym here)
           ∙ before.1,
     )
 
+-- nothing stands where the next is nothing
+pub none_stands : (draft : GraphDraft) (left rest : List Placed) (placed : Placed) (front : List EntityData) → left ≡ placed ∷ rest → entity_in draft placed ≡ None → Stands draft left front →
+    option_map (λ others. map topic_in draft.topics ++ others) (each (entity_in draft) (entities_of draft)) ≡ None
+none_stands draft left rest placed front here none before =
+    sym before.1
+    ∙ ap (λ (ps : List Placed). option_map (λ others. front ++ others) (each (entity_in draft) ps)) here
+    ∙ ap (λ (o : Option EntityData). option_map (λ others. front ++ others) (option_and_then (λ y. option_and_then (λ ys. Some (y ∷ ys)) (each (entity_in draft) rest)) o)) none
+
 -- all stand where nothing is left
-pub all_stand : (topics : List (List ℕ)) (directory : DirectoryData) (left : List Placed) (front : List EntityData) → left ≡ [] → Stands topics directory left front →
-    (source : GraphDraft) → are_distinct (drafted_names source) ≡ true → topics ≡ source.topics → directory ≡ directory_of source →
-    option_map (λ others. map topic_in source.topics ++ others) (each (entity_in source) (entities_of source)) ≡ Some front
-all_stand topics directory left front none holds source distinct named from =
-    sym (holds source distinct named from).1
-    ∙ ap (λ (ps : List Placed). option_map (λ others. front ++ others) (each (entity_in source) ps)) none
+pub all_stand : (draft : GraphDraft) (left : List Placed) (front : List EntityData) → left ≡ [] → Stands draft left front →
+    option_map (λ others. map topic_in draft.topics ++ others) (each (entity_in draft) (entities_of draft)) ≡ Some front
+all_stand draft left front none stands =
+    sym stands.1
+    ∙ ap (λ (ps : List Placed). option_map (λ others. front ++ others) (each (entity_in draft) ps)) none
     ∙ ap (λ (es : List EntityData). Some es) (append-nil front)

@@ -18,7 +18,7 @@ use Rattle.exec_plan.specs.Graph.{EntityData, GraphData}
 use Rattle.exec_plan.specs.Lawful.{IsLawful}
 use Rattle.exec_plan.specs.Names.{is_name, are_distinct}
 use Rattle.exec_graph.specs.Numbers.{Placed, entities_of, groups_of, groups_from, named_group, scope_of}
-use Rattle.exec_plan.specs.Options.{◌>>=◌, each}
+use Rattle.exec_msg.specs.Options.{◌>>=◌, each}
 use Rattle.exec_graph.specs.Refusals.{fault_in}
 use Rattle.exec_graph.specs.Resolved.{entity_in, graph_in, topic_in}
 use Rattle.exec_graph.specs.Scripts.{is_reentrant, entity_faults, script_faults}
@@ -160,9 +160,9 @@ module _ (draft : GraphDraft) (found : DirectoryData) (there : Some found ≡ th
         omega (arith, nodes, groups, groups_counted 0 draft.nodes)
 
     -- and what is as long as the names
-    pub few_texts : {A : Type 0} (texts : List A) (text_of : A → List ℕ) (placed : List Placed) → map text_of texts ≡ draft.topics ++ map (λ placed. placed.entity.name) placed → placed ≡ found.entities → length texts ≤ 65536
-    few_texts texts text_of placed same all =
-        let long = ap (λ (xs : List (List ℕ)). length xs) (same ∙ ap (λ (ps : List Placed). draft.topics ++ map (λ placed. placed.entity.name) ps) (all ∙ ap (λ (directory : DirectoryData). directory.entities) directory_is)) in
+    pub few_texts : {A : Type 0} (texts : List A) (text_of : A → List ℕ) → map text_of texts ≡ drafted_names draft → length texts ≤ 65536
+    few_texts texts text_of same =
+        let long = ap (λ (xs : List (List ℕ)). length xs) same in
         omega (arith, names_few, length-map texts text_of, long)
 
     -- what isn't there has a faulty script

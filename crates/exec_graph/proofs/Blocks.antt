@@ -5,8 +5,8 @@ use Rattle.std.proofs.lemmas.Bool.{leb-true, le-leb, eqb-true, and_parts, and_fr
 use Rattle.std.proofs.lemmas.List.{map-append}
 use Rattle.exec_plan.specs.Entity.{entity_kinds, rank_of, kind_of_entity, is_of}
 use Rattle.exec_plan.specs.Lawful.{is_ascending_from}
-use Rattle.exec_graph.specs.Numbers.{Placed, entities_from, numbered}
-use Rattle.exec_graph.specs.declared.draft.NodeDraft.{NodeDraft}
+use Rattle.exec_graph.specs.Numbers.{Placed, entities_from, entities_of}
+use Rattle.exec_graph.specs.declared.draft.GraphDraft.{GraphDraft}
 use Rattle.exec_plan.specs.declared.entity.EntityKind.{EntityKind}
 
 -- each number is this one
@@ -59,5 +59,5 @@ kinds_ascend (kind ∷ entity_kinds) least placed ascends =
     (kinds_ascend entity_kinds (rank_of kind) placed (and_parts (nat_le least (rank_of kind)) later ascends).1)
 
 -- entities ascend in the order of their kinds
-pub entities_ascend : (nodes : List NodeDraft) → is_ascending_from 1 (map rank_at (numbered nodes)) ≡ true
-entities_ascend nodes = kinds_ascend entity_kinds 1 (entities_from 0 nodes) refl
+pub entities_ascend : (draft : GraphDraft) → is_ascending_from 1 (map rank_at (entities_of draft)) ≡ true
+entities_ascend draft = kinds_ascend entity_kinds 1 (entities_from 0 draft.nodes) refl

@@ -7,7 +7,7 @@ use Rattle.exec_graph.specs.declared.draft.GraphDraft.{GraphDraft}
 use Rattle.exec_plan.specs.Entity.{refers, scripts_of, read_by}
 use Rattle.exec_graph.specs.Faults.{is_resolved, has_faulty_script}
 use Rattle.exec_graph.specs.Numbers.{Placed, entities_of, named, group_named, scope_of}
-use Rattle.exec_plan.specs.Options.{each}
+use Rattle.exec_msg.specs.Options.{each}
 use Rattle.exec_graph.specs.Refusals.{fault_in}
 use Rattle.exec_graph.specs.Resolved.{script_in, entity_in, graph_in}
 use Rattle.exec_graph.specs.Scripts.{is_reentrant, entity_faults}

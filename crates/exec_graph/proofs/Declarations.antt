@@ -4,7 +4,7 @@ use Rattle.std.specs.List.{filter, flat_map, list_any}
 use Rattle.std.proofs.lemmas.List.Folds.{list_any-append}
 use Rattle.exec_graph.specs.declared.draft.GraphDraft.{GraphDraft}
 use Rattle.exec_plan.specs.Entity.{Drafted, entity_kinds, is_of}
-use Rattle.exec_graph.specs.Numbers.{Placed, placed_in, entities_from, numbered, entities_of, server_named}
+use Rattle.exec_graph.specs.Numbers.{Placed, placed_in, entities_from, entities_of, server_named}
 use Rattle.exec_graph.specs.declared.draft.EntityDraft.{EntityDraft}
 use Rattle.exec_graph.specs.declared.draft.NodeDraft.{NodeDraft}
 use Rattle.exec_plan.specs.declared.entity.EntityKind.{EntityKind}
@@ -69,10 +69,10 @@ has_kind (Server entity) = refl
 has_kind (ActionClient entity) = refl
 
 -- in the order of numbers there are as many as among all
-ordered : (test : Placed → Bool) (nodes : List NodeDraft) → list_any test (numbered nodes) ≡ list_any test (entities_from 0 nodes)
-ordered test nodes =
-    any_of_kinds test (entities_from 0 nodes) entity_kinds
-    ∙ (λ i. list_any (λ placed. has_kind placed.entity.is i && test placed) (entities_from 0 nodes))
+ordered : (test : Placed → Bool) (draft : GraphDraft) → list_any test (entities_of draft) ≡ list_any test (entities_from 0 draft.nodes)
+ordered test draft =
+    any_of_kinds test (entities_from 0 draft.nodes) entity_kinds
+    ∙ (λ i. list_any (λ placed. has_kind placed.entity.is i && test placed) (entities_from 0 draft.nodes))
 
 -- ---- the servers of nodes
 
@@ -89,4 +89,4 @@ of_nodes name first (node ∷ nodes) =
 -- an action of a name is declared where a node has a server of that name
 pub action_any : (draft : GraphDraft) (name : List ℕ) → is_some (server_named draft name) ≡ list_any (λ node. list_any (λ entity. is_of kind.Server entity.is && bytes_eq entity.name name) node.entities) draft.nodes
 action_any draft name =
-    found_any (is_action name) (length draft.topics) (entities_of draft) ∙ ordered (is_action name) draft.nodes ∙ of_nodes name 0 draft.nodes
+    found_any (is_action name) (length draft.topics) (entities_of draft) ∙ ordered (is_action name) draft ∙ of_nodes name 0 draft.nodes

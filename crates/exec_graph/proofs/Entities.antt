@@ -5,7 +5,8 @@ use Rattle.std.specs.Result.{result_ok, result_err}
 use Rattle.std.proofs.lemmas.Bool.{leb-true, and_parts}
 use Rattle.std.proofs.lemmas.List.Elements.{All-nil, All-cons, All-append, All-map}
 use Rattle.exec_graph.specs.declared.draft.GraphDraft.{GraphDraft}
-use Rattle.exec_plan.specs.Entity.{Spelled, Script, RoleScriptData, is_within, scripts_of}
+use Rattle.exec_script.specs.Instruction.{Script}
+use Rattle.exec_plan.specs.Entity.{Spelled, RoleScriptData, is_within, scripts_of}
 use Rattle.exec_graph.specs.Faults.{has_short_scripts}
 use Rattle.exec_plan.specs.Graph.{EntityData, GraphData, in_group}
 use Rattle.exec_plan.specs.Lawful.{IsLawfulScript, IsLawfulDeclared, is_declared}

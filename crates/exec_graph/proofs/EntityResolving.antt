@@ -1,7 +1,7 @@
 -- What an entity is that is linked, where its directory is that of a draft.
 use Rattle.std.proofs.Common.{◌≡◌, ℕ, true, Option, None, Some, option_and_then, sym, ap, subst, ◌∙◌}
 use Rattle.std.proofs.lemmas.Option.{same_Some}
-use Rattle.exec_graph.specs.inner.Directory.{DirectoryData, Linked, NodeData, directory_of, group_in, referred, linked_in, resolved_by, titled}
+use Rattle.exec_graph.specs.inner.Directory.{DirectoryData, Linked, NodeData, directory_of, group_in, reference_number, linked_in, resolved_by, titled}
 use Rattle.exec_graph.specs.declared.draft.GraphDraft.{GraphDraft}
 use Rattle.exec_plan.specs.Entity.{Resolved, read_by}
 use Rattle.exec_graph.specs.Faults.{drafted_names}
@@ -16,13 +16,13 @@ use Rattle.exec_graph.proofs.WellNamed.{group_same}
 -- an entity was linked: its group and what it refers to were found, and it is itself
 pub record HasLinks (directory : DirectoryData) (placed : Placed) (linked : Linked) : Type 0 where
   pub group : group_in directory placed.node placed.entity.group ≡ Some linked.group
-  pub reference : referred directory placed.entity.is ≡ Some linked.reference
+  pub reference : reference_number directory placed.entity.is ≡ Some linked.reference
   pub same : linked.placed ≡ placed
 
 pub has_links : (directory : DirectoryData) (placed : Placed) (linked : Linked) → linked_in directory placed ≡ Some linked → HasLinks directory placed linked
 has_links directory placed linked is =
     then_read _ (group_in directory placed.node placed.entity.group) _ linked is (λ group grouped e1.
-    then_read _ (referred directory placed.entity.is) _ linked e1 (λ reference there e2.
+    then_read _ (reference_number directory placed.entity.is) _ linked e1 (λ reference there e2.
     let same : record { placed = placed; group = group; reference = reference } ≡ linked = same_Some (record { placed = placed; group = group; reference = reference }) linked e2 in
     record {
       group = grouped ∙ ap (λ (l : Linked). Some l.group) same;
@@ -38,7 +38,7 @@ module _ (directory : DirectoryData) (linked : Linked) (by : linked_in directory
       let placed = linked.placed in
       let links = has_links directory placed linked by in
       let grouped : group_named source placed.node placed.entity.group ≡ Some linked.group = sym (group_same source placed.node placed.entity.group) ∙ ap (λ (d : DirectoryData). group_in d placed.node placed.entity.group) (sym from) ∙ links.group in
-      let there : referred (directory_of source) placed.entity.is ≡ Some linked.reference = ap (λ (d : DirectoryData). referred d placed.entity.is) (sym from) ∙ links.reference in
+      let there : reference_number (directory_of source) placed.entity.is ≡ Some linked.reference = ap (λ (d : DirectoryData). reference_number d placed.entity.is) (sym from) ∙ links.reference in
       let same : read_by (named source) (script_in (scope_of source placed.node)) placed.entity.is ≡ said =
       sym (resolved_same source distinct placed.node linked.reference placed.entity.is there) ∙ ap (λ (d : DirectoryData). resolved_by (record { directory = d; node = placed.node }) linked.reference placed.entity.is) (sym from) ∙ ap (λ (s : NodeData). resolved_by s linked.reference placed.entity.is) (sym of) ∙ is in
       ap (λ (number : Option ℕ). option_and_then (λ group. option_and_then (λ is. Some (titled placed (in_group group is))) (read_by (named source) (script_in (scope_of source placed.node)) placed.entity.is)) number) grouped

@@ -5,7 +5,8 @@ use Rattle.std.specs.Result.{result_ok, result_err}
 use Rattle.std.proofs.lemmas.Bool.{or_parts, and_from}
 use Rattle.std.proofs.lemmas.Option.{same_Some}
 use Rattle.exec_graph.specs.inner.Directory.{fault_at}
-use Rattle.exec_plan.specs.Entity.{Spelled, Script, RoleScriptData}
+use Rattle.exec_script.specs.Instruction.{Script}
+use Rattle.exec_plan.specs.Entity.{Spelled, RoleScriptData}
 use Rattle.exec_graph.specs.Faults.{is_of_variable}
 use Rattle.exec_graph.specs.Resolved.{script_in}
 use Rattle.exec_graph.specs.Scripts.{fault_of}

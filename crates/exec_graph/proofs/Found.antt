@@ -6,7 +6,7 @@ use Rattle.exec_graph.specs.declared.draft.GraphDraft.{GraphDraft}
 use Rattle.exec_plan.specs.Graph.{EntityData, GraphData, is_topic, is_server, topic_at, server_at}
 use Rattle.exec_plan.specs.Entity.{is_of}
 use Rattle.exec_graph.specs.Numbers.{Placed, entities_of, topic_named, server_named}
-use Rattle.exec_plan.specs.Options.{each}
+use Rattle.exec_msg.specs.Options.{each}
 use Rattle.exec_graph.specs.Resolved.{entity_in, topic_in, graph_in}
 use Rattle.exec_plan.specs.declared.entity.EntityKind.TheVariants as kind
 use Rattle.exec_plan.proofs.Reading.{then_read, AreRead, are_read}

@@ -8,7 +8,7 @@ use Rattle.std.proofs.lemmas.Option.{same_Some}
 use Rattle.exec_graph.specs.Resolved.{entity_in, topic_in, graph_in}
 use Rattle.exec_graph.specs.declared.draft.GraphDraft.{GraphDraft}
 use Rattle.exec_graph.specs.Numbers.{Placed, entities_of, groups_of}
-use Rattle.exec_plan.specs.Options.{each}
+use Rattle.exec_msg.specs.Options.{each}
 use Rattle.exec_graph.specs.Faults.{has_named_groups, drafted_names}
 use Rattle.exec_plan.specs.Graph as graph
 use Rattle.exec_plan.specs.Graph.{EntityData, GraphData, is_topic}
@@ -97,7 +97,7 @@ blocks_kept source entities reads =
     ∙ ap (λ (ns : List ℕ). ns ++ map (λ entity. block_of entity.is) entities) (topic_blocks source.topics)
     ∙ ap (λ (ns : List ℕ). map (λ name. 0) source.topics ++ ns) (seen_alike (entity_in source) rank_at (λ entity. block_of entity.is) (entities_of source) entities (λ placed entity read. same_block source placed entity (built source placed entity read)) reads))
     ∙ block_before 0 0 (map (λ name. 0) source.topics) blocks (omega arith) (all_mapped (λ name. 0) 0 source.topics (λ name. refl))
-    (lower_start 0 1 blocks (omega arith) (entities_ascend source.nodes))
+    (lower_start 0 1 blocks (omega arith) (entities_ascend source))
 
 -- ---- the graph
 

@@ -2,11 +2,11 @@
 use Rattle.std.proofs.Common.{◌≡◌, ℕ, ◌<◌, ◌≤◌, length, map, List, [], ◌∷◌, Option, None, Some, IfSome, All, option_map, refl, sym, ap, ap₂, ◌∙◌, arith}
 use Rattle.std.proofs.lemmas.List.Elements.{All-nil, All-cons}
 use Rattle.std.proofs.lemmas.Option.{same_Some}
-use Rattle.exec_graph.specs.inner.Directory.{DirectoryData, Linked, IsLinked, directory_of, group_in, linked_in, referred, number_in}
+use Rattle.exec_graph.specs.inner.Directory.{DirectoryData, Linked, IsLinked, directory_of, group_in, linked_in, reference_number, number_in}
 use Rattle.exec_graph.specs.declared.draft.GraphDraft.{GraphDraft}
 use Rattle.exec_plan.specs.Entity.{ReferenceData, Drafted, reference_of, if_there}
 use Rattle.exec_graph.specs.Numbers.{Placed, groups_of, group_named, is_group}
-use Rattle.exec_plan.specs.Options.{each}
+use Rattle.exec_msg.specs.Options.{each}
 use Rattle.exec_graph.proofs.EntityResolving.{has_links}
 use Rattle.exec_graph.proofs.Lookups.{number_below}
 use Rattle.exec_plan.proofs.Reading.{AreRead, are_read}
@@ -15,7 +15,7 @@ use Rattle.exec_graph.proofs.WellNamed.{group_same}
 
 -- ---- numbers
 
-reference_below : (directory : DirectoryData) (entity : Drafted) (number : ℕ) → referred directory entity ≡ Some (Some number) → number < length directory.names
+reference_below : (directory : DirectoryData) (entity : Drafted) (number : ℕ) → reference_number directory entity ≡ Some (Some number) → number < length directory.names
 reference_below directory entity number there = by (reference_of entity) there where
   of : (o : Option ℕ) → option_map (λ (n : ℕ). Some n) o ≡ Some (Some number) → o ≡ Some number
   of None e = absurd cc
@@ -25,7 +25,7 @@ reference_below directory entity number there = by (reference_of entity) there w
   by None e = absurd cc
   by (Some reference) e = number_below directory reference.to reference.name number (of (number_in directory reference.to reference.name) e)
 
-references_few : (directory : DirectoryData) (entity : Drafted) (reference : Option ℕ) → length directory.names ≤ 65536 → referred directory entity ≡ Some reference → IfSome reference (λ number. number < 65536)
+references_few : (directory : DirectoryData) (entity : Drafted) (reference : Option ℕ) → length directory.names ≤ 65536 → reference_number directory entity ≡ Some reference → IfSome reference (λ number. number < 65536)
 references_few directory entity None few there = tt
 references_few directory entity (Some number) few there = omega (arith, few, reference_below directory entity number there)
 

@@ -9,7 +9,7 @@ use Rattle.std.proofs.lemmas.List.{length-append}
 use Rattle.std.proofs.lemmas.List.Folds.{list_any-append}
 use Rattle.std.proofs.lemmas.Option.{same_Some}
 use Rattle.std.proofs.lemmas.Slice.Eq.{bytes_eq-Decides}
-use Rattle.exec_graph.specs.inner.Directory.{DirectoryData, position_of, placed_named, passing, topic_number, entity_number, number_in, scope_in, referred, resolved_by, directory_of}
+use Rattle.exec_graph.specs.inner.Directory.{DirectoryData, position_of, placed_named, topic_number, entity_number, number_in, scope_in, reference_number, resolved_by, directory_of}
 use Rattle.exec_graph.specs.inner.Directory as Directory
 use Rattle.exec_graph.specs.declared.draft.GraphDraft.{GraphDraft}
 use Rattle.exec_plan.specs.Entity.{Drafted, is_of, reference_of, if_there, read_by}
@@ -75,6 +75,10 @@ here_by false number rest none = sym none
 later_by : (t : Bool) (number : ℕ) (rest : Option ℕ) → rest ≡ cond (t && false) (Some number) rest
 later_by true number rest = refl
 later_by false number rest = refl
+
+-- the number of an entity that passes a test
+abbrev passing : (Placed → Bool) → ℕ × Placed → Option ℕ
+passing test found = then_some (test found.1) found.0
 
 module _ (test : Placed → Bool) (name : List ℕ) (topics : ℕ) where
   -- what is found among entities, behind those in front
@@ -187,7 +191,7 @@ module _ {S T : Type 0} (number : Referent → List ℕ → Option ℕ) (read : 
   read_same (ActionClient entity) there = λ i. read_by (λ to name. sym (read_as (number (referent.Entity entity_kind.Server) entity.server) reference there) i) read (ActionClient entity)
 
 -- what an entity of a node is that is linked
-pub resolved_same : (draft : GraphDraft) → are_distinct (drafted_names draft) ≡ true → (node : ℕ) (reference : Option ℕ) (entity : Drafted) → referred (directory_of draft) entity ≡ Some reference →
+pub resolved_same : (draft : GraphDraft) → are_distinct (drafted_names draft) ≡ true → (node : ℕ) (reference : Option ℕ) (entity : Drafted) → reference_number (directory_of draft) entity ≡ Some reference →
     resolved_by (record { directory = directory_of draft; node = node }) reference entity ≡ read_by (named draft) (script_in (scope_of draft node)) entity
 resolved_same draft distinct node reference entity there =
     read_same (number_in (directory_of draft)) (script_in (scope_in (directory_of draft) node)) reference entity there

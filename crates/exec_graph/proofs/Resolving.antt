@@ -1,5 +1,5 @@
 -- What names find in the graph of a document.
-use Rattle.std.proofs.Common.{◌≡◌, ℕ, ◌+◌, Bool, true, false, not, ◌&&◌, ◌==◌, length, map, List, ◌++◌, Some, slice_get, bytes_eq, refl, ap, ◌∙◌, subst, arith}
+use Rattle.std.proofs.Common.{◌≡◌, ℕ, ◌+◌, Bool, true, false, not, ◌&&◌, ◌==◌, length, map, List, ◌++◌, Some, option_and_then, slice_get, bytes_eq, refl, ap, ◌∙◌, subst, arith}
 use Rattle.std.specs.Option.{option_map_or}
 use Rattle.std.proofs.lemmas.Bool.{eqb-true, and_parts, and_from}
 use Rattle.std.proofs.lemmas.List.{length-map}
@@ -9,7 +9,7 @@ use Rattle.exec_plan.specs.Entity.{Resolved, kind_of_entity, rank_of, is_of, rea
 use Rattle.exec_plan.specs.Graph.{EntityData, GraphData, in_group, is_topic, is_a, is_server, group_of}
 use Rattle.exec_plan.specs.Lawful.{is_at, is_of_node, is_at_node, is_declared, block_of}
 use Rattle.exec_graph.specs.Numbers.{Placed, entities_of, topic_named, entity_named, kind_named, server_named, named, named_in_node, scope_of, is_group, same_name, groups_of, group_named}
-use Rattle.exec_plan.specs.Options.{each}
+use Rattle.exec_msg.specs.Options.{each}
 use Rattle.exec_graph.specs.Resolved.{script_in, entity_in, topic_in, graph_in}
 use Rattle.exec_graph.specs.Scripts.{is_reentrant}
 use Rattle.exec_plan.specs.declared.entity.CallbackGroup.{CallbackGroup}
@@ -66,7 +66,7 @@ module _ (source : GraphDraft) (placed : Placed) (entity : EntityData) (build : 
   same_block = ap block_of build.declared ∙ ap rank_of build.read.kind
 
   -- its group is the one that its draft names
-  pub same_group : group_of entity.is ≡ build.number
+  pub same_group : group_of entity.is ≡ Some build.number
   same_group = ap group_of build.declared
 
 -- ---- groups
@@ -135,11 +135,11 @@ named_there source entities reads (referent.Entity kind) name number found = kin
 
 -- ---- what scripts may use
 
-of_node : (source : GraphDraft) (entities : List EntityData) (node : ℕ) (placed : Placed) (entity : EntityData) → IsBuilt source placed entity → (placed.node == node) ≡ true → is_of_node (graph_of source entities) node (group_of entity.is) ≡ true
+of_node : (source : GraphDraft) (entities : List EntityData) (node : ℕ) (placed : Placed) (entity : EntityData) → IsBuilt source placed entity → (placed.node == node) ≡ true → is_of_node (graph_of source entities) node entity.is ≡ true
 of_node source entities node placed entity build here =
     let has = has_group source placed build.number build.found in
     let is : has.group.node == node ≡ true = ap (λ (n : ℕ). n == node) has.node ∙ here in
-    let there : slice_get (groups_of source) (group_of entity.is) ≡ Some has.group = ap (slice_get (groups_of source)) (same_group source placed entity build) ∙ has.there in
+    let there : option_and_then (slice_get (groups_of source)) (group_of entity.is) ≡ Some has.group = ap (option_and_then (slice_get (groups_of source))) (same_group source placed entity build) ∙ has.there in
     rw there is
 
 in_node : (source : GraphDraft) (entities : List EntityData) (node : ℕ) (kind : EntityKind) (name : List ℕ) (number : ℕ) → AreEntities source entities → named_in_node source node kind name ≡ Some number → is_at_node (is_a kind) (graph_of source entities) node number ≡ true
@@ -148,8 +148,8 @@ in_node source entities node kind name number reads found =
     let build = built source at.placed at.entity at.read in
     let is = same_kind source at.placed at.entity build kind ∙ (and_parts (is_of kind at.placed.entity.is) (at.placed.node == node) at.passes).0 in
     let here = of_node source entities node at.placed at.entity build (and_parts (is_of kind at.placed.entity.is) (at.placed.node == node) at.passes).1 in
-    found_at (λ entity. is_a kind entity.is && is_of_node (graph_of source entities) node (group_of entity.is)) (map topic_in source.topics ++ entities) number at.entity at.there
-    (and_from (is_a kind at.entity.is) (is_of_node (graph_of source entities) node (group_of at.entity.is)) is here)
+    found_at (λ entity. is_a kind entity.is && is_of_node (graph_of source entities) node entity.is) (map topic_in source.topics ++ entities) number at.entity at.there
+    (and_from (is_a kind at.entity.is) (is_of_node (graph_of source entities) node at.entity.is) is here)
 
 pub knows : (source : GraphDraft) (entities : List EntityData) (node : ℕ) → AreEntities source entities → Knows (scope_of source node) (graph_of source entities) node
 knows source entities node reads = record {

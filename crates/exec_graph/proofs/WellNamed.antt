@@ -5,14 +5,13 @@ use Rattle.std.specs.List.{list_all, position_from}
 use Rattle.std.specs.Option.{option_map_or}
 use Rattle.std.specs.Str.{bytes_eq}
 use Rattle.std.proofs.lemmas.Bool.{eq-eqb, and_parts, ne_eqb}
-use Rattle.std.proofs.lemmas.List.{length-map}
-use Rattle.exec_graph.specs.inner.Directory.{DirectoryData, Linked, names_of_groups, node_groups_from, number_among, number_in, group_in, referred, linked_in, directory_of}
+use Rattle.exec_graph.specs.inner.Directory.{DirectoryData, Linked, node_groups_from, number_among, number_in, group_in, reference_number, linked_in, directory_of}
 use Rattle.exec_graph.specs.declared.draft.GraphDraft.{GraphDraft}
 use Rattle.exec_plan.specs.Entity.{ReferenceData, Drafted, reference_of, refers, if_there}
 use Rattle.exec_graph.specs.Faults.{are_names, has_named_groups, drafted_names, is_resolved, is_well_named}
 use Rattle.exec_plan.specs.Names.{is_name, are_distinct}
 use Rattle.exec_graph.specs.Numbers.{Placed, entities_of, groups_from, named_group, is_group, same_name, group_named}
-use Rattle.exec_plan.specs.Options.{◌>>=◌, each}
+use Rattle.exec_msg.specs.Options.{◌>>=◌, each}
 use Rattle.exec_graph.specs.declared.draft.GroupDraft.{GroupDraft}
 use Rattle.exec_graph.specs.declared.draft.NodeDraft.{NodeDraft}
 use Rattle.exec_plan.specs.declared.entity.CallbackGroup.{CallbackGroup}
@@ -55,6 +54,10 @@ named_here node number name first [] rest same none = none first
 named_here node number name first (group ∷ groups) rest same none =
     λ i. cond (same i && bytes_eq group.name name) (Some first) (named_here node number name (first + 1) groups rest same none i)
 
+-- the names of a node's groups
+abbrev names_of_groups : NodeDraft → List (List ℕ)
+names_of_groups node = map (λ group. group.name) node.groups
+
 -- the group of a name in a node
 here : (node number : ℕ) (name : Option (List ℕ)) (first : ℕ) (draft : NodeDraft) (nodes : List NodeDraft) → number == node ≡ true → node < suc number →
     position_from (is_group node name) first (groups_from number (draft ∷ nodes)) ≡ number_among name (record { first = first; names = names_of_groups draft })
@@ -73,11 +76,11 @@ in_node zero number name first (draft ∷ nodes) = here (number + 0) number name
 in_node (suc k) number name first (draft ∷ nodes) =
     let apart = ne_eqb number (number + suc k) (omega arith) in
     let next : number + suc k ≡ suc number + k = omega arith in
-    let behind : first + 1 + length draft.groups ≡ suc first + length (names_of_groups draft) = omega (arith, length-map draft.groups (λ (group : GroupDraft). group.name)) in
+    let behind : first + 1 + length draft.groups ≡ suc first + length draft.groups = omega arith in
     ap (λ (t : Bool). cond (t && same_name None name) (Some first) (position_from (is_group (number + suc k) name) (first + 1) (map (named_group number) draft.groups ++ groups_from (suc number) nodes))) apart
     ∙ passed (number + suc k) number name (first + 1) draft.groups (groups_from (suc number) nodes) apart
     ∙ (λ i. position_from (is_group (next i) name) (behind i) (groups_from (suc number) nodes))
-    ∙ in_node k (suc number) name (suc first + length (names_of_groups draft)) nodes
+    ∙ in_node k (suc number) name (suc first + length draft.groups) nodes
 
 -- a group is found by its name
 pub group_same : (draft : GraphDraft) (node : ℕ) (name : Option (List ℕ)) → group_in (directory_of draft) node name ≡ group_named draft node name
@@ -88,7 +91,7 @@ group_same draft node name =
 -- ---- entities
 
 -- what an entity refers to is declared where it has a number
-is_referred : (directory : DirectoryData) (entity : Drafted) → is_some (referred directory entity) ≡ refers (λ to name. is_some (number_in directory to name)) entity
+is_referred : (directory : DirectoryData) (entity : Drafted) → is_some (reference_number directory entity) ≡ refers (λ to name. is_some (number_in directory to name)) entity
 is_referred directory entity = by (reference_of entity) where
   mapped : (o : Option ℕ) → is_some (option_map (λ (n : ℕ). Some n) o) ≡ is_some o
   mapped None = refl
@@ -109,7 +112,7 @@ both_there (Some group) (Some reference) placed = refl
 
 links_same : (draft : GraphDraft) → are_distinct (drafted_names draft) ≡ true → (placed : Placed) → is_some (linked_in (directory_of draft) placed) ≡ is_resolved draft placed
 links_same draft distinct placed =
-    both_there (group_in (directory_of draft) placed.node placed.entity.group) (referred (directory_of draft) placed.entity.is) placed
+    both_there (group_in (directory_of draft) placed.node placed.entity.group) (reference_number (directory_of draft) placed.entity.is) placed
     ∙ (λ i. is_some (group_same draft placed.node placed.entity.group i) && is_referred (directory_of draft) placed.entity.is i)
     ∙ (λ i. is_some (group_named draft placed.node placed.entity.group) && refers (λ to name. is_some (number_same draft distinct to name i)) placed.entity.is)
 

@@ -3,7 +3,8 @@ use Rattle.std.specs.Prelude.{ℕ, suc, List, [], ◌∷◌, ◌++◌, length, m
 use Rattle.std.specs.List.{filter, flat_map, position_from}
 use Rattle.std.specs.Str.{bytes_eq}
 use Rattle.exec_graph.specs.declared.draft.GraphDraft.{GraphDraft}
-use Rattle.exec_plan.specs.Entity.{EntityNo, entity_kinds, is_of}
+use Rattle.exec_msg.specs.Numbers.{EntityNo}
+use Rattle.exec_plan.specs.Entity.{entity_kinds, is_of}
 use Rattle.exec_graph.specs.declared.draft.GroupDraft.{GroupDraft}
 use Rattle.exec_graph.specs.declared.draft.NodeDraft.{NodeDraft}
 use Rattle.exec_graph.specs.declared.draft.EntityDraft.{EntityDraft}
@@ -30,13 +31,9 @@ abbrev pub entities_from : ℕ → List NodeDraft → List Placed
 entities_from number [] = []
 entities_from number (node ∷ nodes) = map (placed_in number) node.entities ++ entities_from (suc number) nodes
 
--- the entities of nodes in the order of their numbers: by kind, and within a kind in the order of declaration
-abbrev pub numbered : List NodeDraft → List Placed
-numbered nodes = flat_map (λ kind. filter (λ placed. is_of kind placed.entity.is) (entities_from 0 nodes)) entity_kinds
-
--- the entities of a graph in the order of their numbers
+-- the entities of a graph in the order of their numbers: by kind, and within a kind in the order of declaration
 abbrev pub entities_of : GraphDraft → List Placed
-entities_of draft = numbered draft.nodes
+entities_of draft = flat_map (λ kind. filter (λ placed. is_of kind placed.entity.is) (entities_from 0 draft.nodes)) entity_kinds
 
 -- the number of the topic of a name; topics have the first numbers
 abbrev pub topic_named : GraphDraft → List ℕ → Option EntityNo

@@ -2,10 +2,11 @@
 use Rattle.std.specs.Prelude.{ℕ, List, ◌++◌, map, Option, Some}
 use Rattle.std.specs.Result.{result_ok}
 use Rattle.exec_graph.specs.declared.draft.GraphDraft.{GraphDraft}
-use Rattle.exec_plan.specs.Entity.{Spelled, Script, read_by}
+use Rattle.exec_script.specs.Instruction.{Script}
+use Rattle.exec_plan.specs.Entity.{Spelled, read_by}
 use Rattle.exec_plan.specs.Graph.{EntityData, GraphData}
 use Rattle.exec_graph.specs.Numbers.{Placed, entities_of, named, group_named, groups_of, scope_of}
-use Rattle.exec_plan.specs.Options.{◌>>=◌, each}
+use Rattle.exec_msg.specs.Options.{◌>>=◌, each}
 use Rattle.exec_plan.specs.declared.entity.Declared.TheVariants.{Topic, Entity}
 use Rattle.exec_script.specs.Spelling.{ScopeNames, script_of}
 

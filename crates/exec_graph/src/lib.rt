@@ -10,9 +10,9 @@ pub use draft::builder::GraphBuilder;
 pub use draft::named::NamedGraph;
 pub use draft::{Drafted, EntityDraft, GraphDraft, GroupDraft, NodeDraft};
 pub use exec_plan::{
-    ActionClientEntity, CallbackGroup, ClientEntity, Declared, EntityKind, EntityOf, Fed, Feed,
-    FeedByRound, Graph, GraphEntity, GroupNo, Plan, PlanFault, Script, ServerEntity, ServiceEntity,
-    SubscriptionEntity, TimerEntity, schedule_fits,
+    ActionClientEntity, CallbackGroup, ClientEntity, Declared, EntityKind, EntityOf, Fed, FedOf,
+    Feed, FeedByRound, FeedOf, Graph, GraphEntity, GroupNo, Plan, PlanFault, Script, ServerEntity,
+    ServiceEntity, SubscriptionEntity, TimerEntity, greatest_stamp, schedule_fits,
 };
 pub use fault::GraphFault;
 pub use spelled::Spelled;

@@ -5,7 +5,7 @@ use Rattle.std.specs.List.{AllByRecursion, IsDistinct, flat_map, fold}
 use Rattle.std.specs.Option.{option_map}
 use Rattle.std.proofs.lemmas.List.{append-nil, append_assoc, take_all}
 use Rattle.std.proofs.lemmas.List.Sorted.{IsPermutation-append_left, IsPermutation-refl, IsPermutation-trans}
-use Rattle.exec_plan.specs.Entity.{EntityNo}
+use Rattle.exec_msg.specs.Numbers.{EntityNo}
 use Rattle.exec_lane.proofs.ComingHome.{AreApart, ComesBehind, NonePolls, all_with_callback, apart_with_callback, comes_behind, did_with, home_after, home_of, homes_of, lanes_past, put_beside, ran_of, ran_with, same_for}
 use Rattle.exec_lane.proofs.Putting.{left_by_home, left_by_put, out_is, polled_home, task_put, work_twice}
 use Rattle.exec_lane.specs.Gather.{all_ran, ran_each, ran_in}
@@ -15,7 +15,8 @@ use Rattle.exec_script.specs.declared.effects.Effect.{Effect}
 use Rattle.exec_rules.specs.Callback.{Outcome}
 use Rattle.exec_rules.specs.Calls.{AreHome, HaveVariables, IsHomeFor, polls_same}
 use Rattle.exec_rules.specs.Run.{all_apart, all_home, apart, apart_with, brought_home, effects_of, variables_for, with_polled, with_variables_for, work_after, work_for}
-use Rattle.exec_rules.specs.World.{GoalWork, Variables, WorldState, with_variables, with_work}
+use Rattle.exec_script.specs.Script.{Variables}
+use Rattle.exec_rules.specs.World.{GoalWork, WorldState, with_variables, with_work}
 use Rattle.exec_rules.specs.declared.ready.Cause.{Cause}
 use Rattle.exec_rules.specs.declared.ready.Cause.TheVariants as cause
 use Rattle.exec_rules.specs.declared.ready.Ready.{Ready}

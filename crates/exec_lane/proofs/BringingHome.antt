@@ -9,7 +9,8 @@ use Rattle.exec_lane.specs.Lane.{Done, LaneState, lane_at, task_home, tasks_home
 use Rattle.exec_lane.specs.declared.gathering.Ran.{Ran}
 use Rattle.exec_lane.specs.inner.Homing.{ran_by, ran_first, slots_home}
 use Rattle.exec_lane.specs.inner.Slots.{SlotState, entries_of, slots_at}
-use Rattle.exec_rules.specs.World.{Variables, WorldState}
+use Rattle.exec_script.specs.Script.{Variables}
+use Rattle.exec_rules.specs.World.{WorldState}
 
 tasks_are : (slots : List SlotState) (done : List Done) (world : WorldState) → slots_home (slots_at done slots) world ≡ tasks_home (entries_of slots) done world
 tasks_are [] [] world = refl

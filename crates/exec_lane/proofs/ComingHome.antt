@@ -8,7 +8,7 @@ use Rattle.std.proofs.lemmas.List.{append_assoc, length-set, length_push, map-ap
 use Rattle.std.proofs.lemmas.List.Concat.{flat_map-append}
 use Rattle.std.proofs.lemmas.List.Sorted.{IsPermutation-append_comm, IsPermutation-append_right, IsPermutation-refl}
 use Rattle.std.proofs.lemmas.List.Sums.{fold-append}
-use Rattle.exec_plan.specs.Entity.{EntityNo}
+use Rattle.exec_msg.specs.Numbers.{EntityNo}
 use Rattle.exec_lane.proofs.Putting.{put_past, task_put, variables_left, variables_put, variables_turned, variables_twice}
 use Rattle.exec_lane.specs.Gather.{ran_each}
 use Rattle.exec_lane.specs.Lane.{Done, Entry, LaneState, done_by, entry_in, goes_into, is_beside, run_entry, task_home, tasks_home, variables_at, variables_home, with_callback}
@@ -19,7 +19,8 @@ use Rattle.exec_script.specs.Zeros.{zeros}
 use Rattle.exec_rules.specs.Callback.{Outcome}
 use Rattle.exec_rules.specs.Calls.{polls_same}
 use Rattle.exec_rules.specs.Run.{apart, apart_with, effects_of, variables_for, with_variables_for, work_after, work_for}
-use Rattle.exec_rules.specs.World.{GoalWork, Variables, WorldState, with_variables, with_work}
+use Rattle.exec_script.specs.Script.{Variables}
+use Rattle.exec_rules.specs.World.{GoalWork, WorldState, with_variables, with_work}
 use Rattle.exec_rules.specs.declared.ready.Cause.{Cause}
 use Rattle.exec_rules.specs.declared.ready.Cause.TheVariants as cause
 use Rattle.exec_rules.specs.declared.ready.Ready.{Ready}

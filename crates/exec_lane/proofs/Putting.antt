@@ -3,15 +3,15 @@ use Rattle.std.proofs.Common.{◌≡◌, ◌≢◌, ℕ, ◌<◌, ◌&&◌, ◌=
 use Rattle.std.specs.Option.{option_and_then, option_map, option_map_or}
 use Rattle.std.proofs.lemmas.Bool.{both_ways, eqb-true, eq-eqb}
 use Rattle.std.proofs.lemmas.List.{get_or-set_other, get_or-set_same, set-set, set_comm}
-use Rattle.exec_plan.specs.Entity.{EntityNo}
+use Rattle.exec_msg.specs.Numbers.{EntityNo, GoalId}
 use Rattle.exec_lane.specs.Lane.{is_beside, task_home, without_task}
 use Rattle.exec_msg.specs.Lists.{change_first}
 use Rattle.exec_script.specs.Zeros.{zeros}
 use Rattle.exec_task.specs.Task.{TaskState}
 use Rattle.exec_rules.specs.Calls.{polls_same_of, wakes}
-use Rattle.exec_rules.specs.Item.{GoalId}
 use Rattle.exec_rules.specs.Run.{variables_for, with_polled, with_variables_for, work_after, work_for}
-use Rattle.exec_rules.specs.World.{GoalWork, HeldGoal, ServerEntry, Variables, WorldState, is_for, is_server_at, with_work, work_at}
+use Rattle.exec_script.specs.Script.{Variables}
+use Rattle.exec_rules.specs.World.{GoalWork, HeldGoal, ServerEntry, WorldState, is_for, is_server_at, with_work, work_at}
 use Rattle.exec_rules.specs.declared.ready.Cause.{Cause}
 use Rattle.exec_rules.specs.declared.ready.Cause.TheVariants as cause
 use Rattle.exec_rules.specs.declared.ready.Ready.{Ready}

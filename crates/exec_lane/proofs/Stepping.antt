@@ -8,7 +8,7 @@ use Rattle.std.proofs.lemmas.List.{length_push, take_more}
 use Rattle.std.proofs.lemmas.List.Sums.{fold-append}
 use Rattle.exec_lane.specs.Lane.{Done, Entry, LaneState, done_by, lane_at, run_entry}
 use Rattle.exec_lane.specs.inner.Slots.{SlotState, did_in, entries_of, entry_of, slot_after, slots_at}
-use Rattle.exec_rules.specs.World.{Variables}
+use Rattle.exec_script.specs.Script.{Variables}
 
 -- as many entries as slots
 pub as_many : (slots : List SlotState) → length (entries_of slots) ≡ length slots

@@ -39,8 +39,8 @@ impl Slot {
     fn run(&mut self, alloc: Global, bank: &mut Bank, poller: &Poller) -> Result<(), Memory>
         ensures slot { OnOk result (self.new ≡ slot_after bank.old self.old) }
         ensures variables { OnOk result (bank.new ≡ (did_in bank.old self.old).variables) }
-        ensures refused { OnErr result (self.new ≡ self.old) }
-        ensures refused_variables { OnErr result (bank.new ≡ bank.old) }
+        ensures unchanged { OnErr result (self.new ≡ self.old) }
+        ensures unchanged_variables { OnErr result (bank.new ≡ bank.old) }
     {
         let did = self.ready.run_apart(alloc, &mut self.task, bank, poller)?;
         self.did = Some(did);

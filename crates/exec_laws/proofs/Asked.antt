@@ -8,7 +8,7 @@ use Rattle.exec_goal.specs.State.{after, is_terminal, status_of}
 use Rattle.exec_goal.specs.Table.{GoalRecord, told, later, answer_to, has_id, moved_by, after_event, asked_by}
 use Rattle.exec_goal.specs.declared.state.State.{State}
 use Rattle.exec_goal.specs.declared.state.State.TheVariants as state
-use Rattle.exec_plan.specs.Entity.{EntityNo}
+use Rattle.exec_msg.specs.Numbers.{EntityNo, GoalId}
 use Rattle.exec_msg.specs.Lists.{change_first}
 use Rattle.exec_msg.specs.declared.goal.Event.{Event}
 use Rattle.exec_msg.specs.declared.goal.Event.TheVariants as event
@@ -22,7 +22,6 @@ use Rattle.exec_rules.proofs.Pairs.{all_weaker}
 use Rattle.exec_laws.proofs.Views.{turned}
 use Rattle.exec_rules.specs.Close.{accepted_lines, moved_lines, tell}
 use Rattle.exec_laws.specs.Exchanges.{is_ask_taken, is_result_told, waiting_for, waiting_in}
-use Rattle.exec_rules.specs.Item.{GoalId}
 use Rattle.exec_rules.specs.World.{WorldState, ServerEntry, is_server_at, add_line, add_lines, drop_line, lost_by, queued, push, goals_of, with_call, goals_in}
 use Rattle.exec_rules.specs.declared.item.Item.{Item}
 use Rattle.exec_rules.specs.declared.item.Item.TheVariants as item

@@ -7,7 +7,7 @@ use Rattle.exec_goal.specs.Cancel.{Decided, is_moved, table_after}
 use Rattle.exec_goal.specs.Table.{GoalRecord, has_id, moved_by, after_event, after_end, new_goal}
 use Rattle.exec_goal.specs.declared.state.State.{State}
 use Rattle.exec_goal.specs.declared.state.State.TheVariants as state
-use Rattle.exec_plan.specs.Entity.{EntityNo}
+use Rattle.exec_msg.specs.Numbers.{EntityNo, GoalId}
 use Rattle.exec_msg.specs.Lists.{change_first}
 use Rattle.exec_msg.specs.declared.goal.Event.{Event}
 use Rattle.exec_msg.specs.declared.goal.Event.TheVariants as event
@@ -17,7 +17,6 @@ use Rattle.exec_rules.proofs.Keeping.{Moves, Tells, publish_kept, moves_kept, te
 use Rattle.exec_rules.proofs.Running.{ended, end_kept, ends_told, asks_told, run_keeps, unclosed_keeps}
 use Rattle.exec_laws.proofs.Statuses.{state_left, state_of_other, state_moved}
 use Rattle.exec_rules.specs.Close.{with_ended, goal_at}
-use Rattle.exec_rules.specs.Item.{GoalId}
 use Rattle.exec_laws.specs.Goals.{may_be_polled}
 use Rattle.exec_rules.specs.Run.{unclosed}
 use Rattle.exec_rules.specs.Run.{run}

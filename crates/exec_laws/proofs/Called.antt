@@ -8,7 +8,7 @@ use Rattle.std.proofs.lemmas.Grind.{flat_map-append}
 use Rattle.std.proofs.lemmas.List.{append-nil}
 use Rattle.std.proofs.lemmas.List.Elements.{recursion_from_All}
 use Rattle.std.proofs.lemmas.List.Sorted.{IsPermutation-append_right, IsPermutation-refl, IsPermutation-cons, IsPermutation-middle, IsPermutation-trans}
-use Rattle.exec_plan.specs.Entity.{EntityNo}
+use Rattle.exec_msg.specs.Numbers.{EntityNo, Moment}
 use Rattle.exec_msg.specs.Lists.{change_first, drop_first}
 use Rattle.exec_msg.specs.Timer.{is_due}
 use Rattle.exec_laws.proofs.Channels.{weigh}
@@ -18,7 +18,7 @@ use Rattle.exec_rules.proofs.OfKinds.{IsOfItsKind}
 use Rattle.exec_rules.proofs.Pairs.{all_both, all_filter, all_flat, all_map, all_passed}
 use Rattle.exec_rules.specs.Item.{taker_of}
 use Rattle.exec_rules.specs.Ready.{call_answered, answered_by_first, reply_taken, due_ready, is_before_polls, item_ready, placed_from, poll_ready, queue_ready, queues_before_polls, queues_behind_polls, ready_list}
-use Rattle.exec_rules.specs.World.{WorldState, Moment, Queue, TimerEntry, ClientEntry, is_client_at, goals_of}
+use Rattle.exec_rules.specs.World.{WorldState, Queue, TimerEntry, ClientEntry, is_client_at, goals_of}
 use Rattle.exec_rules.specs.declared.item.Item.{Item}
 use Rattle.exec_rules.specs.declared.item.Item.TheVariants as item
 use Rattle.exec_rules.specs.declared.ready.Cause.{Cause}

@@ -3,8 +3,8 @@ use Rattle.std.proofs.Common.{◌≡◌, ℕ, zero, suc, ◌+◌, ◌-◌, ◌�
 use Rattle.std.specs.List.{AllByRecursion, find}
 use Rattle.std.specs.Option.{option_map_or}
 use Rattle.std.proofs.lemmas.Bool.{eqb-true, eq-eqb, and_parts}
-use Rattle.exec_plan.specs.Entity.{EntityNo}
-use Rattle.exec_plan.specs.Graph.{GraphData, declared_at, of_entity}
+use Rattle.exec_msg.specs.Numbers.{EntityNo}
+use Rattle.exec_plan.specs.Graph.{GraphData}
 use Rattle.exec_msg.specs.KeepLast.{sent, displaced}
 use Rattle.exec_msg.specs.Kind.{ready_number}
 use Rattle.exec_msg.specs.Lists.{change_first}
@@ -18,7 +18,7 @@ use Rattle.exec_rules.specs.Item.{taker_of}
 use Rattle.exec_rules.specs.Ready.{is_callback_of}
 use Rattle.exec_rules.specs.Lines.{is_answer}
 use Rattle.exec_rules.specs.Ready.{kind_of, queue_taken}
-use Rattle.exec_rules.specs.Transcript.{service_in, server_in}
+use Rattle.exec_rules.specs.Transcript.{entity_at, service_in, server_in}
 use Rattle.exec_rules.specs.World.{Queue, is_queue, queue_after}
 use Rattle.exec_rules.specs.declared.item.Item.{Item}
 use Rattle.exec_rules.specs.declared.item.Item.TheVariants as item
@@ -70,6 +70,10 @@ sends_to routes (asks server) one = (ready_number (kind_of one.cause) == ready_n
 abbrev pub weigh : Bool → ℕ → ℕ
 weigh true count = count
 weigh false count = 0
+
+pub weighs_nothing : (b : Bool) → weigh b 0 ≡ 0
+weighs_nothing true = refl
+weighs_nothing false = refl
 
 -- how many items stand in a channel's queues
 abbrev pub total : Routes → Channel → List Queue → ℕ
@@ -170,22 +174,22 @@ module _ (routes : Routes) (channel : Channel) where
 
 -- the channel of an answer
 abbrev pub channel_of : GraphData → EntityNo → Kind → Channel
-channel_of graph entity kind.Reply = replies (of_entity 0 service_in (declared_at graph entity))
-channel_of graph entity kind.Response = responses (of_entity 0 server_in (declared_at graph entity))
-channel_of graph entity kind.Code = codes (of_entity 0 server_in (declared_at graph entity))
+channel_of graph entity kind.Reply = replies (service_in (entity_at graph entity).is)
+channel_of graph entity kind.Response = responses (server_in (entity_at graph entity).is)
+channel_of graph entity kind.Code = codes (server_in (entity_at graph entity).is)
 channel_of graph entity _ = asks entity
 
 pub its_channel : (graph : GraphData) (entity : EntityNo) (of : Kind) → is_answer of ≡ true → takes (routes_of graph) (channel_of graph entity of) entity of ≡ true
 its_channel graph entity kind.Timer e = absurd cc
 its_channel graph entity kind.Message e = absurd cc
 its_channel graph entity kind.Request e = absurd cc
-its_channel graph entity kind.Reply e = eq-eqb (of_entity 0 service_in (declared_at graph entity)) (of_entity 0 service_in (declared_at graph entity)) refl
+its_channel graph entity kind.Reply e = eq-eqb (service_in (entity_at graph entity).is) (service_in (entity_at graph entity).is) refl
 its_channel graph entity kind.Goal e = absurd cc
 its_channel graph entity kind.Cancel e = absurd cc
 its_channel graph entity kind.Ask e = eq-eqb entity entity refl
 its_channel graph entity kind.Poll e = absurd cc
-its_channel graph entity kind.Response e = eq-eqb (of_entity 0 server_in (declared_at graph entity)) (of_entity 0 server_in (declared_at graph entity)) refl
-its_channel graph entity kind.Code e = eq-eqb (of_entity 0 server_in (declared_at graph entity)) (of_entity 0 server_in (declared_at graph entity)) refl
+its_channel graph entity kind.Response e = eq-eqb (server_in (entity_at graph entity).is) (server_in (entity_at graph entity).is) refl
+its_channel graph entity kind.Code e = eq-eqb (server_in (entity_at graph entity).is) (server_in (entity_at graph entity).is) refl
 its_channel graph entity kind.Feedback e = absurd cc
 its_channel graph entity kind.Result e = absurd cc
 

@@ -7,12 +7,10 @@ use Rattle.std.proofs.lemmas.List.{append-nil}
 use Rattle.exec_goal.specs.Cancel.{moved}
 use Rattle.exec_goal.specs.State.{status_of}
 use Rattle.exec_goal.specs.Table.{GoalRecord, after_event, after_end, expired}
-use Rattle.exec_plan.specs.Entity.{EntityNo}
+use Rattle.exec_msg.specs.Numbers.{EntityNo, Moment}
 use Rattle.exec_plan.specs.Feeding.{fed_in}
-use Rattle.exec_plan.specs.Plan.{PlanData}
-use Rattle.exec_plan.specs.declared.plan.Fed.{Fed}
-use Rattle.exec_plan.specs.declared.plan.Fed.TheVariants as feeding
-use Rattle.exec_plan.specs.declared.plan.Feed.{Feed}
+use Rattle.exec_plan.specs.Plan.{PlanData, Fed, Feed}
+use Rattle.exec_plan.specs.declared.plan.FedOf.TheVariants as feeding
 use Rattle.exec_msg.specs.declared.goal.Event.TheVariants as event
 use Rattle.exec_msg.specs.declared.goal.GoalStatus.{GoalStatus}
 use Rattle.exec_msg.specs.declared.kind.Kind.TheVariants as kind
@@ -25,17 +23,18 @@ use Rattle.exec_rules.proofs.OfKinds.{AreOfTheirKinds, kinds_kept, kinds_first}
 use Rattle.exec_rules.proofs.Pairs.{all_append, all_flat, all_map, all_weaker}
 use Rattle.exec_rules.proofs.Running.{Answers, ends_told, asks_told, run_keeps, KeptByRounds}
 use Rattle.exec_rules.proofs.Shapes.{shape_kept}
+use Rattle.exec_laws.proofs.Standing.{has_queue}
 use Rattle.exec_laws.proofs.Subscribed.{brought, only_if, messages_brought, queue_there}
 use Rattle.exec_rules.proofs.Wiring.{wired}
 use Rattle.exec_rules.specs.Close.{accepted_lines, moved_lines, with_ended, goal_at}
 use Rattle.exec_laws.specs.Exchanges.{IsDelivered, fed_to, published_at}
 use Rattle.exec_rules.specs.Give.{publish, execute_goal}
 use Rattle.exec_rules.specs.Item.{taker_of}
-use Rattle.exec_rules.specs.Shape.{queue_shape, shape_of}
+use Rattle.exec_rules.specs.Shape.{shape_of}
 use Rattle.exec_rules.specs.Ready.{ready_list, run_line, take_inputs}
 use Rattle.exec_rules.specs.Run.{run}
 use Rattle.exec_rules.specs.Transcript.{first_world, expire_lines, expire, feed_one, feed, at_snapshot, run_all, round, rounds, pending_by, closing_lines, last_world}
-use Rattle.exec_rules.specs.World.{WorldState, Moment, Queue, add_line, add_lines, is_queue, drop_line, lost_by, push, subscribers_of, with_call}
+use Rattle.exec_rules.specs.World.{WorldState, Queue, add_line, add_lines, is_queue, drop_line, lost_by, push, subscribers_of, with_call}
 use Rattle.exec_rules.specs.declared.item.Item.{Item}
 use Rattle.exec_rules.specs.declared.item.Item.TheVariants as item
 use Rattle.exec_rules.specs.declared.ready.Ready.{Ready}
@@ -102,17 +101,7 @@ module _ (plan : PlanData) (topic subscription : EntityNo) (among : Contains (su
   }
 
   there : (world : WorldState) → Base world → list_any (is_queue subscription kind.Message) world.queues ≡ true
-  there world p =
-      sym (shaped world.queues) ∙ ap (λ (shape : WorldState). list_any (is_queue subscription kind.Message) shape.queues) p.1 ∙ shaped (first_world plan.graph).queues
-      ∙ queue_there plan.graph topic subscription among
-    where
-      shaped : (queues : List Queue) → list_any (is_queue subscription kind.Message) (map queue_shape queues) ≡ list_any (is_queue subscription kind.Message) queues
-      shaped [] = refl
-      shaped (queue ∷ queues) = by (is_queue subscription kind.Message queue) refl (shaped queues)
-        where
-          by : (b : Bool) → is_queue subscription kind.Message queue ≡ b → list_any (is_queue subscription kind.Message) (map queue_shape queues) ≡ list_any (is_queue subscription kind.Message) queues → list_any (is_queue subscription kind.Message) (map queue_shape (queue ∷ queues)) ≡ list_any (is_queue subscription kind.Message) (queue ∷ queues)
-          by true e rest = rw e refl
-          by false e rest = rw e rest
+  there world p = has_queue subscription kind.Message world (first_world plan.graph) p.1 ∙ queue_there plan.graph topic subscription among
 
   -- messages on their way: so much was sent to the subscription, where lines say that so much was published
   record IsSending (sent hand said : List ℤ) (world : WorldState) : Type 0 where

@@ -6,7 +6,7 @@ use Rattle.std.proofs.lemmas.List.Elements.{recursion_from_All}
 use Rattle.std.proofs.lemmas.Bool.{or_parts}
 use Rattle.exec_goal.specs.Cancel.{moved}
 use Rattle.exec_goal.specs.Table.{GoalRecord, after_event, after_end, has_id, expired}
-use Rattle.exec_plan.specs.Entity.{EntityNo}
+use Rattle.exec_msg.specs.Numbers.{EntityNo, Moment}
 use Rattle.exec_plan.specs.Feeding.{fed_in}
 use Rattle.exec_plan.specs.Graph.{GraphData, wait_set, Waitable}
 use Rattle.exec_plan.specs.Plan.{PlanData}
@@ -36,7 +36,7 @@ use Rattle.exec_rules.specs.Lines.{is_answer, is_loss}
 use Rattle.exec_rules.specs.Ready.{due_ready, item_ready, queue_ready, poll_ready, is_before_polls, placed_from, ready_list, run_line, take_inputs}
 use Rattle.exec_rules.specs.Run.{run}
 use Rattle.exec_rules.specs.Transcript.{takes_from_queue, first_world, expire_lines, expire, at_snapshot, run_all, round, rounds, pending_by, closing_lines, lines_of, new_queue}
-use Rattle.exec_rules.specs.World.{WorldState, Moment, Queue, TimerEntry, ServerEntry, ClientEntry, add_line, is_queue, drop_line, lost_by, push, goals_of, change_goals, add_lines, with_task, with_call, with_goal_sent, with_variables}
+use Rattle.exec_rules.specs.World.{WorldState, Queue, TimerEntry, ServerEntry, ClientEntry, add_line, is_queue, drop_line, lost_by, push, goals_of, change_goals, add_lines, with_task, with_call, with_goal_sent, with_variables}
 use Rattle.exec_rules.specs.declared.item.Item.{Item}
 use Rattle.exec_rules.specs.declared.item.Item.TheVariants as item
 use Rattle.exec_rules.specs.declared.ready.Ready.{Ready}

@@ -26,13 +26,14 @@ use Rattle.exec_rules.proofs.ReadyLists.{snapshot_wired}
 use Rattle.exec_rules.proofs.Running.{snapshot_keeps, rounds_keep}
 use Rattle.exec_rules.specs.Callback.{act, close_of_answer, poll, poll_where}
 use Rattle.exec_rules.specs.Give.{give}
-use Rattle.exec_rules.specs.Item.{GoalId}
+use Rattle.exec_msg.specs.Numbers.{GoalId, Moment}
 use Rattle.exec_laws.specs.Goals.{IsTurn, may_be_polled}
 use Rattle.exec_rules.specs.Run.{unclosed}
 use Rattle.exec_rules.specs.Ready.{take_inputs, turn_at, run_line}
 use Rattle.exec_rules.specs.Run.{work_for, variables_for, outcome_in}
 use Rattle.exec_rules.specs.Transcript.{at_snapshot, first_world, rounds}
-use Rattle.exec_rules.specs.World.{WorldState, Moment, GoalWork, Variables, add_line, goals_of}
+use Rattle.exec_script.specs.Script.{Variables}
+use Rattle.exec_rules.specs.World.{WorldState, GoalWork, add_line, goals_of}
 use Rattle.exec_rules.specs.declared.ready.Cause.{Cause}
 use Rattle.exec_rules.specs.declared.ready.Cause.TheVariants as cause
 use Rattle.exec_rules.specs.declared.ready.Ready.{Ready}

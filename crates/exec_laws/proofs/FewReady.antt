@@ -7,7 +7,7 @@ use Rattle.std.proofs.lemmas.List.Filters.{length-filter_both}
 use Rattle.exec_goal.specs.Cancel.{is_candidate}
 use Rattle.exec_goal.specs.Info.{info_of}
 use Rattle.exec_goal.specs.Table.{GoalRecord}
-use Rattle.exec_plan.specs.Entity.{EntityNo}
+use Rattle.exec_msg.specs.Numbers.{EntityNo, Moment}
 use Rattle.exec_plan.specs.Graph.{EntityData, GraphData, Waitable, cons_if, entities_where, has_kind, is_server, is_timer, is_topic, kinds, numbers_where, wait_set}
 use Rattle.exec_plan.specs.Lawful.{IsLawful}
 use Rattle.exec_plan.specs.declared.entity.Declared.{Declared}
@@ -20,7 +20,7 @@ use Rattle.exec_rules.specs.Callback.{instructions_of}
 use Rattle.exec_rules.specs.Shape.{queue_shape, server_shape, shape_of, timer_shape}
 use Rattle.exec_rules.specs.Ready.{candidates_for, due_ready, is_before_polls, is_goal_awake, item_ready, placed_from, poll_ready, queue_ready, queues_before_polls, queues_behind_polls, ready_for, ready_list, script_to_take, woken}
 use Rattle.exec_rules.specs.Transcript.{first_world, new_queue, new_server, new_timer, takes_from_queue}
-use Rattle.exec_rules.specs.World.{Moment, Queue, ServerEntry, TimerEntry, WorldState, goals_of, has_room_for, is_server_at, goals_in}
+use Rattle.exec_rules.specs.World.{Queue, ServerEntry, TimerEntry, WorldState, goals_of, has_room_for, is_server_at, goals_in}
 use Rattle.exec_rules.specs.declared.item.Item.{Item}
 use Rattle.exec_rules.specs.declared.item.Item.TheVariants as item
 use Rattle.exec_rules.specs.declared.ready.Ready.{Ready}

@@ -1,15 +1,17 @@
 -- What is on its way: what the items weigh that stand in queues, and those that callbacks took.
-use Rattle.std.proofs.Common.{◌≡◌, ℕ, zero, suc, ◌+◌, ◌-◌, ◌≤◌, Bool, true, false, not, ◌==◌, List, [], ◌∷◌, ◌++◌, length, map, drop, refl, ap, arith}
-use Rattle.std.specs.List.{AllByRecursion, filter, flat_map}
+use Rattle.std.proofs.Common.{◌≡◌, ℕ, zero, suc, ◌+◌, ◌-◌, ◌≤◌, Bool, true, false, not, ◌==◌, List, [], ◌∷◌, ◌++◌, length, map, take, drop, refl, ap, arith}
+use Rattle.std.specs.List.{AllByRecursion, filter, flat_map, list_any}
 use Rattle.std.proofs.lemmas.Bool.{eqb-true, and_parts}
-use Rattle.exec_plan.specs.Entity.{EntityNo}
+use Rattle.exec_msg.specs.Numbers.{EntityNo, Moment}
+use Rattle.exec_msg.specs.KeepLast.{sent}
 use Rattle.exec_msg.specs.Kind.{ready_number}
 use Rattle.exec_msg.specs.Lists.{change_first}
 use Rattle.exec_msg.specs.Timer.{is_due}
+use Rattle.exec_laws.proofs.Channels.{weigh}
 use Rattle.exec_rules.proofs.Pairs.{all_flat, all_map}
 use Rattle.exec_rules.specs.Item.{taker_of}
 use Rattle.exec_rules.specs.Ready.{due_ready, is_before_polls, item_ready, placed_from, poll_ready, queue_ready, queue_taken, queues_before_polls, queues_behind_polls, ready_list}
-use Rattle.exec_rules.specs.World.{WorldState, Moment, Queue, TimerEntry, is_queue, queue_after, goals_of}
+use Rattle.exec_rules.specs.World.{WorldState, Queue, TimerEntry, is_queue, lost_from, queue_after, goals_of}
 use Rattle.exec_rules.specs.declared.item.Item.{Item}
 use Rattle.exec_rules.specs.declared.ready.Cause.{Cause}
 use Rattle.exec_rules.specs.declared.ready.Cause.TheVariants as cause
@@ -17,7 +19,7 @@ use Rattle.exec_rules.specs.declared.ready.Ready.{Ready}
 
 -- what each item weighs, where it stands in an entity's queue
 module _ (weight : EntityNo → Item → ℕ) where
-  abbrev in_items : EntityNo → List Item → ℕ
+  abbrev pub in_items : EntityNo → List Item → ℕ
   in_items entity [] = 0
   in_items entity (one ∷ items) = weight entity one + in_items entity items
 
@@ -30,24 +32,38 @@ module _ (weight : EntityNo → Item → ℕ) where
   items_more entity [] new = omega arith
   items_more entity (one ∷ items) new = let rest = items_more entity items new in omega (arith, rest)
 
-  items_dropped : (entity : EntityNo) (many : ℕ) (items : List Item) → in_items entity (drop many items) ≤ in_items entity items
-  items_dropped entity zero items = omega arith
-  items_dropped entity (suc many) [] = omega arith
-  items_dropped entity (suc many) (one ∷ items) = let rest = items_dropped entity many items in omega (arith, rest)
+  items_parted : (entity : EntityNo) (many : ℕ) (items : List Item) → in_items entity (take many items) + in_items entity (drop many items) ≡ in_items entity items
+  items_parted entity zero items = omega arith
+  items_parted entity (suc many) [] = refl
+  items_parted entity (suc many) (one ∷ items) = let rest = items_parted entity many items in omega (arith, rest)
 
-  pub flying_after : (entity : EntityNo) (new : Item) (queues : List Queue) → flying (change_first (is_queue entity (taker_of new)) (queue_after new) queues) ≤ flying queues + weight entity new
-  flying_after entity new [] = omega arith
-  flying_after entity new (queue ∷ queues) = by (is_queue entity (taker_of new) queue) refl (flying_after entity new queues)
+  -- what an item that is sent leaves in queues, and what they lose by it, where there is a queue for it
+  pub flying_sent : (entity : EntityNo) (new : Item) (queues : List Queue) →
+      flying (change_first (is_queue entity (taker_of new)) (queue_after new) queues) + in_items entity (lost_from entity new queues) ≡ flying queues + weigh (list_any (is_queue entity (taker_of new)) queues) (weight entity new)
+  flying_sent entity new [] = refl
+  flying_sent entity new (queue ∷ queues) = by (is_queue entity (taker_of new) queue) refl (flying_sent entity new queues)
     where
-      by : (b : Bool) → is_queue entity (taker_of new) queue ≡ b → flying (change_first (is_queue entity (taker_of new)) (queue_after new) queues) ≤ flying queues + weight entity new →
-          flying (change_first (is_queue entity (taker_of new)) (queue_after new) (queue ∷ queues)) ≤ flying (queue ∷ queues) + weight entity new
+      by : (b : Bool) → is_queue entity (taker_of new) queue ≡ b →
+          flying (change_first (is_queue entity (taker_of new)) (queue_after new) queues) + in_items entity (lost_from entity new queues) ≡ flying queues + weigh (list_any (is_queue entity (taker_of new)) queues) (weight entity new) →
+          flying (change_first (is_queue entity (taker_of new)) (queue_after new) (queue ∷ queues)) + in_items entity (lost_from entity new (queue ∷ queues)) ≡ flying (queue ∷ queues) + weigh (list_any (is_queue entity (taker_of new)) (queue ∷ queues)) (weight entity new)
       by true e rest =
           let here : queue.handler.entity ≡ entity = eqb-true queue.handler.entity entity (and_parts (queue.handler.entity == entity) (ready_number queue.kind == ready_number (taker_of new)) e).0 in
-          let fewer = items_dropped queue.handler.entity (length (queue.items ++ new ∷ []) - queue.depth) (queue.items ++ new ∷ []) in
-          let more = items_more queue.handler.entity queue.items new in
-          let same : weight queue.handler.entity new ≡ weight entity new = ap (λ (at : EntityNo). weight at new) here in
-          rw e (omega (arith, fewer, more, same))
+          let parts = items_parted entity (length (queue.items ++ new ∷ []) - queue.depth) (queue.items ++ new ∷ []) in
+          let more = items_more entity queue.items new in
+          let before : in_items queue.handler.entity queue.items ≡ in_items entity queue.items = ap (λ (at : EntityNo). in_items at queue.items) here in
+          let after : in_items queue.handler.entity (sent queue.depth new queue.items) ≡ in_items entity (sent queue.depth new queue.items) = ap (λ (at : EntityNo). in_items at (sent queue.depth new queue.items)) here in
+          rw e (omega (arith, parts, more, before, after))
       by false e rest = rw e (omega (arith, rest))
+
+  pub flying_after : (entity : EntityNo) (new : Item) (queues : List Queue) → flying (change_first (is_queue entity (taker_of new)) (queue_after new) queues) ≤ flying queues + weight entity new
+  flying_after entity new queues =
+      let all = flying_sent entity new queues in
+      let most = by (list_any (is_queue entity (taker_of new)) queues) in
+      omega (arith, all, most)
+    where
+      by : (b : Bool) → weigh b (weight entity new) ≤ weight entity new
+      by true = omega arith
+      by false = omega arith
 
   -- ---- what a snapshot takes of it
 

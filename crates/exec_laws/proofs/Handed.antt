@@ -6,7 +6,7 @@ use Rattle.std.proofs.lemmas.Bool.{eqb-true, and_parts, not-true}
 use Rattle.std.proofs.lemmas.Grind.{flat_map-append}
 use Rattle.std.proofs.lemmas.List.{append-nil}
 use Rattle.std.proofs.lemmas.List.Elements.{recursion_from_All}
-use Rattle.exec_plan.specs.Entity.{EntityNo}
+use Rattle.exec_msg.specs.Numbers.{EntityNo, GoalId, Moment}
 use Rattle.exec_msg.specs.Kind.{ready_number}
 use Rattle.exec_msg.specs.Timer.{is_due}
 use Rattle.exec_msg.specs.declared.kind.Kind.{Kind}
@@ -16,9 +16,9 @@ use Rattle.exec_rules.proofs.OfKinds.{IsOfItsKind, same_kind}
 use Rattle.exec_rules.proofs.Pairs.{Pairs, all_both, all_filter, all_flat, all_map, all_passed}
 use Rattle.exec_rules.proofs.Wiring.{QueuesApart}
 use Rattle.exec_laws.specs.Exchanges.{taken_at}
-use Rattle.exec_rules.specs.Item.{GoalId, taker_of, first_of}
+use Rattle.exec_rules.specs.Item.{taker_of, first_of}
 use Rattle.exec_rules.specs.Ready.{due_ready, is_before_polls, item_ready, placed_from, poll_ready, queue_ready, queue_taken, queues_before_polls, queues_behind_polls, ready_list, run_line}
-use Rattle.exec_rules.specs.World.{WorldState, Moment, Queue, TimerEntry, goals_of, is_queue}
+use Rattle.exec_rules.specs.World.{WorldState, Queue, TimerEntry, goals_of, is_queue}
 use Rattle.exec_rules.specs.declared.item.Item.{Item}
 use Rattle.exec_rules.specs.declared.ready.Ready.{Ready}
 

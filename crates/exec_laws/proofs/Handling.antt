@@ -6,12 +6,12 @@ use Rattle.std.proofs.lemmas.Bool.Decides.{nat_tests}
 use Rattle.std.proofs.lemmas.List.{append-nil}
 use Rattle.std.proofs.lemmas.List.Elements.{All-from_recursion}
 use Rattle.std.proofs.Math.Seq.{take-append_seam, drop-append_seam}
-use Rattle.exec_goal.specs.Cancel.{Decided}
+use Rattle.exec_goal.specs.Cancel.{Decided, decided_goal}
 use Rattle.exec_goal.specs.declared.info.GoalInfo.{GoalInfo}
 use Rattle.exec_script.specs.Script.{called, decision_within}
 use Rattle.exec_script.specs.declared.effects.Effect.{Effect}
 use Rattle.exec_rules.specs.Callback.{Handling, handle, instructions_of, candidate_input, decision_by}
-use Rattle.exec_rules.specs.Item.{GoalId}
+use Rattle.exec_msg.specs.Numbers.{GoalId}
 use Rattle.exec_laws.specs.Goals.{IsDecision}
 use Rattle.exec_rules.specs.declared.ready.Ready.{Ready}
 
@@ -46,7 +46,7 @@ module _ {S : Type 0} (put : Effect → S → S) (one : Ready) where
       all_made (handle put one handling candidate) candidates
       ∙ append_assoc handling.decisions (made_of handling candidate ∷ []) (made (handle put one handling candidate) candidates)
 
-  made_ids : (handling : Handling S) (candidates : List GoalInfo) → map (λ decided. decided.0) (made handling candidates) ≡ map (λ candidate. candidate.id) candidates
+  made_ids : (handling : Handling S) (candidates : List GoalInfo) → map decided_goal (made handling candidates) ≡ map (λ candidate. candidate.id) candidates
   made_ids handling [] = refl
   made_ids handling (candidate ∷ candidates) = ap (λ (ids : List GoalId). candidate.id ∷ ids) (made_ids (handle put one handling candidate) candidates)
 
@@ -65,9 +65,9 @@ module _ {S : Type 0} (put : Effect → S → S) (one : Ready) where
       ap (λ (all : List Decided). drop (length handling.decisions) all) (all_made handling candidates)
       ∙ drop-append_seam handling.decisions (made handling candidates)
 
-  pub decided_ids : (handling : Handling S) (candidates : List GoalInfo) → map (λ decided. decided.0) (drop (length handling.decisions) (fold (handle put one) handling candidates).decisions) ≡ map (λ candidate. candidate.id) candidates
+  pub decided_ids : (handling : Handling S) (candidates : List GoalInfo) → map decided_goal (drop (length handling.decisions) (fold (handle put one) handling candidates).decisions) ≡ map (λ candidate. candidate.id) candidates
   decided_ids handling candidates =
-      ap (λ (some : List Decided). map (λ decided. decided.0) some) (decisions_behind handling candidates)
+      ap (λ (some : List Decided). map decided_goal some) (decisions_behind handling candidates)
       ∙ made_ids handling candidates
 
   pub decided_each : (handling : Handling S) (candidates : List GoalInfo) → All IsDecision (drop (length handling.decisions) (fold (handle put one) handling candidates).decisions)

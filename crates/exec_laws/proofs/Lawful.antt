@@ -8,7 +8,8 @@ use Rattle.exec_plan.specs.declared.entity.CallbackGroup.{CallbackGroup}
 use Rattle.exec_plan.specs.declared.entity.Declared.TheVariants.{Topic}
 use Rattle.exec_plan.specs.declared.entity.EntityOf.TheVariants.{Timer}
 use Rattle.exec_plan.specs.declared.entity.GraphEntity.{GraphEntity}
-use Rattle.exec_plan.specs.Entity.{Script, RoleScriptData, is_from_1, scripts_of}
+use Rattle.exec_script.specs.Instruction.{Script}
+use Rattle.exec_plan.specs.Entity.{RoleScriptData, is_from_1, scripts_of}
 use Rattle.exec_plan.specs.Lawful.{IsLawfulPlan, IsLawfulNode, IsLawfulDeclared, IsLawfulEntity, IsLawfulScript, is_fed_well}
 use Rattle.exec_script.specs.Instruction as instr
 use Rattle.exec_script.specs.declared.instr.Operand.TheVariants as operand

@@ -1,5 +1,7 @@
+pub mod Accounts
 pub mod Addresses
 pub mod Asked
+pub mod Askers
 pub mod AtWork
 pub mod Called
 pub mod Channels
@@ -19,10 +21,13 @@ pub mod Lives
 pub mod Noted
 pub mod Numbers
 pub mod Pends
+pub mod Once
+pub mod Owned
 pub mod PollsApart
 pub mod Replies
 pub mod Results
 pub mod Short
+pub mod Standing
 pub mod Statuses
 pub mod Subscribed
 pub mod Told

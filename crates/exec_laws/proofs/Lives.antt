@@ -9,7 +9,7 @@ use Rattle.exec_goal.specs.Cancel.{Decided, moved, table_after}
 use Rattle.exec_goal.specs.State.{Transition, after, status_of}
 use Rattle.exec_goal.specs.Table.{GoalRecord, has_id, holds_id, after_event, after_end, expired, new_goal}
 use Rattle.exec_goal.specs.declared.state.State.{State}
-use Rattle.exec_plan.specs.Entity.{EntityNo}
+use Rattle.exec_msg.specs.Numbers.{EntityNo, GoalId, Moment}
 use Rattle.exec_plan.specs.Feeding.{fed_in}
 use Rattle.exec_plan.specs.Graph.{wait_set, entities_where, is_server}
 use Rattle.exec_plan.specs.Plan.{PlanData}
@@ -31,14 +31,13 @@ use Rattle.exec_laws.proofs.Views.{Fits, fits_left, fits_quiet, fits_executed, e
 use Rattle.exec_rules.proofs.Wiring.{servers_of, is_listed, wired}
 use Rattle.exec_rules.specs.Close.{GoalRequest, accepted_lines, moved_lines, accept, with_ended, goal_at}
 use Rattle.exec_rules.specs.Give.{oldest_accepted, execute_goal}
-use Rattle.exec_rules.specs.Item.{GoalId}
 use Rattle.exec_laws.specs.Goals.{AreLawful}
 use Rattle.exec_rules.specs.Shape.{shape_of}
 use Rattle.exec_rules.specs.Lines.{statuses_of}
 use Rattle.exec_rules.specs.Ready.{kind_of, ready_list, run_line, take_inputs}
 use Rattle.exec_rules.specs.Run.{run}
 use Rattle.exec_rules.specs.Transcript.{takes_from_queue, first_world, server_expired, expire_lines, expire, at_snapshot, run_all, round, rounds, pending_by, closing_lines, lines_of}
-use Rattle.exec_rules.specs.World.{WorldState, drop_line, lost_by, queued, push, Moment, ServerEntry, ClientEntry, is_server_at, add_line, add_lines, goals_of, change_goals, has_room_for, with_call, goals_in}
+use Rattle.exec_rules.specs.World.{WorldState, drop_line, lost_by, queued, push, ServerEntry, ClientEntry, is_server_at, add_line, add_lines, goals_of, change_goals, has_room_for, with_call, goals_in}
 use Rattle.exec_rules.specs.declared.item.Item.{Item}
 use Rattle.exec_rules.specs.declared.item.Item.TheVariants as item
 use Rattle.exec_rules.specs.declared.ready.Cause.{Cause}

@@ -9,18 +9,16 @@ use Rattle.exec_goal.specs.State.{status_of}
 use Rattle.exec_goal.specs.Table.{Asked, GoalRecord, asked_for, later, told, unknown}
 use Rattle.exec_goal.specs.declared.info.GoalInfo.{GoalInfo}
 use Rattle.exec_goal.specs.declared.state.State.{State}
-use Rattle.exec_plan.specs.Entity.{EntityNo}
+use Rattle.exec_msg.specs.Numbers.{EntityNo, GoalId, Moment}
 use Rattle.exec_plan.specs.Graph.{GraphData, entities_where, is_action_client, is_client}
 use Rattle.exec_plan.specs.Feeding.{fed_in}
 use Rattle.exec_plan.specs.Lawful.{IsLawfulPlan}
-use Rattle.exec_plan.specs.Plan.{PlanData}
-use Rattle.exec_plan.specs.declared.plan.Fed.{Fed}
-use Rattle.exec_plan.specs.declared.plan.Fed.TheVariants as feeding
-use Rattle.exec_plan.specs.declared.plan.Feed.{Feed}
+use Rattle.exec_plan.specs.Plan.{PlanData, Fed, Feed}
+use Rattle.exec_plan.specs.declared.plan.FedOf.TheVariants as feeding
 use Rattle.exec_msg.specs.Lists.{change_first}
 use Rattle.exec_msg.specs.declared.goal.Event.{Event}
 use Rattle.exec_msg.specs.declared.line.Line.TheVariants as line
-use Rattle.exec_script.specs.Script.{CallInput, ScriptState, after_step, follow, passed_by, resumed, step_of}
+use Rattle.exec_script.specs.Script.{CallInput, ScriptState, after_step, follow, passed_by, resumed, step_of, Variables}
 use Rattle.exec_script.specs.Zeros.{zeros}
 use Rattle.exec_script.specs.declared.effects.Close.{Close}
 use Rattle.exec_script.specs.declared.effects.Close.TheVariants as close
@@ -43,13 +41,12 @@ use Rattle.exec_laws.proofs.Short.{IsShort, IsShortWork, IsSmall, IsSmallServer,
 use Rattle.exec_rules.specs.Callback.{Handling, Outcome, act, call_in, candidate_input, handle, instructions_of, poll, poll_where, take_item}
 use Rattle.exec_rules.specs.Close.{answer_ask, ask_where, accept_where, close_cause, close_item, close_poll, end_in, goal_at, respond, tell, tell_end, with_ended}
 use Rattle.exec_rules.specs.Give.{call_by, cancel_all_by, cancel_goal_by, client_of, execute_goal, give, give_feedback, oldest_accepted, publish, send_goal_by}
-use Rattle.exec_rules.specs.Item.{GoalId}
 use Rattle.exec_rules.specs.Shape.{shape_of}
 use Rattle.exec_rules.specs.Run.{unclosed}
 use Rattle.exec_rules.specs.Ready.{answered_by_first, call_answered, input_of, queues_before_polls, ready_list, reply_taken, run_line, take_inputs, turn_at}
 use Rattle.exec_rules.specs.Run.{run, variables_for, with_polled, with_variables_for, work_for, outcome_in}
 use Rattle.exec_rules.specs.Transcript.{at_snapshot, expire, feed, feed_one, first_world, new_action_clients, new_client, round, rounds, run_all}
-use Rattle.exec_rules.specs.World.{ActionClientEntry, ClientEntry, GoalWork, HeldGoal, Moment, ServerEntry, Variables, WorldState, action_client_at, add_line, client_at, goals_of, is_client_at, is_for, is_server_at, push, push_any, subscribers_of, with_variables}
+use Rattle.exec_rules.specs.World.{ActionClientEntry, ClientEntry, GoalWork, HeldGoal, ServerEntry, WorldState, action_client_at, add_line, client_at, goals_of, is_client_at, is_for, is_server_at, push, push_any, subscribers_of, with_variables}
 use Rattle.exec_rules.specs.declared.item.Item.{Item}
 use Rattle.exec_rules.specs.declared.item.Item.TheVariants as item
 use Rattle.exec_rules.specs.declared.ready.Cause.{Cause}

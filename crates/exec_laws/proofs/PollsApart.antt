@@ -7,7 +7,7 @@ use Rattle.exec_goal.specs.State.{is_canceling, is_worked_on}
 use Rattle.exec_goal.specs.Table.{GoalRecord}
 use Rattle.exec_goal.specs.declared.state.State.{State}
 use Rattle.exec_goal.specs.declared.state.State.TheVariants as state
-use Rattle.exec_plan.specs.Entity.{EntityNo}
+use Rattle.exec_msg.specs.Numbers.{EntityNo, GoalId, Moment}
 use Rattle.exec_plan.specs.Graph.{GraphData, is_server}
 use Rattle.exec_msg.specs.Timer.{is_due}
 use Rattle.exec_msg.specs.declared.kind.Kind.TheVariants as kind
@@ -17,10 +17,9 @@ use Rattle.exec_rules.proofs.Keeping.{ids}
 use Rattle.exec_rules.proofs.Pairs.{Pairs, all_append, all_both, all_filter, all_flat, all_flat_where, all_mapped, all_passed, all_weaker, pairs_all, pairs_append, pairs_filter, pairs_map, pairs_unmapped}
 use Rattle.exec_rules.proofs.ReadyLists.{IsOf, poll_of, all_placed, all_ready}
 use Rattle.exec_rules.proofs.Wiring.{NumbersApart, IsWired, numbers_apart}
-use Rattle.exec_rules.specs.Item.{GoalId}
 use Rattle.exec_laws.specs.Goals.{may_be_polled}
 use Rattle.exec_rules.specs.Ready.{due_ready, is_goal_awake, item_ready, placed_from, poll_ready, queue_ready, queues_before_polls, queues_behind_polls, ready_list}
-use Rattle.exec_rules.specs.World.{WorldState, Moment, Queue, TimerEntry, ServerEntry, goals_of, goals_in}
+use Rattle.exec_rules.specs.World.{WorldState, Queue, TimerEntry, ServerEntry, goals_of, goals_in}
 use Rattle.exec_rules.specs.declared.item.Item.{Item}
 use Rattle.exec_rules.specs.declared.ready.Cause.TheVariants as cause
 use Rattle.exec_rules.specs.declared.ready.Ready.{Ready}

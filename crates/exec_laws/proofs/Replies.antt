@@ -10,7 +10,7 @@ use Rattle.std.proofs.lemmas.List.Sorted.{IsPermutation-append_right, IsPermutat
 use Rattle.exec_goal.specs.Cancel.{moved}
 use Rattle.exec_goal.specs.State.{status_of}
 use Rattle.exec_goal.specs.Table.{GoalRecord, after_event, expired}
-use Rattle.exec_plan.specs.Entity.{EntityNo}
+use Rattle.exec_msg.specs.Numbers.{EntityNo, Moment}
 use Rattle.exec_plan.specs.Feeding.{fed_in}
 use Rattle.exec_plan.specs.Graph.{GraphData, Waitable, entities_where, is_client, wait_set}
 use Rattle.exec_plan.specs.Plan.{PlanData}
@@ -32,7 +32,7 @@ use Rattle.exec_rules.specs.Item.{as_value}
 use Rattle.exec_rules.specs.Ready.{is_before_polls, queues_before_polls, ready_list, run_line, line_of, input_of, take_inputs}
 use Rattle.exec_rules.specs.Run.{run}
 use Rattle.exec_rules.specs.Transcript.{takes_from_queue, first_world, new_client, new_queue, expire_lines, expire, at_snapshot, run_all, round, rounds, pending_by, closing_lines, last_world, lines_of}
-use Rattle.exec_rules.specs.World.{WorldState, Moment, ClientEntry, add_line, client_at, is_client_at, goals_of}
+use Rattle.exec_rules.specs.World.{WorldState, ClientEntry, add_line, client_at, is_client_at, goals_of}
 use Rattle.exec_rules.specs.declared.item.Item.{Item}
 use Rattle.exec_rules.specs.declared.item.Item.TheVariants as item
 use Rattle.exec_rules.specs.declared.ready.Cause.{Cause}

@@ -8,7 +8,7 @@ use Rattle.exec_goal.specs.State.{after, is_terminal, status_of}
 use Rattle.exec_goal.specs.Table.{GoalRecord, Asked, told, later, unknown, has_id, moved_by, after_end, new_goal, asked_for, asked_by, is_expired, expired}
 use Rattle.exec_goal.specs.declared.state.State.{State}
 use Rattle.exec_goal.specs.declared.state.State.TheVariants as state
-use Rattle.exec_plan.specs.Entity.{EntityNo}
+use Rattle.exec_msg.specs.Numbers.{EntityNo, GoalId, Moment}
 use Rattle.exec_plan.specs.Feeding.{fed_in}
 use Rattle.exec_plan.specs.Graph.{entities_where, is_server}
 use Rattle.exec_plan.specs.Plan.{PlanData}
@@ -25,11 +25,10 @@ use Rattle.exec_rules.proofs.Running.{Answers, found_test, run_keeps, takes_ask}
 use Rattle.exec_laws.proofs.Views.{ended_found, forgotten_final}
 use Rattle.exec_rules.specs.Close.{GoalRequest, accepted_lines, tell_end, answer_ask, with_ended, goal_at, end_in, accept}
 use Rattle.exec_laws.specs.Exchanges.{is_ask_taken, is_result_told, waiting_in}
-use Rattle.exec_rules.specs.Item.{GoalId}
 use Rattle.exec_rules.specs.Ready.{ready_list, run_line, line_of, input_of, take_inputs}
 use Rattle.exec_rules.specs.Run.{run}
 use Rattle.exec_rules.specs.Transcript.{first_world, expire_lines, expire, at_snapshot, round, rounds, pending_by, closing_lines, lines_of, last_world}
-use Rattle.exec_rules.specs.World.{WorldState, Moment, is_server_at, add_line, goals_of, has_room_for, goals_in}
+use Rattle.exec_rules.specs.World.{WorldState, is_server_at, add_line, goals_of, has_room_for, goals_in}
 use Rattle.exec_rules.specs.declared.item.Item.{Item}
 use Rattle.exec_rules.specs.declared.item.Item.TheVariants as item
 use Rattle.exec_rules.specs.declared.ready.Cause.{Cause}

@@ -7,8 +7,10 @@ use Rattle.std.proofs.lemmas.List.{length-map}
 use Rattle.std.proofs.lemmas.List.Elements.{recursion_from_All}
 use Rattle.std.proofs.lemmas.List.Filters.{length-filter_both}
 use Rattle.exec_goal.specs.Table.{GoalRecord, holds_id, is_full, is_expired, new_goal}
-use Rattle.exec_plan.specs.Entity.{EntityNo, Resolved, Script, scripts_of, result_scripts}
-use Rattle.exec_plan.specs.Graph.{EntityData, GraphData, Waitable, callback_script, declared_at, entities_where, is_server, is_timer, script_for, wait_set}
+use Rattle.exec_msg.specs.Numbers.{EntityNo, GoalId, Moment}
+use Rattle.exec_script.specs.Instruction.{Script}
+use Rattle.exec_plan.specs.Entity.{Resolved, scripts_of, result_scripts}
+use Rattle.exec_plan.specs.Graph.{EntityData, GraphData, Waitable, callback_script, declared_at, entities_where, is_server, is_timer, wait_set}
 use Rattle.exec_plan.specs.Lawful.{IsLawful, IsLawfulDeclared, IsLawfulScript}
 use Rattle.exec_plan.specs.declared.entity.Declared.{Declared}
 use Rattle.exec_plan.specs.declared.entity.Declared.TheVariants as declared
@@ -22,10 +24,9 @@ use Rattle.exec_rules.proofs.Keeping.{ids}
 use Rattle.exec_rules.proofs.Pairs.{all_append, all_filter, all_map, all_mapped, all_weaker}
 use Rattle.exec_rules.proofs.Running.{KeptByRounds}
 use Rattle.exec_rules.specs.Close.{GoalRequest, held_goal, server_accepting}
-use Rattle.exec_rules.specs.Item.{GoalId}
 use Rattle.exec_rules.specs.Ready.{queue_taken, timer_taken}
-use Rattle.exec_rules.specs.Transcript.{first_world, handler_for, new_queue, new_server, new_timer, server_expired, takes_from_queue}
-use Rattle.exec_rules.specs.World.{GoalWork, Moment, ServerEntry, TimerEntry, WorldState, has_room_for, is_for, is_server_at, goals_in}
+use Rattle.exec_rules.specs.Transcript.{as_entity, entity_at, first_world, handler_for, new_queue, new_server, new_timer, server_expired, takes_from_queue}
+use Rattle.exec_rules.specs.World.{GoalWork, ServerEntry, TimerEntry, WorldState, has_room_for, is_for, is_server_at, goals_in}
 
 -- a script of no more instructions than one may have
 abbrev pub IsShort : Script → Type 0
@@ -217,8 +218,23 @@ script_short kind.Code (ActionClient entity) all = all.1.0
 script_short kind.Feedback (ActionClient entity) all = all.1.1.0
 script_short kind.Result (ActionClient entity) all = result_short entity.on_result all.1.1.1
 
-declared_short : (graph : GraphData) (of : Kind) (is : Declared) → IsLawfulDeclared graph is → IsShort (unwrap_or (script_for of is) [])
-declared_short graph of declared.Topic p = omega arith
+-- nothing is asked of a topic, as which no entity is declared
+topic_short : (of : Kind) → IsShort (unwrap_or (callback_script of (as_entity declared.Topic).is) [])
+topic_short kind.Timer = omega arith
+topic_short kind.Message = omega arith
+topic_short kind.Request = omega arith
+topic_short kind.Reply = omega arith
+topic_short kind.Goal = omega arith
+topic_short kind.Cancel = omega arith
+topic_short kind.Ask = omega arith
+topic_short kind.Poll = omega arith
+topic_short kind.Response = omega arith
+topic_short kind.Code = omega arith
+topic_short kind.Feedback = omega arith
+topic_short kind.Result = omega arith
+
+declared_short : (graph : GraphData) (of : Kind) (is : Declared) → IsLawfulDeclared graph is → IsShort (unwrap_or (callback_script of (as_entity is).is) [])
+declared_short graph of declared.Topic p = topic_short of
 declared_short graph of (declared.Entity entity) p =
     script_short of entity.is (all_weaker (IsLawfulScript graph p.group) (λ roled. IsShort roled.script) (λ roled q. q.short) (scripts_of entity.is) (recursion_from_All (IsLawfulScript graph p.group) (scripts_of entity.is) p.scripts))
 
@@ -229,7 +245,7 @@ lawful_at graph (entity ∷ entities) (suc number) p = lawful_at graph entities 
 
 pub first_small : (graph : GraphData) → IsLawful graph → IsSmall (first_world graph)
 first_small graph lawful =
-    let short : (of : Kind) (number : EntityNo) → IsShort (handler_for graph of number (declared_at graph number)).script = λ of number. declared_short graph of (declared_at graph number) (lawful_at graph graph.entities number (recursion_from_All (λ entity. IsLawfulDeclared graph entity.is) graph.entities lawful.entities)) in
+    let short : (of : Kind) (number : EntityNo) → IsShort (handler_for graph of number (entity_at graph number)).script = λ of number. declared_short graph of (declared_at graph number) (lawful_at graph graph.entities number (recursion_from_All (λ entity. IsLawfulDeclared graph entity.is) graph.entities lawful.entities)) in
     record {
       timers = all_map (λ entry. IsShort entry.handler.script) (new_timer graph) (λ number. short kind.Timer number) (entities_where is_timer graph);
       queues = all_map (λ queue. IsShort queue.handler.script) (new_queue graph) (λ waitable. short waitable.kind waitable.entity) (filter (λ (waitable : Waitable). takes_from_queue waitable.kind) (wait_set graph));

@@ -23,10 +23,8 @@ use Rattle.exec_rules.proofs.Identifiers.{Distinct, distinct_more, filter_all, f
 use Rattle.exec_rules.proofs.Keeping.{ids, ids_changed, ids_answered}
 use Rattle.exec_laws.proofs.Statuses.{Told, told_step, told_new, told_gone, state_of_other, state_moved, found_state, none_in, state_behind, state_before, EndsIn, ends_in}
 use Rattle.exec_rules.specs.Close.{GoalRequest, accepted_lines, moved_lines}
-use Rattle.exec_rules.specs.Item.{GoalId}
 use Rattle.exec_rules.specs.Lines.{statuses_of}
-use Rattle.exec_rules.specs.World.{Moment}
-use Rattle.exec_plan.specs.Entity.{EntityNo}
+use Rattle.exec_msg.specs.Numbers.{EntityNo, GoalId, Moment}
 use Rattle.exec_rules.proofs.Running.{found_test}
 
 -- ---- one goal's statuses and state

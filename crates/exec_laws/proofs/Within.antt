@@ -2,8 +2,9 @@
 use Rattle.std.proofs.Common.{◌≡◌, ℕ, ◌-◌, ◌≤◌, Bool, true, false, List, [], ◌∷◌, ◌++◌, length, map, drop, refl, arith, length-drop}
 use Rattle.std.specs.List.{All, AllByRecursion, filter}
 use Rattle.std.proofs.lemmas.List.Elements.{All-from_recursion}
-use Rattle.exec_plan.specs.Entity.{EntityNo}
-use Rattle.exec_plan.specs.Graph.{GraphData, Waitable, wait_set, depth_of, declared_at}
+use Rattle.exec_msg.specs.Numbers.{EntityNo, Moment}
+use Rattle.exec_plan.specs.Entity.{queue_depth}
+use Rattle.exec_plan.specs.Graph.{GraphData, Waitable, wait_set}
 use Rattle.exec_plan.specs.Plan.{PlanData}
 use Rattle.exec_msg.specs.KeepLast.{sent}
 use Rattle.exec_msg.specs.Lists.{change_first}
@@ -11,13 +12,13 @@ use Rattle.exec_rules.proofs.Pairs.{all_weaker}
 use Rattle.exec_rules.proofs.Running.{KeptByRounds, rounds_keep}
 use Rattle.exec_rules.specs.Item.{taker_of}
 use Rattle.exec_rules.specs.Ready.{queue_taken}
-use Rattle.exec_rules.specs.Transcript.{takes_from_queue, new_queue, first_world, rounds}
-use Rattle.exec_rules.specs.World.{Moment, Queue, is_queue, queue_after}
+use Rattle.exec_rules.specs.Transcript.{entity_at, takes_from_queue, new_queue, first_world, rounds}
+use Rattle.exec_rules.specs.World.{Queue, is_queue, queue_after}
 use Rattle.exec_rules.specs.declared.item.Item.{Item}
 
 -- a queue has its entity's depth, and holds at most so many items
 abbrev IsWithin : GraphData → Queue → Type 0
-IsWithin graph queue = (queue.depth ≡ depth_of (declared_at graph queue.handler.entity)) × (length queue.items ≤ queue.depth)
+IsWithin graph queue = (queue.depth ≡ queue_depth (entity_at graph queue.handler.entity).is) × (length queue.items ≤ queue.depth)
 
 sent_within : (depth : ℕ) (new : Item) (items : List Item) → length (sent depth new items) ≤ depth
 sent_within depth new items = omega (arith, length-drop (length (items ++ new ∷ []) - depth) (items ++ new ∷ []))
@@ -56,8 +57,8 @@ within_kept graph = record {
   snapshot_kept = λ moment world p. within_taken graph world.queues p;
 }
 
-pub queues_within : (plan : PlanData) (number : ℕ) (moments : List Moment) → All (λ queue. length queue.items ≤ depth_of (declared_at plan.graph queue.handler.entity)) (rounds plan number moments (first_world plan.graph)).queues
+pub queues_within : (plan : PlanData) (number : ℕ) (moments : List Moment) → All (λ queue. length queue.items ≤ queue_depth (entity_at plan.graph queue.handler.entity).is) (rounds plan number moments (first_world plan.graph)).queues
 queues_within plan number moments =
-    All-from_recursion (λ queue. length queue.items ≤ depth_of (declared_at plan.graph queue.handler.entity)) _
-    (all_weaker (IsWithin plan.graph) (λ queue. length queue.items ≤ depth_of (declared_at plan.graph queue.handler.entity)) (λ queue p. omega (arith, p.0, p.1)) _
+    All-from_recursion (λ queue. length queue.items ≤ queue_depth (entity_at plan.graph queue.handler.entity).is) _
+    (all_weaker (IsWithin plan.graph) (λ queue. length queue.items ≤ queue_depth (entity_at plan.graph queue.handler.entity).is) (λ queue p. omega (arith, p.0, p.1)) _
     (rounds_keep (within_kept plan.graph) plan number moments (first_world plan.graph) (within_first plan.graph (filter (λ waitable. takes_from_queue waitable.kind) (wait_set plan.graph)))))

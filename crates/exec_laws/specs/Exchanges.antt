@@ -1,20 +1,22 @@
 -- Words for the laws of what is asked for, published and called, and of what comes of it.
-use Rattle.std.specs.Prelude.{◌≡◌, ℕ, zero, suc, ℤ, List, [], ◌∷◌, ◌++◌, map, Bool, false, ◌&&◌, ◌==◌, if◌then◌else◌, Option, None, Some}
-use Rattle.std.specs.List.{find, flat_map}
+use Rattle.std.specs.Prelude.{◌≡◌, ℕ, zero, suc, ◌+◌, ℤ, List, [], ◌∷◌, ◌++◌, length, map, take, Bool, false, ◌&&◌, ◌==◌, if◌then◌else◌, Option, None, Some}
+use Rattle.std.specs.List.{filter, find, flat_map}
 use Rattle.std.specs.List.Sorted.{IsPermutation}
 use Rattle.std.specs.Option.{option_map_or}
 use Rattle.exec_goal.specs.State.{is_terminal}
 use Rattle.exec_goal.specs.Table.{GoalRecord, has_id}
-use Rattle.exec_plan.specs.Entity.{EntityNo}
+use Rattle.exec_msg.specs.Numbers.{EntityNo, GoalId}
 use Rattle.exec_plan.specs.Feeding.{fed_in}
-use Rattle.exec_plan.specs.Plan.{PlanData}
-use Rattle.exec_plan.specs.declared.plan.Fed.{Fed}
-use Rattle.exec_plan.specs.declared.plan.Fed.TheVariants as feeding
+use Rattle.exec_plan.specs.Plan.{PlanData, Fed}
+use Rattle.exec_plan.specs.declared.plan.FedOf.TheVariants as feeding
+use Rattle.exec_msg.specs.declared.kind.Kind.{Kind}
 use Rattle.exec_msg.specs.declared.kind.Kind.TheVariants as kind
 use Rattle.exec_msg.specs.declared.line.Line.{Line}
 use Rattle.exec_msg.specs.declared.line.Line.TheVariants as line
-use Rattle.exec_rules.specs.Item.{GoalId, as_value, first_of}
-use Rattle.exec_rules.specs.World.{WorldState, ClientEntry, is_queue}
+use Rattle.exec_rules.specs.Item.{as_value, first_of}
+use Rattle.exec_rules.specs.World.{WorldState, ClientEntry, ActionClientEntry, goals_of, is_queue}
+use Rattle.exec_rules.specs.declared.item.Item.{Item}
+use Rattle.exec_rules.specs.declared.item.Item.TheVariants as item
 
 -- ---- results
 
@@ -38,6 +40,11 @@ abbrev pub is_result_taken : EntityNo → GoalId → Line → Bool
 is_result_taken client id (line.Run entity kind.Result first aux (Some goal)) = (entity == client) && (goal == id)
 is_result_taken client id _ = false
 
+-- whether a line says that its queue of results lost one
+abbrev pub is_result_lost : EntityNo → Line → Bool
+is_result_lost client (line.Drop entity kind.Result value) = entity == client
+is_result_lost client _ = false
+
 -- the clients that wait for the result of a goal, if there is one: those that asked, until it ends
 abbrev pub waiting_for : Option GoalRecord → List EntityNo
 waiting_for None = []
@@ -46,6 +53,38 @@ waiting_for (Some goal) = if is_terminal goal.state then [] else goal.askers
 -- the clients that wait for the result of the goal of an identifier
 abbrev pub waiting_in : GoalId → List GoalRecord → List EntityNo
 waiting_in id goals = waiting_for (find (has_id id) goals)
+
+-- a plan of which so many rounds are run
+abbrev pub first_rounds : ℕ → PlanData → PlanData
+first_rounds count plan = record plan { moments = take count plan.moments }
+
+-- the items in an entity's queue of a kind
+abbrev pub items_of : EntityNo → Kind → WorldState → List Item
+items_of entity of world = option_map_or (λ queue. queue.items) (find (is_queue entity of) world.queues) []
+
+-- the identifier of the goal whose result an item brings
+abbrev pub result_in : Item → List GoalId
+result_in (item.Result id status value) = id ∷ []
+result_in _ = []
+
+-- the identifier of the goal for whose result an action client asks by an item
+abbrev pub ask_in : EntityNo → Item → List GoalId
+ask_in client (item.Ask id asker) = if asker == client then id ∷ [] else []
+ask_in client _ = []
+
+-- how often a number stands in a list
+abbrev pub times : ℕ → List ℕ → ℕ
+times number list = length (filter (λ one. one == number) list)
+
+-- each ask of an action client for a goal's result is answered to it once, or waits: of each identifier, its asks are as many as
+-- the results that its callback took, those that its queue lost and those that the queue holds, and as the times that it waits
+-- at its server for the goal's end and its asks in the server's queue; and lines say of each result that the queue lost it
+pub record IsToldOnce (client : ActionClientEntry) (world : WorldState) : Type 0 where
+  pub lost : List GoalId
+  pub losses : length lost ≡ length (filter (is_result_lost client.entity) world.lines)
+  pub each : (id : GoalId) → length (filter (is_asked client.entity id) world.lines) ≡
+      length (filter (is_result_taken client.entity id) world.lines) + times id lost + times id (flat_map result_in (items_of client.entity kind.Result world))
+      + times client.entity (waiting_in id (goals_of client.server world)) + times id (flat_map (ask_in client.entity) (items_of client.server kind.Ask world))
 
 -- ---- publications
 

@@ -1,12 +1,15 @@
 //! What becomes of messages, calls, asks for results and their answers.
-ghost use Rattle.std.specs.Prelude.{◌≡◌, ℕ, ◌+◌, ◌≤◌, length, false, Some};
-ghost use Rattle.std.specs.List.{filter, list_any, Contains};
-ghost use Rattle.exec_plan.specs.Lawful.{IsLawfulPlan};
+ghost use Rattle.std.specs.Prelude.{◌≡◌, ℕ, ◌+◌, ◌≤◌, [], ◌∷◌, length, map, false, Some};
+ghost use Rattle.std.specs.List.{filter, flat_map, list_any, Contains};
+ghost use Rattle.exec_plan.specs.Lawful.{IsLawful, IsLawfulPlan};
 ghost use Rattle.exec_plan.specs.Plan.{PlanData};
-ghost use Rattle.exec_laws.specs.Exchanges.{AreAnswered, IsDelivered, is_ask_taken, is_asked, is_result_taken, is_result_told, waiting_in};
+ghost use Rattle.exec_laws.specs.Exchanges.{AreAnswered, IsToldOnce, IsDelivered, ask_in, first_rounds, is_ask_taken, is_asked, is_result_lost, is_result_taken, is_result_told, items_of, result_in, waiting_in};
+ghost use Rattle.exec_laws.specs.Examples.Queues.{full_result_queue};
+ghost use Rattle.exec_msg.specs.declared.kind.Kind.TheVariants as kind;
+ghost use Rattle.exec_rules.specs.Item.{goal_id};
 ghost use Rattle.exec_rules.specs.Lines.{is_loss};
 ghost use Rattle.exec_rules.specs.Transcript.{first_world, lines_of, last_world};
-ghost use Rattle.exec_rules.specs.World.{goals_of, subscribers_of, ClientEntry, client_at};
+ghost use Rattle.exec_rules.specs.World.{goals_of, subscribers_of, ActionClientEntry, ClientEntry, action_client_at, client_at};
 
 /// Each message that is published to a topic, or fed to it, is taken by each subscription of the topic, dropped with a line,
 /// or held in its queue at the end, in the order in which they were published.
@@ -28,6 +31,18 @@ pub fn asks_are_answered_once()
         length (filter (is_ask_taken server id) (lines_of plan)) ≡ length (filter (is_result_told server id) (lines_of plan)) + length (waiting_in id (goals_of server (last_world plan))) }
 {}
 
+/// An action client asks for the result of a goal once at most.
+pub fn results_are_asked_for_once()
+    ensures { (plan : PlanData) (client id : ℕ) → length (filter (is_asked client id) (lines_of plan)) ≤ 1 }
+{}
+
+/// In each plan of a lawful graph an action client is told once for each ask, and no other in its place: of each goal's
+/// identifier, the asks that it made are as many as the results that its callback took, that its queue lost or holds, and as
+/// its asks that wait, for the goal's end or in its server's queue.
+pub fn askers_are_told_once()
+    ensures { (plan : PlanData) → IsLawful plan.graph → (number : ℕ) (client : ActionClientEntry) → action_client_at number (last_world plan) ≡ Some client → IsToldOnce client (last_world plan) }
+{}
+
 /// An action client's callback takes the result of a goal at most as often as the client asked for it.
 pub fn results_are_asked_for()
     ensures { (plan : PlanData) (client id : ℕ) → length (filter (is_result_taken client id) (lines_of plan)) ≤ length (filter (is_asked client id) (lines_of plan)) }
@@ -36,4 +51,15 @@ pub fn results_are_asked_for()
 /// In the transcript of a lawful plan no reply, ask, response and code is displaced.
 pub fn answers_are_never_displaced()
     ensures { (plan : PlanData) → IsLawfulPlan plan → list_any is_loss (lines_of plan) ≡ false }
+{}
+
+/// In the plan of a full queue of results (`transcripts::full_result_queue`), each way that an ask may go: client 2 asks for
+/// three results, of which its queue loses two, and client 3 for one.
+pub fn asks_go_these_ways()
+    ensures asked { map (λ number. length (filter (is_asked 2 (goal_id 0 number)) (lines_of full_result_queue))) (1 ∷ 2 ∷ 3 ∷ []) ≡ 1 ∷ 1 ∷ 1 ∷ [] }
+    ensures lost { length (filter (is_result_lost 2) (lines_of full_result_queue)) ≡ 2 }
+    ensures taken { map (λ number. length (filter (is_result_taken 2 (goal_id 0 number)) (lines_of full_result_queue))) (1 ∷ 2 ∷ 3 ∷ []) ≡ 0 ∷ 0 ∷ 1 ∷ [] }
+    ensures held { flat_map result_in (items_of 2 kind.Result (last_world (first_rounds 7 full_result_queue))) ≡ goal_id 0 3 ∷ [] }
+    ensures waiting { waiting_in (goal_id 0 3) (goals_of 1 (last_world (first_rounds 6 full_result_queue))) ≡ 2 ∷ [] }
+    ensures underway { flat_map (ask_in 3) (items_of 1 kind.Ask (last_world (first_rounds 6 full_result_queue))) ≡ goal_id 1 1 ∷ [] }
 {}

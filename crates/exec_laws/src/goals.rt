@@ -2,6 +2,7 @@
 ghost use Rattle.std.specs.Prelude.{◌≡◌, ◌≢◌, ℕ, List, ◌∷◌, ◌++◌, ◌==◌, length, map, take, drop, None, Some, ℤ, Bool, true};
 ghost use Rattle.std.specs.List.{All, IsDistinct, fold};
 ghost use Rattle.exec_goal.specs.Calls.{end_state, state_in};
+ghost use Rattle.exec_goal.specs.Cancel.{decided_goal};
 ghost use Rattle.exec_goal.specs.declared.info.GoalInfo.{GoalInfo};
 ghost use Rattle.exec_plan.specs.Plan.{PlanData};
 ghost use Rattle.exec_msg.specs.declared.goal.Event.{Event};
@@ -25,7 +26,7 @@ pub fn decisions_are_of_the_candidates<S>()
     ensures before { (give : Effect → S → S) (ready : Ready) (handling : Handling S) (candidates : List GoalInfo) →
         take (length handling.decisions) (fold (handle give ready) handling candidates).decisions ≡ handling.decisions }
     ensures identifiers { (give : Effect → S → S) (ready : Ready) (handling : Handling S) (candidates : List GoalInfo) →
-        map (λ decided. decided.0) (drop (length handling.decisions) (fold (handle give ready) handling candidates).decisions) ≡ map (λ candidate. candidate.id) candidates }
+        map decided_goal (drop (length handling.decisions) (fold (handle give ready) handling candidates).decisions) ≡ map (λ candidate. candidate.id) candidates }
     ensures each { (give : Effect → S → S) (ready : Ready) (handling : Handling S) (candidates : List GoalInfo) →
         All IsDecision (drop (length handling.decisions) (fold (handle give ready) handling candidates).decisions) }
 {}

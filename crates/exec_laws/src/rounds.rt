@@ -1,14 +1,14 @@
 //! What rounds keep.
 ghost use Rattle.std.specs.Prelude.{◌≡◌, ℕ, ◌+◌, ◌^◌, ◌<◌, ◌≤◌, List, ◌∷◌, [], ◌++◌, length, take};
 ghost use Rattle.std.specs.List.{All};
-ghost use Rattle.exec_plan.specs.Graph.{depth_of, declared_at};
+ghost use Rattle.exec_plan.specs.Entity.{queue_depth};
 ghost use Rattle.exec_plan.specs.Lawful.{IsLawfulPlan};
 ghost use Rattle.exec_plan.specs.Plan.{PlanData};
 ghost use Rattle.exec_msg.specs.declared.limits.TheConstants.{MOMENTS};
 ghost use Rattle.exec_msg.specs.declared.line.Line.TheVariants as line;
 ghost use Rattle.exec_rules.specs.Item.{taker_of};
 ghost use Rattle.exec_rules.specs.Shape.{shape_of};
-ghost use Rattle.exec_rules.specs.Transcript.{first_world, round, rounds};
+ghost use Rattle.exec_rules.specs.Transcript.{entity_at, first_world, round, rounds};
 ghost use Rattle.exec_rules.specs.World.{WorldState};
 
 /// A round keeps all lines, and the first that it adds is its own; rounds keep all lines.
@@ -29,7 +29,7 @@ pub fn the_shape_never_changes()
 /// Each queue holds at most its entity's depth, after any rounds of a plan.
 pub fn queues_stay_within_their_depths()
     ensures { (plan : PlanData) (number : ℕ) (moments : List ℕ) →
-        All (λ queue. length queue.items ≤ depth_of (declared_at plan.graph queue.handler.entity)) (rounds plan number moments (first_world plan.graph)).queues }
+        All (λ queue. length queue.items ≤ queue_depth (entity_at plan.graph queue.handler.entity).is) (rounds plan number moments (first_world plan.graph)).queues }
 {}
 
 /// Each queue holds items of its kind alone, after any rounds of a plan.

@@ -4,6 +4,8 @@ pub mod Kind
 pub mod Left
 pub mod Line
 pub mod Lists
+pub mod Numbers
+pub mod Options
 pub mod Places
 pub mod Timer
 pub mod inner

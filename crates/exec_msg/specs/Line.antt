@@ -3,6 +3,7 @@ use Rattle.std.specs.Prelude.{◌≡◌, ℕ, ◌+◌, max, List, [], ◌∷◌,
 use Rattle.std.specs.Int.{to_be_bytes, w128}
 use Rattle.std.specs.Fmt.{signed_decimal}
 use Rattle.std.specs.List.{flat_map}
+use Rattle.exec_msg.specs.Numbers.{EntityNo, GoalId}
 use Rattle.uuid.specs.Text.{hyphenated_text, lower}
 use Rattle.exec_msg.specs.Goal.{status_number, code_number}
 use Rattle.exec_msg.specs.declared.kind.Kind.{Kind}
@@ -27,7 +28,7 @@ word_of kind.Feedback = codes "feedback"
 word_of kind.Result = codes "result"
 
 -- the text of an identifier: RFC 9562, section 4, hyphenated and in lower case
-unfoldable pub id_text : ℕ → List ℕ
+unfoldable pub id_text : GoalId → List ℕ
 id_text id = hyphenated_text lower (to_be_bytes w128 id)
 
 -- each field with one space before it
@@ -40,11 +41,11 @@ joined [] = []
 joined (word ∷ fields) = word ++ spaced fields
 
 -- the name at a number
-abbrev pub name_at : List (List ℕ) → ℕ → List ℕ
+abbrev pub name_at : List (List ℕ) → EntityNo → List ℕ
 name_at names entity = slice_index_or names entity []
 
 -- an identifier's field, where there is one
-abbrev pub id_field : Option ℕ → List (List ℕ)
+abbrev pub id_field : Option GoalId → List (List ℕ)
 id_field None = []
 id_field (Some id) = id_text id ∷ []
 
@@ -89,4 +90,4 @@ transcript_text names lines = flat_map (line_text names) lines
 -- what a line's writer does: on success the text stands behind the bytes, and else they are as they were
 pub record IsAppended (result : Result (Unit {0}) Memory) (before after text : List ℕ) : Type 0 where
   pub ok : OnOk result (after ≡ before ++ text)
-  pub err : OnErr result (after ≡ before)
+  pub unchanged : OnErr result (after ≡ before)

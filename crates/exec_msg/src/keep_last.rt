@@ -17,9 +17,9 @@ pub struct KeepLast<T> {
 
 impl<T> Model for KeepLast<T> {
     ghost use Rattle.std.specs.Prelude.{◌≤◌, length};
-    ghost use Rattle.exec_msg.specs.KeepLast.{Queue, queue_code};
+    ghost use Rattle.exec_msg.specs.KeepLast.{BoundedQueue, queue_code};
 
-    ghost Value = { Queue T };
+    ghost Value = { BoundedQueue T };
 
     ghost coded = { queue_code T.code };
 

@@ -53,4 +53,20 @@ impl Kind {
             Kind::Result => "result",
         }
     }
+
+    /// All of them in their order.
+    pub const IN_ORDER: [Kind; 12] = [
+        Kind::Timer,
+        Kind::Message,
+        Kind::Request,
+        Kind::Reply,
+        Kind::Goal,
+        Kind::Cancel,
+        Kind::Ask,
+        Kind::Poll,
+        Kind::Response,
+        Kind::Code,
+        Kind::Feedback,
+        Kind::Result,
+    ];
 }

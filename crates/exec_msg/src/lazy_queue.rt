@@ -19,11 +19,11 @@ pub struct LazyQueue<T> {
 
 impl<T> Model for LazyQueue<T> {
     ghost use Rattle.std.specs.Prelude.{◌≡◌, ◌≤◌, length, IfSome};
-    ghost use Rattle.exec_msg.specs.KeepLast.{Queue, queue_code};
+    ghost use Rattle.exec_msg.specs.KeepLast.{BoundedQueue, queue_code};
     ghost use Rattle.exec_msg.specs.inner.Lazy.{made_items};
     ghost use Rattle.exec_msg.specs.declared.limits.TheConstants.{DEPTH};
 
-    ghost Value = { Queue T };
+    ghost Value = { BoundedQueue T };
 
     ghost coded = { queue_code T.code };
 
@@ -85,7 +85,7 @@ impl<T: Drop> LazyQueue<T> {
     pub fn send(&mut self, item: T) -> Result<Option<T>, Memory>
         ensures ok { OnOk result (self.new ≡ record self.old { items = sent self.old.depth item self.old.items }) }
         ensures displaced { IfOk result (λ lost. lost ≡ slice_get (displaced self.old.depth item self.old.items) 0) }
-        ensures err { OnErr result (self.new ≡ self.old) }
+        ensures unchanged { OnErr result (self.new ≡ self.old) }
         ensures memory { OnErr result (self.old.items ≡ []) }
     {
         if let Some(made) = &mut self.made {

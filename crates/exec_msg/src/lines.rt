@@ -14,7 +14,7 @@ pub trait Lines: Drop {
     /// Adds a line at the end. Where memory is refused, the lines stay as they were.
     fn add(&mut self, line: &Line) -> Result<(), Memory>
         ensures ok { OnOk result (lines self.new ≡ lines self.old ++ line.now ∷ []) }
-        ensures err { OnErr result (lines self.new ≡ lines self.old) };
+        ensures unchanged { OnErr result (lines self.new ≡ lines self.old) };
 }
 
 /// The lines of a transcript in their order.
@@ -66,7 +66,7 @@ impl Lines for LineList {
 #[inline(always)]
 pub(crate) fn push_copy<T: Copy + Drop>(items: &mut Vec<T>, item: &T) -> Result<(), Memory>
     ensures ok { OnOk result (items.new.items ≡ items.old.items ++ item.now ∷ []) }
-    ensures err { OnErr result (items.new.items ≡ items.old.items) }
+    ensures unchanged { OnErr result (items.new.items ≡ items.old.items) }
 {
     items.push(*item)?;
     Ok(())

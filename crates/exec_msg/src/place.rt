@@ -1,19 +1,19 @@
 //! Fields of lines, written at a place of bytes that have the room. Each function gives the end of what it wrote; what
 //! stands behind may change.
+pub(crate) mod id;
+pub(crate) mod numbers;
 
-ghost use Rattle.std.specs.Prelude.{◌≡◌, ◌+◌, ◌<◌, ◌≤◌, [], ◌∷◌, ◌++◌, pos, length, take, map, decimal, IfSome};
+ghost use Rattle.std.specs.Prelude.{◌≡◌, ◌+◌, ◌<◌, ◌≤◌, [], ◌∷◌, ◌++◌, length, take, decimal};
 ghost use Rattle.std.specs.Fmt.{signed_decimal};
-ghost use Rattle.std.specs.Int.{w128, to_be_bytes};
-ghost use Rattle.uuid.specs.Text.{by_index, hex_digit, lower, nibble};
-ghost use Rattle.std.specs.Simd.Lanes.{Each1};
 ghost use Rattle.exec_msg.specs.Line.{greatest_length, spaced, joined, name_at, word_of, id_text};
 
 use crate::kind::Kind;
 use crate::name_texts::{NameField, NameTexts};
 use crate::numbers::{EntityNo, GoalId};
+use crate::place::id::place_id;
+use crate::place::numbers::{place_count, place_value};
 use crate::value_texts::ValueTexts;
-use itoa::write_digits;
-use std::simd::{Simd, u8x4, u8x16, u64x2};
+use std::simd::Simd;
 
 #[inline(always)]
 pub(crate) fn place(bytes: &mut [u8], at: usize, text: &str) -> usize
@@ -28,7 +28,7 @@ pub(crate) fn place(bytes: &mut [u8], at: usize, text: &str) -> usize
 
 // Bytes that stand side by side: one store.
 #[inline(always)]
-fn place_lanes<const N: usize>(bytes: &mut [u8], at: usize, lanes: Simd<u8, N>) -> usize
+pub(crate) fn place_lanes<const N: usize>(bytes: &mut [u8], at: usize, lanes: Simd<u8, N>) -> usize
     requires { (length lanes ≡ N) × (at + N ≤ length bytes.old) }
     ensures text { take result bytes.new ≡ take at bytes.old ++ lanes.entry }
     ensures end { result ≡ at + N }
@@ -189,196 +189,6 @@ pub(crate) fn place_goal(
 {
     let end = place_named(bytes, at, word, names, no);
     place_id(bytes, end, id)
-}
-
-// A count with a space before it.
-#[inline(always)]
-pub(crate) fn place_count(bytes: &mut [u8], at: usize, count: u64) -> usize
-    requires { at + 21 ≤ length bytes.old }
-    ensures text { take result bytes.new ≡ take at bytes.old ++ spaced (decimal count ∷ []) }
-    ensures within { result ≤ at + 21 }
-{
-    bytes[at] = b' ';
-    place_digits(bytes, at + 1, count)
-}
-
-// A value with a space before it. Most are small, and are written in place.
-#[inline(always)]
-pub(crate) fn place_value(texts: &mut ValueTexts, bytes: &mut [u8], at: usize, value: i64) -> usize
-    requires { at + 24 ≤ length bytes.old }
-    ensures text { take result bytes.new ≡ take at bytes.old ++ spaced (signed_decimal value ∷ []) }
-    ensures within { result ≤ at + 22 }
-{
-    match small(value) {
-        Some(number) => place_small(bytes, at, number),
-        None => texts.place(bytes, at, value),
-    }
-}
-
-// The number that a value without a sign is, where that has up to four digits.
-#[inline(always)]
-pub(crate) fn small(value: i64) -> Option<u64>
-    ensures { IfSome result (λ number. (pos number ≡ value) × (number < 10000)) }
-{
-    match u64::try_from(value) {
-        Ok(number) if number < 10_000 => Some(number),
-        _ => None,
-    }
-}
-
-// A number of up to four digits with a space before it.
-#[inline(always)]
-pub(crate) fn place_small(bytes: &mut [u8], at: usize, number: u64) -> usize
-    requires { (number < 10000) × (at + 5 ≤ length bytes.old) }
-    ensures text { take result bytes.new ≡ take at bytes.old ++ spaced (decimal number ∷ []) }
-    ensures within { result ≤ at + 5 }
-{
-    bytes[at] = b' ';
-    place_thousands(bytes, at + 1, number)
-}
-
-// A value with a space before it, with each of its digits made anew.
-#[inline(always)]
-pub(crate) fn place_signed(bytes: &mut [u8], at: usize, value: i64) -> usize
-    requires { at + 22 ≤ length bytes.old }
-    ensures text { take result bytes.new ≡ take at bytes.old ++ spaced (signed_decimal value ∷ []) }
-    ensures within { result ≤ at + 22 }
-{
-    bytes[at] = b' ';
-    if value >= 0 {
-        return place_digits(bytes, at + 1, value.unsigned_abs());
-    }
-    bytes[at + 1] = b'-';
-    place_digits(bytes, at + 2, value.unsigned_abs())
-}
-
-// Most numbers have few digits, and need no count of them.
-#[inline(always)]
-fn place_digits(bytes: &mut [u8], at: usize, number: u64) -> usize
-    requires { at + 20 ≤ length bytes.old }
-    ensures text { take result bytes.new ≡ take at bytes.old ++ decimal number }
-    ensures within { result ≤ at + 20 }
-{
-    if number < 10_000 {
-        return place_thousands(bytes, at, number);
-    }
-    let end = at + count_digits(number);
-    write_digits(number, bytes, end);
-    end
-}
-
-// A number of up to four digits.
-#[inline(always)]
-fn place_thousands(bytes: &mut [u8], at: usize, number: u64) -> usize
-    requires { (number < 10000) × (at + 4 ≤ length bytes.old) }
-    ensures text { take result bytes.new ≡ take at bytes.old ++ decimal number }
-    ensures within { result ≤ at + 4 }
-{
-    if number < 1_000 {
-        return place_hundreds(bytes, at, number);
-    }
-    let end = place_hundreds(bytes, at, number / 10);
-    place_digit(bytes, end, number % 10)
-}
-
-// A number of up to three digits.
-#[inline(always)]
-fn place_hundreds(bytes: &mut [u8], at: usize, number: u64) -> usize
-    requires { (number < 1000) × (at + 3 ≤ length bytes.old) }
-    ensures text { take result bytes.new ≡ take at bytes.old ++ decimal number }
-    ensures within { result ≤ at + 3 }
-{
-    if number < 100 {
-        return place_tens(bytes, at, number);
-    }
-    let end = place_tens(bytes, at, number / 10);
-    place_digit(bytes, end, number % 10)
-}
-
-// A number of one or two digits.
-#[inline(always)]
-fn place_tens(bytes: &mut [u8], at: usize, number: u64) -> usize
-    requires { (number < 100) × (at + 2 ≤ length bytes.old) }
-    ensures text { take result bytes.new ≡ take at bytes.old ++ decimal number }
-    ensures within { result ≤ at + 2 }
-{
-    if number < 10 {
-        return place_digit(bytes, at, number);
-    }
-    let end = place_digit(bytes, at, number / 10);
-    place_digit(bytes, end, number % 10)
-}
-
-#[inline(always)]
-fn place_digit(bytes: &mut [u8], at: usize, digit: u64) -> usize
-    requires { (digit < 10) × (at < length bytes.old) }
-    ensures text { take result bytes.new ≡ take at bytes.old ++ (48 + digit) ∷ [] }
-    ensures end { result ≡ at + 1 }
-{
-    bytes[at] = b'0' + digit as u8;
-    at + 1
-}
-
-// How many digits a number has.
-#[inline(always)]
-fn count_digits(number: u64) -> usize
-    requires { 0 < number }
-    ensures value { result ≡ length (decimal number) }
-    ensures bound { result ≤ 20 }
-{
-    number.ilog10() as usize + 1
-}
-
-// What stands before the digits of an identifier, and between them.
-const BETWEEN: [u8; 16] = *b" -              ";
-
-// An identifier with a space before it.
-#[inline(always)]
-pub(crate) fn place_id(bytes: &mut [u8], at: usize, id: GoalId) -> usize
-    requires { at + 37 ≤ length bytes.old }
-    ensures text { take result bytes.new ≡ take at bytes.old ++ spaced (id_text id ∷ []) }
-    ensures end { result ≡ at + 37 }
-{
-    let (front, back) = digits_of(id);
-    let between = u8x16::from_array(BETWEEN);
-    let first: u8x16 = front.shuffle(
-        between,
-        [16, 0, 1, 2, 3, 4, 5, 6, 7, 17, 8, 9, 10, 11, 17, 12],
-    );
-    let second: u8x4 = front.shuffle(between, [13, 14, 15, 17]);
-    let third: u8x16 = back.shuffle(
-        between,
-        [0, 1, 2, 3, 17, 4, 5, 6, 7, 8, 9, 10, 11, 12, 13, 14],
-    );
-    let end = place_lanes(bytes, at, first);
-    let end = place_lanes(bytes, end, second);
-    let end = place_lanes(bytes, end, third);
-    place_lanes(bytes, end, back.extract::<15, 1>())
-}
-
-// The digits of an identifier, highest first, by sixteen.
-#[inline(always)]
-fn digits_of(id: GoalId) -> (u8x16, u8x16)
-    ensures front { result.0 ≡ by_index 16 (λ k. hex_digit lower (nibble (to_be_bytes w128 id) k)) }
-    ensures back { result.1 ≡ by_index 16 (λ k. hex_digit lower (nibble (to_be_bytes w128 id) (16 + k))) }
-{
-    let (high, low) = id.halves();
-    let octets = u64x2::from_array([low, high]).to_le_bytes().reverse();
-    let firsts = hex_digits((octets >> u8x16::splat(4)) & u8x16::splat(15));
-    let seconds = hex_digits(octets & u8x16::splat(15));
-    firsts.interleave(seconds)
-}
-
-// In each lane the digit of the number there.
-#[inline(always)]
-fn hex_digits(numbers: u8x16) -> u8x16
-    requires { (length numbers ≡ 16) × Each1 (λ number. number < 16) numbers }
-    ensures { result ≡ map (hex_digit lower) numbers }
-{
-    let letters = numbers + u8x16::splat(b'a' - 10);
-    numbers
-        .simd_lt(u8x16::splat(10))
-        .select(numbers + u8x16::splat(b'0'), letters)
 }
 
 // A line's word, the name of what it speaks of, and a value.

@@ -1,4 +1,7 @@
-ghost use Rattle.std.specs.Prelude.{◌≡◌, ◌+◌, ◌<◌, ◌≤◌, [], ◌∷◌, ◌++◌, length, take, codes, decimal, pos, ◌^◌, vec_capacity, vec_len, IfOk, OnErr};
+//! The text of lines.
+mod run;
+
+ghost use Rattle.std.specs.Prelude.{◌≡◌, ◌+◌, ◌<◌, ◌≤◌, [], ◌∷◌, ◌++◌, length, take, codes, decimal, ◌^◌, vec_capacity, vec_len, IfOk, OnErr};
 ghost use Rattle.std.specs.Fmt.{signed_decimal};
 ghost use Rattle.exec_msg.specs.Goal.{status_number, code_number};
 ghost use Rattle.exec_msg.specs.Line.{IsAppended, greatest_length, line_room, joined, name_at, word_of, id_text, fields_of, line_text};
@@ -10,12 +13,14 @@ use crate::memory::Memory;
 use crate::name_texts::NameTexts;
 use crate::names::Names;
 use crate::numbers::{EntityNo, GoalId};
+use crate::place::id::place_id;
+use crate::place::numbers::{place_count, place_small, place_value, small};
 use crate::place::{
-    place, place_callback, place_count, place_goal_count, place_goal_line, place_goal_value,
-    place_id, place_kind, place_named_count, place_named_value, place_short_named, place_small,
-    place_value, small,
+    place, place_callback, place_goal_count, place_goal_line, place_goal_value, place_kind,
+    place_named_count, place_named_value, place_short_named,
 };
 use crate::value_texts::ValueTexts;
+use run::{place_goal_run, place_run, place_run_beside};
 
 /// Appends the text of a line. Where memory is refused, `out` stays as it was.
 ///
@@ -179,120 +184,6 @@ fn place_end(bytes: &mut [u8], at: usize, rounds: u64) -> usize
     place_count(bytes, end, rounds)
 }
 
-// A run line with 0 beside its input, as most have. A short name and an input whose text is at hand are placed with no call.
-#[inline(never)]
-fn place_run(
-    texts: &mut ValueTexts,
-    bytes: &mut [u8],
-    at: usize,
-    names: &NameTexts<'_>,
-    no: EntityNo,
-    kind: Kind,
-    input: i64,
-) -> usize
-    requires { at + greatest_length names.now + 127 ≤ length bytes.old }
-    ensures text { take result bytes.new ≡ take at bytes.old ++ joined (codes "run" ∷ name_at names.now no ∷ word_of kind ∷ signed_decimal input ∷ signed_decimal (pos 0) ∷ []) }
-    ensures within { result ≤ at + greatest_length names.now + 57 }
-{
-    let Some(name) = names.short(no) else {
-        return place_any_run(texts, bytes, at, names, no, kind, input, 0);
-    };
-    if let Some(number) = small(input) {
-        let end = place_short_named(bytes, at, "run", name);
-        let end = place_kind(bytes, end, kind);
-        let end = place_small(bytes, end, number);
-        return place_small(bytes, end, 0);
-    }
-    let Some(field) = texts.kept(input) else {
-        return place_any_run(texts, bytes, at, names, no, kind, input, 0);
-    };
-    let end = place_short_named(bytes, at, "run", name);
-    let end = place_kind(bytes, end, kind);
-    let end = field.place(bytes, end);
-    place_small(bytes, end, 0)
-}
-
-// A run line with a number beside its input. Where that is small, the name short and the input's text at hand, it is placed
-// with no call.
-#[inline(never)]
-fn place_run_beside(
-    texts: &mut ValueTexts,
-    bytes: &mut [u8],
-    at: usize,
-    names: &NameTexts<'_>,
-    no: EntityNo,
-    kind: Kind,
-    input: i64,
-    aux: i64,
-) -> usize
-    requires { at + greatest_length names.now + 127 ≤ length bytes.old }
-    ensures text { take result bytes.new ≡ take at bytes.old ++ joined (codes "run" ∷ name_at names.now no ∷ word_of kind ∷ signed_decimal input ∷ signed_decimal aux ∷ []) }
-    ensures within { result ≤ at + greatest_length names.now + 57 }
-{
-    let Some(name) = names.short(no) else {
-        return place_any_run(texts, bytes, at, names, no, kind, input, aux);
-    };
-    let Some(beside) = small(aux) else {
-        return place_any_run(texts, bytes, at, names, no, kind, input, aux);
-    };
-    if let Some(number) = small(input) {
-        let end = place_short_named(bytes, at, "run", name);
-        let end = place_kind(bytes, end, kind);
-        let end = place_small(bytes, end, number);
-        return place_small(bytes, end, beside);
-    }
-    let Some(field) = texts.kept(input) else {
-        return place_any_run(texts, bytes, at, names, no, kind, input, aux);
-    };
-    let end = place_short_named(bytes, at, "run", name);
-    let end = place_kind(bytes, end, kind);
-    let end = field.place(bytes, end);
-    place_small(bytes, end, beside)
-}
-
-#[inline(never)]
-fn place_any_run(
-    texts: &mut ValueTexts,
-    bytes: &mut [u8],
-    at: usize,
-    names: &NameTexts<'_>,
-    no: EntityNo,
-    kind: Kind,
-    input: i64,
-    aux: i64,
-) -> usize
-    requires { at + greatest_length names.now + 68 ≤ length bytes.old }
-    ensures text { take result bytes.new ≡ take at bytes.old ++ joined (codes "run" ∷ name_at names.now no ∷ word_of kind ∷ signed_decimal input ∷ signed_decimal aux ∷ []) }
-    ensures within { result ≤ at + greatest_length names.now + 57 }
-{
-    let end = place_callback(bytes, at, "run", names, no, kind);
-    let end = place_value(texts, bytes, end, input);
-    place_value(texts, bytes, end, aux)
-}
-
-// A run line of a callback on a goal.
-#[inline(never)]
-fn place_goal_run(
-    texts: &mut ValueTexts,
-    bytes: &mut [u8],
-    at: usize,
-    names: &NameTexts<'_>,
-    no: EntityNo,
-    kind: Kind,
-    input: i64,
-    aux: i64,
-    id: GoalId,
-) -> usize
-    requires { at + greatest_length names.now + 105 ≤ length bytes.old }
-    ensures text { take result bytes.new ≡ take at bytes.old ++ joined (codes "run" ∷ name_at names.now no ∷ word_of kind ∷ signed_decimal input ∷ signed_decimal aux ∷ id_text id ∷ []) }
-    ensures within { result ≤ at + greatest_length names.now + 94 }
-{
-    let end = place_callback(bytes, at, "run", names, no, kind);
-    let end = place_value(texts, bytes, end, input);
-    let end = place_value(texts, bytes, end, aux);
-    place_id(bytes, end, id)
-}
-
 #[inline(never)]
 fn place_drop(
     texts: &mut ValueTexts,
@@ -416,7 +307,7 @@ fn place_call(
         let end = place_small(bytes, end, number);
         return place_small(bytes, end, small);
     }
-    let Some(field) = texts.kept(value) else {
+    let Some(field) = texts.find(value) else {
         return place_any_call(texts, bytes, at, names, no, number, value);
     };
     let end = place_short_named(bytes, at, "call", name);

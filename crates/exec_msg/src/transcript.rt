@@ -7,7 +7,8 @@ use crate::memory::Memory;
 use crate::name_texts::NameTexts;
 use crate::names::Names;
 use crate::numbers::GoalId;
-use crate::packed::{Cell, push_line, skip_ids};
+use crate::packed::push::push_line;
+use crate::packed::{Cell, skip_ids};
 use crate::text::{place_line, room_behind};
 use crate::value_texts::ValueTexts;
 use std::alloc::Global;
@@ -258,7 +259,7 @@ impl<'a> Left<'a> {
         ensures within { IfSome result (λ end. end ≤ length buffer.new) }
         ensures shorter { IfSome result (λ _. length self.new + 1 ≡ length self.old) }
         ensures none { IfNone result (self.old ≡ []) }
-        ensures same { IfNone result (self.new ≡ self.old) }
+        ensures unchanged { IfNone result (self.new ≡ self.old) }
         ensures same_buffer { IfNone result (buffer.new ≡ buffer.old) }
         ensures same_length { length buffer.new ≡ length buffer.old }
     {

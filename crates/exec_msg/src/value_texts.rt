@@ -5,7 +5,8 @@ ghost use Rattle.std.specs.Fmt.{signed_decimal};
 ghost use Rattle.exec_msg.specs.Line.{spaced};
 
 use crate::memory::Memory;
-use crate::place::{place_pair, place_signed};
+use crate::place::numbers::place_signed;
+use crate::place::place_pair;
 use std::alloc::Global;
 use std::marker::Model;
 
@@ -101,7 +102,7 @@ impl ValueTexts {
 
     /// The field of a value, where it is kept.
     #[inline(always)]
-    pub(crate) fn kept(&self, value: i64) -> Option<&ValueField>
+    pub(crate) fn find(&self, value: i64) -> Option<&ValueField>
         ensures { IfSome (option_copied result) (λ field. field.0 ≡ value) }
     {
         match self.fields.get(row(value.unsigned_abs())) {

@@ -6,8 +6,7 @@ use Rattle.std.proofs.lemmas.List.{get_or-map, length-map, append-nil, append_as
 use Rattle.std.proofs.lemmas.List.Elements.{filter-append}
 use Rattle.exec_plan.specs.Feeding.{fed_in, feeds_from, feeds_by_round}
 use Rattle.exec_plan.specs.Entity.{is_from_1}
-use Rattle.exec_plan.specs.Plan.{PlanData}
-use Rattle.exec_plan.specs.declared.plan.Feed.{Feed}
+use Rattle.exec_plan.specs.Plan.{PlanData, Feed}
 
 -- there are as many as moments
 pub as_many_rounds : (round : ℕ) (moments : List ℕ) (feed : List Feed) → length (feeds_from round moments feed) ≡ length moments

@@ -6,7 +6,7 @@ use Rattle.std.specs.Map.{keys_of, values_of}
 use Rattle.std.proofs.lemmas.Bool.{and_parts, or_parts, not-true}
 use Rattle.std.proofs.lemmas.Iterator.Adapters.{position_from-zero}
 use Rattle.std.proofs.lemmas.Slice.Eq.{bytes_eq-Decides}
-use Rattle.exec_plan.specs.inner.Entries.{entity_of, entities_in}
+use Rattle.exec_plan.specs.inner.Entries.{entry_data, entities_in}
 use Rattle.exec_plan.specs.Graph.{EntityData}
 use Rattle.exec_plan.specs.Names.{are_distinct}
 use Rattle.exec_plan.specs.declared.entity.Declared.{Declared}
@@ -114,8 +114,8 @@ found_some kind name entries number entry distinct at there =
     let found = present kind name 0 (entities_in entries) number distinct
     (sym (keys_and_names name 0 entries) ∙ sym (position_from-zero (λ key. bytes_eq name (string_bytes key)) (keys_of entries)) ∙ sym at) in
     let same : number ≡ found.place = omega (arith, found.counted) in
-    let entity = same_entity (slice_get (entities_in entries) number) (slice_get (entities_in entries) found.place) (entity_of entry) found.element
-    (slice_get-map entity_of entries number entry there) found.there (ap (slice_get (entities_in entries)) same) in
+    let entity = same_entity (slice_get (entities_in entries) number) (slice_get (entities_in entries) found.place) (entry_data entry) found.element
+    (slice_get-map entry_data entries number entry there) found.there (ap (slice_get (entities_in entries)) same) in
     found.is ∙ ap (λ (e : EntityData). cond (kind e.is) (Some number) None) (sym entity)
 
 -- the same where it is known whether it passes

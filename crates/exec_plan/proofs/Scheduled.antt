@@ -1,5 +1,5 @@
 -- What moments and a feed keep that have no fault.
-use Rattle.std.proofs.Common.{◌≡◌, ℕ, ◌≤◌, ◌-◌, ◌^◌, Bool, true, false, not, ◌&&◌, ◌||◌, length, map, nat_le, max, IsTrue, List, [], ◌∷◌, None, All, refl, ap, ◌∙◌, arith}
+use Rattle.std.proofs.Common.{◌≡◌, ℕ, ◌≤◌, ◌-◌, ◌^◌, Bool, true, false, not, ◌&&◌, ◌||◌, length, map, nat_le, max, IsTrue, List, [], ◌∷◌, None, Some, All, refl, ap, ◌∙◌, arith}
 use Rattle.std.specs.List.{list_all}
 use Rattle.std.proofs.Math.Nat.{le-max_left, le-max_right}
 use Rattle.std.proofs.lemmas.Bool.{leb-true, le-leb, and_parts, or_parts, not-false, and_from}
@@ -9,9 +9,8 @@ use Rattle.exec_plan.specs.Graph.{GraphData, is_server}
 use Rattle.exec_plan.specs.Entity.{is_from_1}
 use Rattle.exec_plan.specs.Lawful.{IsLawful, IsLawfulPlan, is_at, is_ascending_from, is_fed_well}
 use Rattle.exec_plan.specs.Schedule.{schedule_fits, greatest, stamp_of, is_in_order, is_identified, has_plan_fault, plan_faults_in_order, plan_fault_in}
-use Rattle.exec_plan.specs.declared.plan.Fed.{Fed}
-use Rattle.exec_plan.specs.declared.plan.Fed.TheVariants.{Message, Goal, Cancel}
-use Rattle.exec_plan.specs.declared.plan.Feed.{Feed}
+use Rattle.exec_plan.specs.Plan.{Fed, Feed}
+use Rattle.exec_plan.specs.declared.plan.FedOf.TheVariants.{Message, Goal, Cancel}
 use Rattle.exec_msg.specs.declared.limits.TheConstants.{MOMENTS, FEED, TICKS}
 use Rattle.exec_plan.proofs.NonePasses.{none_passes}
 
@@ -58,13 +57,13 @@ fitting moments entries stamp fits =
 pub record IsScheduled (moments : List ℕ) (feed : List Feed) : Type 0 where
   pub fits : schedule_fits moments (length feed) (greatest (map (λ entry. stamp_of entry.fed) feed)) ≡ true
   pub order : is_in_order moments (map (λ entry. entry.round) feed) ≡ true
-  pub identified : list_all (λ entry. is_identified entry.fed) feed ≡ true
+  pub identified : list_all (λ entry. is_identified Some entry.fed) feed ≡ true
 
 pub scheduled : (moments : List ℕ) (feed : List Feed) → plan_fault_in moments feed ≡ None → IsScheduled moments feed
 scheduled moments feed found =
     let fits = schedule_fits moments (length feed) (greatest (map (λ entry. stamp_of entry.fed) feed)) in
     let ordered = is_in_order moments (map (λ entry. entry.round) feed) in
-    let ids = list_all (λ entry. is_identified entry.fed) feed in
+    let ids = list_all (λ entry. is_identified Some entry.fed) feed in
     let last = not ids || false in
     let second = not ordered || last in
     let past_limits = none_passes (λ fault. has_plan_fault fault moments feed) plan_faults_in_order found in
@@ -76,25 +75,25 @@ scheduled moments feed found =
       identified = not-false ids (or_parts (not ids) false past_ids).0;
     }
 
-fed_well : (graph : GraphData) (fed : Fed) → goes_somewhere graph fed ≡ true → has_128_bits fed ≡ true → is_identified fed ≡ true → nat_le (stamp_of fed) TICKS ≡ true → is_fed_well graph fed ≡ true
+fed_well : (graph : GraphData) (fed : Fed) → goes_somewhere graph fed ≡ true → has_128_bits fed ≡ true → is_identified Some fed ≡ true → nat_le (stamp_of fed) TICKS ≡ true → is_fed_well graph fed ≡ true
 fed_well graph (Message number value) goes bits has within = goes
 fed_well graph (Goal number id value) goes bits has within =
     and_from (is_at is_server graph number) (is_from_1 (2 ^ 128 - 1) id) goes (and_from (nat_le 1 id) (nat_le id (2 ^ 128 - 1)) has bits)
 fed_well graph (Cancel number id stamp) goes bits has within =
     and_from (is_at is_server graph number && nat_le id (2 ^ 128 - 1)) (nat_le stamp TICKS) (and_from (is_at is_server graph number) (nat_le id (2 ^ 128 - 1)) goes bits) within
 
-all_fed_well : (graph : GraphData) (feed : List Feed) → list_all (λ entry. goes_somewhere graph entry.fed) feed ≡ true → list_all (λ entry. has_128_bits entry.fed) feed ≡ true → list_all (λ entry. is_identified entry.fed) feed ≡ true → list_all (λ entry. nat_le (stamp_of entry.fed) TICKS) feed ≡ true → All (λ entry. IsTrue (is_fed_well graph entry.fed)) feed
+all_fed_well : (graph : GraphData) (feed : List Feed) → list_all (λ entry. goes_somewhere graph entry.fed) feed ≡ true → list_all (λ entry. has_128_bits entry.fed) feed ≡ true → list_all (λ entry. is_identified Some entry.fed) feed ≡ true → list_all (λ entry. nat_le (stamp_of entry.fed) TICKS) feed ≡ true → All (λ entry. IsTrue (is_fed_well graph entry.fed)) feed
 all_fed_well graph [] goes bits has within = All-nil (λ (entry : Feed). IsTrue (is_fed_well graph entry.fed))
 all_fed_well graph (entry ∷ feed) goes bits has within =
     let others_go = list_all (λ entry. goes_somewhere graph entry.fed) feed in
     let others_bits = list_all (λ entry. has_128_bits entry.fed) feed in
-    let others_have = list_all (λ entry. is_identified entry.fed) feed in
+    let others_have = list_all (λ entry. is_identified Some entry.fed) feed in
     let others_within = list_all (λ entry. nat_le (stamp_of entry.fed) TICKS) feed in
     All-cons (λ (entry : Feed). IsTrue (is_fed_well graph entry.fed)) entry feed
     (fed_well graph entry.fed (and_parts (goes_somewhere graph entry.fed) others_go goes).0 (and_parts (has_128_bits entry.fed) others_bits bits).0
-    (and_parts (is_identified entry.fed) others_have has).0 (and_parts (nat_le (stamp_of entry.fed) TICKS) others_within within).0)
+    (and_parts (is_identified Some entry.fed) others_have has).0 (and_parts (nat_le (stamp_of entry.fed) TICKS) others_within within).0)
     (all_fed_well graph feed (and_parts (goes_somewhere graph entry.fed) others_go goes).1 (and_parts (has_128_bits entry.fed) others_bits bits).1
-    (and_parts (is_identified entry.fed) others_have has).1 (and_parts (nat_le (stamp_of entry.fed) TICKS) others_within within).1)
+    (and_parts (is_identified Some entry.fed) others_have has).1 (and_parts (nat_le (stamp_of entry.fed) TICKS) others_within within).1)
 
 all_rounds : (most : ℕ) (feed : List Feed) → list_all (is_from_1 most) (map (λ entry. entry.round) feed) ≡ true → All (λ entry. IsTrue (is_from_1 most entry.round)) feed
 all_rounds most [] within = All-nil (λ (entry : Feed). IsTrue (is_from_1 most entry.round))

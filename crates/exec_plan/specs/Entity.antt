@@ -2,7 +2,8 @@
 -- and decoded scripts in a graph.
 use Rattle.std.specs.Prelude.{ℕ, List, [], ◌∷◌, Bool, true, ◌&&◌, ◌==◌, nat_le, Option, None, Some}
 use Rattle.std.specs.Option.{option_map, option_map_or}
-use Rattle.exec_plan.specs.Options.{◌>>=◌}
+use Rattle.exec_msg.specs.Numbers.{EntityNo}
+use Rattle.exec_msg.specs.Options.{◌>>=◌}
 use Rattle.exec_plan.specs.declared.entity.EntityKind.{EntityKind}
 use Rattle.exec_plan.specs.declared.entity.EntityKind.TheVariants as kind
 use Rattle.exec_plan.specs.declared.entity.TheConstants.EntityKind.{IN_ORDER}
@@ -11,24 +12,16 @@ use Rattle.exec_plan.specs.declared.entity.EntityOf.TheVariants.{Timer, Subscrip
 use Rattle.exec_plan.specs.declared.entity.parts.Referent.{Referent}
 use Rattle.exec_plan.specs.declared.entity.parts.Referent.TheVariants as referent
 use Rattle.exec_msg.specs.declared.limits.TheConstants.{DEPTH, TICKS}
-use Rattle.exec_script.specs.declared.instr.Instr.{Instr}
+use Rattle.exec_script.specs.Instruction.{Script}
 use Rattle.exec_script.specs.declared.place.Role.{Role}
 use Rattle.exec_script.specs.declared.place.Role.TheVariants as role
 use Rattle.exec_script.specs.declared.word.Word.{Word}
 
 -- ---- names and scripts
 
--- the number of a topic or of an entity, which share one numbering
-abbrev pub EntityNo : Type 0
-EntityNo = ℕ
-
 -- a script as it is spelled: its instructions, each as a list of words
 abbrev pub Spelled : Type 0
 Spelled = List (List Word)
-
--- a decoded script
-abbrev pub Script : Type 0
-Script = List Instr
 
 -- what an entity is said to be
 abbrev pub Drafted : Type 0

@@ -3,10 +3,8 @@ use Rattle.std.specs.Prelude.{ℕ, suc, ◌-◌, ◌^◌, List, [], ◌∷◌, B
 use Rattle.std.specs.List.{filter}
 use Rattle.exec_plan.specs.Graph.{GraphData, is_topic, is_server}
 use Rattle.exec_plan.specs.Lawful.{is_at}
-use Rattle.exec_plan.specs.Plan.{PlanData}
-use Rattle.exec_plan.specs.declared.plan.Fed.{Fed}
-use Rattle.exec_plan.specs.declared.plan.Fed.TheVariants.{Message, Goal, Cancel}
-use Rattle.exec_plan.specs.declared.plan.Feed.{Feed}
+use Rattle.exec_plan.specs.Plan.{PlanData, Fed, Feed}
+use Rattle.exec_plan.specs.declared.plan.FedOf.TheVariants.{Message, Goal, Cancel}
 
 -- whether what is fed goes to a topic or to a server of the graph
 abbrev pub goes_somewhere : GraphData → Fed → Bool

@@ -1,16 +1,20 @@
 -- Graphs: nodes with their callback groups, topics, and the entities that the `rclcpp` documentation names.
 use Rattle.std.specs.Prelude.{ℕ, suc, List, [], ◌∷◌, map, Bool, true, false, ◌&&◌, is_some, Option, None, Some, slice_get, slice_index_or}
 use Rattle.std.specs.List.{flat_map, position_from}
-use Rattle.std.specs.Option.{option_map_or, unwrap_or}
+use Rattle.std.specs.Option.{option_map, option_map_or, unwrap_or}
 use Rattle.std.specs.Str.{bytes_eq}
 use Rattle.exec_msg.specs.declared.kind.Kind.{Kind}
 use Rattle.exec_msg.specs.declared.kind.Kind.TheVariants as kind
-use Rattle.exec_plan.specs.Entity.{EntityNo, Script, Resolved, is_of, queue_depth}
+use Rattle.exec_msg.specs.declared.kind.TheConstants.Kind.{IN_ORDER}
+use Rattle.exec_msg.specs.Numbers.{EntityNo}
+use Rattle.exec_script.specs.Instruction.{Script}
+use Rattle.exec_plan.specs.Entity.{Resolved, is_of}
 use Rattle.exec_plan.specs.declared.entity.CallbackGroup.{CallbackGroup}
 use Rattle.exec_plan.specs.declared.entity.Declared.{Declared}
 use Rattle.exec_plan.specs.declared.entity.Declared.TheVariants.{Topic, Entity}
 use Rattle.exec_plan.specs.declared.entity.EntityKind.{EntityKind}
 use Rattle.exec_plan.specs.declared.entity.EntityKind.TheVariants as entity_kind
+use Rattle.exec_plan.specs.declared.entity.GraphEntity.{GraphEntity}
 use Rattle.exec_plan.specs.declared.entity.EntityOf.TheVariants.{Timer, Subscription, Service, Client, Server, ActionClient}
 
 -- the number of a callback group
@@ -43,6 +47,11 @@ declared_at graph number = (slice_index_or graph.entities number (record { name 
 
 -- ---- what stands at a number
 
+-- the entity as which a name is declared; a topic is none
+abbrev pub entity_of : Declared → Option GraphEntity
+entity_of Topic = None
+entity_of (Entity entity) = Some entity
+
 -- what is said of an entity; of a topic it is this
 abbrev pub of_entity : {A : Type 0} → A → (Resolved → A) → Declared → A
 of_entity otherwise say Topic = otherwise
@@ -69,14 +78,9 @@ is_server = is_a entity_kind.Server
 abbrev pub is_action_client : Declared → Bool
 is_action_client = is_a entity_kind.ActionClient
 
--- the callback group of an entity
-abbrev pub group_of : Declared → GroupNo
-group_of Topic = 0
-group_of (Entity entity) = entity.group
-
--- how many items the queues of what stands at a number hold
-abbrev pub depth_of : Declared → ℕ
-depth_of = of_entity 0 queue_depth
+-- the callback group of an entity; a topic has none
+abbrev pub group_of : Declared → Option GroupNo
+group_of declared = option_map (λ entity. entity.group) (entity_of declared)
 
 -- whether a callback group is mutually exclusive; a reentrant one isn't, and no group but the graph's is
 abbrev pub is_exclusive : GraphData → GroupNo → Bool
@@ -110,15 +114,9 @@ callback_script kind.Feedback (ActionClient entity) = Some entity.on_feedback
 callback_script kind.Result (ActionClient entity) = Some (unwrap_or entity.on_result [])
 callback_script _ _ = None
 
--- the script of the callbacks of a kind of what stands at a number
-abbrev pub script_for : Kind → Declared → Option Script
-script_for kind = of_entity None (callback_script kind)
-
 -- the kinds of callbacks in the order in which ready callbacks run
 abbrev pub kinds : List Kind
-kinds =
-    kind.Timer ∷ kind.Message ∷ kind.Request ∷ kind.Reply ∷ kind.Goal ∷ kind.Cancel ∷ kind.Ask ∷ kind.Poll
-    ∷ kind.Response ∷ kind.Code ∷ kind.Feedback ∷ kind.Result ∷ []
+kinds = IN_ORDER
 
 -- a list with one more in front where the test holds
 abbrev pub cons_if : {A : Type 0} → Bool → A → List A → List A
@@ -136,7 +134,7 @@ entities_where test graph = numbers_where test 0 graph.entities
 
 -- whether an entity has callbacks of a kind
 abbrev pub has_kind : Kind → Declared → Bool
-has_kind kind declared = is_some (script_for kind declared)
+has_kind kind = of_entity false (λ is. is_some (callback_script kind is))
 
 -- what may become ready: an entity's callbacks of a kind
 pub record Waitable : Type 0 where

@@ -1,9 +1,11 @@
 -- Lawful graphs, and plans within their limits.
-use Rattle.std.specs.Prelude.{◌≡◌, ℕ, ◌<◌, ◌≤◌, ◌^◌, List, [], ◌∷◌, length, map, Bool, true, false, not, is_some, is_none, ◌&&◌, ◌==◌, nat_le, IsTrue, Some, slice_get, Ok, ◌-◌}
+use Rattle.std.specs.Prelude.{◌≡◌, ℕ, ◌<◌, ◌≤◌, ◌^◌, List, [], ◌∷◌, length, map, Bool, true, false, not, is_some, is_none, ◌&&◌, ◌==◌, nat_le, IsTrue, Some, option_and_then, slice_get, Ok, ◌-◌}
 use Rattle.std.specs.List.{All, filter, filter_map, list_all}
 use Rattle.std.specs.Option.{option_map_or}
-use Rattle.exec_plan.specs.Entity.{EntityNo, Script, RoleScriptData, rank_of, kind_of_entity, refers, is_from_1, is_within, scripts_of}
-use Rattle.exec_plan.specs.Graph.{GraphData, GroupNo, of_entity, is_topic, is_a, is_client, is_server, is_action_client, group_of, names_of}
+use Rattle.exec_msg.specs.Numbers.{EntityNo}
+use Rattle.exec_script.specs.Instruction.{Script}
+use Rattle.exec_plan.specs.Entity.{RoleScriptData, rank_of, kind_of_entity, refers, is_from_1, is_within, scripts_of}
+use Rattle.exec_plan.specs.Graph.{GraphData, of_entity, is_topic, is_a, is_client, is_server, is_action_client, group_of, names_of}
 use Rattle.exec_plan.specs.declared.entity.CallbackGroup.{CallbackGroup}
 use Rattle.exec_plan.specs.declared.entity.Declared.{Declared}
 use Rattle.exec_plan.specs.declared.entity.Declared.TheVariants.{Topic, Entity}
@@ -11,9 +13,8 @@ use Rattle.exec_plan.specs.declared.entity.GraphEntity.{GraphEntity}
 use Rattle.exec_plan.specs.declared.entity.parts.Referent.{Referent}
 use Rattle.exec_plan.specs.declared.entity.parts.Referent.TheVariants as referent
 use Rattle.exec_plan.specs.Names.{is_name, are_distinct}
-use Rattle.exec_plan.specs.Plan.{PlanData}
-use Rattle.exec_plan.specs.declared.plan.Fed.{Fed}
-use Rattle.exec_plan.specs.declared.plan.Fed.TheVariants.{Message, Goal, Cancel}
+use Rattle.exec_plan.specs.Plan.{PlanData, Fed}
+use Rattle.exec_plan.specs.declared.plan.FedOf.TheVariants.{Message, Goal, Cancel}
 use Rattle.exec_msg.specs.declared.limits.TheConstants.{NODES, NAMED_GROUPS, TOPICS, ENTITIES, INSTRUCTIONS, MOMENTS, FEED, TICKS}
 use Rattle.exec_script.specs.Legality.{legality_of}
 use Rattle.exec_script.specs.declared.instr.Instr.{Instr}
@@ -25,13 +26,13 @@ use Rattle.exec_script.specs.Instruction as instr
 abbrev pub is_at : (Declared → Bool) → GraphData → EntityNo → Bool
 is_at test graph number = option_map_or (λ entity. test entity.is) (slice_get graph.entities number) false
 
--- whether a callback group is of a node
-abbrev pub is_of_node : GraphData → ℕ → GroupNo → Bool
-is_of_node graph node group = option_map_or (λ found. found.node == node) (slice_get graph.groups group) false
+-- whether an entity is of a node: its callback group is
+abbrev pub is_of_node : GraphData → ℕ → Declared → Bool
+is_of_node graph node declared = option_map_or (λ group. group.node == node) (option_and_then (slice_get graph.groups) (group_of declared)) false
 
--- whether what stands at a number passes a test and is of a node
+-- whether what stands at a number passes a test and is an entity of a node
 abbrev pub is_at_node : (Declared → Bool) → GraphData → ℕ → EntityNo → Bool
-is_at_node test graph node number = is_at (λ declared. test declared && is_of_node graph node (group_of declared)) graph number
+is_at_node test graph node number = is_at (λ declared. test declared && is_of_node graph node declared) graph number
 
 -- whether an instruction of a node's script names what is there: a topic, or a client or server of the node itself
 abbrev pub is_known : GraphData → ℕ → Instr → Bool

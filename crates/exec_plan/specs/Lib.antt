@@ -3,7 +3,6 @@ pub mod Feeding
 pub mod Graph
 pub mod Lawful
 pub mod Names
-pub mod Options
 pub mod Plan
 pub mod Schedule
 pub mod inner

@@ -212,7 +212,18 @@ pub enum Declared {
 }
 
 impl Declared {
-    ghost use Rattle.exec_plan.specs.Graph.{is_topic, is_a, group_of};
+    ghost use Rattle.std.specs.Option.{option_copied};
+    ghost use Rattle.exec_plan.specs.Graph.{entity_of, is_topic, is_a};
+
+    /// The entity as which it is declared; a topic is none.
+    pub fn entity(&self) -> Option<&GraphEntity>
+        ensures { option_copied result ≡ entity_of self.now }
+    {
+        match self {
+            Declared::Topic => None,
+            Declared::Entity(entity) => Some(entity),
+        }
+    }
 
     /// Whether it is a topic.
     pub fn is_topic(&self) -> bool
@@ -228,16 +239,6 @@ impl Declared {
         match self {
             Declared::Topic => false,
             Declared::Entity(entity) => entity.is.is_of(kind),
-        }
-    }
-
-    /// Its callback group. A topic has none, and 0 stands for it.
-    pub fn group(&self) -> GroupNo
-        ensures { result ≡ group_of self.now }
-    {
-        match self {
-            Declared::Topic => GroupNo(0),
-            Declared::Entity(entity) => entity.group,
         }
     }
 }

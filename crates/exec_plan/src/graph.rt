@@ -31,7 +31,7 @@ impl Model for Graph {
 }
 
 impl Graph {
-    ghost use Rattle.std.specs.Prelude.{◌≡◌, ◌<◌, ◌≤◌, length, not, IsTrue};
+    ghost use Rattle.std.specs.Prelude.{◌≡◌, ◌<◌, ◌≤◌, length, not, IsTrue, Some};
     ghost use Rattle.exec_plan.specs.Graph.{names_of, declared_at, group_of, is_exclusive, is_topic, topic_at, server_at};
     ghost use Rattle.exec_plan.specs.Lawful.{IsLawful, is_at};
     ghost use Rattle.exec_plan.specs.inner.Entries.{entities_in};
@@ -80,7 +80,7 @@ impl Graph {
     }
 
     /// What a number stands for.
-    pub fn declared(&self, no: EntityNo) -> &Declared
+    pub fn declaration(&self, no: EntityNo) -> &Declared
         requires { no < length self.now.entities }
         ensures { result.now ≡ declared_at self.now no }
     {
@@ -97,12 +97,12 @@ impl Graph {
     /// The callback group of an entity.
     pub fn group_of(&self, no: EntityNo) -> GroupNo
         requires { IsTrue (is_at (λ declared. not (is_topic declared)) self.now no) }
-        ensures group { result ≡ group_of (declared_at self.now no) }
+        ensures group { group_of (declared_at self.now no) ≡ Some result }
         ensures bound { result < length self.now.groups }
     {
         // So that the type's invariant is known here.
         let _ = &self.nodes;
-        self.declared(no).group()
+        self.declaration(no).entity().unwrap().group
     }
 
     /// Whether a callback group is mutually exclusive. A reentrant one isn't, and no group but the graph's is.

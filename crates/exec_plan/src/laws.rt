@@ -4,13 +4,15 @@ ghost use Rattle.std.specs.List.{filter, list_all};
 ghost use Rattle.std.specs.Ordering.{nat_cmp};
 ghost use Rattle.exec_plan.specs.declared.entity.EntityKind.{EntityKind};
 ghost use Rattle.exec_plan.specs.Feeding.{goes_somewhere, has_128_bits};
-ghost use Rattle.exec_plan.specs.Graph.{GraphData, declared_at, entities_where, is_topic, is_server, topic_at, server_at};
+ghost use Rattle.exec_msg.specs.Kind.{ready_number};
+ghost use Rattle.exec_msg.specs.declared.kind.Kind.{Kind};
+ghost use Rattle.exec_plan.specs.Graph.{GraphData, declared_at, kinds, entities_where, is_topic, is_server, topic_at, server_at};
 ghost use Rattle.exec_plan.specs.declared.entity.CallbackGroup.{CallbackGroup};
 ghost use Rattle.exec_plan.specs.declared.entity.Declared.{Declared};
 ghost use Rattle.exec_plan.specs.Entity.{RoleScriptData, entity_kinds, rank_of};
 ghost use Rattle.exec_plan.specs.Lawful.{IsLawful, IsLawfulPlan, IsLawfulScript, is_at};
 ghost use Rattle.exec_plan.specs.Schedule.{plan_fault_in};
-ghost use Rattle.exec_plan.specs.declared.plan.Feed.{Feed};
+ghost use Rattle.exec_plan.specs.Plan.{Feed};
 ghost use Rattle.exec_script.specs.Script.{CallInput, resumed};
 ghost use Rattle.exec_script.specs.declared.effects.Effect.{Effect};
 ghost use Rattle.exec_script.specs.declared.instr.Instr.{Instr};
@@ -26,6 +28,12 @@ pub fn kinds_are_in_the_order_of_numbers()
 pub fn kinds_are_listed_once()
     ensures once { (kind : EntityKind) → filter (λ other. rank_of other == rank_of kind) entity_kinds ≡ kind ∷ [] }
     ensures place { (kind : EntityKind) → slice_get entity_kinds (rank_of kind - 1) ≡ Some kind }
+{}
+
+/// The list of all kinds of callbacks has each once, at its place in the order in which ready callbacks run.
+pub fn kinds_of_callbacks_are_listed_once()
+    ensures once { (kind : Kind) → filter (λ other. ready_number other == ready_number kind) kinds ≡ kind ∷ [] }
+    ensures place { (kind : Kind) → slice_get kinds (ready_number kind - 1) ≡ Some kind }
 {}
 
 /// A graph's entities that pass a test are listed once each, and nothing else is.

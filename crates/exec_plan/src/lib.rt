@@ -16,6 +16,6 @@ pub use entity::{
 pub use fault::PlanFault;
 pub use graph::Graph;
 pub use plan::feed_by_round::FeedByRound;
-pub use plan::schedule::schedule_fits;
-pub use plan::{Fed, Feed, Plan};
+pub use plan::schedule::{greatest_stamp, schedule_fits};
+pub use plan::{Fed, FedOf, Feed, FeedOf, Plan};
 pub use script::Script;

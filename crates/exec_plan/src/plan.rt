@@ -7,44 +7,51 @@ use crate::plan::schedule::fault_of;
 use exec_msg::{EntityNo, GoalId, Moment};
 use std::marker::Model;
 
-/// What is fed.
-#[derive(Clone, Copy, Debug, PartialEq, Eq)]
-pub enum Fed {
+/// What is fed, where `N` stands for what it goes to, and `I` for an identifier.
+#[derive(Clone, Copy, Debug, PartialEq, Eq, Drop)]
+pub enum FedOf<N, I> {
     /// A message to a topic.
     Message {
         /// The topic.
-        topic: EntityNo,
+        topic: N,
         /// What it says.
         value: i64,
     },
     /// A goal request to an action server.
     Goal {
         /// The action server.
-        server: EntityNo,
-        /// The goal's identifier, which isn't 0.
-        id: GoalId,
+        server: N,
+        /// The goal's identifier.
+        id: I,
         /// The goal.
         value: i64,
     },
     /// A cancel request to an action server.
     Cancel {
         /// The action server.
-        server: EntityNo,
+        server: N,
         /// The identifier of the goal that is to be canceled, or 0 for none.
-        id: GoalId,
-        /// In ticks, at most [`TICKS`](exec_msg::limits::TICKS): the goals accepted up to it are to be canceled. 0 for none.
+        id: I,
+        /// In ticks: the goals accepted up to it are to be canceled. 0 for none.
         stamp: u64,
     },
 }
 
 /// An entry of a feed.
-#[derive(Clone, Copy, Debug, PartialEq, Eq)]
-pub struct Feed {
+#[derive(Clone, Copy, Debug, PartialEq, Eq, Drop)]
+pub struct FeedOf<N, I> {
     /// The number of its round, from 1.
     pub round: u64,
     /// What is fed.
-    pub fed: Fed,
+    pub fed: FedOf<N, I>,
 }
+
+/// What a plan is fed. In a lawful one a goal's identifier isn't 0, and a stamp is at most
+/// [`TICKS`](exec_msg::limits::TICKS).
+pub type Fed = FedOf<EntityNo, GoalId>;
+
+/// An entry of a plan's feed.
+pub type Feed = FeedOf<EntityNo, GoalId>;
 
 /// A lawful plan: a graph, the moment of each round, and what is fed to it. No moment is below the one before it, each
 /// round of the feed is one of the plan, and all limits hold.

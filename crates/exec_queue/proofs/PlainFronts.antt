@@ -2,7 +2,8 @@
 use Rattle.std.proofs.Common.{◌≡◌, List, [], Option, Some, None, sym, ap, ◌∙◌, append-nil}
 use Rattle.std.specs.Option.{option_map_or}
 use Rattle.exec_rules.specs.Ready.{item_ready}
-use Rattle.exec_rules.specs.World.{Handler, Moment, Queue}
+use Rattle.exec_msg.specs.Numbers.{Moment}
+use Rattle.exec_rules.specs.World.{Handler, Queue}
 use Rattle.exec_rules.specs.declared.ready.Ready.{Ready}
 use Rattle.exec_rules.specs.inner.Listing.{listed_behind}
 

@@ -78,7 +78,7 @@ impl Queues {
     pub fn declare(&mut self, handler: Handler, kind: Kind, depth: usize) -> Result<(), Memory>
         requires { (1 ≤ depth) × (depth ≤ DEPTH) }
         ensures ok { OnOk result (self.new ≡ self.old ++ record { handler = handler; kind = kind; depth = depth; items = [] } ∷ []) }
-        ensures err { OnErr result (self.new ≡ self.old) }
+        ensures unchanged { OnErr result (self.new ≡ self.old) }
     {
         let slot = slot(handler.entity, kind);
         self.places.reserve(slot)?;
@@ -103,7 +103,7 @@ impl Queues {
     pub fn send(&mut self, entity: EntityNo, item: Item) -> Result<Option<Item>, Memory>
         ensures ok { OnOk result (self.new ≡ change_first (is_queue entity (taker_of item)) (queue_after item) self.old) }
         ensures lost { IfOk result (λ lost. option_to_list lost ≡ lost_from entity item self.old) }
-        ensures err { OnErr result (self.new ≡ self.old) }
+        ensures unchanged { OnErr result (self.new ≡ self.old) }
         ensures memory { OnErr result (option_map_or has_item (find (is_queue entity (taker_of item)) self.old) false ≡ false) }
     {
         let Some(place) = self.places.get(slot(entity, item.kind())) else {
@@ -127,7 +127,7 @@ impl Queues {
     /// # Errors
     /// [`Memory`] where a growth was refused, which can't be where the capacity has room for the places of all queues that have
     /// an item. The queues stay as they were, and the places may have changed.
-    pub fn filled(&mut self, before_polls: bool, places: &mut Vec<usize>) -> Result<(), Memory>
+    pub fn list_filled(&mut self, before_polls: bool, places: &mut Vec<usize>) -> Result<(), Memory>
         ensures same { self.new ≡ self.old }
         ensures places { OnOk result (places.new.items ≡ places_where (λ queue. has_item queue && is_in_part before_polls queue) self.old) }
         ensures memory { OnErr result (vec_capacity places.old < length (places_where has_item self.old)) }
@@ -289,7 +289,7 @@ fn slot(entity: EntityNo, kind: Kind) -> usize
     ensures value { result ≡ slot_of entity kind }
     ensures bound { result < 2 ^ 32 }
 {
-    entity.0 as usize * 13 + number(kind)
+    entity.0 as usize * (Kind::IN_ORDER.len() + 1) + number(kind)
 }
 
 fn number(kind: Kind) -> usize
@@ -332,7 +332,7 @@ fn is_filled(entries: &[Entry], place: usize) -> bool
 // Notes a place at which an item is about to stand.
 fn note_filled(filled: &mut Vec<usize>, entries: &[Entry], place: usize) -> Result<(), Memory>
     ensures noted { OnOk result (filled.new.items ≡ (if is_filled_at entries.now place then filled.old.items else filled.old.items ++ place ∷ [])) }
-    ensures err { OnErr result (filled.new.items ≡ filled.old.items) }
+    ensures unchanged { OnErr result (filled.new.items ≡ filled.old.items) }
     ensures memory { OnErr result (is_filled_at entries.now place ≡ false) }
     ensures bound { IfSome (slice_get entries.now place) (λ queue. length queue.items ≤ queue.depth) }
 {
@@ -346,7 +346,7 @@ fn send_at(entries: &mut Vec<Entry>, place: usize, item: Item) -> Result<Option<
     ensures ok { OnOk result (entries.new.items ≡ change_at place (queue_after item) entries.old.items) }
     ensures filled { OnOk result (place < length entries.old.items → is_filled_at entries.new.items place ≡ true) }
     ensures lost { IfOk result (λ lost. lost ≡ option_map_or (λ queue. slice_get (displaced queue.depth item queue.items) 0) (slice_get entries.old.items place) None) }
-    ensures err { OnErr result (entries.new.items ≡ entries.old.items) }
+    ensures unchanged { OnErr result (entries.new.items ≡ entries.old.items) }
     ensures memory { OnErr result (is_filled_at entries.old.items place ≡ false) }
 {
     match entries.get_mut(place) {

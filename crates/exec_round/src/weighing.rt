@@ -50,14 +50,14 @@ pub(crate) fn workers_for<R: Threads, G: Gate>(
 // By how many workers, of so many at most, work, in nanoseconds, ends first: each one more takes off more than its start costs.
 fn fastest(work: u64, most: usize) -> usize {
     let mut count = 1;
-    while count < most && saved(work, count + 1) > START {
+    while count < most && saving(work, count + 1) > START {
         count += 1;
     }
     count
 }
 
 // How much less time work takes so many workers than one fewer.
-fn saved(work: u64, workers: usize) -> u64
+fn saving(work: u64, workers: usize) -> u64
     requires { 1 < workers }
 {
     let workers = workers as u64;

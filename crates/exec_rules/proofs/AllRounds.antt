@@ -4,7 +4,8 @@ use Rattle.std.proofs.lemmas.List.{take_all}
 use Rattle.exec_plan.specs.Plan.{PlanData}
 use Rattle.exec_rules.specs.Calls.{after_finish, after_round, world_after}
 use Rattle.exec_rules.specs.Transcript.{finish, first_world, lines_of, round, rounds}
-use Rattle.exec_rules.specs.World.{Moment, WorldState}
+use Rattle.exec_msg.specs.Numbers.{Moment}
+use Rattle.exec_rules.specs.World.{WorldState}
 
 one_more : (plan : PlanData) (number : ℕ) (moments : List Moment) (count : ℕ) (world : WorldState) → count < length moments →
     rounds plan number (take (suc count) moments) world ≡ round plan (number + count) (slice_index_or moments count 0) (rounds plan number (take count moments) world)

@@ -5,7 +5,7 @@ use Rattle.std.specs.Option.{option_map, option_map_or}
 use Rattle.exec_goal.specs.Cancel.{CancelRequest}
 use Rattle.exec_goal.specs.State.{is_accepted, status_of}
 use Rattle.exec_goal.specs.Table.{GoalRecord, has_id, after_event}
-use Rattle.exec_plan.specs.Entity.{EntityNo}
+use Rattle.exec_msg.specs.Numbers.{EntityNo, GoalId}
 use Rattle.exec_plan.specs.Graph.{GroupNo}
 use Rattle.exec_msg.specs.Lists.{change_first}
 use Rattle.exec_msg.specs.declared.goal.Event.TheVariants as event
@@ -18,10 +18,11 @@ use Rattle.exec_rules.proofs.Later.{callback_later}
 use Rattle.exec_rules.specs.Callback.{Outcome}
 use Rattle.exec_rules.specs.Close.{close_callback}
 use Rattle.exec_rules.specs.Give.{publish, call_by, send_goal_by, send_cancel, cancel_all_by, cancel_goal_by, execute_goal, execute, client_of, give_feedback, give, give_all}
-use Rattle.exec_rules.specs.Item.{GoalId, goal_id}
+use Rattle.exec_rules.specs.Item.{goal_id}
 use Rattle.exec_rules.specs.Ready.{run_line}
 use Rattle.exec_rules.specs.Run.{work_for, with_polled, variables_for, with_variables_for, brought_home, after_callback, run, apart, effects_of, commit}
-use Rattle.exec_rules.specs.World.{WorldState, TopicEntry, GoalWork, HeldGoal, Queue, ServerEntry, ClientEntry, ActionClientEntry, Variables, add_line, add_lines, drop_line, lost_by, queued, push, push_any, subscribers_of, is_server_at, goals_of, change_server, change_goals, is_for, with_task, client_at, with_call, action_client_at, with_goal_sent, with_variables}
+use Rattle.exec_script.specs.Script.{Variables}
+use Rattle.exec_rules.specs.World.{WorldState, TopicEntry, GoalWork, HeldGoal, Queue, ServerEntry, ClientEntry, ActionClientEntry, add_line, add_lines, drop_line, lost_by, queued, push, push_any, subscribers_of, is_server_at, goals_of, change_server, change_goals, is_for, with_task, client_at, with_call, action_client_at, with_goal_sent, with_variables}
 use Rattle.exec_rules.specs.declared.item.Item.{Item}
 use Rattle.exec_rules.specs.declared.item.Item.TheVariants as item
 use Rattle.exec_rules.specs.declared.ready.Cause.{Cause}

@@ -8,7 +8,7 @@ use Rattle.exec_goal.specs.Cancel.{CancelRequest, Decided, code_of, moved, table
 use Rattle.exec_goal.specs.State.{status_of}
 use Rattle.exec_goal.specs.Table.{Asked, GoalRecord, after_end, asked_by, asked_for, has_id, is_accepting, later, new_goal, told, unknown}
 use Rattle.exec_goal.specs.declared.state.State.{State}
-use Rattle.exec_plan.specs.Entity.{EntityNo}
+use Rattle.exec_msg.specs.Numbers.{EntityNo, GoalId, Moment}
 use Rattle.exec_msg.specs.Lists.{change_first}
 use Rattle.exec_msg.specs.declared.goal.Event.{Event}
 use Rattle.exec_msg.specs.declared.goal.GoalStatus.{GoalStatus}
@@ -25,10 +25,10 @@ use Rattle.exec_rules.proofs.Running.{KeptByAcceptance, commit_keeps, given_keep
 use Rattle.exec_rules.proofs.Pairs.{any_before}
 use Rattle.exec_rules.specs.Close.{GoalRequest, accept, accept_where, answer_ask, answer_cancel, answer_goal, ask, ask_where, cancel, close_callback, close_cause, close_item, close_poll, decide, decision_in, decisions_in, end, end_in, goal_at, held_goal, moved_lines, reply_in, reply_to, respond, server_accepting, tell, tell_askers, tell_end, with_ended}
 use Rattle.exec_rules.specs.Give.{give_all}
-use Rattle.exec_rules.specs.Item.{GoalId}
 use Rattle.exec_rules.specs.Ready.{run_line}
 use Rattle.exec_rules.specs.Run.{commit}
-use Rattle.exec_rules.specs.World.{ActionClientEntry, GoalWork, HeldGoal, Moment, ServerEntry, Variables, WorldState, action_client_at, add_line, add_lines, change_goals, change_server, goals_of, has_room_for, is_for, is_server_at, push, push_any, with_work, work_at}
+use Rattle.exec_script.specs.Script.{Variables}
+use Rattle.exec_rules.specs.World.{ActionClientEntry, GoalWork, HeldGoal, ServerEntry, WorldState, action_client_at, add_line, add_lines, change_goals, change_server, goals_of, has_room_for, is_for, is_server_at, push, push_any, with_work, work_at}
 use Rattle.exec_rules.specs.declared.item.Item.{Item}
 use Rattle.exec_rules.specs.declared.item.Item.TheVariants as item
 use Rattle.exec_rules.specs.declared.ready.Cause.{Cause}

@@ -1,10 +1,9 @@
 -- A call of a script whose effects go behind others.
 use Rattle.std.proofs.Common.{◌≡◌, ℤ, List, ◌++◌, Option, sym, ap, ◌∙◌}
-use Rattle.exec_plan.specs.Entity.{Script}
+use Rattle.exec_script.specs.Instruction.{Script}
 use Rattle.exec_script.proofs.Lasting.{called_after}
-use Rattle.exec_script.specs.Script.{CallInput, ScriptState, call_of, called, listed}
+use Rattle.exec_script.specs.Script.{CallInput, ScriptState, call_of, called, listed, Variables}
 use Rattle.exec_script.specs.declared.effects.Effect.{Effect}
-use Rattle.exec_rules.specs.World.{Variables}
 
 module _ (script named : Script) (input handed : CallInput) (variables : Variables) (effects : List Effect) (s : script ≡ named) (i : input ≡ handed) where
   behind : called listed named variables handed effects ≡ record (call_of script variables input) { given = effects ++ (call_of script variables input).given }

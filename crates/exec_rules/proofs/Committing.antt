@@ -2,7 +2,7 @@
 use Rattle.std.proofs.Common.{◌≡◌, Bool, true, false, is_some, if◌then◌else◌, List, [], ◌∷◌, Option, None, Some, refl, sym, ap, ◌∙◌, true≢false}
 use Rattle.std.specs.List.{AllByRecursion, find}
 use Rattle.std.specs.Option.{option_and_then, option_map, option_map_or}
-use Rattle.exec_plan.specs.Entity.{EntityNo}
+use Rattle.exec_msg.specs.Numbers.{EntityNo, GoalId}
 use Rattle.exec_script.specs.declared.effects.Effect.{Effect}
 use Rattle.exec_script.specs.declared.effects.Effects.{Effects}
 use Rattle.exec_task.specs.Task.{TaskState}
@@ -10,10 +10,10 @@ use Rattle.exec_rules.proofs.Apart.{runs_apart, variables_apart}
 use Rattle.exec_rules.proofs.Aside.{anywhere_kept, commit_apart, held_aside, read_kept, variables_left, work_held, work_left}
 use Rattle.exec_rules.specs.Calls.{IsHomeFor}
 use Rattle.exec_rules.specs.Callback.{Outcome}
-use Rattle.exec_rules.specs.Item.{GoalId}
 use Rattle.exec_rules.specs.Run.{all_apart, all_home, apart, apart_with, brought_home, commit, commit_all, effects_of, variables_for, with_polled, with_variables_for, work_for}
 use Rattle.exec_rules.specs.Transcript.{run_all}
-use Rattle.exec_rules.specs.World.{GoalWork, HeldGoal, ServerEntry, Variables, WorldState, is_for, is_server_at, with_task, with_variables, work_at}
+use Rattle.exec_script.specs.Script.{Variables}
+use Rattle.exec_rules.specs.World.{GoalWork, HeldGoal, ServerEntry, WorldState, is_for, is_server_at, with_task, with_variables, work_at}
 use Rattle.exec_rules.specs.declared.ready.Cause.{Cause}
 use Rattle.exec_rules.specs.declared.ready.Cause.TheVariants as cause
 use Rattle.exec_rules.specs.declared.ready.Ready.{Ready}

@@ -4,7 +4,7 @@ use Rattle.std.specs.List.{AllByRecursion, IsDistinct, filter, list_any}
 use Rattle.std.specs.Option.{option_map}
 use Rattle.std.proofs.lemmas.Bool.{eqb-true, eq-eqb, or_parts, not-true}
 use Rattle.exec_goal.specs.Table.{GoalRecord, holds_id, has_id, is_full, is_expired, new_goal, unexpired}
-use Rattle.exec_plan.specs.Entity.{EntityNo}
+use Rattle.exec_msg.specs.Numbers.{EntityNo, GoalId, Moment}
 use Rattle.exec_plan.specs.Graph.{GraphData, entities_where, is_server}
 use Rattle.exec_plan.specs.Plan.{PlanData}
 use Rattle.exec_msg.specs.Lists.{change_first}
@@ -12,9 +12,8 @@ use Rattle.exec_task.specs.Task.{TaskState}
 use Rattle.exec_rules.proofs.Keeping.{ids}
 use Rattle.exec_rules.proofs.Running.{KeptByRounds, rounds_keep}
 use Rattle.exec_rules.specs.Close.{GoalRequest, server_accepting, accept}
-use Rattle.exec_rules.specs.Item.{GoalId}
 use Rattle.exec_rules.specs.Transcript.{server_expired, first_world, new_server, rounds}
-use Rattle.exec_rules.specs.World.{WorldState, GoalWork, Moment, ServerEntry, is_server_at, is_for, goals_in, goals_of, has_room_for}
+use Rattle.exec_rules.specs.World.{WorldState, GoalWork, ServerEntry, is_server_at, is_for, goals_in, goals_of, has_room_for}
 
 -- ---- lists of goals
 

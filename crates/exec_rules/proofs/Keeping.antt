@@ -5,10 +5,10 @@ use Rattle.exec_goal.specs.Cancel.{CancelRequest, Decided, moved, after_answer, 
 use Rattle.exec_goal.specs.State.{status_of}
 use Rattle.exec_goal.specs.Table.{GoalRecord, Asked, told, later, unknown, has_id, after_event, asked_by}
 use Rattle.exec_goal.specs.declared.info.GoalInfo.{GoalInfo}
-use Rattle.exec_plan.specs.Entity.{EntityNo, Script}
-use Rattle.exec_plan.specs.declared.plan.Feed.{Feed}
-use Rattle.exec_plan.specs.declared.plan.Fed.{Fed}
-use Rattle.exec_plan.specs.declared.plan.Fed.TheVariants as feeding
+use Rattle.exec_msg.specs.Numbers.{EntityNo, GoalId}
+use Rattle.exec_script.specs.Instruction.{Script}
+use Rattle.exec_plan.specs.Plan.{Fed, Feed}
+use Rattle.exec_plan.specs.declared.plan.FedOf.TheVariants as feeding
 use Rattle.exec_msg.specs.Lists.{change_first}
 use Rattle.exec_msg.specs.declared.goal.Event.TheVariants as event
 use Rattle.exec_msg.specs.declared.goal.ReturnCode.{ReturnCode}
@@ -17,7 +17,7 @@ use Rattle.exec_msg.specs.declared.kind.Kind.{Kind}
 use Rattle.exec_msg.specs.declared.kind.Kind.TheVariants as kind
 use Rattle.exec_msg.specs.declared.line.Line.{Line}
 use Rattle.exec_msg.specs.declared.line.Line.TheVariants as line
-use Rattle.exec_script.specs.Script.{ScriptState, CallInput, step_of, passed_by, after_step, follow, resumed}
+use Rattle.exec_script.specs.Script.{ScriptState, CallInput, step_of, passed_by, after_step, follow, resumed, Variables}
 use Rattle.exec_script.specs.Zeros.{zeros}
 use Rattle.exec_script.specs.declared.effects.Effect.{Effect}
 use Rattle.exec_script.specs.declared.effects.Effect.TheVariants as effect
@@ -32,11 +32,11 @@ use Rattle.exec_task.specs.declared.wait.Turn.{Turn}
 use Rattle.exec_rules.specs.Callback.{Handling, handle, call_in, take_item, poll, poll_where, act, callback, instructions_of, candidate_input}
 use Rattle.exec_rules.specs.Close.{tell, tell_end, moved_lines, answer_ask}
 use Rattle.exec_rules.specs.Give.{publish, call_by, send_goal_by, send_cancel, cancel_all_by, cancel_goal_by, oldest_accepted, execute_goal, client_of, give_feedback, give}
-use Rattle.exec_rules.specs.Item.{GoalId, goal_id, taker_of}
+use Rattle.exec_rules.specs.Item.{goal_id, taker_of}
 use Rattle.exec_rules.specs.Lines.{statuses_of, is_answer, is_loss}
 use Rattle.exec_rules.specs.Ready.{turn_at, input_of}
 use Rattle.exec_rules.specs.Transcript.{feed_one, feed}
-use Rattle.exec_rules.specs.World.{WorldState, GoalWork, ClientEntry, ActionClientEntry, Variables, add_line, add_lines, drop_line, lost_by, queued, push, push_any, subscribers_of, goals_of, change_goals, with_task, client_at, with_call, action_client_at, with_goal_sent, with_variables}
+use Rattle.exec_rules.specs.World.{WorldState, GoalWork, ClientEntry, ActionClientEntry, add_line, add_lines, drop_line, lost_by, queued, push, push_any, subscribers_of, goals_of, change_goals, with_task, client_at, with_call, action_client_at, with_goal_sent, with_variables}
 use Rattle.exec_rules.specs.declared.item.Item.{Item}
 use Rattle.exec_rules.specs.declared.item.Item.TheVariants as item
 use Rattle.exec_rules.specs.declared.ready.Cause.{Cause}

@@ -2,10 +2,10 @@
 use Rattle.std.proofs.Common.{◌≡◌, Bool, true, false, ℤ, List, [], ◌∷◌, Option, None, Some, refl, ap, ◌∙◌}
 use Rattle.std.specs.List.{fold}
 use Rattle.exec_goal.specs.declared.info.GoalInfo.{GoalInfo}
-use Rattle.exec_plan.specs.Entity.{Script}
+use Rattle.exec_script.specs.Instruction.{Script}
 use Rattle.exec_script.proofs.Lasting.{resumed_later}
 use Rattle.exec_script.specs.LawWords.{give_each}
-use Rattle.exec_script.specs.Script.{ScriptState, listed}
+use Rattle.exec_script.specs.Script.{ScriptState, listed, Variables}
 use Rattle.exec_script.specs.Zeros.{zeros}
 use Rattle.exec_script.specs.declared.effects.Effect.{Effect}
 use Rattle.exec_script.specs.declared.place.Role.{Role}
@@ -15,7 +15,7 @@ use Rattle.exec_task.specs.Task.{TaskState, Polled, ran, polled_where, is_awake,
 use Rattle.exec_task.specs.declared.wait.Turn.{Turn}
 use Rattle.exec_rules.specs.Callback.{Outcome, Handling, instructions_of, closed_by, call_in, candidate_input, handled, handle, all_handled, take_item, after_poll, poll, poll_where, act, callback}
 use Rattle.exec_rules.specs.Ready.{turn_at, input_of}
-use Rattle.exec_rules.specs.World.{GoalWork, Variables}
+use Rattle.exec_rules.specs.World.{GoalWork}
 use Rattle.exec_rules.specs.declared.item.Item.{Item}
 use Rattle.exec_rules.specs.declared.item.Item.TheVariants as item
 use Rattle.exec_rules.specs.declared.ready.Cause.{Cause}

@@ -4,7 +4,7 @@ use Rattle.std.specs.List.{All, AllByRecursion, filter, find}
 use Rattle.std.specs.Option.{option_map_or}
 use Rattle.std.proofs.lemmas.Bool.{and_parts, eqb-true}
 use Rattle.std.proofs.lemmas.List.Elements.{All-nil, All-push, All-drop, All-from_recursion, recursion_from_All}
-use Rattle.exec_plan.specs.Entity.{EntityNo}
+use Rattle.exec_msg.specs.Numbers.{EntityNo, Moment}
 use Rattle.exec_plan.specs.Graph.{GraphData, Waitable, wait_set, kinds}
 use Rattle.exec_plan.specs.Plan.{PlanData}
 use Rattle.exec_msg.specs.KeepLast.{displaced}
@@ -17,7 +17,7 @@ use Rattle.exec_rules.proofs.Running.{KeptByRounds, rounds_keep}
 use Rattle.exec_rules.specs.Item.{taker_of}
 use Rattle.exec_rules.specs.Ready.{queue_taken}
 use Rattle.exec_rules.specs.Transcript.{takes_from_queue, new_queue, first_world, rounds}
-use Rattle.exec_rules.specs.World.{WorldState, Moment, Queue, is_queue, queue_after}
+use Rattle.exec_rules.specs.World.{WorldState, Queue, is_queue, queue_after}
 use Rattle.exec_rules.specs.declared.item.Item.{Item}
 
 kind_back : (one : Kind) → get_or kinds (ready_number one - 1) kind.Timer ≡ one

@@ -4,7 +4,7 @@ use Rattle.std.specs.List.{filter, flat_map}
 use Rattle.std.proofs.lemmas.List.{map-append, map_more}
 use Rattle.exec_goal.specs.State.{is_canceling}
 use Rattle.exec_goal.specs.Table.{GoalRecord}
-use Rattle.exec_plan.specs.Entity.{Script}
+use Rattle.exec_script.specs.Instruction.{Script}
 use Rattle.exec_script.specs.declared.effects.Effect.{Effect}
 use Rattle.exec_script.specs.declared.effects.Effect.TheVariants as effect
 use Rattle.exec_rules.specs.Callback.{act, poll, take_item}
@@ -12,7 +12,9 @@ use Rattle.exec_rules.specs.Give.{give}
 use Rattle.exec_rules.specs.Ready.{is_goal_awake, placed_from, poll_ready, ready_for, ready_list, run_line, turn_at, woken}
 use Rattle.exec_rules.specs.Run.{after_callback, run, variables_for, work_for}
 use Rattle.exec_rules.specs.Transcript.{run_all}
-use Rattle.exec_rules.specs.World.{GoalWork, Moment, ServerEntry, Variables, WorldState, add_line}
+use Rattle.exec_msg.specs.Numbers.{Moment}
+use Rattle.exec_script.specs.Script.{Variables}
+use Rattle.exec_rules.specs.World.{GoalWork, ServerEntry, WorldState, add_line}
 use Rattle.exec_rules.specs.declared.item.Item.{Item}
 use Rattle.exec_rules.specs.declared.item.Item.TheVariants as item
 use Rattle.exec_rules.specs.declared.ready.AwakeGoal.{AwakeGoal}

@@ -3,7 +3,7 @@ use Rattle.std.proofs.Common.{◌≡◌, ◌≢◌, ℕ, suc, ◌≤◌, Bool, t
 use Rattle.std.specs.List.{AllByRecursion, filter, flat_map}
 use Rattle.std.proofs.lemmas.Bool.{eqb-true, eq-eqb, and_parts, not-true}
 use Rattle.std.proofs.lemmas.List.Elements.{recursion_from_All}
-use Rattle.exec_plan.specs.Entity.{EntityNo}
+use Rattle.exec_msg.specs.Numbers.{EntityNo, Moment}
 use Rattle.exec_plan.specs.Graph.{GraphData, wait_set, entities_where, is_server}
 use Rattle.exec_plan.specs.Plan.{PlanData}
 use Rattle.exec_msg.specs.Kind.{ready_number}
@@ -20,7 +20,7 @@ use Rattle.exec_rules.specs.Ready.{is_callback_of}
 use Rattle.exec_rules.specs.Shape.{shape_of}
 use Rattle.exec_rules.specs.Ready.{kind_of, due_ready, item_ready, queue_ready, poll_ready, is_before_polls, placed_from, queues_before_polls, queues_behind_polls, ready_list}
 use Rattle.exec_rules.specs.Transcript.{takes_from_queue, first_world, at_snapshot, rounds}
-use Rattle.exec_rules.specs.World.{WorldState, Moment, TimerEntry, Queue, ServerEntry, goals_of}
+use Rattle.exec_rules.specs.World.{WorldState, TimerEntry, Queue, ServerEntry, goals_of}
 use Rattle.exec_rules.specs.declared.item.Item.{Item}
 use Rattle.exec_rules.specs.declared.item.Item.TheVariants as item
 use Rattle.exec_rules.specs.declared.ready.Ready.{Ready}

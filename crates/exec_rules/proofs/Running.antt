@@ -8,7 +8,7 @@ use Rattle.exec_msg.specs.declared.goal.ReturnCode.{ReturnCode}
 use Rattle.exec_goal.specs.Calls.{end_state}
 use Rattle.exec_goal.specs.declared.state.State.{State}
 use Rattle.exec_goal.specs.Table.{asked_for, is_accepting, after_end}
-use Rattle.exec_plan.specs.Entity.{EntityNo}
+use Rattle.exec_msg.specs.Numbers.{EntityNo, GoalId, Moment}
 use Rattle.exec_plan.specs.Feeding.{fed_in}
 use Rattle.exec_plan.specs.Plan.{PlanData}
 use Rattle.exec_msg.specs.declared.goal.Event.{Event}
@@ -24,12 +24,13 @@ use Rattle.exec_rules.proofs.Keeping.{Routes, Kept, Moves, Tells, push_kept, pub
 use Rattle.exec_rules.specs.Callback.{Outcome}
 use Rattle.exec_rules.specs.Close.{GoalRequest, reply_in, decision_in, decisions_in, accept, accept_where, decide, with_ended, goal_at, end_in, ask, close_item, close_cause, close_poll, cancel, ask_where, respond}
 use Rattle.exec_rules.specs.Give.{give, give_all}
-use Rattle.exec_rules.specs.Item.{GoalId, taker_of}
+use Rattle.exec_rules.specs.Item.{taker_of}
 use Rattle.exec_rules.specs.Run.{unclosed}
 use Rattle.exec_rules.specs.Ready.{run_line, ready_list, take_inputs}
 use Rattle.exec_rules.specs.Run.{work_for, with_polled, variables_for, with_variables_for, run, commit, outcome_in}
 use Rattle.exec_rules.specs.Transcript.{expire, at_snapshot, run_all, round, rounds}
-use Rattle.exec_rules.specs.World.{WorldState, Moment, GoalWork, Variables, add_line, goals_of, has_room_for, with_variables, action_client_at, ActionClientEntry, push, push_any, is_action_client_at}
+use Rattle.exec_script.specs.Script.{Variables}
+use Rattle.exec_rules.specs.World.{WorldState, GoalWork, add_line, goals_of, has_room_for, with_variables, action_client_at, ActionClientEntry, push, push_any, is_action_client_at}
 use Rattle.exec_rules.specs.declared.item.Item.{Item}
 use Rattle.exec_rules.specs.declared.item.Item.TheVariants as item
 use Rattle.exec_rules.specs.declared.ready.Cause.{Cause}

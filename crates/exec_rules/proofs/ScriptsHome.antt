@@ -3,7 +3,7 @@ use Rattle.std.proofs.Common.{◌≡◌, ℕ, zero, suc, Bool, true, false, ◌+
 use Rattle.std.proofs.lemmas.List.Elements.{All-nil, All-push, All-weaker}
 use Rattle.std.proofs.lemmas.Option.{none-some, same_Some, slice_get-map}
 use Rattle.std.specs.Option.{option_map, option_map_or}
-use Rattle.exec_plan.specs.Entity.{Script}
+use Rattle.exec_script.specs.Instruction.{Script}
 use Rattle.exec_msg.specs.Places.{change_at}
 use Rattle.exec_msg.specs.Timer.{is_due}
 use Rattle.exec_rules.proofs.Running.{run_all_keeps}
@@ -11,7 +11,8 @@ use Rattle.exec_rules.proofs.Shapes.{part_mapped, shape_kept}
 use Rattle.exec_rules.specs.Shape.{queue_shape, shape_of, timer_shape}
 use Rattle.exec_rules.specs.Ready.{placed_from, queue_taken, take_inputs, timer_taken}
 use Rattle.exec_rules.specs.Transcript.{run_all}
-use Rattle.exec_rules.specs.World.{Handler, Moment, Queue, TimerEntry, WorldState}
+use Rattle.exec_msg.specs.Numbers.{Moment}
+use Rattle.exec_rules.specs.World.{Handler, Queue, TimerEntry, WorldState}
 use Rattle.exec_rules.specs.declared.homes.Home.{Home}
 use Rattle.exec_rules.specs.declared.ready.Ready.{Ready}
 use Rattle.exec_rules.specs.inner.Homes.{AreHomes, HasScriptOf, IsScriptHome, queue_handlers, timer_handlers, without_script}

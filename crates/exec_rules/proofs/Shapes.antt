@@ -2,7 +2,7 @@
 use Rattle.std.proofs.Common.{◌≡◌, ℕ, Bool, true, false, List, [], ◌∷◌, length, map, refl, ap, ◌∙◌}
 use Rattle.std.proofs.lemmas.List.{length-set}
 use Rattle.std.specs.List.{fold}
-use Rattle.exec_plan.specs.Entity.{EntityNo}
+use Rattle.exec_msg.specs.Numbers.{EntityNo, Moment}
 use Rattle.exec_plan.specs.Plan.{PlanData}
 use Rattle.exec_msg.specs.Timer.{is_due}
 use Rattle.exec_msg.specs.Lists.{change_first}
@@ -11,7 +11,7 @@ use Rattle.exec_rules.specs.Close.{accept}
 use Rattle.exec_rules.specs.Shape.{timer_shape, queue_shape, server_shape, client_shape, action_client_shape, shape_of}
 use Rattle.exec_rules.specs.Ready.{timer_taken, queue_taken, call_answered, answered_by_first, queues_before_polls, reply_taken, take_inputs}
 use Rattle.exec_rules.specs.Transcript.{expire, rounds}
-use Rattle.exec_rules.specs.World.{WorldState, Moment, TimerEntry, Queue, ClientEntry, queued, change_goals, with_task, is_client_at, with_call, with_goal_sent, with_variables}
+use Rattle.exec_rules.specs.World.{WorldState, TimerEntry, Queue, ClientEntry, queued, change_goals, with_task, is_client_at, with_call, with_goal_sent, with_variables}
 use Rattle.exec_rules.specs.declared.item.Item.{Item}
 use Rattle.exec_rules.specs.declared.item.Item.TheVariants as item
 

@@ -2,7 +2,8 @@
 use Rattle.std.proofs.Common.{◌≡◌, ℕ, suc, ◌≤◌, Bool, true, false, not, ◌||◌, ◌==◌, List, [], ◌∷◌, map, refl, sym, ap, subst, ◌∙◌, true≢false, arith}
 use Rattle.std.specs.List.{AllByRecursion, list_any}
 use Rattle.std.proofs.lemmas.Bool.{eq-eqb}
-use Rattle.exec_plan.specs.Entity.{EntityNo, Resolved}
+use Rattle.exec_msg.specs.Numbers.{EntityNo}
+use Rattle.exec_plan.specs.Entity.{Resolved}
 use Rattle.exec_plan.specs.Graph.{GraphData, EntityData, Waitable, in_group, wait_set, kinds, cons_if, numbers_where, entities_where, has_kind, is_timer, is_server}
 use Rattle.exec_plan.specs.declared.entity.Declared.{Declared}
 use Rattle.exec_plan.specs.declared.entity.Declared.TheVariants as declared

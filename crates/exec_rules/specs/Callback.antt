@@ -5,9 +5,9 @@ use Rattle.std.specs.Option.{unwrap_or}
 use Rattle.exec_goal.specs.Cancel.{Decided}
 use Rattle.exec_goal.specs.State.{status_of}
 use Rattle.exec_goal.specs.declared.info.GoalInfo.{GoalInfo}
-use Rattle.exec_plan.specs.Entity.{Script}
+use Rattle.exec_script.specs.Instruction.{Script}
 use Rattle.exec_msg.specs.Goal.{status_number}
-use Rattle.exec_script.specs.Script.{CallInput, ScriptState, called, close_of, decision_within, listed}
+use Rattle.exec_script.specs.Script.{CallInput, ScriptState, called, close_of, decision_within, listed, Variables}
 use Rattle.exec_script.specs.declared.effects.Close.{Close}
 use Rattle.exec_script.specs.declared.effects.Close.TheVariants as close
 use Rattle.exec_script.specs.declared.effects.Effect.{Effect}
@@ -18,7 +18,8 @@ use Rattle.exec_task.specs.declared.wait.Answer.{Answer}
 use Rattle.exec_task.specs.declared.wait.Answer.TheVariants as answer
 use Rattle.exec_task.specs.declared.wait.Turn.{Turn}
 use Rattle.exec_rules.specs.Ready.{turn_at, input_of}
-use Rattle.exec_rules.specs.World.{Moment, Variables, GoalWork}
+use Rattle.exec_msg.specs.Numbers.{Moment}
+use Rattle.exec_rules.specs.World.{GoalWork}
 use Rattle.exec_rules.specs.declared.item.Item.{Item}
 use Rattle.exec_rules.specs.declared.item.Item.TheVariants as item
 use Rattle.exec_rules.specs.declared.ready.Cause.{Cause}

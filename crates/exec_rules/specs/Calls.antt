@@ -1,14 +1,13 @@
 -- A world as its calls see it.
 use Rattle.std.specs.Prelude.{◌≡◌, ⊤, ℕ, suc, ◌+◌, ◌-◌, ◌<◌, ◌≤◌, List, length, Bool, true, false, ◌&&◌, ◌==◌, if◌then◌else◌, Some, slice_index_or, take}
 use Rattle.std.specs.List.{AllByRecursion, IsDistinct}
-use Rattle.exec_plan.specs.Entity.{EntityNo}
+use Rattle.exec_msg.specs.Numbers.{EntityNo, GoalId, Moment}
 use Rattle.exec_plan.specs.Plan.{PlanData}
 use Rattle.exec_script.specs.declared.effects.Effects.{Effects}
-use Rattle.exec_rules.specs.Item.{GoalId}
 use Rattle.exec_rules.specs.Ready.{ready_list, take_inputs}
 use Rattle.exec_rules.specs.Run.{commit}
 use Rattle.exec_rules.specs.Transcript.{at_snapshot, first_world, finish, round, rounds, run_all}
-use Rattle.exec_rules.specs.World.{GoalWork, Moment, WorldState, work_at}
+use Rattle.exec_rules.specs.World.{GoalWork, WorldState, work_at}
 use Rattle.exec_rules.specs.declared.ready.Cause.{Cause}
 use Rattle.exec_rules.specs.declared.ready.Cause.TheVariants as cause
 use Rattle.exec_rules.specs.declared.ready.Ready.{Ready}

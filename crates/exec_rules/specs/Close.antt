@@ -6,7 +6,8 @@ use Rattle.exec_goal.specs.Cancel.{CancelRequest, Decided, moved, table_after, c
 use Rattle.exec_goal.specs.State.{status_of}
 use Rattle.exec_goal.specs.Table.{GoalRecord, Asked, told, later, unknown, has_id, is_accepting, with_accepted, after_end, asked_for, asked_by}
 use Rattle.exec_goal.specs.declared.state.State.{State}
-use Rattle.exec_plan.specs.Entity.{EntityNo, Script}
+use Rattle.exec_msg.specs.Numbers.{EntityNo, GoalId, Moment}
+use Rattle.exec_script.specs.Instruction.{Script}
 use Rattle.exec_msg.specs.declared.goal.Event.{Event}
 use Rattle.exec_msg.specs.declared.goal.GoalStatus.{GoalStatus}
 use Rattle.exec_msg.specs.declared.goal.GoalStatus.TheVariants as status
@@ -17,8 +18,7 @@ use Rattle.exec_msg.specs.Lists.{change_first}
 use Rattle.exec_script.specs.declared.effects.Close.{Close}
 use Rattle.exec_script.specs.declared.effects.Close.TheVariants as close
 use Rattle.exec_task.specs.Task.{new_task}
-use Rattle.exec_rules.specs.Item.{GoalId}
-use Rattle.exec_rules.specs.World.{WorldState, Moment, HeldGoal, ServerEntry, ActionClientEntry, add_line, add_lines, push, push_any, goals_of, change_server, change_goals, has_room_for, action_client_at}
+use Rattle.exec_rules.specs.World.{WorldState, HeldGoal, ServerEntry, ActionClientEntry, add_line, add_lines, push, push_any, goals_of, change_server, change_goals, has_room_for, action_client_at}
 use Rattle.exec_rules.specs.declared.item.Item.{Item}
 use Rattle.exec_rules.specs.declared.item.Item.TheVariants as item
 use Rattle.exec_rules.specs.declared.ready.Cause.{Cause}
@@ -106,8 +106,8 @@ answer_cancel server client returned goals world =
 -- a server cancels by what was decided of a request's candidates, as its goals are now, and answers the request
 abbrev pub cancel : EntityNo → CancelRequest → Option EntityNo → List Decided → WorldState → WorldState
 cancel server request client decisions world =
-    answer_cancel server client (code_of request decisions (goals_of server world)) (moved decisions (goals_of server world))
-    (change_goals server (table_after decisions) world)
+    let goals = goals_of server world in
+    answer_cancel server client (code_of request decisions goals) (moved decisions goals) (change_goals server (table_after decisions) world)
 
 -- ---- results
 
@@ -159,7 +159,8 @@ goal_at server id world = find (has_id id) (goals_of server world)
 abbrev pub end_in : Option State → EntityNo → GoalId → Event → ℤ → Moment → WorldState → WorldState
 end_in None server id by value moment world = world
 end_in (Some reached) server id by value moment world =
-    tell_end server (goal_at server id (with_ended server id by value moment world)) (with_ended server id by value moment world)
+    let ended = with_ended server id by value moment world in
+    tell_end server (goal_at server id ended) ended
 
 -- a goal ends by an event with a value, where that leads to a terminal state
 abbrev pub end : EntityNo → GoalId → Event → ℤ → Moment → WorldState → WorldState

@@ -5,13 +5,13 @@ use Rattle.std.specs.Option.{option_map_or}
 use Rattle.exec_goal.specs.Cancel.{CancelRequest}
 use Rattle.exec_goal.specs.State.{is_accepted, status_of}
 use Rattle.exec_goal.specs.Table.{GoalRecord, has_id, after_event}
-use Rattle.exec_plan.specs.Entity.{EntityNo}
+use Rattle.exec_msg.specs.Numbers.{EntityNo, GoalId}
 use Rattle.exec_msg.specs.declared.goal.Event.TheVariants as event
 use Rattle.exec_msg.specs.declared.line.Line.TheVariants as line
 use Rattle.exec_msg.specs.Lists.{change_first}
 use Rattle.exec_script.specs.declared.effects.Effect.{Effect}
 use Rattle.exec_script.specs.declared.effects.Effect.TheVariants as effect
-use Rattle.exec_rules.specs.Item.{GoalId, goal_id}
+use Rattle.exec_rules.specs.Item.{goal_id}
 use Rattle.exec_rules.specs.World.{WorldState, ClientEntry, ActionClientEntry, add_line, push, push_any, subscribers_of, goals_of, change_goals, held_for, client_at, with_call, action_client_at, with_goal_sent}
 use Rattle.exec_rules.specs.declared.item.Item.TheVariants as item
 use Rattle.exec_rules.specs.declared.ready.Cause.{Cause}
@@ -26,15 +26,15 @@ publish topic value world = fold (λ before subscriber. push subscriber (item.Me
 abbrev pub call_by : Option ClientEntry → ℤ → WorldState → WorldState
 call_by None value world = world
 call_by (Some client) value world =
-    push client.service (item.Request client.entity (client.calls + 1) value)
-    (add_line (line.Call client.entity (client.calls + 1) value) (with_call client.entity world))
+    let number = client.calls + 1 in
+    push client.service (item.Request client.entity number value) (add_line (line.Call client.entity number value) (with_call client.entity world))
 
 -- an action client sends a request for its next goal; a client that isn't there does nothing
 abbrev pub send_goal_by : Option ActionClientEntry → ℤ → WorldState → WorldState
 send_goal_by None value world = world
 send_goal_by (Some client) value world =
-    push client.server (item.Goal (goal_id client.place (client.goals + 1)) (Some client.entity) value)
-    (add_line (line.Goal client.entity (goal_id client.place (client.goals + 1)) value) (with_goal_sent client.entity world))
+    let id = goal_id client.place (client.goals + 1) in
+    push client.server (item.Goal id (Some client.entity) value) (add_line (line.Goal client.entity id value) (with_goal_sent client.entity world))
 
 -- an action client sends a cancel request
 abbrev pub send_cancel : ActionClientEntry → CancelRequest → WorldState → WorldState
@@ -59,8 +59,8 @@ oldest_accepted server world = find (λ goal. is_accepted goal.state) (goals_of 
 abbrev pub execute_goal : EntityNo → Option GoalRecord → WorldState → WorldState
 execute_goal server None world = world
 execute_goal server (Some goal) world =
-    add_line (line.State server goal.id (status_of (after_event event.Execute goal).state))
-    (change_goals server (change_first (has_id goal.id) (after_event event.Execute)) world)
+    let executed = after_event event.Execute in
+    add_line (line.State server goal.id (status_of (executed goal).state)) (change_goals server (change_first (has_id goal.id) executed) world)
 
 -- a server executes its oldest accepted goal, if it has one
 abbrev pub execute : EntityNo → WorldState → WorldState

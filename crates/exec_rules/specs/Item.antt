@@ -1,15 +1,12 @@
 -- What stands in queues: which callbacks take it, and what it hands them.
 use Rattle.std.specs.Prelude.{ℕ, ℤ, pos, ◌+◌, ◌*◌, ◌^◌, ◌%◌, if◌then◌else◌, Option, None, Some}
 use Rattle.std.specs.Int.{w64, cast_signed}
+use Rattle.exec_msg.specs.Numbers.{GoalId}
 use Rattle.exec_msg.specs.Goal.{status_number, code_number}
 use Rattle.exec_msg.specs.declared.kind.Kind.{Kind}
 use Rattle.exec_msg.specs.declared.kind.Kind.TheVariants as kind
 use Rattle.exec_rules.specs.declared.item.Item.{Item}
 use Rattle.exec_rules.specs.declared.item.Item.TheVariants as item
-
--- the number of an identifier of 128 bits
-abbrev pub GoalId : Type 0
-GoalId = ℕ
 
 -- the identifier of a client's goal of a number: the client is the one of this place, from 0, among the action clients
 abbrev pub goal_id : ℕ → ℕ → GoalId
@@ -51,16 +48,13 @@ first_of (item.Result id status value) = value
 
 -- its `aux`, where it is a cancel request with so many candidates
 abbrev pub aux_of : Item → ℕ → ℤ
-aux_of (item.Message value) candidates = pos 0
-aux_of (item.Request client number value) candidates = pos 0
 aux_of (item.Reply number value) candidates = as_value number
-aux_of (item.Goal id client value) candidates = pos 0
 aux_of (item.Cancel request client) candidates = as_value candidates
-aux_of (item.Ask id client) candidates = pos 0
 aux_of (item.Response id accepted) candidates = as_value (goal_number id)
 aux_of (item.Code returned moved) candidates = as_value moved
 aux_of (item.Feedback id value) candidates = as_value (goal_number id)
 aux_of (item.Result id status value) candidates = pos (status_number status)
+aux_of _ candidates = pos 0
 
 -- the identifier on the line of its callback
 abbrev pub id_of : Item → Option GoalId

@@ -7,7 +7,8 @@ use Rattle.exec_goal.specs.Info.{info_of}
 use Rattle.exec_goal.specs.State.{is_canceling, is_worked_on}
 use Rattle.exec_goal.specs.Table.{GoalRecord}
 use Rattle.exec_goal.specs.declared.info.GoalInfo.{GoalInfo}
-use Rattle.exec_plan.specs.Entity.{EntityNo, Script}
+use Rattle.exec_msg.specs.Numbers.{EntityNo, GoalId, Moment}
+use Rattle.exec_script.specs.Instruction.{Script}
 use Rattle.exec_msg.specs.Kind.{ready_number}
 use Rattle.exec_msg.specs.Lists.{change_first, drop_first}
 use Rattle.exec_msg.specs.Timer.{is_due, after_call}
@@ -18,8 +19,8 @@ use Rattle.exec_msg.specs.declared.line.Line.TheVariants as line
 use Rattle.exec_script.specs.Script.{CallInput}
 use Rattle.exec_task.specs.Task.{is_awake, poll_input}
 use Rattle.exec_task.specs.declared.wait.Turn.{Turn}
-use Rattle.exec_rules.specs.Item.{GoalId, taker_of, first_of, aux_of, id_of}
-use Rattle.exec_rules.specs.World.{WorldState, Moment, Handler, TimerEntry, Queue, ServerEntry, ClientEntry, HeldGoal, goals_of, has_room_for, is_client_at, is_for}
+use Rattle.exec_rules.specs.Item.{taker_of, first_of, aux_of, id_of}
+use Rattle.exec_rules.specs.World.{WorldState, Handler, TimerEntry, Queue, ServerEntry, ClientEntry, HeldGoal, goals_of, has_room_for, is_client_at, is_for}
 use Rattle.exec_rules.specs.declared.item.Item.{Item}
 use Rattle.exec_rules.specs.declared.item.Item.TheVariants as item
 use Rattle.exec_rules.specs.declared.ready.Cause.{Cause}

@@ -1,7 +1,7 @@
 -- What a ready callback does to the world: its line, its script with each effect at its instruction, and what closes it.
 use Rattle.std.specs.Prelude.{List, [], ◌∷◌, if◌then◌else◌, Option, None, Some}
-use Rattle.exec_plan.specs.Entity.{EntityNo}
-use Rattle.exec_script.specs.Script.{listed}
+use Rattle.exec_msg.specs.Numbers.{EntityNo}
+use Rattle.exec_script.specs.Script.{listed, Variables}
 use Rattle.exec_script.specs.Zeros.{zeros}
 use Rattle.exec_script.specs.declared.effects.Effect.{Effect}
 use Rattle.exec_script.specs.declared.effects.Effects.{Effects}
@@ -10,7 +10,7 @@ use Rattle.exec_rules.specs.Callback.{Outcome, callback}
 use Rattle.exec_rules.specs.Close.{close_callback}
 use Rattle.exec_rules.specs.Give.{give, give_all}
 use Rattle.exec_rules.specs.Ready.{run_line}
-use Rattle.exec_rules.specs.World.{ServerEntry, WorldState, GoalWork, Variables, add_line, variables_of, with_variables, work_in, with_task}
+use Rattle.exec_rules.specs.World.{ServerEntry, WorldState, GoalWork, add_line, variables_of, with_variables, work_in, with_task}
 use Rattle.exec_rules.specs.declared.ready.Cause.{Cause}
 use Rattle.exec_rules.specs.declared.ready.Cause.TheVariants as cause
 use Rattle.exec_rules.specs.declared.ready.Ready.{Ready}
@@ -85,7 +85,7 @@ all_home (one ∷ list) world = all_home list (brought_home one (apart one world
 -- what each of them did
 abbrev pub all_apart : List Ready → WorldState → List Effects
 all_apart [] world = []
-all_apart (one ∷ list) world = effects_of (apart one world) ∷ all_apart list (brought_home one (apart one world) world)
+all_apart (one ∷ list) world = let outcome = apart one world in effects_of outcome ∷ all_apart list (brought_home one outcome world)
 
 -- the world after what ready callbacks did is given to it, one after another
 abbrev pub commit_all : List Ready → List Effects → WorldState → WorldState
@@ -94,4 +94,4 @@ commit_all _ _ world = world
 
 -- the world that what closes it finds
 abbrev pub unclosed : Ready → WorldState → WorldState
-unclosed one world = brought_home one (outcome_in one world) (outcome_in one world).given
+unclosed one world = let outcome = outcome_in one world in brought_home one outcome outcome.given

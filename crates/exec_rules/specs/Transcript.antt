@@ -3,15 +3,15 @@ use Rattle.std.specs.Prelude.{ℕ, zero, suc, List, [], ◌∷◌, ◌++◌, len
 use Rattle.std.specs.List.{filter, flat_map, fold}
 use Rattle.std.specs.Option.{unwrap_or}
 use Rattle.exec_goal.specs.Table.{GoalRecord, holds_id, expired, unexpired}
-use Rattle.exec_plan.specs.Entity.{EntityNo, Resolved}
+use Rattle.exec_msg.specs.Numbers.{EntityNo, Moment}
+use Rattle.exec_plan.specs.Entity.{Resolved, queue_depth}
 use Rattle.exec_plan.specs.Feeding.{fed_in}
-use Rattle.exec_plan.specs.Graph.{GraphData, of_entity, is_topic, is_timer, is_client, is_server, is_action_client, wait_set, declared_at, group_of, is_exclusive, depth_of, script_for, entities_where, names_of, Waitable}
-use Rattle.exec_plan.specs.Plan.{PlanData}
+use Rattle.exec_plan.specs.Graph.{GraphData, of_entity, is_topic, is_timer, is_client, is_server, is_action_client, wait_set, declared_at, entity_of, callback_script, is_exclusive, entities_where, names_of, Waitable}
+use Rattle.exec_plan.specs.Plan.{PlanData, Fed, Feed}
 use Rattle.exec_plan.specs.declared.entity.Declared.{Declared}
+use Rattle.exec_plan.specs.declared.entity.GraphEntity.{GraphEntity}
 use Rattle.exec_plan.specs.declared.entity.EntityOf.TheVariants.{Timer, Subscription, Client, Server, ActionClient}
-use Rattle.exec_plan.specs.declared.plan.Fed.{Fed}
-use Rattle.exec_plan.specs.declared.plan.Fed.TheVariants.{Message, Goal, Cancel}
-use Rattle.exec_plan.specs.declared.plan.Feed.{Feed}
+use Rattle.exec_plan.specs.declared.plan.FedOf.TheVariants.{Message, Goal, Cancel}
 use Rattle.exec_msg.specs.Line.{transcript_text}
 use Rattle.exec_msg.specs.declared.kind.Kind.{Kind}
 use Rattle.exec_msg.specs.declared.kind.Kind.TheVariants as kind
@@ -21,19 +21,27 @@ use Rattle.exec_script.specs.Zeros.{zeros}
 use Rattle.exec_rules.specs.Give.{publish}
 use Rattle.exec_rules.specs.Ready.{ready_list, take_inputs}
 use Rattle.exec_rules.specs.Run.{run}
-use Rattle.exec_rules.specs.World.{WorldState, Moment, Handler, TopicEntry, TimerEntry, Queue, ServerEntry, ClientEntry, ActionClientEntry, add_line, add_lines, push}
+use Rattle.exec_rules.specs.World.{WorldState, Handler, TopicEntry, TimerEntry, Queue, ServerEntry, ClientEntry, ActionClientEntry, add_line, add_lines, push}
 use Rattle.exec_rules.specs.declared.item.Item.TheVariants as item
 use Rattle.exec_rules.specs.declared.ready.Ready.{Ready}
 
 -- ---- the world before the first round
 
--- the callback of a kind of an entity, which stands at a number
-abbrev pub handler_for : GraphData → Kind → EntityNo → Declared → Handler
-handler_for graph kind number declared = record {
+-- the entity as which a name is declared; of a topic, which is none, it is asked nowhere
+abbrev pub as_entity : Declared → GraphEntity
+as_entity declared = unwrap_or (entity_of declared) (record { group = 0; is = Timer (record { period = 0; script = [] }) })
+
+-- the entity at a number that is one's
+abbrev pub entity_at : GraphData → EntityNo → GraphEntity
+entity_at graph number = as_entity (declared_at graph number)
+
+-- the callback of a kind of an entity, which has this number
+abbrev pub handler_for : GraphData → Kind → EntityNo → GraphEntity → Handler
+handler_for graph kind number entity = record {
   entity = number;
-  group = group_of declared;
-  exclusive = is_exclusive graph (group_of declared);
-  script = unwrap_or (script_for kind declared) [];
+  group = entity.group;
+  exclusive = is_exclusive graph entity.group;
+  script = unwrap_or (callback_script kind entity.is) [];
 }
 
 -- whether an entity is a subscription of a topic
@@ -51,14 +59,14 @@ period_in (Timer entity) = entity.period
 period_in _ = 0
 
 -- a timer, made at moment 0: its first call comes after one period
-abbrev pub timer_for : GraphData → EntityNo → Declared → TimerEntry
-timer_for graph number declared = record {
-  handler = handler_for graph kind.Timer number declared;
-  timer = record { next = of_entity 0 period_in declared; period = of_entity 0 period_in declared };
+abbrev pub timer_for : GraphData → EntityNo → GraphEntity → TimerEntry
+timer_for graph number entity = record {
+  handler = handler_for graph kind.Timer number entity;
+  timer = record { next = period_in entity.is; period = period_in entity.is };
 }
 
 abbrev pub new_timer : GraphData → EntityNo → TimerEntry
-new_timer graph number = timer_for graph number (declared_at graph number)
+new_timer graph number = timer_for graph number (entity_at graph number)
 
 -- whether callbacks of a kind take their input from a queue: all but those of timers and polls do
 abbrev pub takes_from_queue : Kind → Bool
@@ -67,16 +75,16 @@ takes_from_queue kind.Poll = false
 takes_from_queue _ = true
 
 -- an empty queue of a kind
-abbrev pub queue_for : GraphData → Kind → EntityNo → Declared → Queue
-queue_for graph kind number declared = record {
-  handler = handler_for graph kind number declared;
+abbrev pub queue_for : GraphData → Kind → EntityNo → GraphEntity → Queue
+queue_for graph kind number entity = record {
+  handler = handler_for graph kind number entity;
   kind = kind;
-  depth = depth_of declared;
+  depth = queue_depth entity.is;
   items = [];
 }
 
 abbrev pub new_queue : GraphData → Waitable → Queue
-new_queue graph waitable = queue_for graph waitable.kind waitable.entity (declared_at graph waitable.entity)
+new_queue graph waitable = queue_for graph waitable.kind waitable.entity (entity_at graph waitable.entity)
 
 -- for how many ticks a server keeps a result, where it doesn't keep it without end
 abbrev pub timeout_in : Resolved → Option ℕ
@@ -84,12 +92,12 @@ timeout_in (Server entity) = entity.result_timeout
 timeout_in _ = None
 
 -- a server without goals
-abbrev pub server_for : GraphData → EntityNo → Declared → ServerEntry
-server_for graph number declared =
-    record { handler = handler_for graph kind.Poll number declared; timeout = of_entity None timeout_in declared; goals = []; held = [] }
+abbrev pub server_for : GraphData → EntityNo → GraphEntity → ServerEntry
+server_for graph number entity =
+    record { handler = handler_for graph kind.Poll number entity; timeout = timeout_in entity.is; goals = []; held = [] }
 
 abbrev pub new_server : GraphData → EntityNo → ServerEntry
-new_server graph number = server_for graph number (declared_at graph number)
+new_server graph number = server_for graph number (entity_at graph number)
 
 -- the service of a client
 abbrev pub service_in : Resolved → EntityNo
@@ -97,11 +105,11 @@ service_in (Client entity) = entity.service
 service_in _ = 0
 
 -- a service client that hasn't called yet
-abbrev pub client_for : EntityNo → Declared → ClientEntry
-client_for number declared = record { entity = number; service = of_entity 0 service_in declared; calls = 0; pending = [] }
+abbrev pub client_for : EntityNo → GraphEntity → ClientEntry
+client_for number entity = record { entity = number; service = service_in entity.is; calls = 0; pending = [] }
 
 abbrev pub new_client : GraphData → EntityNo → ClientEntry
-new_client graph number = client_for number (declared_at graph number)
+new_client graph number = client_for number (entity_at graph number)
 
 -- the server of an action client
 abbrev pub server_in : Resolved → EntityNo
@@ -114,19 +122,19 @@ asks_in (ActionClient entity) = is_some entity.on_result
 asks_in _ = false
 
 -- an action client that hasn't sent a goal yet, at its place among them
-abbrev pub action_client_for : ℕ → EntityNo → Declared → ActionClientEntry
-action_client_for place number declared = record {
+abbrev pub action_client_for : ℕ → EntityNo → GraphEntity → ActionClientEntry
+action_client_for place number entity = record {
   entity = number;
   place = place;
-  server = of_entity 0 server_in declared;
-  asks = of_entity false asks_in declared;
+  server = server_in entity.is;
+  asks = asks_in entity.is;
   goals = 0;
 }
 
 -- action clients at these numbers, the first of which has this place
 abbrev pub new_action_clients : GraphData → ℕ → List EntityNo → List ActionClientEntry
 new_action_clients graph place [] = []
-new_action_clients graph place (number ∷ numbers) = action_client_for place number (declared_at graph number) ∷ new_action_clients graph (suc place) numbers
+new_action_clients graph place (number ∷ numbers) = action_client_for place number (entity_at graph number) ∷ new_action_clients graph (suc place) numbers
 
 -- the world of a graph before its first round
 abbrev pub first_world : GraphData → WorldState

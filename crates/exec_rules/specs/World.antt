@@ -3,7 +3,8 @@ use Rattle.std.specs.Prelude.{ℕ, ◌+◌, ℤ, List, [], ◌∷◌, ◌++◌, 
 use Rattle.std.specs.List.{find}
 use Rattle.std.specs.Option.{option_and_then, option_map, option_map_or}
 use Rattle.exec_goal.specs.Table.{GoalRecord, holds_id, is_full}
-use Rattle.exec_plan.specs.Entity.{EntityNo, Script}
+use Rattle.exec_msg.specs.Numbers.{EntityNo, GoalId}
+use Rattle.exec_script.specs.Instruction.{Script}
 use Rattle.exec_plan.specs.Graph.{GroupNo}
 use Rattle.exec_msg.specs.KeepLast.{sent, displaced}
 use Rattle.exec_msg.specs.Kind.{ready_number}
@@ -12,19 +13,12 @@ use Rattle.exec_msg.specs.Timer.{TimerState}
 use Rattle.exec_msg.specs.declared.kind.Kind.{Kind}
 use Rattle.exec_msg.specs.declared.line.Line.{Line}
 use Rattle.exec_msg.specs.declared.line.Line.TheVariants as line
+use Rattle.exec_script.specs.Script.{Variables}
 use Rattle.exec_script.specs.Zeros.{zeros}
 use Rattle.exec_task.specs.Goal.{GoalTaskState}
 use Rattle.exec_task.specs.Task.{TaskState}
-use Rattle.exec_rules.specs.Item.{GoalId, taker_of, first_of}
+use Rattle.exec_rules.specs.Item.{taker_of, first_of}
 use Rattle.exec_rules.specs.declared.item.Item.{Item}
-
--- a moment in ticks
-abbrev pub Moment : Type 0
-Moment = ℕ
-
--- the eight variables of a callback group
-abbrev pub Variables : Type 0
-Variables = List ℤ
 
 -- whose callback it is: an entity's, of a callback group that is mutually exclusive or not, and with which script
 pub record Handler : Type 0 where

@@ -13,10 +13,9 @@ use crate::item::Item;
 use crate::polling::poll_any;
 use crate::ready::{Cause, Ready};
 use exec_goal::GoalInfo;
-use exec_msg::{Memory, Moment};
+use exec_msg::{Items, Memory, Moment};
 use exec_script::{
-    Bank, Close, DecisionList, EffectList, Effects, Input, Instr, Role, run_call_closing,
-    run_call_into,
+    Bank, Close, EffectList, Effects, Input, Instr, Role, run_call_closing, run_call_into,
 };
 use exec_task::{GoalTask, Poller, Turn};
 use std::alloc::Global;
@@ -37,8 +36,8 @@ impl Ready {
         ensures effects { IfOk result (λ did. did ≡ effects_of (apart_with self.now (option_map work_of task.old) bank.old)) }
         ensures variables { OnOk result (bank.new ≡ (apart_with self.now (option_map work_of task.old) bank.old).variables) }
         ensures task { OnOk result (option_map work_of task.new ≡ option_map (work_after (apart_with self.now (option_map work_of task.old) bank.old).task) (option_map work_of task.old)) }
-        ensures refused { OnErr result (bank.new ≡ bank.old) }
-        ensures refused_task { OnErr result (option_map work_of task.new ≡ option_map work_of task.old) }
+        ensures unchanged { OnErr result (bank.new ≡ bank.old) }
+        ensures unchanged_task { OnErr result (option_map work_of task.new ≡ option_map work_of task.old) }
     {
         let mut effects = EffectList::new(alloc);
         let mut after = *bank;
@@ -86,7 +85,7 @@ impl Ready {
         ensures close { IfOk result (λ close. close ≡ (poll_listed (turn_at self.now.moment canceling) (option_map work_of task.old) bank.old).close) }
         ensures variables { OnOk result (bank.new ≡ (poll_listed (turn_at self.now.moment canceling) (option_map work_of task.old) bank.old).variables) }
         ensures task { OnOk result (option_map work_of task.new ≡ option_map (work_after (poll_listed (turn_at self.now.moment canceling) (option_map work_of task.old) bank.old).task) (option_map work_of task.old)) }
-        ensures refused { OnErr result (option_map work_of task.new ≡ option_map work_of task.old) }
+        ensures unchanged { OnErr result (option_map work_of task.new ≡ option_map work_of task.old) }
     {
         let turn = Turn {
             moment: self.moment,
@@ -178,12 +177,12 @@ fn handle_all(
     ensures effects { OnOk result (effects.new ≡ (handle_all listed one.now bank.old effects.old).given) }
     ensures close { IfOk result (λ close. close ≡ (handle_all listed one.now bank.old effects.old).close) }
 {
-    let mut decisions = Vec::new(alloc);
+    let mut decisions = Items::new(alloc);
     for candidate in one.candidates.as_slice() {
         let decision = handle(one, candidate, bank, effects)?;
         decisions.push((candidate.id, decision))?;
     }
-    Ok(Close::Decisions(DecisionList::of(decisions)))
+    Ok(Close::Decisions(decisions))
 }
 
 // Runs a cancel handler for a candidate, and answers its decision.

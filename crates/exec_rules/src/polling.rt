@@ -37,8 +37,8 @@ pub fn poll_any(
     ensures close { IfOk result (λ close. close ≡ (poll_listed turn.now (option_map work_of task.old) bank.old).close) }
     ensures variables { OnOk result (bank.new ≡ (poll_listed turn.now (option_map work_of task.old) bank.old).variables) }
     ensures task { OnOk result (option_map work_of task.new ≡ option_map (work_after (poll_listed turn.now (option_map work_of task.old) bank.old).task) (option_map work_of task.old)) }
-    ensures refused { OnErr result (option_map work_of task.new ≡ option_map work_of task.old) }
-    ensures refused_variables { OnErr result (bank.new ≡ bank.old) }
+    ensures unchanged { OnErr result (option_map work_of task.new ≡ option_map work_of task.old) }
+    ensures unchanged_variables { OnErr result (bank.new ≡ bank.old) }
 {
     let Some(task) = task else {
         effects.clear();
@@ -61,8 +61,8 @@ fn poll_task(
     ensures close { IfOk result (λ close. close ≡ (poll_listed turn.now (Some (work_of task.old)) bank.old).close) }
     ensures variables { OnOk result (bank.new ≡ (poll_listed turn.now (Some (work_of task.old)) bank.old).variables) }
     ensures task { OnOk result (work_of task.new ≡ work_after (poll_listed turn.now (Some (work_of task.old)) bank.old).task (work_of task.old)) }
-    ensures refused { OnErr result (work_of task.new ≡ work_of task.old) }
-    ensures refused_variables { OnErr result (bank.new ≡ bank.old) }
+    ensures unchanged { OnErr result (work_of task.new ≡ work_of task.old) }
+    ensures unchanged_variables { OnErr result (bank.new ≡ bank.old) }
 {
     // Emptied before the test, and not behind it, so that the compiler drops the same two steps of the poll.
     effects.clear();

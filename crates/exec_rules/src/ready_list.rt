@@ -49,7 +49,7 @@ impl ReadyList {
     #[inline(always)]
     pub fn push(&mut self, ready: Ready) -> Result<(), Memory>
         ensures listed { OnOk result (self.new ≡ listed_behind self.old (ready ∷ [])) }
-        ensures refused { OnErr result (self.new ≡ self.old) }
+        ensures unchanged { OnErr result (self.new ≡ self.old) }
     {
         let position = self.items.len() + 1;
         self.items.push(Ready { position, ..ready })?;
@@ -69,7 +69,7 @@ impl ReadyList {
     ) -> Result<(), Memory>
         ensures listed { OnOk result (self.new ≡ listed_behind self.old (ready ∷ [])) }
         ensures homes { OnOk result ((handlers : List Handler) → HasScriptOf (slice_get handlers place) ready → AreHomes handlers self.old homes.old.items → AreHomes handlers self.new homes.new.items) }
-        ensures refused { OnErr result (self.new ≡ self.old) }
+        ensures unchanged { OnErr result (self.new ≡ self.old) }
     {
         let at = self.as_slice().len();
         homes.push(Home { at, place })?;

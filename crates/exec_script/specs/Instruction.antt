@@ -1,5 +1,6 @@
 -- What an instruction of a script is.
-use Rattle.std.specs.Prelude.{ℕ}
+use Rattle.std.specs.Prelude.{ℕ, List}
+use Rattle.exec_msg.specs.Numbers.{EntityNo}
 use Rattle.exec_script.specs.declared.instr.Destination.{Destination}
 use Rattle.exec_script.specs.declared.instr.Operand.{Operand}
 use Rattle.exec_script.specs.declared.instr.Operation.{Operation}
@@ -11,12 +12,12 @@ use Rattle.exec_script.specs.declared.instr.Operation.{Operation}
 pub data Instruction : Type 0 where
   Set : Destination → Operation → Operand → Operand → Instruction
   Skip : Operand → ℕ → Instruction
-  Pub : ℕ → Operand → Instruction
-  Call : ℕ → Operand → Instruction
-  Goal : ℕ → Operand → Instruction
-  CancelAll : ℕ → Operand → Instruction
-  CancelGoal : ℕ → Operand → Operand → Instruction
-  Execute : ℕ → Instruction
+  Pub : EntityNo → Operand → Instruction
+  Call : EntityNo → Operand → Instruction
+  Goal : EntityNo → Operand → Instruction
+  CancelAll : EntityNo → Operand → Instruction
+  CancelGoal : EntityNo → Operand → Operand → Instruction
+  Execute : EntityNo → Instruction
   Log : Operand → Instruction
   Reply : Operand → Instruction
   Decide : Operand → Instruction
@@ -26,3 +27,7 @@ pub data Instruction : Type 0 where
   Succeed : Operand → Instruction
   Abort : Operand → Instruction
   Canceled : Operand → Instruction
+
+-- a script: its instructions
+abbrev pub Script : Type 0
+Script = List Instruction

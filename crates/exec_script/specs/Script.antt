@@ -3,6 +3,7 @@ use Rattle.std.specs.Prelude.{◌≡◌, ℕ, zero, suc, ◌<◌, ℤ, pos, negs
 use Rattle.std.specs.Int.{w64, int_wrapping_add, int_wrapping_sub, int_wrapping_mul, int_min, int_max}
 use Rattle.std.specs.Option.{unwrap_or}
 use Rattle.std.specs.Ordering.{int_eq}
+use Rattle.exec_msg.specs.Numbers.{Moment, Ticks}
 use Rattle.exec_msg.specs.declared.goal.Event.TheVariants as event
 use Rattle.exec_script.specs.Zeros.{zeros}
 use Rattle.exec_script.specs.declared.effects.Close.{Close}
@@ -11,7 +12,7 @@ use Rattle.exec_script.specs.declared.effects.Effect.{Effect}
 use Rattle.exec_script.specs.declared.effects.Effect.TheVariants as effect
 use Rattle.exec_script.specs.declared.instr.Destination.{Destination}
 use Rattle.exec_script.specs.declared.instr.Destination.TheVariants as destination
-use Rattle.exec_script.specs.Instruction.{Instruction}
+use Rattle.exec_script.specs.Instruction.{Instruction, Script}
 use Rattle.exec_script.specs.Instruction as instr
 use Rattle.exec_script.specs.declared.instr.Operand.{Operand}
 use Rattle.exec_script.specs.declared.instr.Operand.TheVariants as operand
@@ -24,17 +25,25 @@ use Rattle.exec_script.specs.declared.step.Step.TheVariants as step
 use Rattle.exec_script.specs.declared.step.Stop.{Stop}
 use Rattle.exec_script.specs.declared.step.Stop.TheVariants as stop
 
--- what a callback is handed: `in`, `aux`, and the round's moment in ticks
+-- the eight registers of a script's run
+abbrev pub Registers : Type 0
+Registers = List ℤ
+
+-- the eight variables of a callback group
+abbrev pub Variables : Type 0
+Variables = List ℤ
+
+-- what a callback is handed: `in`, `aux`, and the round's moment
 pub record CallInput : Type 0 where
   pub first : ℤ
   pub aux : ℤ
-  pub moment : ℕ
+  pub moment : Moment
 
 -- where a script stands: its registers, its group's variables, its reply or decision so far, what its effects made of
 -- where they went, and where it stops if nothing more comes
 pub record ScriptState (S : Type 0) : Type 0 where
-  pub registers : List ℤ
-  pub variables : List ℤ
+  pub registers : Registers
+  pub variables : Variables
   pub answer : Option ℤ
   pub given : S
   pub stop : Stop
@@ -50,7 +59,7 @@ result_of operation.Lt a b = if int_lt a b then pos 1 else pos 0
 result_of operation.Eq a b = if int_eq a b then pos 1 else pos 0
 
 -- the value of an operand
-abbrev pub value_of : Operand → List ℤ → List ℤ → CallInput → ℤ
+abbrev pub value_of : Operand → Registers → Variables → CallInput → ℤ
 value_of (operand.Value value) registers variables input = value
 value_of (operand.Register slot) registers variables input = slice_index_or registers slot (pos 0)
 value_of (operand.Variable slot) registers variables input = slice_index_or variables slot (pos 0)
@@ -64,7 +73,7 @@ at_least_0 (pos n) = n
 at_least_0 (negsuc n) = 0
 
 -- what one instruction does
-abbrev pub step_of : Instruction → List ℤ → List ℤ → CallInput → Step
+abbrev pub step_of : Instruction → Registers → Variables → CallInput → Step
 step_of (instr.Set destination operation left right) registers variables input = step.Store destination (result_of operation (value_of left registers variables input) (value_of right registers variables input))
 step_of (instr.Skip condition count) registers variables input = step.Pass (if int_eq (value_of condition registers variables input) (pos 0) then 0 else count)
 step_of (instr.Pub topic value) registers variables input = step.Give (effect.Publish topic (value_of value registers variables input))
@@ -83,40 +92,26 @@ step_of (instr.Succeed value) registers variables input = step.Ended event.Succe
 step_of (instr.Abort value) registers variables input = step.Ended event.Abort (value_of value registers variables input)
 step_of (instr.Canceled value) registers variables input = step.Ended event.Canceled (value_of value registers variables input)
 
--- a step that waits does so for fewer ticks than a bound
-abbrev pub PausesWithin : ℕ → Step → Type 0
-PausesWithin bound (step.Store destination value) = ⊤
-PausesWithin bound (step.Pass count) = ⊤
-PausesWithin bound (step.Give effect) = ⊤
-PausesWithin bound (step.Answer value) = ⊤
-PausesWithin bound (step.Wait ticks) = ticks < bound
-PausesWithin bound step.Yield = ⊤
-PausesWithin bound (step.Ended event value) = ⊤
-
 -- a script that stops to wait does so for fewer ticks than a bound
-abbrev pub WaitsWithin : ℕ → Stop → Type 0
+abbrev pub WaitsWithin : Ticks → Stop → Type 0
 WaitsWithin bound (stop.Wait ticks place) = ticks < bound
-WaitsWithin bound (stop.Yield place) = ⊤
-WaitsWithin bound (stop.Ended event value) = ⊤
-WaitsWithin bound stop.End = ⊤
+WaitsWithin bound _ = ⊤
 
 -- how many of the next instructions a step passes over, where so many are left: one that stops the script passes over all
 abbrev pub passed_by : Step → ℕ → ℕ
-passed_by (step.Store destination value) left = 0
 passed_by (step.Pass count) left = count
-passed_by (step.Give effect) left = 0
-passed_by (step.Answer value) left = 0
 passed_by (step.Wait ticks) left = left
 passed_by step.Yield left = left
 passed_by (step.Ended event value) left = left
+passed_by _ left = 0
 
 -- the registers after a value went to its destination
-abbrev pub registers_after : Destination → ℤ → List ℤ → List ℤ
+abbrev pub registers_after : Destination → ℤ → Registers → Registers
 registers_after (destination.Register slot) value registers = slice_set registers slot value
 registers_after (destination.Variable slot) value registers = registers
 
 -- the group's variables after it
-abbrev pub variables_after : Destination → ℤ → List ℤ → List ℤ
+abbrev pub variables_after : Destination → ℤ → Variables → Variables
 variables_after (destination.Register slot) value variables = variables
 variables_after (destination.Variable slot) value variables = slice_set variables slot value
 
@@ -132,21 +127,21 @@ after_step give place (step.Ended event value) state = record state { stop = sto
 
 -- where a script stands after the instructions that are left, the first of which has this place, and of which the first
 -- `over` are passed over
-abbrev pub follow : {S : Type 0} → (Effect → S → S) → CallInput → List Instruction → ℕ → ℕ → ScriptState S → ScriptState S
+abbrev pub follow : {S : Type 0} → (Effect → S → S) → CallInput → Script → ℕ → ℕ → ScriptState S → ScriptState S
 follow give input [] place over state = state
 follow give input (instruction ∷ rest) place (suc over) state = follow give input rest (suc place) over state
 follow give input (instruction ∷ rest) place zero state =
-    follow give input rest (suc place) (passed_by (step_of instruction state.registers state.variables input) (length rest))
-    (after_step give (suc place) (step_of instruction state.registers state.variables input) state)
+    let step = step_of instruction state.registers state.variables input in
+    follow give input rest (suc place) (passed_by step (length rest)) (after_step give (suc place) step state)
 
 -- a script goes on at a place, from registers, its group's variables, a reply or decision, and what its effects made of
 -- where they went; where nothing stops it, it falls off its end
-abbrev pub resumed : {S : Type 0} → (Effect → S → S) → List Instruction → ℕ → List ℤ → List ℤ → Option ℤ → CallInput → S → ScriptState S
+abbrev pub resumed : {S : Type 0} → (Effect → S → S) → Script → ℕ → Registers → Variables → Option ℤ → CallInput → S → ScriptState S
 resumed give script place registers variables answer input given =
     follow give input (drop place script) place 0 (record { registers = registers; variables = variables; answer = answer; given = given; stop = stop.End })
 
 -- a call of a script: from its top, with registers of 0, and no reply or decision
-abbrev pub called : {S : Type 0} → (Effect → S → S) → List Instruction → List ℤ → CallInput → S → ScriptState S
+abbrev pub called : {S : Type 0} → (Effect → S → S) → Script → Variables → CallInput → S → ScriptState S
 called give script variables input given = resumed give script 0 zeros variables None input given
 
 -- effects in the order in which they come
@@ -154,7 +149,7 @@ abbrev pub listed : Effect → List Effect → List Effect
 listed effect effects = effects ++ effect ∷ []
 
 -- a call of a script whose effects are listed
-abbrev pub call_of : List Instruction → List ℤ → CallInput → ScriptState (List Effect)
+abbrev pub call_of : Script → Variables → CallInput → ScriptState (List Effect)
 call_of script variables input = called listed script variables input []
 
 -- a number from 1 up to a greatest one, or else 1
@@ -172,7 +167,7 @@ close_of role.Goal answer = close.Nothing
 
 -- what a call of a script leaves in a role: the group's variables, its effects behind those that were listed before, and what
 -- closes it
-pub record HasCalled (script : List Instruction) (role : Role) (input : CallInput) (before after : List ℤ) (front given : List Effect) (closes : Close) : Type 0 where
+pub record HasCalled (script : Script) (role : Role) (input : CallInput) (before after : Variables) (front given : List Effect) (closes : Close) : Type 0 where
   pub variables : after ≡ (call_of script before input).variables
   pub effects : given ≡ front ++ (call_of script before input).given
   pub close : closes ≡ close_of role (call_of script before input).answer

@@ -3,11 +3,12 @@ use Rattle.std.specs.Prelude.{ℕ, ◌-◌, pos, negsuc, List, [], ◌∷◌, co
 use Rattle.std.specs.Map.{lookup}
 use Rattle.std.specs.Option.{option_map, option_or, ok_or}
 use Rattle.std.specs.Str.{bytes_eq}
+use Rattle.exec_msg.specs.Numbers.{EntityNo}
 use Rattle.exec_script.specs.declared.fault.ScriptFault.{ScriptFault}
 use Rattle.exec_script.specs.declared.fault.ScriptFault.TheVariants as fault
 use Rattle.exec_script.specs.declared.instr.Destination.{Destination}
 use Rattle.exec_script.specs.declared.instr.Destination.TheVariants as destination
-use Rattle.exec_script.specs.Instruction.{Instruction}
+use Rattle.exec_script.specs.Instruction.{Instruction, Script}
 use Rattle.exec_script.specs.Instruction as instr
 use Rattle.exec_script.specs.declared.instr.Operand.{Operand}
 use Rattle.exec_script.specs.declared.instr.Operand.TheVariants as operand
@@ -19,10 +20,10 @@ use Rattle.exec_script.specs.declared.word.Word.TheVariants.{Text, Number}
 -- the names that a script may use: for each name the number of the topic, the service client, the action client or the
 -- action server that has it
 pub record ScopeNames : Type 0 where
-  pub topic : List ℕ → Option ℕ
-  pub client : List ℕ → Option ℕ
-  pub action_client : List ℕ → Option ℕ
-  pub server : List ℕ → Option ℕ
+  pub topic : List ℕ → Option EntityNo
+  pub client : List ℕ → Option EntityNo
+  pub action_client : List ℕ → Option EntityNo
+  pub server : List ℕ → Option EntityNo
 
 -- the value, and what's made of it
 infixl 10 ◌>>=◌
@@ -134,7 +135,7 @@ of_operand make items = do
   Ok (make value)
 
 -- the instruction that is made of what a name finds and of an operand
-abbrev pub of_name_and_operand : (List ℕ → Option ℕ) → (ℕ → Operand → Instruction) → List Word → Result Instruction ScriptFault
+abbrev pub of_name_and_operand : (List ℕ → Option EntityNo) → (EntityNo → Operand → Instruction) → List Word → Result Instruction ScriptFault
 of_name_and_operand find make (n ∷ a ∷ []) = do
   name ← or_wrong_operand (text_in n)
   value ← or_wrong_operand (operand_of a)
@@ -244,7 +245,7 @@ instruction_of scope (Number value ∷ items) = Err fault.Instruction
 instruction_of scope (Text name ∷ items) = instruction_named scope name items
 
 -- the script that lists of words spell, or the fault of the first that is misspelt
-abbrev pub script_of : ScopeNames → List (List Word) → Result (List Instruction) ScriptFault
+abbrev pub script_of : ScopeNames → List (List Word) → Result Script ScriptFault
 script_of scope [] = Ok []
 script_of scope (words ∷ others) = do
   instruction ← instruction_of scope words

@@ -3,3 +3,4 @@ pub mod Flat
 pub mod Frame
 pub mod Held
 pub mod Places
+pub mod Steps

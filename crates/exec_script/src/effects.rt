@@ -1,4 +1,4 @@
-use exec_msg::{EntityNo, Event, GoalId, Memory};
+use exec_msg::{EntityNo, Event, GoalId, Items, Memory};
 use std::alloc::Global;
 use std::marker::Model;
 
@@ -52,45 +52,13 @@ pub enum Close {
     /// A goal handler's decision: 1 rejects, 2 accepts and executes, 3 accepts and defers. Of one
     /// candidate a cancel handler's: 1 rejects, 2 accepts.
     Decide(u8),
-    /// A cancel handler's decisions, one for each candidate.
-    Decisions(DecisionList),
+    /// A cancel handler's decisions in the order of its candidates, each with the candidate's
+    /// identifier: 1 rejects, 2 accepts.
+    Decisions(Items<(GoalId, u8)>),
     /// The goal pends.
     Pending,
     /// The goal ended by this event with a value.
     Ended(Event, i64),
-}
-
-/// The decisions of a cancel handler in the order of its candidates, each with the candidate's
-/// identifier: 1 rejects, 2 accepts.
-#[derive(Debug, Drop)]
-pub struct DecisionList {
-    items: Vec<(GoalId, u8)>,
-}
-
-impl Model for DecisionList {
-    ghost use Rattle.std.specs.Prelude.{ℕ, List};
-
-    ghost Value = { List (ℕ × ℕ) };
-
-    ghost view = { λ decisions. decisions.items.items };
-}
-
-impl DecisionList {
-    ghost use Rattle.std.specs.Prelude.{◌≡◌};
-
-    /// The decisions of a vector. It takes no memory.
-    pub fn of(items: Vec<(GoalId, u8)>) -> DecisionList
-        ensures { result ≡ items.items }
-    {
-        DecisionList { items }
-    }
-
-    /// The decisions in their order.
-    pub fn as_slice(&self) -> &[(GoalId, u8)]
-        ensures { result.now ≡ self.now }
-    {
-        self.items.as_slice()
-    }
 }
 
 /// Effects in the order in which they were given.
@@ -123,7 +91,7 @@ impl EffectList {
     /// Adds an effect at the end. Where memory is refused, the list stays as it was.
     pub fn push(&mut self, effect: Effect) -> Result<(), Memory>
         ensures ok { OnOk result (self.new ≡ self.old ++ effect ∷ []) }
-        ensures err { OnErr result (self.new ≡ self.old) }
+        ensures unchanged { OnErr result (self.new ≡ self.old) }
     {
         self.items.push(effect)?;
         Ok(())

@@ -18,7 +18,7 @@ mod step;
 mod word;
 
 pub use cells::{Bank, Regs, Slot};
-pub use effects::{Close, DecisionList, Effect, EffectList, Effects};
+pub use effects::{Close, Effect, EffectList, Effects};
 pub use fault::ScriptFault;
 pub use instr::{Destination, Instr, Operand, Operation};
 pub use place::{Place, Role, check};

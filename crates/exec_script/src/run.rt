@@ -1,5 +1,6 @@
 ghost use Rattle.std.specs.Prelude.{◌≡◌, ◌+◌, ◌-◌, ◌<◌, ◌≤◌, ◌^◌, ℤ, List, [], Option, None, length, vec_len, vec_capacity, IsOk, OnOk, OnErr, IfOk};
-ghost use Rattle.exec_script.specs.Script.{at_least_0, step_of, PausesWithin, WaitsWithin, listed, resumed, decision_within, close_of, HasCalled};
+ghost use Rattle.exec_script.specs.Script.{at_least_0, step_of, WaitsWithin, listed, resumed, decision_within, close_of, HasCalled};
+ghost use Rattle.exec_script.specs.inner.Steps.{PausesWithin};
 ghost use Rattle.exec_script.specs.declared.effects.Effect.{Effect};
 
 use crate::cells::{Bank, Regs};
@@ -45,7 +46,7 @@ pub fn run_call(
 ) -> Result<Effects, Memory>
     ensures called { IfOk result (λ effects. HasCalled script.now role input.now bank.old bank.new [] effects.list effects.close) }
     ensures memory { script.now ≡ [] → IsOk result }
-    ensures err { OnErr result (bank.new ≡ bank.old) }
+    ensures unchanged { OnErr result (bank.new ≡ bank.old) }
 {
     let mut list = EffectList::new(alloc);
     let close = run_call_into(script, role, bank, input, &mut list)?;
@@ -63,8 +64,8 @@ pub fn run_call_into(
 ) -> Result<Close, Memory>
     ensures called { IfOk result (λ close. HasCalled script.now role input.now bank.old bank.new effects.old effects.new close) }
     ensures memory { script.now ≡ [] → IsOk result }
-    ensures err_variables { OnErr result (bank.new ≡ bank.old) }
-    ensures err_effects { OnErr result (effects.new ≡ effects.old) }
+    ensures unchanged_variables { OnErr result (bank.new ≡ bank.old) }
+    ensures unchanged_effects { OnErr result (effects.new ≡ effects.old) }
 {
     let mut close = Close::Nothing;
     run_call_closing(script, role, bank, input, effects, &mut close)?;
@@ -84,8 +85,8 @@ pub fn run_call_closing(
 ) -> Result<(), Memory>
     ensures called { OnOk result (HasCalled script.now role input.now bank.old bank.new effects.old effects.new close.new) }
     ensures memory { script.now ≡ [] → IsOk result }
-    ensures err_variables { OnErr result (bank.new ≡ bank.old) }
-    ensures err_effects { OnErr result (effects.new ≡ effects.old) }
+    ensures unchanged_variables { OnErr result (bank.new ≡ bank.old) }
+    ensures unchanged_effects { OnErr result (effects.new ≡ effects.old) }
 {
     if script.is_empty() {
         *close = close_of(role, None);
@@ -118,9 +119,9 @@ pub fn run_from(
     ensures variables { OnOk result (bank.new ≡ (resumed listed script.now place regs.old bank.old None input.now effects.old).variables) }
     ensures effects { OnOk result (effects.new ≡ (resumed listed script.now place regs.old bank.old None input.now effects.old).given) }
     ensures memory { length script.now ≤ place → IsOk result }
-    ensures err_registers { OnErr result (regs.new ≡ regs.old) }
-    ensures err_variables { OnErr result (bank.new ≡ bank.old) }
-    ensures err_effects { OnErr result (effects.new ≡ effects.old) }
+    ensures unchanged_registers { OnErr result (regs.new ≡ regs.old) }
+    ensures unchanged_variables { OnErr result (bank.new ≡ bank.old) }
+    ensures unchanged_effects { OnErr result (effects.new ≡ effects.old) }
 {
     if place >= script.len() {
         return Ok(Stop::End);

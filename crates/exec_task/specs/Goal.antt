@@ -1,9 +1,9 @@
 -- A goal's task with all that it owns, and what a poll leaves of it beside the definition's own state.
 use Rattle.std.specs.Prelude.{◌≡◌, ℕ, ℤ, List, [], Bool, true, false, None, ⊤}
 use Rattle.std.specs.List.{Any, list_any}
-use Rattle.exec_script.specs.Script.{listed}
+use Rattle.exec_script.specs.Script.{Variables, listed}
 use Rattle.exec_script.specs.declared.effects.Effect.{Effect}
-use Rattle.exec_script.specs.declared.instr.Instr.{Instr}
+use Rattle.exec_script.specs.Instruction.{Script}
 use Rattle.exec_task.specs.Task.{TaskState, Polled, polled, has_ended, task_answer, sources_of}
 use Rattle.exec_task.specs.Wake.{WakeState, LeftWaker}
 use Rattle.exec_task.specs.declared.wait.Answer.{Answer}
@@ -19,7 +19,7 @@ use Rattle.futures.specs.declared.task.context.Context.{Context}
 -- a goal's task: its script, the goal's value, where the task stands, whether it was refused memory once, and the sources
 -- that it owns
 pub record GoalTaskState : Type 0 where
-  pub script : List Instr
+  pub script : Script
   pub value : ℤ
   pub task : TaskState
   pub failed : Bool
@@ -27,7 +27,7 @@ pub record GoalTaskState : Type 0 where
   pub cancellation : WakeState
 
 -- a poll by definition, with its effects listed
-abbrev pub poll_of : GoalTaskState → List ℤ → Turn → Polled (List Effect)
+abbrev pub poll_of : GoalTaskState → Variables → Turn → Polled (List Effect)
 poll_of goal variables turn = polled listed goal.script goal.value turn goal.task variables []
 
 -- a fact of a poll that pended
@@ -55,14 +55,12 @@ GoalNeeds goal name = Any (IsSourceOfGoal goal name) (sources_of goal.task)
 -- the clock, at whatever time
 abbrev pub is_clock : Source → Bool
 is_clock (source.Clock time) = true
-is_clock source.Cancellation = false
-is_clock source.Reply = false
+is_clock _ = false
 
 -- the goal's cancellation
 abbrev pub is_cancellation : Source → Bool
-is_cancellation (source.Clock time) = false
 is_cancellation source.Cancellation = true
-is_cancellation source.Reply = false
+is_cancellation _ = false
 
 -- between these two moments a poll left its task's waker at a source that is waited for; any other source has none
 abbrev pub LeftWhere : Bool → Context → Context → WakeState → Type 0
@@ -85,7 +83,7 @@ HoldsNoWaker goal = (goal.clock.waker ≡ None) × (goal.cancellation.waker ≡ 
 
 -- what a poll in a turn answers that isn't refused memory, and what it leaves: of the goal, of its group's variables, and of
 -- the context that it began with
-pub record IsPolled (turn : Turn) (before after : GoalTaskState) (bank left : List ℤ) (begun ended : Context) (answered : Answer) : Type 0 where
+pub record IsPolled (turn : Turn) (before after : GoalTaskState) (bank left : Variables) (begun ended : Context) (answered : Answer) : Type 0 where
   pub answer : answered ≡ task_answer (poll_of before bank turn).task
   pub task : after.task ≡ (poll_of before bank turn).task
   pub variables : left ≡ (poll_of before bank turn).variables
@@ -97,6 +95,6 @@ pub record IsPolled (turn : Turn) (before after : GoalTaskState) (bank left : Li
   pub stays : has_ended before.task ≡ true → after ≡ before
 
 -- what a poll leaves that is refused memory
-pub record IsRefused (before after : GoalTaskState) (bank left : List ℤ) : Type 0 where
+pub record IsRefused (before after : GoalTaskState) (bank left : Variables) : Type 0 where
   pub task : after ≡ record before { failed = true }
   pub variables : left ≡ bank

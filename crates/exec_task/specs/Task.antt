@@ -2,10 +2,11 @@
 use Rattle.std.specs.Prelude.{ℕ, ◌+◌, ℤ, pos, List, [], ◌∷◌, Bool, true, false, is_some, not, ◌&&◌, ◌||◌, nat_le, if◌then◌else◌, Option, None, Some}
 use Rattle.exec_msg.specs.declared.goal.Event.{Event}
 use Rattle.exec_msg.specs.declared.goal.Event.TheVariants as event
-use Rattle.exec_script.specs.Script.{CallInput, ScriptState, resumed}
+use Rattle.exec_msg.specs.Numbers.{Moment}
+use Rattle.exec_script.specs.Instruction.{Script}
+use Rattle.exec_script.specs.Script.{CallInput, Registers, ScriptState, Variables, resumed}
 use Rattle.exec_script.specs.Zeros.{zeros}
 use Rattle.exec_script.specs.declared.effects.Effect.{Effect}
-use Rattle.exec_script.specs.declared.instr.Instr.{Instr}
 use Rattle.exec_script.specs.declared.step.Stop.{Stop}
 use Rattle.exec_script.specs.declared.step.Stop.TheVariants as stop
 use Rattle.exec_task.specs.declared.wait.Answer.{Answer}
@@ -21,7 +22,7 @@ use Rattle.exec_task.specs.declared.wait.Wait.TheVariants as wait
 -- being canceled (polled as such), and how it ended, if it has
 pub record TaskState : Type 0 where
   pub place : ℕ
-  pub registers : List ℤ
+  pub registers : Registers
   pub waits : Wait
   pub told : Bool
   pub ending : Option Ending
@@ -31,7 +32,7 @@ abbrev pub new_task : TaskState
 new_task = record { place = 0; registers = zeros; waits = wait.NextRound; told = false; ending = None }
 
 -- whether a wait is over at a moment
-abbrev pub is_reached : Wait → ℕ → Bool
+abbrev pub is_reached : Wait → Moment → Bool
 is_reached wait.NextRound moment = true
 is_reached (wait.Until time) moment = nat_le time moment
 
@@ -68,7 +69,7 @@ abbrev pub after_run : {S : Type 0} → Turn → ScriptState S → TaskState →
 after_run turn state task = after_stop turn state.stop (record task { registers = state.registers; told = task.told || turn.canceling })
 
 -- the script of a task goes on from its place, in a turn
-abbrev pub run_of : {S : Type 0} → (Effect → S → S) → List Instr → ℤ → Turn → TaskState → List ℤ → S → ScriptState S
+abbrev pub run_of : {S : Type 0} → (Effect → S → S) → Script → ℤ → Turn → TaskState → Variables → S → ScriptState S
 run_of give script value turn task variables given = resumed give script task.place task.registers variables None (poll_input value turn) given
 
 -- what a task answers that has ended so, or that waits for this
@@ -83,7 +84,7 @@ task_answer task = answer_by task.ending task.waits
 -- a poll: the task, its group's variables and what its effects made of where they went, all after it
 pub record Polled (S : Type 0) : Type 0 where
   pub task : TaskState
-  pub variables : List ℤ
+  pub variables : Variables
   pub given : S
 
 -- a poll in which the script came to stand so
@@ -91,12 +92,12 @@ abbrev pub ran : {S : Type 0} → Turn → TaskState → ScriptState S → Polle
 ran turn task state = record { task = after_run turn state task; variables = state.variables; given = state.given }
 
 -- a poll of a task that is awake runs it; of another one it changes nothing
-abbrev pub polled_where : {S : Type 0} → Bool → (Effect → S → S) → List Instr → ℤ → Turn → TaskState → List ℤ → S → Polled S
+abbrev pub polled_where : {S : Type 0} → Bool → (Effect → S → S) → Script → ℤ → Turn → TaskState → Variables → S → Polled S
 polled_where true give script value turn task variables given = ran turn task (run_of give script value turn task variables given)
 polled_where false give script value turn task variables given = record { task = task; variables = variables; given = given }
 
 -- a poll of a task with a goal's script and value, in a turn; it answers `task_answer` of the task after it
-abbrev pub polled : {S : Type 0} → (Effect → S → S) → List Instr → ℤ → Turn → TaskState → List ℤ → S → Polled S
+abbrev pub polled : {S : Type 0} → (Effect → S → S) → Script → ℤ → Turn → TaskState → Variables → S → Polled S
 polled give script value turn task variables given = polled_where (is_awake task turn) give script value turn task variables given
 
 -- what wakes a pending task: the clock where it waits for a time, and then its cancellation too, unless it was told

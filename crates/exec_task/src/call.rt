@@ -49,7 +49,7 @@ impl PendingCall {
     pub fn complete(&mut self, value: i64) -> Result<(), Already>
         ensures call { self.new.call ≡ completed value self.old.call }
         ensures already { IsErr result ↔ IsSome self.old.call.reply }
-        ensures same { OnErr result (self.new ≡ self.old) }
+        ensures unchanged { OnErr result (self.new ≡ self.old) }
         ensures wake { self.old.call.reply ≡ None → self.new.wake ≡ record self.old.wake { waker = None } }
     {
         if self.reply.is_some() {

@@ -63,9 +63,9 @@ impl GoalTask {
         ensures same { IsSameGoal self.old self.new }
         ensures failed { OnOk result (self.new.failed ≡ self.old.failed) }
         ensures ended { OnOk result (has_ended self.new.task ≡ true → HoldsNoWaker self.new) }
-        ensures err { OnErr result (self.new ≡ record self.old { failed = true }) }
-        ensures err_variables { OnErr result (bank.new ≡ bank.old) }
-        ensures err_effects { OnErr result (effects.new ≡ effects.old) }
+        ensures refused { OnErr result (self.new ≡ record self.old { failed = true }) }
+        ensures unchanged_variables { OnErr result (bank.new ≡ bank.old) }
+        ensures unchanged_effects { OnErr result (effects.new ≡ effects.old) }
     {
         let ran = self
             .progress

@@ -89,9 +89,9 @@ impl Progress {
     ) -> Result<(), Memory>
         ensures ok { OnOk result (record { task = self.new; variables = bank.new; given = effects.new }
             ≡ ran turn.now self.old (run_of listed script.now value turn.now self.old bank.old effects.old)) }
-        ensures err { OnErr result (self.new ≡ self.old) }
-        ensures err_variables { OnErr result (bank.new ≡ bank.old) }
-        ensures err_effects { OnErr result (effects.new ≡ effects.old) }
+        ensures unchanged { OnErr result (self.new ≡ self.old) }
+        ensures unchanged_variables { OnErr result (bank.new ≡ bank.old) }
+        ensures unchanged_effects { OnErr result (effects.new ≡ effects.old) }
     {
         let input = Input {
             first: value,

@@ -103,7 +103,7 @@ fn accepts_three(rt: &impl Abort, goals: &mut Goals) {
         Ok(Accepted { state: executed }),
     );
     same(rt, goals.accept(id(2), 6, moment(31), 3), Err(Reject::Held));
-    same(rt, goals.working(), 1);
+    same(rt, goals.count_working(), 1);
 }
 
 // Whether a request selects goals 1, 2 and 3.
@@ -135,7 +135,7 @@ fn cancels_until_20(rt: &impl Abort, goals: &mut Goals) -> Result<(), Fail> {
     same(rt, selected(goals, 0, 20)?, [true, true, false]);
     let answer = answered(goals, 0, 20, &[(id(1), 2), (id(2), 1)])?;
     same(rt, answer, (ReturnCode::None, Some(id(1)), 1));
-    same(rt, goals.working(), 2);
+    same(rt, goals.count_working(), 2);
     Ok(())
 }
 
@@ -156,7 +156,7 @@ fn ends_goal_1(rt: &impl Abort, goals: &mut Goals) -> Result<(), Fail> {
         goals.end(id(1), Event::Canceled, 7, moment(40)),
         Ok(State::Canceled),
     );
-    same(rt, goals.working(), 1);
+    same(rt, goals.count_working(), 1);
     let answer = answered(goals, 1, 0, &[])?;
     same(rt, answer, (ReturnCode::GoalTerminated, None, 0));
     Ok(())

@@ -4,8 +4,8 @@ use Rattle.std.specs.List.{AllByRecursion, filter, flat_map}
 use Rattle.std.specs.Option.{option_map_or}
 use Rattle.std.proofs.lemmas.List.{length-replicate}
 use Rattle.std.proofs.lemmas.Option.{slice_get_within}
-use Rattle.exec_plan.specs.Graph.{GraphData, GroupNo, group_of, declared_at, is_exclusive, is_server, is_timer, entities_where, wait_set}
-use Rattle.exec_plan.specs.Entity.{EntityNo}
+use Rattle.exec_plan.specs.Graph.{GraphData, GroupNo, is_exclusive, is_server, is_timer, entities_where, wait_set}
+use Rattle.exec_msg.specs.Numbers.{EntityNo, Moment}
 use Rattle.exec_plan.specs.declared.entity.CallbackGroup.{CallbackGroup}
 use Rattle.exec_msg.specs.Timer.{is_due}
 use Rattle.exec_msg.specs.declared.kind.Kind.{Kind}
@@ -16,8 +16,8 @@ use Rattle.exec_rules.proofs.ReadyLists.{all_ready}
 use Rattle.exec_rules.specs.Calls.{HaveVariables}
 use Rattle.exec_rules.specs.Shape.{queue_shape, server_shape, shape_of, timer_shape}
 use Rattle.exec_rules.specs.Ready.{due_ready, is_goal_awake, item_ready, poll_ready, queue_ready, ready_list, take_inputs}
-use Rattle.exec_rules.specs.Transcript.{first_world, handler_for, new_queue, new_server, new_timer, takes_from_queue}
-use Rattle.exec_rules.specs.World.{Handler, Moment, Queue, ServerEntry, TimerEntry, WorldState, goals_of}
+use Rattle.exec_rules.specs.Transcript.{entity_at, first_world, handler_for, new_queue, new_server, new_timer, takes_from_queue}
+use Rattle.exec_rules.specs.World.{Handler, Queue, ServerEntry, TimerEntry, WorldState, goals_of}
 use Rattle.exec_rules.specs.declared.item.Item.{Item}
 use Rattle.exec_rules.specs.declared.ready.Ready.{Ready}
 
@@ -35,8 +35,8 @@ group_within graph group exclusive = by (slice_get graph.groups group) refl excl
 abbrev IsBelow : ℕ → Handler → Type 0
 IsBelow groups handler = handler.exclusive ≡ true → handler.group < groups
 
-handler_within : (graph : GraphData) (of : Kind) (number : EntityNo) → IsBelow (length graph.groups) (handler_for graph of number (declared_at graph number))
-handler_within graph of number exclusive = group_within graph (group_of (declared_at graph number)) exclusive
+handler_within : (graph : GraphData) (of : Kind) (number : EntityNo) → IsBelow (length graph.groups) (handler_for graph of number (entity_at graph number))
+handler_within graph of number exclusive = group_within graph (entity_at graph number).group exclusive
 
 -- ---- the callbacks of a world
 

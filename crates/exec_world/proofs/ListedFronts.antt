@@ -3,9 +3,10 @@ use Rattle.std.proofs.Common.{◌≡◌, Bool, true, false, List, [], ◌∷◌,
 use Rattle.std.proofs.lemmas.Option.{none-some, same_Some}
 use Rattle.std.specs.Option.{option_and_then, option_map, option_map_or}
 use Rattle.exec_goal.specs.Table.{GoalRecord}
-use Rattle.exec_plan.specs.Entity.{EntityNo, Script}
+use Rattle.exec_msg.specs.Numbers.{EntityNo, Moment}
+use Rattle.exec_script.specs.Instruction.{Script}
 use Rattle.exec_rules.specs.Ready.{candidates_for, item_ready, ready_for, script_to_take}
-use Rattle.exec_rules.specs.World.{Handler, Moment, Queue, ServerEntry, has_room_for, goals_in}
+use Rattle.exec_rules.specs.World.{Handler, Queue, ServerEntry, has_room_for, goals_in}
 use Rattle.exec_rules.specs.declared.item.Item.{Item}
 use Rattle.exec_rules.specs.declared.item.Item.TheVariants as item
 use Rattle.exec_rules.specs.declared.ready.Cause.TheVariants as cause

@@ -1,14 +1,14 @@
 -- The world behind a callback that ran with its group's variables and its goal's task where they stand.
 use Rattle.std.proofs.Common.{◌≡◌, Bool, true, false, List, [], if◌then◌else◌, Option, None, Some, Result, Ok, Err, slice_index_or, slice_set, OnOk, refl, ap, sym, ◌∙◌}
-use Rattle.exec_plan.specs.Entity.{EntityNo}
-use Rattle.exec_script.specs.Script.{listed}
+use Rattle.exec_msg.specs.Numbers.{EntityNo}
+use Rattle.exec_script.specs.Script.{listed, Variables}
 use Rattle.exec_script.specs.declared.effects.Effect.{Effect}
 use Rattle.exec_script.specs.Zeros.{zeros}
 use Rattle.exec_task.specs.Task.{TaskState}
 use Rattle.exec_entity.proofs.Awake.{unchanged_first}
 use Rattle.exec_rules.specs.Callback.{Outcome, callback}
 use Rattle.exec_rules.specs.Run.{apart, brought_home, with_polled, work_for, work_by}
-use Rattle.exec_rules.specs.World.{GoalWork, ServerEntry, Variables, WorldState, is_server_at, variables_of, with_variables}
+use Rattle.exec_rules.specs.World.{GoalWork, ServerEntry, WorldState, is_server_at, variables_of, with_variables}
 use Rattle.exec_rules.specs.declared.ready.Cause.{Cause}
 use Rattle.exec_rules.specs.declared.ready.Cause.TheVariants as cause
 use Rattle.exec_rules.specs.declared.ready.Ready.{Ready}

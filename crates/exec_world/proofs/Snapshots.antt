@@ -4,11 +4,11 @@ use Rattle.std.specs.List.{flat_map, fold}
 use Rattle.std.specs.Option.{option_map_or}
 use Rattle.std.proofs.lemmas.Bool.{eqb-true}
 use Rattle.exec_goal.specs.Table.{GoalRecord}
-use Rattle.exec_plan.specs.Entity.{EntityNo}
+use Rattle.exec_msg.specs.Numbers.{EntityNo, Moment}
 use Rattle.exec_queue.proofs.Filled.{given_each}
 use Rattle.exec_rules.proofs.Listing.{listed_more}
 use Rattle.exec_rules.specs.Ready.{answered_by_first, due_ready, item_ready, placed_from, poll_ready, queue_ready, queues_before_polls, queues_behind_polls, ready_list, reply_taken}
-use Rattle.exec_rules.specs.World.{ClientEntry, Handler, Moment, Queue, ServerEntry, TimerEntry, WorldState}
+use Rattle.exec_rules.specs.World.{ClientEntry, Handler, Queue, ServerEntry, TimerEntry, WorldState}
 use Rattle.exec_rules.specs.declared.item.Item.{Item}
 use Rattle.exec_rules.specs.declared.item.Item.TheVariants as item
 use Rattle.exec_rules.specs.declared.ready.Ready.{Ready}

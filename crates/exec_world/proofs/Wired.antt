@@ -2,12 +2,12 @@
 use Rattle.std.proofs.Common.{◌≡◌, ℕ, suc, ◌+◌, ◌<◌, ◌≤◌, add-one, Bool, true, false, cond, if◌then◌else◌, List, [], ◌∷◌, ◌++◌, length, drop, get_or, map, flat_map, length-append, refl, sym, ap, ◌∙◌, arith}
 use Rattle.std.specs.List.{filter}
 use Rattle.std.proofs.lemmas.List.{append_assoc, append-nil, drop_more}
-use Rattle.exec_plan.specs.Entity.{EntityNo}
+use Rattle.exec_msg.specs.Numbers.{EntityNo}
 use Rattle.exec_plan.specs.Graph.{EntityData, GraphData, Waitable, cons_if, declared_at, entities_where, has_kind, is_action_client, numbers_where}
 use Rattle.exec_plan.specs.declared.entity.Declared.{Declared}
 use Rattle.exec_plan.specs.declared.entity.Declared.TheVariants.{Topic}
 use Rattle.exec_msg.specs.declared.kind.Kind.{Kind}
-use Rattle.exec_rules.specs.Transcript.{new_action_clients, new_queue, takes_from_queue, action_client_for}
+use Rattle.exec_rules.specs.Transcript.{entity_at, new_action_clients, new_queue, takes_from_queue, action_client_for}
 use Rattle.exec_rules.specs.World.{ActionClientEntry, Queue}
 use Rattle.exec_world.specs.inner.Parts.{new_queue_of, queues_of}
 
@@ -83,7 +83,7 @@ module _ (graph : GraphData) where
 
   module _ (number : ℕ) (before after : List ActionClientEntry) where
     abbrev entry : ActionClientEntry
-    entry = action_client_for (length before) number (declared_at graph number)
+    entry = action_client_for (length before) number (entity_at graph number)
 
     placed : (b : Bool) (numbers : List EntityNo) (whole : List ActionClientEntry) → after ≡ before ++ cons_if b entry []
         → before ++ new_action_clients graph (length before) (cons_if b number numbers) ≡ whole → after ++ new_action_clients graph (length after) numbers ≡ whole

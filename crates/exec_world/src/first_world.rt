@@ -3,7 +3,7 @@ ghost use Rattle.std.specs.Prelude.{◌≡◌, ◌<◌, ◌^◌, ◌++◌, [], f
 ghost use Rattle.exec_plan.specs.Entity.{is_within};
 ghost use Rattle.exec_plan.specs.Graph.{callback_script, cons_if, entities_where, has_kind, in_group, is_action_client, is_client, is_exclusive, is_server, is_timer, is_topic, of_entity};
 ghost use Rattle.exec_plan.specs.declared.entity.EntityOf.TheVariants as resolved;
-ghost use Rattle.exec_rules.specs.Transcript.{first_world, new_topic, subscribes_to, takes_from_queue, action_client_for, client_for, queue_for, server_for, timer_for};
+ghost use Rattle.exec_rules.specs.Transcript.{as_entity, first_world, new_topic, subscribes_to, takes_from_queue, action_client_for, client_for, queue_for, server_for, timer_for};
 ghost use Rattle.exec_world.specs.inner.Parts.{new_queue_of, queues_of};
 
 use crate::callback_script::callback_script;
@@ -15,22 +15,6 @@ use exec_rules::{Handler, share};
 use exec_script::Bank;
 use std::alloc::Global;
 
-// The kinds of callbacks in ready order.
-const KINDS: [Kind; 12] = [
-    Kind::Timer,
-    Kind::Message,
-    Kind::Request,
-    Kind::Reply,
-    Kind::Goal,
-    Kind::Cancel,
-    Kind::Ask,
-    Kind::Poll,
-    Kind::Response,
-    Kind::Code,
-    Kind::Feedback,
-    Kind::Result,
-];
-
 // The timers of a graph, in the order of declaration.
 pub(crate) fn new_timers(alloc: Global, graph: &Graph) -> Result<Vec<EntityTimer>, Memory>
     ensures { IfOk result (λ timers. timers.items ≡ (first_world graph.now).timers) }
@@ -38,7 +22,7 @@ pub(crate) fn new_timers(alloc: Global, graph: &Graph) -> Result<Vec<EntityTimer
     let mut timers = Vec::new(alloc);
     for number in 0..graph.len() {
         let entity = EntityNo(number as u16);
-        push_timer(&mut timers, graph, entity, graph.declared(entity))?;
+        push_timer(&mut timers, graph, entity, graph.declaration(entity))?;
     }
     Ok(timers)
 }
@@ -50,7 +34,7 @@ fn push_timer(
     declared: &Declared,
 ) -> Result<(), Memory>
     requires { IsTrue (of_entity true is_within declared.now) }
-    ensures { OnOk result (timers.new.items ≡ timers.old.items ++ cons_if (is_timer declared.now) (timer_for graph.now entity declared.now) []) }
+    ensures { OnOk result (timers.new.items ≡ timers.old.items ++ cons_if (is_timer declared.now) (timer_for graph.now entity (as_entity declared.now)) []) }
 {
     match declared {
         Declared::Topic => Ok(()),
@@ -65,7 +49,7 @@ fn push_timer_of(
     found: &GraphEntity,
 ) -> Result<(), Memory>
     requires { IsTrue (is_within found.now.is) }
-    ensures { OnOk result (timers.new.items ≡ timers.old.items ++ cons_if (is_timer (in_group found.now.group found.now.is)) (timer_for graph.now entity (in_group found.now.group found.now.is)) []) }
+    ensures { OnOk result (timers.new.items ≡ timers.old.items ++ cons_if (is_timer (in_group found.now.group found.now.is)) (timer_for graph.now entity found.now) []) }
 {
     if let EntityOf::Timer(timer) = &found.is {
         let script = share(&timer.script)?;
@@ -80,7 +64,7 @@ pub(crate) fn new_queues(alloc: Global, graph: &Graph) -> Result<Queues, Memory>
     ensures { IfOk result (λ queues. queues ≡ (first_world graph.now).queues) }
 {
     let mut queues = Queues::new(alloc);
-    for kind in KINDS {
+    for kind in Kind::IN_ORDER {
         declare_kind(alloc, &mut queues, graph, kind)?;
     }
     Ok(queues)
@@ -112,7 +96,14 @@ fn declare_all(alloc: Global, queues: &mut Queues, graph: &Graph, kind: Kind) ->
 {
     for number in 0..graph.len() {
         let entity = EntityNo(number as u16);
-        declare_queue(alloc, queues, graph, kind, entity, graph.declared(entity))?;
+        declare_queue(
+            alloc,
+            queues,
+            graph,
+            kind,
+            entity,
+            graph.declaration(entity),
+        )?;
     }
     Ok(())
 }
@@ -127,7 +118,7 @@ fn declare_queue(
 ) -> Result<(), Memory>
     requires taken { takes_from_queue kind ≡ true }
     requires within { IsTrue (of_entity true is_within declared.now) }
-    ensures { OnOk result (queues.new ≡ queues.old ++ cons_if (has_kind kind declared.now) (queue_for graph.now kind entity declared.now) []) }
+    ensures { OnOk result (queues.new ≡ queues.old ++ cons_if (has_kind kind declared.now) (queue_for graph.now kind entity (as_entity declared.now)) []) }
 {
     match declared {
         Declared::Topic => Ok(()),
@@ -145,7 +136,7 @@ fn declare_queue_of(
 ) -> Result<(), Memory>
     requires taken { takes_from_queue kind ≡ true }
     requires within { IsTrue (is_within found.now.is) }
-    ensures { OnOk result (queues.new ≡ queues.old ++ cons_if (has_kind kind (in_group found.now.group found.now.is)) (queue_for graph.now kind entity (in_group found.now.group found.now.is)) []) }
+    ensures { OnOk result (queues.new ≡ queues.old ++ cons_if (has_kind kind (in_group found.now.group found.now.is)) (queue_for graph.now kind entity found.now) []) }
 {
     let Some(script) = callback_script(alloc, kind, &found.is)? else {
         return Ok(());
@@ -162,7 +153,13 @@ pub(crate) fn new_servers(alloc: Global, graph: &Graph) -> Result<Servers, Memor
     let mut servers = Servers::new(alloc);
     for number in 0..graph.len() {
         let entity = EntityNo(number as u16);
-        declare_server(alloc, &mut servers, graph, entity, graph.declared(entity))?;
+        declare_server(
+            alloc,
+            &mut servers,
+            graph,
+            entity,
+            graph.declaration(entity),
+        )?;
     }
     Ok(servers)
 }
@@ -174,7 +171,7 @@ fn declare_server(
     entity: EntityNo,
     declared: &Declared,
 ) -> Result<(), Memory>
-    ensures { OnOk result (servers.new ≡ servers.old ++ cons_if (is_server declared.now) (server_for graph.now entity declared.now) []) }
+    ensures { OnOk result (servers.new ≡ servers.old ++ cons_if (is_server declared.now) (server_for graph.now entity (as_entity declared.now)) []) }
 {
     match declared {
         Declared::Topic => Ok(()),
@@ -189,7 +186,7 @@ fn declare_server_of(
     entity: EntityNo,
     found: &GraphEntity,
 ) -> Result<(), Memory>
-    ensures { OnOk result (servers.new ≡ servers.old ++ cons_if (is_server (in_group found.now.group found.now.is)) (server_for graph.now entity (in_group found.now.group found.now.is)) []) }
+    ensures { OnOk result (servers.new ≡ servers.old ++ cons_if (is_server (in_group found.now.group found.now.is)) (server_for graph.now entity found.now) []) }
 {
     if let EntityOf::Server(server) = &found.is {
         let script = share(&server.script)?;
@@ -206,7 +203,7 @@ pub(crate) fn new_clients(alloc: Global, graph: &Graph) -> Result<Clients, Memor
     let mut clients = Clients::new(alloc);
     for number in 0..graph.len() {
         let entity = EntityNo(number as u16);
-        declare_client(alloc, &mut clients, entity, graph.declared(entity))?;
+        declare_client(alloc, &mut clients, entity, graph.declaration(entity))?;
     }
     Ok(clients)
 }
@@ -217,7 +214,7 @@ fn declare_client(
     entity: EntityNo,
     declared: &Declared,
 ) -> Result<(), Memory>
-    ensures { OnOk result (clients.new ≡ clients.old ++ cons_if (is_client declared.now) (client_for entity declared.now) []) }
+    ensures { OnOk result (clients.new ≡ clients.old ++ cons_if (is_client declared.now) (client_for entity (as_entity declared.now)) []) }
 {
     match declared {
         Declared::Topic => Ok(()),
@@ -231,7 +228,7 @@ fn declare_client_of(
     entity: EntityNo,
     found: &GraphEntity,
 ) -> Result<(), Memory>
-    ensures { OnOk result (clients.new ≡ clients.old ++ cons_if (is_client (in_group found.now.group found.now.is)) (client_for entity (in_group found.now.group found.now.is)) []) }
+    ensures { OnOk result (clients.new ≡ clients.old ++ cons_if (is_client (in_group found.now.group found.now.is)) (client_for entity found.now) []) }
 {
     if let EntityOf::Client(client) = &found.is {
         clients.declare(Client::new(alloc, entity, client.service))?;
@@ -246,7 +243,7 @@ pub(crate) fn new_action_clients(alloc: Global, graph: &Graph) -> Result<ActionC
     let mut clients = ActionClients::new(alloc);
     for number in 0..graph.len() {
         let entity = EntityNo(number as u16);
-        declare_action_client(&mut clients, entity, graph.declared(entity))?;
+        declare_action_client(&mut clients, entity, graph.declaration(entity))?;
     }
     Ok(clients)
 }
@@ -257,7 +254,7 @@ fn declare_action_client(
     declared: &Declared,
 ) -> Result<(), Memory>
     requires { length clients.old < 2 ^ 16 }
-    ensures { OnOk result (clients.new ≡ clients.old ++ cons_if (is_action_client declared.now) (action_client_for (length clients.old) entity declared.now) []) }
+    ensures { OnOk result (clients.new ≡ clients.old ++ cons_if (is_action_client declared.now) (action_client_for (length clients.old) entity (as_entity declared.now)) []) }
 {
     match declared {
         Declared::Topic => Ok(()),
@@ -271,7 +268,7 @@ fn declare_action_client_of(
     found: &GraphEntity,
 ) -> Result<(), Memory>
     requires { length clients.old < 2 ^ 16 }
-    ensures { OnOk result (clients.new ≡ clients.old ++ cons_if (is_action_client (in_group found.now.group found.now.is)) (action_client_for (length clients.old) entity (in_group found.now.group found.now.is)) []) }
+    ensures { OnOk result (clients.new ≡ clients.old ++ cons_if (is_action_client (in_group found.now.group found.now.is)) (action_client_for (length clients.old) entity found.now) []) }
 {
     if let EntityOf::ActionClient(client) = &found.is {
         let place = clients.as_slice().len() as u16;
@@ -288,7 +285,7 @@ pub(crate) fn new_topics(alloc: Global, graph: &Graph) -> Result<Topics, Memory>
     let mut topics = Topics::new(alloc);
     for number in 0..graph.len() {
         let entity = EntityNo(number as u16);
-        declare_topic(alloc, &mut topics, graph, entity, graph.declared(entity))?;
+        declare_topic(alloc, &mut topics, graph, entity, graph.declaration(entity))?;
     }
     Ok(topics)
 }
@@ -321,7 +318,7 @@ fn subscribers_of(alloc: Global, graph: &Graph, topic: EntityNo) -> Result<Vec<E
     let mut subscribers = Vec::new(alloc);
     for number in 0..graph.len() {
         let entity = EntityNo(number as u16);
-        push_subscriber(&mut subscribers, topic, entity, graph.declared(entity))?;
+        push_subscriber(&mut subscribers, topic, entity, graph.declaration(entity))?;
     }
     Ok(subscribers)
 }

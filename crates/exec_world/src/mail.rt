@@ -65,7 +65,7 @@ impl<L: Lines> Mail<L> {
 
     // Sets places to those of the queues that have an item, either of the kinds before polls or of those behind them, in
     // ascending order.
-    pub(crate) fn filled(
+    pub(crate) fn list_filled(
         &mut self,
         before_polls: bool,
         places: &mut Vec<usize>,
@@ -73,7 +73,7 @@ impl<L: Lines> Mail<L> {
         ensures same { self.new ≡ self.old }
         ensures places { OnOk result (places.new.items ≡ places_where (λ queue. has_item queue && is_in_part before_polls queue) self.old.queues) }
     {
-        self.queues.filled(before_polls, places)
+        self.queues.list_filled(before_polls, places)
     }
 
     // Lists the callbacks that take from the queues at these places.

@@ -1,7 +1,7 @@
 //! Callbacks that take an item from a queue.
 ghost use Rattle.std.specs.Prelude.{◌≡◌, [], None, Some, if◌then◌else◌, IfOk};
 ghost use Rattle.std.specs.Option.{option_copied, option_map_or};
-ghost use Rattle.exec_plan.specs.Entity.{Script};
+ghost use Rattle.exec_script.specs.Instruction.{Script};
 ghost use Rattle.exec_rules.specs.Ready.{candidates_for, ready_for, script_to_take};
 ghost use Rattle.exec_rules.specs.World.{has_room_for};
 ghost use Rattle.exec_rules.specs.declared.ready.Cause.TheVariants as cause;

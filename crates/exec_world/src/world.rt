@@ -155,7 +155,7 @@ impl<L: Lines> World<L> {
     }
 
     /// How many callbacks of the last snapshot aren't committed yet.
-    pub fn left(&self) -> usize
+    pub fn count_left(&self) -> usize
         ensures { result ≡ self.now.left }
     {
         self.left

@@ -5,7 +5,7 @@ use Rattle.exec_plan.specs.Graph.{in_group}
 use Rattle.exec_plan.specs.declared.entity.Declared.TheVariants.{Topic}
 use Rattle.exec_plan.specs.declared.entity.EntityOf.TheVariants.{Timer, Server}
 use Rattle.exec_plan.specs.Plan.{PlanData}
-use Rattle.exec_plan.specs.declared.plan.Fed.TheVariants.{Message, Goal}
+use Rattle.exec_plan.specs.declared.plan.FedOf.TheVariants.{Message, Goal}
 use Rattle.exec_script.specs.declared.instr.Destination.TheVariants as destination
 use Rattle.exec_script.specs.Instruction as instr
 use Rattle.exec_script.specs.declared.instr.Operand.TheVariants as operand

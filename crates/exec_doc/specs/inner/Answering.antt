@@ -1,8 +1,7 @@
 -- What a reader answers of drafts: a plan, or the refusal.
 use Rattle.std.specs.Prelude.{◌≡◌, ℕ, ◌⊎◌, List, Bool, false, not, ◌&&◌, Option, None, Some, find, Result, Ok, Err}
-use Rattle.exec_doc.specs.Draft.{DocumentDraft}
-use Rattle.exec_doc.specs.declared.draft.EntryDraft.{EntryDraft}
-use Rattle.exec_doc.specs.Refusals.{has_fault, codes_in_order}
+use Rattle.exec_doc.specs.Draft.{DocumentDraft, EntryDraft}
+use Rattle.exec_doc.specs.Refusals.{has_fault_of, codes_in_order}
 use Rattle.exec_doc.specs.declared.refused.Refused.{Refused}
 use Rattle.exec_doc.specs.declared.refused.Refused.TheVariants as refused
 use Rattle.exec_graph.specs.declared.draft.GraphDraft.{GraphDraft}
@@ -17,7 +16,7 @@ use Rattle.exec_graph.specs.Faults.{has_faulty_script, shares_variables, is_smal
 
 -- the refusal of a draft: the first code that holds of it
 abbrev pub draft_refusal : DocumentDraft → Option Refused
-draft_refusal document = find (λ code. has_fault code document) codes_in_order
+draft_refusal document = find (λ code. has_fault_of code document) codes_in_order
 
 -- whether a code up to that of group variables holds of a graph with a schedule that is within its limits or isn't
 abbrev pub has_graph_fault : GraphDraft → Bool → Refused → Bool

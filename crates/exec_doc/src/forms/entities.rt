@@ -1,10 +1,10 @@
 ghost use Rattle.std.specs.Prelude.{OnOk, IfErr, map};
 ghost use Rattle.serde_json.specs.View.{view};
 ghost use Rattle.exec_doc.specs.Forms.{depth_field, form_of, entity, list};
-ghost use Rattle.exec_plan.specs.Options.{each};
+ghost use Rattle.exec_msg.specs.Options.{each};
 ghost use Rattle.exec_doc.specs.inner.Reading.{ReadingGives, ReadingFails, IsReadBehind};
 
-use crate::forms::fields::{optional, required};
+use crate::forms::fields::{optional_field, required_field};
 use crate::forms::scripts::script_field;
 use crate::refused::Refused;
 use exec_graph::{
@@ -57,22 +57,22 @@ fn entity(alloc: Global, value: &Value, kind: EntityKind) -> Result<EntityDraft,
     ensures { ReadingGives (λ found. found) result (entity (form_of kind) (view value.now)) }
 {
     Ok(EntityDraft {
-        name: required(alloc, value, "name")?,
-        group: optional(alloc, value, "group")?,
-        is: drafted(alloc, value, kind)?,
+        name: required_field(alloc, value, "name")?,
+        group: optional_field(alloc, value, "group")?,
+        is: form_of(alloc, value, kind)?,
     })
 }
 
-fn drafted(alloc: Global, value: &Value, kind: EntityKind) -> Result<Drafted, Refused>
+fn form_of(alloc: Global, value: &Value, kind: EntityKind) -> Result<Drafted, Refused>
     ensures { ReadingGives (λ found. found) result (form_of kind (view value.now)) }
 {
     Ok(match kind {
         EntityKind::Timer => EntityOf::Timer(TimerEntity {
-            period: required(alloc, value, "period")?,
+            period: required_field(alloc, value, "period")?,
             script: script_field(alloc, value, "script")?,
         }),
         EntityKind::Subscription => EntityOf::Subscription(SubscriptionEntity {
-            topic: required(alloc, value, "topic")?,
+            topic: required_field(alloc, value, "topic")?,
             depth: depth_field(alloc, value)?,
             script: script_field(alloc, value, "script")?,
         }),
@@ -81,24 +81,24 @@ fn drafted(alloc: Global, value: &Value, kind: EntityKind) -> Result<Drafted, Re
             script: script_field(alloc, value, "script")?,
         }),
         EntityKind::Client => EntityOf::Client(ClientEntity {
-            service: required(alloc, value, "service")?,
+            service: required_field(alloc, value, "service")?,
             depth: depth_field(alloc, value)?,
             script: script_field(alloc, value, "script")?,
         }),
         EntityKind::Server => EntityOf::Server(ServerEntity {
             depth: depth_field(alloc, value)?,
-            result_timeout: optional(alloc, value, "result_timeout")?,
+            result_timeout: optional_field(alloc, value, "result_timeout")?,
             on_goal: script_field(alloc, value, "on_goal")?,
             on_cancel: script_field(alloc, value, "on_cancel")?,
             script: script_field(alloc, value, "script")?,
         }),
         EntityKind::ActionClient => EntityOf::ActionClient(ActionClientEntity {
-            server: required(alloc, value, "action")?,
+            server: required_field(alloc, value, "action")?,
             depth: depth_field(alloc, value)?,
             on_response: script_field(alloc, value, "on_response")?,
             on_code: script_field(alloc, value, "on_code")?,
             on_feedback: script_field(alloc, value, "on_feedback")?,
-            on_result: optional(alloc, value, "on_result")?,
+            on_result: optional_field(alloc, value, "on_result")?,
         }),
     })
 }
@@ -106,5 +106,5 @@ fn drafted(alloc: Global, value: &Value, kind: EntityKind) -> Result<Drafted, Re
 fn depth_field(alloc: Global, value: &Value) -> Result<u64, Refused>
     ensures { ReadingGives (λ found. found) result (depth_field (view value.now)) }
 {
-    Ok(optional(alloc, value, "depth")?.unwrap_or(DEFAULT_DEPTH))
+    Ok(optional_field(alloc, value, "depth")?.unwrap_or(DEFAULT_DEPTH))
 }

@@ -4,7 +4,7 @@ ghost use Rattle.exec_doc.specs.inner.Picking.{seen};
 ghost use Rattle.exec_doc.specs.inner.Reading.{ReadingGives};
 
 use crate::draft::{EntryDraft, FedDraft};
-use crate::forms::fields::{Form, if_there, needed};
+use crate::forms::fields::{Form, field_value, if_there};
 use crate::forms::picked::EntryFields;
 use crate::refused::Refused;
 use exec_msg::GoalId;
@@ -24,12 +24,12 @@ fn entry(alloc: Global, fields: &EntryFields<'_>) -> Result<EntryDraft, Refused>
     ensures { ReadingGives (λ found. found) result (entry_draft_in (seen fields.now)) }
 {
     Ok(EntryDraft {
-        round: needed(alloc, fields.round)?,
-        fed: fed(alloc, fields)?,
+        round: field_value(alloc, fields.round)?,
+        fed: fed_draft(alloc, fields)?,
     })
 }
 
-fn fed(alloc: Global, fields: &EntryFields<'_>) -> Result<FedDraft, Refused>
+fn fed_draft(alloc: Global, fields: &EntryFields<'_>) -> Result<FedDraft, Refused>
     ensures { ReadingGives (λ found. found) result (fed_draft_in (seen fields.now)) }
 {
     match (
@@ -48,8 +48,8 @@ fn message(alloc: Global, fields: &EntryFields<'_>) -> Result<FedDraft, Refused>
     ensures { ReadingGives (λ found. found) result (message_in (seen fields.now)) }
 {
     Ok(FedDraft::Message {
-        topic: needed(alloc, fields.topic)?,
-        value: needed(alloc, fields.value)?,
+        topic: field_value(alloc, fields.topic)?,
+        value: field_value(alloc, fields.value)?,
     })
 }
 
@@ -57,9 +57,9 @@ fn goal(alloc: Global, fields: &EntryFields<'_>) -> Result<FedDraft, Refused>
     ensures { ReadingGives (λ found. found) result (goal_in (seen fields.now)) }
 {
     Ok(FedDraft::Goal {
-        action: needed(alloc, fields.action)?,
-        id: needed(alloc, fields.goal)?,
-        value: needed(alloc, fields.value)?,
+        server: field_value(alloc, fields.action)?,
+        id: field_value(alloc, fields.goal)?,
+        value: field_value(alloc, fields.value)?,
     })
 }
 
@@ -67,8 +67,8 @@ fn cancel(alloc: Global, fields: &EntryFields<'_>) -> Result<FedDraft, Refused>
     ensures { ReadingGives (λ found. found) result (cancel_in (seen fields.now)) }
 {
     Ok(FedDraft::Cancel {
-        action: needed(alloc, fields.action)?,
-        id: needed(alloc, fields.cancel)?,
+        server: field_value(alloc, fields.action)?,
+        id: field_value(alloc, fields.cancel)?,
         stamp: if_there(alloc, fields.stamp)?.unwrap_or(0),
     })
 }

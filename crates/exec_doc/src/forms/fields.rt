@@ -1,11 +1,11 @@
 ghost use Rattle.std.specs.Prelude.{Option, map};
 ghost use Rattle.serde_json.specs.Data.{Data};
 ghost use Rattle.serde_json.specs.View.{view};
-ghost use Rattle.exec_doc.specs.Forms.{text, count, integer, list_of, needed, required, optional, list};
+ghost use Rattle.exec_doc.specs.Forms.{text, count, integer, list_of, field_value, required_field, optional_field, list};
 ghost use Rattle.exec_doc.specs.inner.Picking.{found};
 ghost use Rattle.exec_doc.specs.inner.Reading.{ReadingGives};
 ghost use Rattle.exec_plan.specs.Entity.{if_there};
-ghost use Rattle.exec_plan.specs.Options.{each};
+ghost use Rattle.exec_msg.specs.Options.{each};
 
 use crate::refused::Refused;
 use exec_script::WordText;
@@ -50,22 +50,26 @@ impl Form for u64 {
 }
 
 /// The value of a required field.
-pub fn required<T: Form>(alloc: Global, holder: &Value, name: &str) -> Result<T, Refused>
-    ensures { ReadingGives (λ found. found) result (required T.form name.now (view holder.now)) }
+pub fn required_field<T: Form>(alloc: Global, holder: &Value, name: &str) -> Result<T, Refused>
+    ensures { ReadingGives (λ found. found) result (required_field T.form name.now (view holder.now)) }
 {
-    needed(alloc, holder.get(name))
+    field_value(alloc, holder.get(name))
 }
 
 /// What a field says that is needed.
-pub fn needed<T: Form>(alloc: Global, field: Option<&Value>) -> Result<T, Refused>
-    ensures { ReadingGives (λ read. read) result (needed T.form (found field.entry)) }
+pub fn field_value<T: Form>(alloc: Global, field: Option<&Value>) -> Result<T, Refused>
+    ensures { ReadingGives (λ read. read) result (field_value T.form (found field.entry)) }
 {
     T::read(alloc, field.ok_or(Refused::Shape)?)
 }
 
 /// The value of an optional field.
-pub fn optional<T: Form>(alloc: Global, holder: &Value, name: &str) -> Result<Option<T>, Refused>
-    ensures { ReadingGives (λ found. found) result (optional T.form name.now (view holder.now)) }
+pub fn optional_field<T: Form>(
+    alloc: Global,
+    holder: &Value,
+    name: &str,
+) -> Result<Option<T>, Refused>
+    ensures { ReadingGives (λ found. found) result (optional_field T.form name.now (view holder.now)) }
 {
     if_there(alloc, holder.get(name))
 }

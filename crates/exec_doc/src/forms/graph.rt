@@ -1,8 +1,8 @@
 ghost use Rattle.std.specs.Prelude.{◌≡◌, [], ◌++◌, map, option_map, OnOk, IfErr};
 ghost use Rattle.std.specs.Option.{unwrap_or};
 ghost use Rattle.serde_json.specs.View.{view};
-ghost use Rattle.exec_plan.specs.Options.{each};
-ghost use Rattle.exec_doc.specs.Forms.{text, list_of, declared};
+ghost use Rattle.exec_msg.specs.Options.{each};
+ghost use Rattle.exec_doc.specs.Forms.{text, list_of, declarations};
 ghost use Rattle.exec_plan.specs.Entity.{if_there};
 ghost use Rattle.exec_doc.specs.inner.Reading.{ReadingGives, ReadingFails, IsReadBehind};
 
@@ -15,8 +15,8 @@ use serde_json::Value;
 use std::alloc::Global;
 
 /// What a document declares. The names of its topics, of which there may be a million, are taken out of it.
-pub fn declared(alloc: Global, document: Value) -> Result<GraphBuilder, Refused>
-    ensures { ReadingGives (λ found. found) result (declared (view document)) }
+pub fn declarations(alloc: Global, document: Value) -> Result<GraphBuilder, Refused>
+    ensures { ReadingGives (λ found. found) result (declarations (view document)) }
 {
     let mut graph = GraphBuilder::new(alloc);
     declare_nodes(list(alloc, &document, "nodes")?, &mut graph)?;

@@ -3,7 +3,7 @@ ghost use Rattle.serde_json.specs.View.{view};
 ghost use Rattle.exec_doc.specs.Forms.{exclusive_named, group_kind, group, node};
 
 use crate::forms::entities::append_entities;
-use crate::forms::fields::{Form, list, required};
+use crate::forms::fields::{Form, list, required_field};
 use crate::refused::Refused;
 use exec_graph::{EntityKind, GroupDraft, NodeDraft};
 use exec_msg::Items;
@@ -14,7 +14,7 @@ impl Form for NodeDraft {
     ghost form = { node };
 
     fn read(alloc: Global, value: &Value) -> Result<NodeDraft, Refused> {
-        let name = required(alloc, value, "name")?;
+        let name = required_field(alloc, value, "name")?;
         let groups = list(alloc, value, "groups")?;
         let mut entities = Vec::new(alloc);
         append_entities(alloc, value, "timers", EntityKind::Timer, &mut entities)?;
@@ -47,7 +47,7 @@ impl Form for GroupDraft {
     ghost form = { group };
 
     fn read(alloc: Global, value: &Value) -> Result<GroupDraft, Refused> {
-        let name = required(alloc, value, "name")?;
+        let name = required_field(alloc, value, "name")?;
         let kind = value.get("kind").ok_or(Refused::Shape)?;
         Ok(GroupDraft {
             name,

@@ -1,6 +1,6 @@
 ghost use Rattle.std.specs.Prelude.{map};
 ghost use Rattle.serde_json.specs.View.{view};
-ghost use Rattle.exec_plan.specs.Options.{each};
+ghost use Rattle.exec_msg.specs.Options.{each};
 ghost use Rattle.exec_doc.specs.Forms.{list_of, word, script, script_field};
 ghost use Rattle.exec_doc.specs.inner.Reading.{ReadingGives};
 
@@ -47,7 +47,7 @@ fn instructions(alloc: Global, values: &[Value]) -> Result<Vec<Vec<Word>>, Refus
 pub fn script_field(alloc: Global, holder: &Value, name: &str) -> Result<Spelled, Refused>
     ensures { ReadingGives (λ found. found) result (script_field name.now (view holder.now)) }
 {
-    match fields::optional(alloc, holder, name)? {
+    match fields::optional_field(alloc, holder, name)? {
         Some(script) => Ok(script),
         None => Ok(Spelled::of(Vec::new(alloc))),
     }

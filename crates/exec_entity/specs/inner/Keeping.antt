@@ -1,11 +1,11 @@
 -- That a server keeps work beside each of its goals.
 use Rattle.std.specs.Prelude.{◌≡◌, ℕ, List, [], ◌∷◌, map, slice_get, false, ⊤, Option, None, Some}
 use Rattle.std.specs.Option.{option_map}
-use Rattle.exec_goal.specs.Calls.{is_among}
+use Rattle.exec_goal.specs.inner.Ids.{is_among}
 use Rattle.exec_goal.specs.Table.{GoalRecord, has_id, after_event}
 use Rattle.exec_msg.specs.Lists.{change_first}
 use Rattle.exec_msg.specs.declared.goal.Event.TheVariants as event
-use Rattle.exec_rules.specs.Item.{GoalId}
+use Rattle.exec_msg.specs.Numbers.{GoalId}
 use Rattle.exec_rules.specs.World.{HeldGoal}
 
 -- no identifier stands twice

@@ -1,10 +1,9 @@
 -- What is found in a list of servers.
 use Rattle.std.specs.Prelude.{List, Option, None, Some}
 use Rattle.exec_goal.specs.Table.{GoalRecord, Asked, told, later, unknown, has_id, after_event, asked_by}
-use Rattle.exec_plan.specs.Entity.{EntityNo}
+use Rattle.exec_msg.specs.Numbers.{EntityNo, GoalId}
 use Rattle.exec_msg.specs.Lists.{change_first}
 use Rattle.exec_msg.specs.declared.goal.Event.TheVariants as event
-use Rattle.exec_rules.specs.Item.{GoalId}
 use Rattle.exec_rules.specs.World.{ServerEntry, is_server_at}
 
 -- a server whose goals are changed so

@@ -148,7 +148,7 @@ impl ByNumber<Server> {
     ) -> Option<State>
         ensures reached { result ≡ end_state id event (goals_in server self.old) }
         ensures ended { IfSome result (λ _. self.new ≡ change_first (is_server_at server) (with_goals (change_first (has_id id) (after_end event value moment))) self.old) }
-        ensures refused { IfNone result (self.new ≡ self.old) }
+        ensures unchanged { IfNone result (self.new ≡ self.old) }
     {
         let place = self.place(server);
         let entry = self.entries.get_mut(place)?;
@@ -175,7 +175,7 @@ impl ByNumber<Server> {
         ensures close { IfOk result (λ close. close ≡ (poll_listed turn.now (work_in server id self.old) bank.old).close) }
         ensures variables { OnOk result (bank.new ≡ (poll_listed turn.now (work_in server id self.old) bank.old).variables) }
         ensures task { OnOk result (self.new ≡ change_first (is_server_at server) (server_polled id (poll_listed turn.now (work_in server id self.old) bank.old).task) self.old) }
-        ensures refused { OnErr result (bank.new ≡ bank.old) }
+        ensures unchanged { OnErr result (bank.new ≡ bank.old) }
     {
         let place = self.place(server);
         let Some(entry) = self.entries.get_mut(place) else {

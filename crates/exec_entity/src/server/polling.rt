@@ -31,11 +31,11 @@ impl Server {
     ghost use Rattle.exec_entity.specs.inner.Polling.{goal_polled, poll_by, server_polled, server_with_work};
 
     // How many goals the server works on; where there are none, none is awake. It looks at no goal.
-    pub(crate) fn working(&self) -> usize
+    pub(crate) fn count_working(&self) -> usize
         ensures working { result ≡ working self.now.goals }
         ensures idle { result ≡ 0 → (moment : ℕ) → filter (is_goal_awake moment self.now.held) self.now.goals ≡ [] }
     {
-        self.goals.working()
+        self.goals.count_working()
     }
 
     // Whether the goal at this place, of which this is told, is awake at a moment.
@@ -90,7 +90,7 @@ impl Server {
     pub(crate) fn add_awake(&self, moment: Moment, goals: &mut Vec<AwakeGoal>) -> Result<(), Memory>
         ensures { OnOk result (goals.new.items ≡ goals.old.items ++ awake_goals moment self.now) }
     {
-        if self.working() == 0 {
+        if self.count_working() == 0 {
             return Ok(());
         }
         self.add_each_awake(moment, goals)
@@ -179,8 +179,8 @@ impl Server {
         ensures close { IfOk result (λ close. close ≡ (goal_polled turn.now id self.old bank.old).close) }
         ensures variables { OnOk result (bank.new ≡ (goal_polled turn.now id self.old bank.old).variables) }
         ensures task { OnOk result (self.new ≡ server_polled id (goal_polled turn.now id self.old bank.old).task self.old) }
-        ensures refused { OnErr result (self.new ≡ self.old) }
-        ensures refused_variables { OnErr result (bank.new ≡ bank.old) }
+        ensures unchanged { OnErr result (self.new ≡ self.old) }
+        ensures unchanged_variables { OnErr result (bank.new ≡ bank.old) }
     {
         let Some(place) = self.place_of(id) else {
             effects.clear();
@@ -207,13 +207,13 @@ impl Server {
     {
         match self.held.get_index(self.next) {
             Some((key, _)) if *key == id => Some(self.next),
-            _ => self.place_found(id),
+            _ => self.find_place(id),
         }
     }
 
     // The same, wherever it stands.
     #[inline(never)]
-    fn place_found(&self, id: GoalId) -> Option<usize>
+    fn find_place(&self, id: GoalId) -> Option<usize>
         ensures at { IfSome result (λ place. IsFor self.now.held place id) }
         ensures none { IfNone result (find (is_for id) self.now.held ≡ None) }
     {

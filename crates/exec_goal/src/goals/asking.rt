@@ -25,7 +25,7 @@ impl Goals {
         ensures told { IfOk result (λ told. told ≡ answer_of (asked_for id self.old)) }
         ensures noted { OnOk result (self.new ≡ after_asking id asker self.old) }
         ensures memory { OnErr result (asked_for id self.old ≡ later) }
-        ensures refused { OnErr result (self.new ≡ self.old) }
+        ensures unchanged { OnErr result (self.new ≡ self.old) }
     {
         let Some(goal) = self.held.get_mut(&id) else {
             return Ok(Asked::Unknown);

@@ -7,7 +7,7 @@ use exec_msg::{GoalId, Items, Memory, ReturnCode};
 impl Goals {
     ghost use Rattle.std.specs.Prelude.{◌≡◌, ◌<◌, length, map, slice_index_or, slice_set, OnOk, OnErr, IfOk};
     ghost use Rattle.std.specs.List.{filter, find};
-    ghost use Rattle.exec_goal.specs.Calls.{is_among};
+    ghost use Rattle.exec_goal.specs.inner.Ids.{is_among};
     ghost use Rattle.exec_goal.specs.Cancel.{candidates, moved, table_after, code_by, code_unmoved, code_of, moves_by, after_answer_by};
     ghost use Rattle.exec_goal.specs.Info.{info_of};
     ghost use Rattle.exec_goal.specs.Table.{GoalRecord, has_id};
@@ -40,10 +40,10 @@ impl Goals {
         ensures code { IfOk result (λ answer. answer.code ≡ code_of request.now decisions.now self.old) }
         ensures moved { IfOk result (λ answer. answer.moved ≡ map (λ goal. goal.id) (moved decisions.now self.old)) }
         ensures table { OnOk result (self.new ≡ table_after decisions.now self.old) }
-        ensures refused { OnErr result (self.new ≡ self.old) }
+        ensures unchanged { OnErr result (self.new ≡ self.old) }
     {
         let accepted = AcceptedIds::of(self.alloc, decisions)?;
-        let moved = self.moved_by(&accepted)?;
+        let moved = self.moving_ids(&accepted)?;
         let code = if moved.is_empty() {
             self.code_unmoved(request, decisions)
         } else {
@@ -53,7 +53,7 @@ impl Goals {
         Ok(CancelAnswer { code, moved })
     }
 
-    fn moved_by(&self, accepted: &AcceptedIds) -> Result<Items<GoalId>, Memory>
+    fn moving_ids(&self, accepted: &AcceptedIds) -> Result<Items<GoalId>, Memory>
         ensures { IfOk result (λ ids. ids ≡ map (λ goal. goal.id) (filter (moves_by (is_among accepted.now)) self.now)) }
     {
         let mut ids = Items::new(self.alloc);
@@ -110,6 +110,6 @@ impl Goals {
         let is_accepted = accepted.has(*id);
         let before = goal.state;
         goal.cancel_where(is_accepted);
-        self.tally.count_move(before, goal.state, goal.ended);
+        self.tally.count_move(index, before, goal.state, goal.ended);
     }
 }

@@ -7,8 +7,10 @@ impl Goals {
     ghost use Rattle.std.specs.Prelude.{◌≡◌, ◌<◌, Some, [], length, drop, slice_get, slice_index_or, IfSome, IfNone};
     ghost use Rattle.std.specs.List.{find, AllByRecursion};
     ghost use Rattle.std.specs.Option.{option_map};
-    ghost use Rattle.exec_goal.specs.Calls.{after_expiry, IsFirst};
+    ghost use Rattle.exec_goal.specs.Calls.{after_expiry};
+    ghost use Rattle.exec_goal.specs.inner.Places.{IsFirst};
     ghost use Rattle.exec_goal.specs.Table.{GoalRecord, is_expired, expired, unexpired};
+    ghost use Rattle.exec_goal.specs.inner.Ended.{ended_places};
     ghost use Rattle.exec_goal.specs.inner.Tally.{EndsFrom, first_with_goal};
 
     /// Forgets the first goal, in the order of acceptance, that had ended so many ticks before a
@@ -22,6 +24,7 @@ impl Goals {
         ensures kept { unexpired moment (Some timeout) self.new ≡ unexpired moment (Some timeout) self.old }
     {
         let index = self.next_expired(moment, timeout)?;
+        self.tally.ended.forget(index);
         let (id, _forgotten) = self.held.shift_remove_index(index).unwrap();
         Some(id)
     }
@@ -48,8 +51,8 @@ impl Goals {
         ensures { AllByRecursion (EndsFrom result) self.now }
     {
         let mut first = None;
-        for index in 0..self.len() {
-            first = self.first_with_goal(index, first);
+        for index in 0..self.count_ended() {
+            first = self.first_with_goal(self.ended_at(index), first);
         }
         first
     }
@@ -67,12 +70,28 @@ impl Goals {
         ensures found { IfSome result (λ index. IsFirst (is_expired moment (Some timeout)) self.now index) }
         ensures none { IfNone result (expired moment (Some timeout) self.now ≡ []) }
     {
-        for index in 0..self.len() {
-            if self.is_expired_at(index, moment, timeout) {
-                return Some(index);
+        for index in 0..self.count_ended() {
+            let place = self.ended_at(index);
+            if self.is_expired_at(place, moment, timeout) {
+                return Some(place);
             }
         }
         None
+    }
+
+    // How many goals have ended.
+    fn count_ended(&self) -> usize
+        ensures { result ≡ length (ended_places self.now) }
+    {
+        self.tally.ended.len()
+    }
+
+    // The place of one of them, in the order of acceptance.
+    fn ended_at(&self, index: usize) -> usize
+        requires { index < length (ended_places self.now) }
+        ensures { slice_get (ended_places self.now) index ≡ Some result }
+    {
+        self.tally.ended.at(index)
     }
 
     fn is_expired_at(&self, index: usize, moment: Moment, timeout: u64) -> bool

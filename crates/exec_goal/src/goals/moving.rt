@@ -17,17 +17,18 @@ impl Goals {
         ensures state { IfOk result (λ state. next_state id event self.old ≡ Some state) }
         ensures moved { OnOk result (self.new ≡ change_first (has_id id) (after_event event) self.old) }
         ensures illegal { OnErr result (next_state id event self.old ≡ None) }
-        ensures refused { OnErr result (self.new ≡ self.old) }
+        ensures unchanged { OnErr result (self.new ≡ self.old) }
     {
-        let Some(goal) = self.held.get_mut(&id) else {
+        let Some(place) = self.held.get_index_of(&id) else {
             return Err(Illegal);
         };
+        let (_id, goal) = self.held.pair_mut(place);
         let Some(next) = goal.state.after(event) else {
             return Err(Illegal);
         };
         let before = goal.state;
         goal.state = next;
-        self.tally.count_move(before, next, goal.ended);
+        self.tally.count_move(place, before, next, goal.ended);
         Ok(next)
     }
 
@@ -44,11 +45,12 @@ impl Goals {
         ensures state { IfOk result (λ state. end_state id event self.old ≡ Some state) }
         ensures ended { OnOk result (self.new ≡ change_first (has_id id) (after_end event value moment) self.old) }
         ensures illegal { OnErr result (end_state id event self.old ≡ None) }
-        ensures refused { OnErr result (self.new ≡ self.old) }
+        ensures unchanged { OnErr result (self.new ≡ self.old) }
     {
-        let Some(goal) = self.held.get_mut(&id) else {
+        let Some(place) = self.held.get_index_of(&id) else {
             return Err(Illegal);
         };
+        let (_id, goal) = self.held.pair_mut(place);
         let Some(next) = goal.state.end(event) else {
             return Err(Illegal);
         };
@@ -56,7 +58,7 @@ impl Goals {
         goal.state = next;
         goal.result = value;
         goal.ended = moment;
-        self.tally.count_move(before, next, moment);
+        self.tally.count_move(place, before, next, moment);
         Ok(next)
     }
 }

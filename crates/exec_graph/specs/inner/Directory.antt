@@ -7,20 +7,20 @@ use Rattle.std.specs.Result.{result_err}
 use Rattle.exec_plan.specs.declared.entity.CallbackGroup.{CallbackGroup}
 use Rattle.exec_plan.specs.declared.entity.Declared.{Declared}
 use Rattle.exec_plan.specs.declared.entity.Declared.TheVariants.{Topic, Entity}
-use Rattle.exec_plan.specs.declared.entity.GraphEntity.{GraphEntity}
 use Rattle.exec_plan.specs.declared.entity.EntityKind.TheVariants as kind
 use Rattle.exec_plan.specs.declared.entity.parts.Referent.{Referent}
 use Rattle.exec_plan.specs.declared.entity.parts.Referent.TheVariants as referent
 use Rattle.exec_script.specs.declared.fault.ScriptFault.{ScriptFault}
 use Rattle.std.specs.Str.{bytes_eq}
 use Rattle.exec_graph.specs.declared.draft.GraphDraft.{GraphDraft}
-use Rattle.exec_plan.specs.Entity.{Drafted, Script, Resolved, RoleScriptData, is_of, reference_of, scripts_of, if_there, read_by}
+use Rattle.exec_script.specs.Instruction.{Script}
+use Rattle.exec_plan.specs.Entity.{Drafted, Resolved, RoleScriptData, is_of, reference_of, scripts_of, if_there, read_by}
 use Rattle.exec_plan.specs.Graph.{EntityData, GroupNo}
 use Rattle.exec_graph.specs.declared.draft.NodeDraft.{NodeDraft}
 use Rattle.exec_graph.specs.Faults.{drafted_names}
 use Rattle.exec_plan.specs.Names.{is_name}
 use Rattle.exec_graph.specs.Numbers.{Placed, entities_of}
-use Rattle.exec_plan.specs.Options.{◌>>=◌}
+use Rattle.exec_msg.specs.Options.{◌>>=◌}
 use Rattle.exec_graph.specs.Resolved.{script_in}
 use Rattle.exec_script.specs.Legality.{legality_of}
 use Rattle.exec_script.specs.Spelling.{ScopeNames}
@@ -33,10 +33,6 @@ names_from names [] = Some names
 names_from names (text ∷ texts) =
     if is_name text && not (list_any (λ other. bytes_eq other text) names) then names_from (names ++ text ∷ []) texts else None
 
--- the names of a node's groups
-abbrev pub names_of_groups : NodeDraft → List (List ℕ)
-names_of_groups node = map (λ group. group.name) node.groups
-
 -- the groups of a node: the number of its default group, and the names of the others, which stand behind it
 pub record NodeGroupsData : Type 0 where
   pub first : ℕ
@@ -46,7 +42,7 @@ pub record NodeGroupsData : Type 0 where
 abbrev pub node_groups_from : ℕ → List NodeDraft → List NodeGroupsData
 node_groups_from first [] = []
 node_groups_from first (node ∷ nodes) =
-    record { first = first; names = names_of_groups node } ∷ node_groups_from (suc first + length (names_of_groups node)) nodes
+    record { first = first; names = map (λ group. group.name) node.groups } ∷ node_groups_from (suc first + length node.groups) nodes
 
 -- ---- the directory
 
@@ -71,13 +67,9 @@ directory_of draft = record {
 abbrev pub position_of : DirectoryData → List ℕ → Option ℕ
 position_of directory name = position_from (λ other. bytes_eq other name) 0 directory.names
 
--- a number that is a topic's
-abbrev pub topic_numbered : DirectoryData → ℕ → Option ℕ
-topic_numbered directory number = then_some (nat_lt number directory.topics) number
-
 -- the number of the topic of a name
 abbrev pub topic_number : DirectoryData → List ℕ → Option ℕ
-topic_number directory name = option_and_then (topic_numbered directory) (position_of directory name)
+topic_number directory name = option_and_then (λ number. then_some (nat_lt number directory.topics) number) (position_of directory name)
 
 -- the entity at a number, with the number
 abbrev pub placed_at : DirectoryData → ℕ → Option (ℕ × Placed)
@@ -88,13 +80,9 @@ placed_at directory number =
 abbrev pub placed_named : DirectoryData → List ℕ → Option (ℕ × Placed)
 placed_named directory name = option_and_then (placed_at directory) (position_of directory name)
 
--- the number of an entity that passes a test
-abbrev pub passing : (Placed → Bool) → ℕ × Placed → Option ℕ
-passing test found = then_some (test found.1) found.0
-
 -- the number of the entity of a name that passes a test
 abbrev pub entity_number : DirectoryData → (Placed → Bool) → List ℕ → Option ℕ
-entity_number directory test name = option_and_then (passing test) (placed_named directory name)
+entity_number directory test name = option_and_then (λ found. then_some (test found.1) found.0) (placed_named directory name)
 
 -- the number of a node's group of a name, or of its default group, which has none
 abbrev pub number_among : Option (List ℕ) → NodeGroupsData → Option ℕ
@@ -113,8 +101,8 @@ number_in directory (referent.Entity kind) = entity_number directory (λ placed.
 -- ---- links
 
 -- the number of what an entity refers to, where it refers to something, and that is declared
-abbrev pub referred : DirectoryData → Drafted → Option (Option ℕ)
-referred directory entity = if_there (λ reference. number_in directory reference.to reference.name) (reference_of entity)
+abbrev pub reference_number : DirectoryData → Drafted → Option (Option ℕ)
+reference_number directory entity = if_there (λ reference. number_in directory reference.to reference.name) (reference_of entity)
 
 -- an entity with the numbers of its group and of what it refers to
 pub record Linked : Type 0 where
@@ -126,7 +114,7 @@ pub record Linked : Type 0 where
 abbrev pub linked_in : DirectoryData → Placed → Option Linked
 linked_in directory placed = do
   group ← group_in directory placed.node placed.entity.group
-  reference ← referred directory placed.entity.is
+  reference ← reference_number directory placed.entity.is
   Some (record { placed = placed; group = group; reference = reference })
 
 -- an entity was linked by a directory, and its numbers have 16 bits
@@ -167,11 +155,7 @@ is_reentrant_at groups group = option_map_or (λ found. not found.exclusive) (sl
 abbrev pub fault_at : Bool → RoleScriptData Script → Option ScriptFault
 fault_at reentrant roled = result_err (legality_of roled.script (record { reentrant = reentrant; role = roled.role }))
 
--- the faults of the scripts of an entity of a graph
-abbrev pub faults_at : List CallbackGroup → GraphEntity → List ScriptFault
-faults_at groups entity = filter_map (fault_at (is_reentrant_at groups entity.group)) (scripts_of entity.is)
-
--- the faults of the scripts of what is declared
+-- the faults of the scripts of what is declared; a topic has no scripts
 abbrev pub faults_of : List CallbackGroup → Declared → List ScriptFault
 faults_of groups Topic = []
-faults_of groups (Entity entity) = faults_at groups entity
+faults_of groups (Entity entity) = filter_map (fault_at (is_reentrant_at groups entity.group)) (scripts_of entity.is)

@@ -7,28 +7,26 @@ ghost use Rattle.std.specs.Str.{bytes_eq};
 ghost use Rattle.exec_graph.specs.inner.Directory.{IsLinked, directory_of, linked_in, titled};
 ghost use Rattle.exec_graph.specs.declared.draft.GraphDraft.{GraphDraft};
 ghost use Rattle.exec_plan.specs.inner.Entries.{entities_in as entries_of};
-ghost use Rattle.exec_graph.specs.Faults.{is_well_named};
-ghost use Rattle.exec_graph.specs.Faults as faults;
+ghost use Rattle.exec_graph.specs.Faults.{drafted_names, is_well_named};
 ghost use Rattle.exec_plan.specs.Names.{are_distinct};
-ghost use Rattle.exec_graph.specs.Numbers as numbers;
-ghost use Rattle.exec_plan.specs.Options.{each};
+ghost use Rattle.exec_graph.specs.Numbers.{entities_of};
+ghost use Rattle.exec_msg.specs.Options.{each};
 ghost use Rattle.exec_graph.specs.Refusals.{fault_in};
 ghost use Rattle.exec_graph.specs.Resolved.{entity_in, graph_in, topic_in};
 ghost use Rattle.exec_graph.specs.declared.fault.GraphFault.TheVariants as graph_fault;
 
+use crate::draft::GraphDraft;
 use crate::draft::directory::{Directory, has_node_names};
 use crate::draft::faults::{is_any_faulty, script_faults};
-use crate::draft::groups::callback_groups;
+use crate::draft::groups::groups_of;
 use crate::draft::limits::is_small;
 use crate::draft::named::NamedGraph;
 use crate::draft::numbers::{LinkedEntity, PlacedEntity};
-use crate::draft::resolve::{Unread, resolved};
+use crate::draft::resolve::{Unread, resolve};
 use crate::draft::scope::NodeScope;
-use crate::draft::{GraphDraft, NodeDraft};
 use crate::fault::GraphFault;
 use exec_msg::{EntityNo, Memory, Names};
 use exec_plan::{Declared, Graph, GraphEntity, GroupNo};
-use exec_script::WordText;
 use indexmap::IndexMap;
 use std::alloc::Global;
 
@@ -48,8 +46,8 @@ pub(crate) fn graph_of(
     if !is_small(draft, directory.entities()) {
         return Err(GraphFault::Limit);
     }
-    let groups = callback_groups(alloc, draft.nodes.as_slice())?;
-    let Some(entities) = entities_of(alloc, draft.topics.as_slice(), directory, linked)? else {
+    let groups = groups_of(alloc, draft)?;
+    let Some(entities) = declarations_of(alloc, draft, directory, linked)? else {
         return Err(GraphFault::Script);
     };
     let faults = script_faults(alloc, &entities, &groups)?;
@@ -59,25 +57,25 @@ pub(crate) fn graph_of(
     if !faults.is_empty() {
         return Err(GraphFault::GroupVariable);
     }
-    let names = names_of(alloc, draft.topics.as_slice(), directory.entities())?;
-    let nodes = node_names(alloc, draft.nodes.as_slice())?;
+    let names = names_of(alloc, draft, directory.entities())?;
+    let nodes = node_names(alloc, draft)?;
     Ok(Graph::from_parts(Names::of(nodes), groups, entities, Names::of(names)))
 }
 
 // What a draft declares, where all of it is well named.
-pub(crate) fn well_named<'a>(
+pub(crate) fn named_graph_of<'a>(
     alloc: Global,
     draft: &'a GraphDraft,
 ) -> Result<Option<NamedGraph<'a>>, Memory>
     ensures { IfOk result (λ found. found ≡ then_some (is_well_named draft.now) draft.now) }
 {
-    if !has_node_names(alloc, draft.nodes.as_slice())? {
+    if !has_node_names(alloc, draft)? {
         return Ok(None);
     }
     let Some(directory) = Directory::of(alloc, draft)? else {
         return Ok(None);
     };
-    let Some(linked) = directory.linked(alloc)? else {
+    let Some(linked) = directory.links(alloc)? else {
         return Ok(None);
     };
     Ok(Some(NamedGraph {
@@ -89,21 +87,22 @@ pub(crate) fn well_named<'a>(
 }
 
 // The topics and entities at their numbers, where the scripts of these are spelt well.
-fn entities_of(
+fn declarations_of(
     alloc: Global,
-    topics: &[WordText],
+    draft: &GraphDraft,
     directory: &Directory<'_>,
     links: &[LinkedEntity<'_>],
 ) -> Result<Option<IndexMap<String, Declared>>, Memory>
+    requires distinct { are_distinct (drafted_names draft.now) ≡ true }
+    requires directory { directory.now ≡ directory_of draft.now }
     requires names { length directory.now.names ≤ 65536 }
     requires links { All (IsLinked directory.now) links.now }
-    requires entities { map (λ linked. linked.placed) links.now ≡ directory.now.entities }
-    ensures { IfOk result (λ found. (source : GraphDraft) → are_distinct (faults.drafted_names source) ≡ true → topics.now ≡ source.topics → directory.now ≡ directory_of source →
-        option_map (λ others. map topic_in source.topics ++ others) (each (entity_in source) (numbers.entities_of source)) ≡ option_map (λ entities. entries_of entities.entries) found) }
+    requires entities { map (λ linked. linked.placed) links.now ≡ entities_of draft.now }
+    ensures { IfOk result (λ found. option_map (λ others. map topic_in draft.now.topics ++ others) (each (entity_in draft.now) (entities_of draft.now)) ≡ option_map (λ entities. entries_of entities.entries) found) }
 {
-    let mut entities = topics_of(alloc, topics)?;
+    let mut entities = topics_of(alloc, draft)?;
     for linked in links {
-        let Some(is) = declared(alloc, directory, linked)? else {
+        let Some(is) = declaration_of(alloc, directory, linked)? else {
             return Ok(None);
         };
         append(alloc, linked.entity.name.as_str(), is, &mut entities)?;
@@ -112,9 +111,11 @@ fn entities_of(
 }
 
 // The topics at their numbers.
-fn topics_of(alloc: Global, topics: &[WordText]) -> Result<IndexMap<String, Declared>, Memory>
-    ensures { IfOk result (λ entities. are_distinct topics.now ≡ true → entries_of entities.entries ≡ map topic_in topics.now) }
+fn topics_of(alloc: Global, draft: &GraphDraft) -> Result<IndexMap<String, Declared>, Memory>
+    requires { are_distinct draft.now.topics ≡ true }
+    ensures { IfOk result (λ entities. entries_of entities.entries ≡ map topic_in draft.now.topics) }
 {
+    let topics = draft.topics.as_slice();
     let mut entities = IndexMap::new(alloc);
     for topic in topics {
         append(alloc, topic.as_str(), Declared::Topic, &mut entities)?;
@@ -136,20 +137,20 @@ fn append(
     Ok(())
 }
 
-// What an entity is.
-fn declared(
+// What an entity's name is declared as.
+fn declaration_of(
     alloc: Global,
     directory: &Directory<'_>,
     linked: &LinkedEntity<'_>,
 ) -> Result<Option<Declared>, Memory>
     requires names { length directory.now.names ≤ 65536 }
     requires linked { IsLinked directory.now linked.now }
-    ensures { IfOk result (λ found. (source : GraphDraft) → are_distinct (faults.drafted_names source) ≡ true → directory.now ≡ directory_of source →
+    ensures { IfOk result (λ found. (source : GraphDraft) → are_distinct (drafted_names source) ≡ true → directory.now ≡ directory_of source →
         entity_in source linked.now.placed ≡ option_map (titled linked.now.placed) found) }
 {
     let scope = NodeScope::of(directory, linked.node);
     let reference = entity_no(linked.reference);
-    match resolved(alloc, &scope, reference, &linked.entity.is) {
+    match resolve(alloc, &scope, reference, &linked.entity.is) {
         Ok(is) => Ok(Some(Declared::Entity(GraphEntity {
             group: GroupNo(linked.group as u16),
             is,
@@ -171,11 +172,13 @@ fn entity_no(reference: Option<usize>) -> Option<EntityNo>
 // The names of topics and entities at their numbers.
 fn names_of(
     alloc: Global,
-    topics: &[WordText],
+    draft: &GraphDraft,
     entities: &[PlacedEntity<'_>],
 ) -> Result<Vec<String>, Memory>
-    ensures { IfOk result (λ names. map string_bytes names.items ≡ topics.now ++ map (λ placed. placed.entity.name) entities.now) }
+    requires { entities.now ≡ entities_of draft.now }
+    ensures { IfOk result (λ names. map string_bytes names.items ≡ drafted_names draft.now) }
 {
+    let topics = draft.topics.as_slice();
     let mut names = Vec::new(alloc);
     for topic in topics {
         names.push(String::from_str(alloc, topic.as_str())?)?;
@@ -187,9 +190,10 @@ fn names_of(
 }
 
 // The names of nodes at their numbers.
-fn node_names(alloc: Global, nodes: &[NodeDraft]) -> Result<Vec<String>, Memory>
-    ensures { IfOk result (λ names. map string_bytes names.items ≡ map (λ node. node.name) nodes.now) }
+fn node_names(alloc: Global, draft: &GraphDraft) -> Result<Vec<String>, Memory>
+    ensures { IfOk result (λ names. map string_bytes names.items ≡ map (λ node. node.name) draft.now.nodes) }
 {
+    let nodes = draft.nodes.as_slice();
     let mut names = Vec::new(alloc);
     for node in nodes {
         names.push(String::from_str(alloc, node.name.as_str())?)?;

@@ -1,12 +1,13 @@
-ghost use Rattle.std.specs.Prelude.{◌≡◌, ◌&&◌};
+ghost use Rattle.std.specs.Prelude.{◌≡◌, ◌&&◌, is_some};
+ghost use Rattle.exec_graph.specs.Numbers.{topic_named, server_named};
 ghost use Rattle.std.specs.List.{list_any};
 ghost use Rattle.std.specs.Str.{bytes_eq};
 ghost use Rattle.exec_plan.specs.Entity.{is_of};
 ghost use Rattle.exec_plan.specs.declared.entity.EntityKind.TheVariants as kind;
 
-use crate::draft::assemble::well_named;
+use crate::draft::assemble::named_graph_of;
 use crate::draft::named::NamedGraph;
-use crate::draft::{EntityDraft, GraphDraft, NodeDraft};
+use crate::draft::{GraphDraft, NodeDraft};
 use crate::fault::GraphFault;
 use exec_msg::{Items, Memory};
 use exec_plan::{EntityKind, Graph};
@@ -55,7 +56,7 @@ impl GraphBuilder {
     /// [`Memory`] where a growth was refused. All stays as it was then.
     pub fn topic(&mut self, name: String) -> Result<(), Memory>
         ensures ok { OnOk result (self.new ≡ record self.old { topics = self.old.topics ++ string_bytes name ∷ [] }) }
-        ensures err { OnErr result (self.new ≡ self.old) }
+        ensures unchanged { OnErr result (self.new ≡ self.old) }
     {
         self.draft.topics.push(WordText::of(name))?;
         Ok(())
@@ -67,7 +68,7 @@ impl GraphBuilder {
     /// [`Memory`] where a growth was refused. All stays as it was then.
     pub fn node(&mut self, node: NodeDraft) -> Result<(), Memory>
         ensures ok { OnOk result (self.new ≡ record self.old { nodes = self.old.nodes ++ node ∷ [] }) }
-        ensures err { OnErr result (self.new ≡ self.old) }
+        ensures unchanged { OnErr result (self.new ≡ self.old) }
     {
         self.draft.nodes.push(node)?;
         Ok(())
@@ -77,7 +78,7 @@ impl GraphBuilder {
     pub fn topic_named(&self, name: &str) -> bool
         ensures { result ≡ is_some (topic_named self.now name.now) }
     {
-        has_topic(self.draft.topics.as_slice(), name)
+        has_topic(&self.draft, name)
     }
 
     /// Whether an action, that is its server, of this name is declared in whatever node. It looks at all entities:
@@ -85,18 +86,18 @@ impl GraphBuilder {
     pub fn action_named(&self, name: &str) -> bool
         ensures { result ≡ is_some (server_named self.now name.now) }
     {
-        have_action(self.draft.nodes.as_slice(), name)
+        has_action(&self.draft, name)
     }
 
     /// What is declared, where all of it is well named.
     ///
     /// # Errors
     /// [`GraphFault::Name`], or [`GraphFault::Memory`] where a growth was refused.
-    pub fn named(&self) -> Result<NamedGraph<'_>, GraphFault>
+    pub fn named_graph(&self) -> Result<NamedGraph<'_>, GraphFault>
         ensures named { IfOk result (λ named. (named ≡ self.now) × (is_well_named self.now ≡ true)) }
         ensures fault { IfErr result (λ fault. (fault ≡ GraphFault.Memory) ⊎ ((fault ≡ GraphFault.Name) × (is_well_named self.now ≡ false))) }
     {
-        well_named(self.alloc, &self.draft)?.ok_or(GraphFault::Name)
+        named_graph_of(self.alloc, &self.draft)?.ok_or(GraphFault::Name)
     }
 
     /// The graph of what was declared. The builder is given up on a fault.
@@ -107,28 +108,39 @@ impl GraphBuilder {
         ensures graph { IfOk result (λ graph. (fault_in self ≡ None) × (graph_in self ≡ Some graph)) }
         ensures fault { IfErr result (λ fault. (fault ≡ GraphFault.Memory) ⊎ (fault_in self ≡ Some fault)) }
     {
-        let named = self.named()?;
+        let named = self.named_graph()?;
         named.graph()
     }
 }
 
-fn has_topic(topics: &[WordText], name: &str) -> bool
-    ensures { result ≡ list_any (λ topic. bytes_eq topic name.now) topics.now }
+fn has_topic(draft: &GraphDraft, name: &str) -> bool
+    ensures { result ≡ is_some (topic_named draft.now name.now) }
 {
-    topics.iter().any(|topic| topic.as_str() == name)
+    is_among(draft.topics.as_slice(), name)
 }
 
-fn have_action(nodes: &[NodeDraft], name: &str) -> bool
+fn is_among(texts: &[WordText], name: &str) -> bool
+    ensures { result ≡ list_any (λ text. bytes_eq text name.now) texts.now }
+{
+    texts.iter().any(|text| text.as_str() == name)
+}
+
+fn has_action(draft: &GraphDraft, name: &str) -> bool
+    ensures { result ≡ is_some (server_named draft.now name.now) }
+{
+    have_server(draft.nodes.as_slice(), name)
+}
+
+fn have_server(nodes: &[NodeDraft], name: &str) -> bool
     ensures { result ≡ list_any (λ node. list_any (λ entity. is_of kind.Server entity.is && bytes_eq entity.name name.now) node.entities) nodes.now }
 {
-    nodes
-        .iter()
-        .any(|node| has_action(node.entities.as_slice(), name))
+    nodes.iter().any(|node| has_server(node, name))
 }
 
-fn has_action(entities: &[EntityDraft], name: &str) -> bool
-    ensures { result ≡ list_any (λ entity. is_of kind.Server entity.is && bytes_eq entity.name name.now) entities.now }
+fn has_server(node: &NodeDraft, name: &str) -> bool
+    ensures { result ≡ list_any (λ entity. is_of kind.Server entity.is && bytes_eq entity.name name.now) node.now.entities }
 {
+    let entities = node.entities.as_slice();
     entities.iter().any(|entity| entity.is.is_of(EntityKind::Server)
         && entity.name.as_str() == name)
 }

@@ -3,16 +3,16 @@ ghost use Rattle.std.specs.Bool.{then_some};
 ghost use Rattle.std.specs.Prelude.{◌≡◌, ◌&&◌, ◌==◌, length, map, Some, None, ◌<◌, IfOk, IfSome};
 ghost use Rattle.std.specs.List.{list_all};
 ghost use Rattle.std.specs.Option.{option_map};
-ghost use Rattle.exec_graph.specs.inner.Directory.{names_from, node_groups_from, topic_number, placed_named, entity_number, number_in, group_in, referred, linked_in, directory_of};
+ghost use Rattle.exec_graph.specs.inner.Directory.{names_from, node_groups_from, topic_number, placed_named, entity_number, number_in, group_in, reference_number, linked_in, directory_of};
 ghost use Rattle.exec_plan.specs.Entity.{is_of};
 ghost use Rattle.exec_graph.specs.Faults.{are_names, has_named_groups, drafted_names};
-ghost use Rattle.exec_plan.specs.Options.{each};
+ghost use Rattle.exec_msg.specs.Options.{each};
 
 use crate::draft::groups::NodeGroups;
 use crate::draft::naming::add_name;
-use crate::draft::numbers::{LinkedEntity, PlacedEntity, numbered};
+use crate::draft::numbers::{LinkedEntity, PlacedEntity, entities_of};
 use crate::draft::texts::TextSet;
-use crate::draft::{Drafted, GraphDraft, GroupDraft, NodeDraft};
+use crate::draft::{Drafted, GraphDraft, GroupDraft};
 use exec_msg::Memory;
 use exec_plan::{EntityKind, Referent};
 use exec_script::WordText;
@@ -45,12 +45,12 @@ impl<'a> Directory<'a> {
             (list_all has_named_groups draft.now.nodes && are_names (drafted_names draft.now))
             (directory_of draft.now)) }
     {
-        let Some(groups) = node_groups(alloc, draft.nodes.as_slice())? else {
+        let Some(groups) = node_groups(alloc, draft)? else {
             return Ok(None);
         };
-        let entities = numbered(alloc, draft.nodes.as_slice())?;
+        let entities = entities_of(alloc, draft)?;
         let mut names = TextSet::new(alloc);
-        if !add_topics(&mut names, draft.topics.as_slice())? {
+        if !add_topics(&mut names, draft)? {
             return Ok(None);
         }
         if !add_entities(&mut names, &entities)? {
@@ -73,7 +73,7 @@ impl<'a> Directory<'a> {
 
     // The entities with the numbers of their groups and of what they refer to, where all of these are declared, each
     // group by the entity's node.
-    pub(crate) fn linked(&self, alloc: Global) -> Result<Option<Vec<LinkedEntity<'a>>>, Memory>
+    pub(crate) fn links(&self, alloc: Global) -> Result<Option<Vec<LinkedEntity<'a>>>, Memory>
         ensures { IfOk result (λ found. option_map (λ linked. linked.items) found ≡ each (linked_in self.now) self.now.entities) }
     {
         let mut linked = Vec::new(alloc);
@@ -91,7 +91,7 @@ impl<'a> Directory<'a> {
     {
         let PlacedEntity { node, entity } = *placed;
         let group = self.group(node, &entity.group)?;
-        let reference = self.referred(&entity.is)?;
+        let reference = self.reference_number(&entity.is)?;
         Some(LinkedEntity {
             node,
             entity,
@@ -106,8 +106,8 @@ impl<'a> Directory<'a> {
         self.groups.get(node)?.number(name)
     }
 
-    fn referred(&self, entity: &Drafted) -> Option<Option<usize>>
-        ensures { result ≡ referred self.now entity.now }
+    fn reference_number(&self, entity: &Drafted) -> Option<Option<usize>>
+        ensures { result ≡ reference_number self.now entity.now }
     {
         let Some(reference) = entity.reference() else {
             return Some(None);
@@ -177,9 +177,10 @@ impl<'a> Directory<'a> {
 }
 
 // Whether the names of nodes are names and differ.
-pub(crate) fn has_node_names(alloc: Global, nodes: &[NodeDraft]) -> Result<bool, Memory>
-    ensures { IfOk result (λ lawful. lawful ≡ are_names (map (λ node. node.name) nodes.now)) }
+pub(crate) fn has_node_names(alloc: Global, draft: &GraphDraft) -> Result<bool, Memory>
+    ensures { IfOk result (λ lawful. lawful ≡ are_names (map (λ node. node.name) draft.now.nodes)) }
 {
+    let nodes = draft.nodes.as_slice();
     let mut names = TextSet::new(alloc);
     for node in nodes {
         if !add_name(&mut names, node.name.as_str())? {
@@ -192,10 +193,11 @@ pub(crate) fn has_node_names(alloc: Global, nodes: &[NodeDraft]) -> Result<bool,
 // The groups of each node, where their names are names and differ within each node.
 fn node_groups<'a>(
     alloc: Global,
-    nodes: &'a [NodeDraft],
+    draft: &'a GraphDraft,
 ) -> Result<Option<Vec<NodeGroups<'a>>>, Memory>
-    ensures { IfOk result (λ found. option_map (λ groups. groups.items) found ≡ then_some (list_all has_named_groups nodes.now) (node_groups_from 0 nodes.now)) }
+    ensures { IfOk result (λ found. option_map (λ groups. groups.items) found ≡ then_some (list_all has_named_groups draft.now.nodes) (node_groups_from 0 draft.now.nodes)) }
 {
+    let nodes = draft.nodes.as_slice();
     let mut groups = Vec::new(alloc);
     let mut first = 0;
     for node in nodes {
@@ -224,9 +226,10 @@ fn names_of_groups<'a>(
     Ok(Some(names))
 }
 
-fn add_topics<'a>(names: &mut TextSet<'a>, topics: &'a [WordText]) -> Result<bool, Memory>
-    ensures { IfOk result (λ added. names_from names.old topics.now ≡ then_some added names.new) }
+fn add_topics<'a>(names: &mut TextSet<'a>, draft: &'a GraphDraft) -> Result<bool, Memory>
+    ensures { IfOk result (λ added. names_from names.old draft.now.topics ≡ then_some added names.new) }
 {
+    let topics = draft.topics.as_slice();
     for topic in topics {
         if !add_name(names, topic.as_str())? {
             return Ok(false);

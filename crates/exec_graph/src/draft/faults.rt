@@ -3,11 +3,11 @@ ghost use Rattle.std.specs.Option.{option_to_list};
 ghost use Rattle.std.specs.Prelude.{◌≡◌, ◌++◌, not, option_and_then, IfOk, OnOk};
 ghost use Rattle.std.specs.List.{flat_map, list_any};
 ghost use Rattle.std.specs.Map.{values_of};
-ghost use Rattle.exec_graph.specs.inner.Directory.{fault_at, faults_at, faults_of, is_reentrant_at};
+ghost use Rattle.exec_graph.specs.inner.Directory.{fault_at, faults_of, is_reentrant_at};
 ghost use Rattle.exec_graph.specs.Faults.{is_of_variable};
 
 use exec_msg::Memory;
-use exec_plan::{CallbackGroup, Declared, GraphEntity, GroupNo, RoleScript, Script};
+use exec_plan::{CallbackGroup, Declared, GroupNo, RoleScript, Script};
 use exec_script::{Place, ScriptFault, check};
 use indexmap::IndexMap;
 use std::alloc::Global;
@@ -22,31 +22,21 @@ pub(crate) fn script_faults(
 {
     let mut faults = Vec::new(alloc);
     for number in 0..entities.len() {
-        append_declared(groups, &entities[number], &mut faults)?;
+        append_faults(groups, &entities[number], &mut faults)?;
     }
     Ok(faults)
 }
 
-fn append_declared(
+fn append_faults(
     groups: &[CallbackGroup],
     declared: &Declared,
     faults: &mut Vec<ScriptFault>,
 ) -> Result<(), Memory>
     ensures { OnOk result (faults.new.items ≡ faults.old.items ++ faults_of groups.now declared.now) }
 {
-    match declared {
-        Declared::Topic => Ok(()),
-        Declared::Entity(entity) => append_faults(groups, entity, faults),
-    }
-}
-
-fn append_faults(
-    groups: &[CallbackGroup],
-    entity: &GraphEntity,
-    faults: &mut Vec<ScriptFault>,
-) -> Result<(), Memory>
-    ensures { OnOk result (faults.new.items ≡ faults.old.items ++ faults_at groups.now entity.now) }
-{
+    let Declared::Entity(entity) = declared else {
+        return Ok(());
+    };
     let reentrant = is_reentrant(groups, entity.group);
     for script in entity.is.scripts().iter() {
         append_fault(faults, fault_of(reentrant, script))?;

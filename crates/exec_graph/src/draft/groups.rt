@@ -1,9 +1,9 @@
 //! Callback groups and their numbers.
 ghost use Rattle.std.specs.Prelude.{◌≡◌, ◌++◌, map, IfOk, OnOk};
-ghost use Rattle.exec_graph.specs.Numbers.{groups_from, named_group};
+ghost use Rattle.exec_graph.specs.Numbers.{groups_of, named_group};
 
 use crate::draft::texts::TextSet;
-use crate::draft::{GroupDraft, NodeDraft};
+use crate::draft::{GraphDraft, GroupDraft};
 use exec_msg::Memory;
 use exec_plan::CallbackGroup;
 use exec_script::WordText;
@@ -68,21 +68,19 @@ impl<'a> NodeGroups<'a> {
     }
 }
 
-// The groups of all nodes in the order of their numbers: each node's default group, and then its named groups.
-pub(crate) fn callback_groups(
-    alloc: Global,
-    nodes: &[NodeDraft],
-) -> Result<Vec<CallbackGroup>, Memory>
-    ensures { IfOk result (λ groups. groups.items ≡ groups_from 0 nodes.now) }
+// The groups of a draft in the order of their numbers: each node's default group, and then its named groups.
+pub(crate) fn groups_of(alloc: Global, draft: &GraphDraft) -> Result<Vec<CallbackGroup>, Memory>
+    ensures { IfOk result (λ groups. groups.items ≡ groups_of draft.now) }
 {
+    let nodes = draft.nodes.as_slice();
     let mut groups = Vec::new(alloc);
-    for (node, draft) in nodes.iter().enumerate() {
+    for (number, node) in nodes.iter().enumerate() {
         groups.push(CallbackGroup {
-            node,
+            node: number,
             name: None,
             exclusive: true,
         })?;
-        append_named(alloc, node, draft.groups.as_slice(), &mut groups)?;
+        append_named(alloc, number, node.groups.as_slice(), &mut groups)?;
     }
     Ok(groups)
 }

@@ -7,7 +7,7 @@ ghost use Rattle.exec_graph.specs.Faults.{has_short_scripts, is_small};
 ghost use Rattle.exec_graph.specs.Numbers.{entities_of};
 
 use crate::draft::numbers::PlacedEntity;
-use crate::draft::{Drafted, GraphDraft, NodeDraft};
+use crate::draft::{Drafted, GraphDraft};
 use crate::spelled::Spelled;
 use exec_msg::limits::{ENTITIES, INSTRUCTIONS, NAMED_GROUPS, NODES, TOPICS};
 use exec_plan::RoleScript;
@@ -20,15 +20,16 @@ pub(crate) fn is_small(draft: &GraphDraft, entities: &[PlacedEntity<'_>]) -> boo
     ensures { result ≡ is_small draft.now }
 {
     draft.nodes.len() <= NODES
-        && has_few_groups(draft.nodes.as_slice())
+        && has_few_groups(draft)
         && draft.topics.len() <= TOPICS
         && entities.len() <= ENTITIES
         && are_small(entities)
 }
 
-fn has_few_groups(nodes: &[NodeDraft]) -> bool
-    ensures { result ≡ nat_le (sum_by (λ node. length node.groups) nodes.now) NAMED_GROUPS }
+fn has_few_groups(draft: &GraphDraft) -> bool
+    ensures { result ≡ nat_le (sum_by (λ node. length node.groups) draft.now.nodes) NAMED_GROUPS }
 {
+    let nodes = draft.nodes.as_slice();
     let mut room = NAMED_GROUPS;
     for node in nodes {
         let Some(left) = room.checked_sub(node.groups.as_slice().len()) else {

@@ -23,7 +23,7 @@ impl<'a> Model for NamedGraph<'a> {
     ghost use Rattle.exec_graph.specs.inner.Directory.{directory_of, linked_in};
     ghost use Rattle.exec_graph.specs.declared.draft.GraphDraft.{GraphDraft};
     ghost use Rattle.exec_graph.specs.Faults.{is_well_named};
-    ghost use Rattle.exec_plan.specs.Options.{each};
+    ghost use Rattle.exec_msg.specs.Options.{each};
 
     ghost Value = { GraphDraft };
 

@@ -12,7 +12,7 @@ use exec_msg::limits::NAME_LENGTH;
 pub(crate) fn add_name<'a>(names: &mut TextSet<'a>, text: &'a str) -> Result<bool, Memory>
     ensures added { IfOk result (λ added. added ≡ (is_name text.now && not (list_any (λ other. bytes_eq other text.now) names.old))) }
     ensures names { IfOk result (λ added. names.new ≡ (if added then names.old ++ text.now ∷ [] else names.old)) }
-    ensures err { OnErr result (names.new ≡ names.old) }
+    ensures unchanged { OnErr result (names.new ≡ names.old) }
 {
     if is_name(text.as_bytes()) {
         names.insert(text)

@@ -2,9 +2,9 @@
 ghost use Rattle.std.specs.Prelude.{◌≡◌, ◌++◌, map, IfOk, OnOk};
 ghost use Rattle.std.specs.List.{filter};
 ghost use Rattle.exec_plan.specs.Entity.{is_of};
-ghost use Rattle.exec_graph.specs.Numbers.{placed_in, entities_from, numbered};
+ghost use Rattle.exec_graph.specs.Numbers.{placed_in, entities_from, entities_of};
 
-use crate::draft::{EntityDraft, NodeDraft};
+use crate::draft::{EntityDraft, GraphDraft};
 use exec_msg::Memory;
 use exec_plan::EntityKind;
 use std::alloc::Global;
@@ -46,14 +46,14 @@ impl<'a> Model for LinkedEntity<'a> {
     } };
 }
 
-// The entities of all nodes in the order of their numbers: by kind, then by node, then as the node lists them.
-pub(crate) fn numbered<'a>(
+// The entities of a draft in the order of their numbers: by kind, then by node, then as the node lists them.
+pub(crate) fn entities_of<'a>(
     alloc: Global,
-    nodes: &'a [NodeDraft],
+    draft: &'a GraphDraft,
 ) -> Result<Vec<PlacedEntity<'a>>, Memory>
-    ensures { IfOk result (λ entities. entities.items ≡ numbered nodes.now) }
+    ensures { IfOk result (λ entities. entities.items ≡ entities_of draft.now) }
 {
-    let declared = declared(alloc, nodes)?;
+    let declared = entities_by_node(alloc, draft)?;
     let mut entities = Vec::new(alloc);
     for kind in EntityKind::IN_ORDER {
         append_kind(&declared, kind, &mut entities)?;
@@ -77,12 +77,16 @@ fn append_kind<'a>(
     Ok(())
 }
 
-fn declared<'a>(alloc: Global, nodes: &'a [NodeDraft]) -> Result<Vec<PlacedEntity<'a>>, Memory>
-    ensures { IfOk result (λ entities. entities.items ≡ entities_from 0 nodes.now) }
+fn entities_by_node<'a>(
+    alloc: Global,
+    draft: &'a GraphDraft,
+) -> Result<Vec<PlacedEntity<'a>>, Memory>
+    ensures { IfOk result (λ entities. entities.items ≡ entities_from 0 draft.now.nodes) }
 {
+    let nodes = draft.nodes.as_slice();
     let mut entities = Vec::new(alloc);
-    for (node, draft) in nodes.iter().enumerate() {
-        append_node(node, draft.entities.as_slice(), &mut entities)?;
+    for (number, node) in nodes.iter().enumerate() {
+        append_node(number, node.entities.as_slice(), &mut entities)?;
     }
     Ok(entities)
 }

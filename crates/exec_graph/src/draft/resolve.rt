@@ -38,7 +38,7 @@ impl<T: Drop> From<AllocFailed<T>> for Unread {
 }
 
 // What an entity of the scope's node is that refers to this number.
-pub(crate) fn resolved(
+pub(crate) fn resolve(
     alloc: Global,
     scope: &NodeScope<'_, '_>,
     reference: Option<EntityNo>,

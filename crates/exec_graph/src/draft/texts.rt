@@ -65,7 +65,7 @@ impl<'a> TextSet<'a> {
     pub(crate) fn insert(&mut self, text: &'a str) -> Result<bool, Memory>
         ensures ok { OnOk result (self.new ≡ (if list_any (λ other. bytes_eq other text.now) self.old then self.old else self.old ++ text.now ∷ [])) }
         ensures added { IfOk result (λ added. added ≡ not (list_any (λ other. bytes_eq other text.now) self.old)) }
-        ensures err { OnErr result (self.new ≡ self.old) }
+        ensures unchanged { OnErr result (self.new ≡ self.old) }
     {
         if self.contains(text) {
             return Ok(false);
@@ -77,7 +77,7 @@ impl<'a> TextSet<'a> {
     fn append(&mut self, text: &'a str) -> Result<(), Memory>
         requires { list_any (λ other. bytes_eq other text.now) self.old ≡ false }
         ensures ok { OnOk result (self.new ≡ self.old ++ text.now ∷ []) }
-        ensures err { OnErr result (self.new ≡ self.old) }
+        ensures unchanged { OnErr result (self.new ≡ self.old) }
     {
         let place = self.len();
         self.texts.reserve(1)?;

@@ -6,7 +6,8 @@ use Rattle.exec_script.specs.declared.effects.Effect.{Effect}
 use Rattle.exec_script.specs.declared.effects.Effects.{Effects}
 use Rattle.exec_rules.specs.Callback.{Outcome}
 use Rattle.exec_rules.specs.Run.{apart_with, effects_of, work_after}
-use Rattle.exec_rules.specs.World.{GoalWork, Variables}
+use Rattle.exec_script.specs.Script.{Variables}
+use Rattle.exec_rules.specs.World.{GoalWork}
 use Rattle.exec_rules.specs.declared.ready.Ready.{Ready}
 
 -- a callback, the work of the goal that it polls, if it polls one, and what it did, if it ran

@@ -3,7 +3,7 @@ use Rattle.std.specs.Prelude.{pos, List, [], ◌∷◌, codes, true, None, Some}
 use Rattle.exec_plan.specs.Graph.{in_group}
 use Rattle.exec_plan.specs.declared.entity.EntityOf.TheVariants.{Timer, Server, ActionClient}
 use Rattle.exec_plan.specs.Plan.{PlanData}
-use Rattle.exec_plan.specs.declared.plan.Fed.TheVariants.{Goal, Cancel}
+use Rattle.exec_plan.specs.declared.plan.FedOf.TheVariants.{Goal, Cancel}
 use Rattle.exec_msg.specs.declared.goal.GoalStatus.TheVariants as status
 use Rattle.exec_msg.specs.declared.goal.ReturnCode.TheVariants as code
 use Rattle.exec_msg.specs.declared.kind.Kind.TheVariants as kind

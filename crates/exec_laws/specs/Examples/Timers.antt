@@ -4,7 +4,7 @@ use Rattle.exec_plan.specs.Graph.{in_group}
 use Rattle.exec_plan.specs.declared.entity.Declared.TheVariants.{Topic}
 use Rattle.exec_plan.specs.declared.entity.EntityOf.TheVariants.{Timer, Subscription}
 use Rattle.exec_plan.specs.Plan.{PlanData}
-use Rattle.exec_plan.specs.declared.plan.Fed.TheVariants.{Message}
+use Rattle.exec_plan.specs.declared.plan.FedOf.TheVariants.{Message}
 use Rattle.exec_msg.specs.declared.kind.Kind.TheVariants as kind
 use Rattle.exec_msg.specs.declared.line.Line.{Line}
 use Rattle.exec_msg.specs.declared.line.Line.TheVariants as line

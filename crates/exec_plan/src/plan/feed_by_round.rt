@@ -18,7 +18,7 @@ pub struct FeedByRound {
 
 impl Model for FeedByRound {
     ghost use Rattle.std.specs.Prelude.{List, map};
-    ghost use Rattle.exec_plan.specs.declared.plan.Feed.{Feed};
+    ghost use Rattle.exec_plan.specs.Plan.{Feed};
 
     ghost Value = { List (List Feed) };
 

@@ -1,14 +1,14 @@
 //! What is asked of moments and of what is fed at them.
-ghost use Rattle.std.specs.Prelude.{◌≡◌, true, None, map, nat_le};
+ghost use Rattle.std.specs.Prelude.{◌≡◌, true, None, Some, map, nat_le};
 ghost use Rattle.std.specs.List.{list_all};
 ghost use Rattle.exec_plan.specs.Feeding.{has_128_bits};
 ghost use Rattle.exec_plan.specs.Entity.{is_from_1};
 ghost use Rattle.exec_plan.specs.Lawful.{is_ascending_from};
-ghost use Rattle.exec_plan.specs.Schedule.{schedule_fits, greatest, stamp_of, is_in_order, is_identified, plan_fault_in};
+ghost use Rattle.exec_plan.specs.Schedule.{schedule_fits, greatest_stamp, stamp_of, is_in_order, is_identified, plan_fault_in};
 ghost use Rattle.exec_msg.specs.declared.limits.TheConstants.{TICKS};
 
 use crate::fault::PlanFault;
-use crate::plan::{Fed, Feed};
+use crate::plan::{Fed, FedOf, Feed, FeedOf};
 use exec_msg::Moment;
 use exec_msg::limits::{FEED, MOMENTS, TICKS};
 
@@ -20,6 +20,7 @@ pub fn schedule_fits(moments: &[Moment], entries: usize, stamp: u64) -> bool
     moments.len() <= MOMENTS && are_within(moments) && entries <= FEED && stamp <= TICKS
 }
 
+// It always holds, since no moment is beyond its limit: the walk tells the proof so of each.
 fn are_within(moments: &[Moment]) -> bool
     ensures { result ≡ list_all (λ moment. nat_le moment TICKS) moments.now }
 {
@@ -56,9 +57,9 @@ fn is_in_order(moments: &[Moment], feed: &[Feed]) -> bool
     is_ascending(moments) && are_rounds(feed, moments.len())
 }
 
-// 0 where there is none.
-fn greatest_stamp(feed: &[Feed]) -> u64
-    ensures { result ≡ greatest (map (λ entry. stamp_of entry.fed) feed.now) }
+/// The greatest stamp of a feed, or 0 where there is none.
+pub fn greatest_stamp<N, I>(feed: &[FeedOf<N, I>]) -> u64
+    ensures { result ≡ greatest_stamp feed.now }
 {
     let mut greatest = 0;
     for entry in feed {
@@ -67,12 +68,12 @@ fn greatest_stamp(feed: &[Feed]) -> u64
     greatest
 }
 
-fn stamp_of(fed: &Fed) -> u64
+fn stamp_of<N, I>(fed: &FedOf<N, I>) -> u64
     ensures { result ≡ stamp_of fed.now }
 {
-    match *fed {
-        Fed::Message { .. } | Fed::Goal { .. } => 0,
-        Fed::Cancel { stamp, .. } => stamp,
+    match fed {
+        FedOf::Cancel { stamp, .. } => *stamp,
+        _ => 0,
     }
 }
 
@@ -102,7 +103,7 @@ fn is_round(entry: &Feed, most: usize) -> bool
 }
 
 fn are_identified(feed: &[Feed]) -> bool
-    ensures identified { result ≡ list_all (λ entry. is_identified entry.fed) feed.now }
+    ensures identified { result ≡ list_all (λ entry. is_identified Some entry.fed) feed.now }
     ensures bits { result ≡ true → list_all (λ entry. has_128_bits entry.fed) feed.now ≡ true }
 {
     for entry in feed {
@@ -114,7 +115,7 @@ fn are_identified(feed: &[Feed]) -> bool
 }
 
 fn is_identified(entry: &Feed) -> bool
-    ensures identified { result ≡ is_identified entry.now.fed }
+    ensures identified { result ≡ is_identified Some entry.now.fed }
     ensures bits { has_128_bits entry.now.fed ≡ true }
 {
     match entry.fed {

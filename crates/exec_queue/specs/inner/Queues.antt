@@ -1,8 +1,9 @@
 -- Queues in ready order, found by entity and kind.
-use Rattle.std.specs.Prelude.{◌≡◌, ℕ, ◌+◌, ◌*◌, List, length, Bool, true, false, not, ◌==◌, if◌then◌else◌, Option, slice_get}
+use Rattle.std.specs.Prelude.{◌≡◌, ℕ, suc, ◌+◌, ◌*◌, List, length, Bool, true, false, not, ◌==◌, if◌then◌else◌, Option, slice_get}
 use Rattle.std.specs.List.{Contains}
 use Rattle.std.specs.Option.{option_map_or}
-use Rattle.exec_plan.specs.Entity.{EntityNo}
+use Rattle.exec_msg.specs.Numbers.{EntityNo}
+use Rattle.exec_plan.specs.Graph.{kinds}
 use Rattle.exec_msg.specs.Kind.{ready_number}
 use Rattle.exec_msg.specs.declared.kind.Kind.{Kind}
 use Rattle.exec_rules.specs.Ready.{is_before_polls}
@@ -11,7 +12,7 @@ use Rattle.exec_msg.specs.Places.{first_place, place_under}
 
 -- the number of a kind's queue of an entity
 abbrev pub slot_of : EntityNo → Kind → ℕ
-slot_of entity kind = entity * 13 + ready_number kind
+slot_of entity kind = entity * suc (length kinds) + ready_number kind
 
 -- whether a queue has an item
 abbrev pub has_item : Queue → Bool

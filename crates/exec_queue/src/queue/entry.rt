@@ -1,6 +1,6 @@
 ghost use Rattle.std.specs.Prelude.{◌≡◌, ◌==◌, ◌≤◌, List, [], Some, false, true, length, slice_get, OnOk, OnErr, IfOk};
 ghost use Rattle.exec_msg.specs.KeepLast.{displaced};
-ghost use Rattle.exec_plan.specs.Entity.{Script};
+ghost use Rattle.exec_script.specs.Instruction.{Script};
 ghost use Rattle.exec_rules.specs.Ready.{candidates_for, is_before_polls, item_ready, queue_taken, script_to_take};
 ghost use Rattle.exec_rules.specs.World.{Handler, queue_after};
 ghost use Rattle.exec_rules.specs.inner.Homes.{AreHomes, handlers_of};
@@ -39,7 +39,7 @@ impl Entry {
         ensures ok { OnOk result (self.new ≡ queue_after item self.old) }
         ensures has { OnOk result (has_item self.new ≡ true) }
         ensures lost { IfOk result (λ lost. lost ≡ slice_get (displaced self.old.depth item self.old.items) 0) }
-        ensures err { OnErr result (self.new ≡ self.old) }
+        ensures unchanged { OnErr result (self.new ≡ self.old) }
         ensures memory { OnErr result (has_item self.old ≡ false) }
     {
         let lost = self.queue.send(item)?;

@@ -4,7 +4,8 @@ use Rattle.std.specs.List.{flat_map}
 use Rattle.exec_goal.specs.State.{is_canceling}
 use Rattle.exec_goal.specs.Table.{GoalRecord}
 use Rattle.exec_rules.specs.Ready.{due_ready, is_goal_awake, queue_ready, queues_before_polls, queues_behind_polls}
-use Rattle.exec_rules.specs.World.{Handler, Moment, ServerEntry, WorldState}
+use Rattle.exec_msg.specs.Numbers.{Moment}
+use Rattle.exec_rules.specs.World.{Handler, ServerEntry, WorldState}
 use Rattle.exec_rules.specs.declared.ready.AwakeGoal.{AwakeGoal}
 use Rattle.exec_rules.specs.declared.ready.Cause.TheVariants as cause
 use Rattle.exec_rules.specs.declared.ready.Ready.{Ready}

@@ -1,7 +1,7 @@
 -- Where the scripts of ready callbacks come from, so that they may be brought home.
 use Rattle.std.specs.Prelude.{◌≡◌, ◌<◌, List, length, map, Option, Some, None, slice_get}
 use Rattle.std.specs.List.{All}
-use Rattle.exec_plan.specs.Entity.{Script}
+use Rattle.exec_script.specs.Instruction.{Script}
 use Rattle.exec_rules.specs.World.{Handler, Queue, WorldState}
 use Rattle.exec_rules.specs.declared.homes.Home.{Home}
 use Rattle.exec_rules.specs.declared.ready.Ready.{Ready}

@@ -69,7 +69,7 @@ const GROUPS: &[(u16, &str, Option<&str>, bool)] = &[
 fn kind(graph: &Graph, no: EntityNo) -> Option<EntityKind>
     requires { no < length graph.now.entities }
 {
-    match graph.declared(no) {
+    match graph.declaration(no) {
         Declared::Topic => None,
         Declared::Entity(entity) => Some(entity.is.kind()),
     }
@@ -80,7 +80,7 @@ fn is_entity(graph: &Graph, no: EntityNo) -> bool
     requires { no < length graph.now.entities }
     ensures { result ≡ is_at (λ declared. not (is_topic declared)) graph.now no }
 {
-    !graph.declared(no).is_topic()
+    !graph.declaration(no).is_topic()
 }
 
 // The callback group of an entity, and whether it is exclusive.

@@ -1,7 +1,7 @@
 -- What callbacks send, apart from the rest of the world: the queues, and the lines.
 use Rattle.std.specs.Prelude.{List, [], ◌∷◌, ◌++◌, map, Option, None, Some}
 use Rattle.std.specs.List.{fold}
-use Rattle.exec_plan.specs.Entity.{EntityNo}
+use Rattle.exec_msg.specs.Numbers.{EntityNo}
 use Rattle.exec_msg.specs.Lists.{change_first}
 use Rattle.exec_msg.specs.declared.line.Line.{Line}
 use Rattle.exec_rules.specs.Item.{taker_of}

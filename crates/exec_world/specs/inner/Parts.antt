@@ -1,6 +1,6 @@
 -- The queues of the first world, kind by kind.
 use Rattle.std.specs.Prelude.{List, [], map, if◌then◌else◌}
-use Rattle.exec_plan.specs.Entity.{EntityNo}
+use Rattle.exec_msg.specs.Numbers.{EntityNo}
 use Rattle.exec_plan.specs.Graph.{GraphData, has_kind, entities_where}
 use Rattle.exec_msg.specs.declared.kind.Kind.{Kind}
 use Rattle.exec_rules.specs.Transcript.{takes_from_queue, new_queue}

@@ -3,7 +3,8 @@ use Rattle.std.specs.Prelude.{ℕ, List, [], slice_get}
 use Rattle.std.specs.List.{flat_map, fold}
 use Rattle.std.specs.Option.{option_map_or}
 use Rattle.exec_rules.specs.Ready.{item_ready, reply_taken}
-use Rattle.exec_rules.specs.World.{ClientEntry, Moment, Queue, ServerEntry, goals_in}
+use Rattle.exec_msg.specs.Numbers.{Moment}
+use Rattle.exec_rules.specs.World.{ClientEntry, Queue, ServerEntry, goals_in}
 use Rattle.exec_rules.specs.declared.ready.Ready.{Ready}
 
 -- the callback that takes from a queue where that has an item

@@ -1,7 +1,7 @@
 -- What every world keeps, whatever its calls are handed.
 use Rattle.std.specs.Prelude.{◌≡◌, ◌==◌, map}
 use Rattle.std.specs.List.{IsDistinct}
-use Rattle.exec_plan.specs.Entity.{EntityNo}
+use Rattle.exec_msg.specs.Numbers.{EntityNo}
 use Rattle.exec_plan.specs.Graph.{GraphData}
 use Rattle.exec_rules.specs.Shape.{shape_of}
 use Rattle.exec_rules.specs.Transcript.{first_world}

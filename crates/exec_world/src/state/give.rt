@@ -27,7 +27,7 @@ impl<L: Lines> State<L> {
         ensures { OnOk result (self.new ≡ give one.now effect self.old) }
     {
         match effect {
-            Effect::Publish { topic, value } => self.publish_told(topic, value),
+            Effect::Publish { topic, value } => self.publish_with_line(topic, value),
             Effect::Call { client, value } => self.call(client, value),
             Effect::SendGoal { client, value } => self.send_goal(client, value),
             Effect::CancelAll { client, stamp } => self.cancel_all(client, stamp),
@@ -46,7 +46,7 @@ impl<L: Lines> State<L> {
     }
 
     // A message is published, with its line.
-    fn publish_told(&mut self, topic: EntityNo, value: i64) -> Result<(), Memory>
+    fn publish_with_line(&mut self, topic: EntityNo, value: i64) -> Result<(), Memory>
         ensures { OnOk result (self.new ≡ publish topic value (add_line (line.Pub topic value) self.old)) }
     {
         self.add_line(Line::Pub { topic, value })?;

@@ -234,7 +234,7 @@ fn add_pending<L: Lines>(clients: &[Client], mail: &mut Mail<L>) -> Result<(), M
 fn add_pending_of<L: Lines>(client: &Client, mail: &mut Mail<L>) -> Result<(), Memory>
     ensures { OnOk result (mail.new ≡ record mail.old { lines = mail.old.lines ++ pending_by client.now.entity (length client.now.pending) }) }
 {
-    let calls = client.pending() as u64;
+    let calls = client.count_pending() as u64;
     if calls > 0 {
         mail.add_line(Line::Pending {
             client: client.number(),

@@ -98,7 +98,7 @@ impl<L: Lines> State<L> {
         ensures taken { OnOk result (self.new ≡ record self.old { clients = fold reply_taken self.old.clients (queues_before_polls self.old) }) }
         ensures homes { OnOk result (AreHomes (queue_handlers self.old) list.old homes.old.items → AreHomes (queue_handlers self.old) list.new homes.new.items) }
     {
-        self.mail.filled(true, &mut self.places)?;
+        self.mail.list_filled(true, &mut self.places)?;
         self.mail.list_fronts(self.alloc, moment, &self.places, &self.servers, list, homes)?;
         answer_calls(&mut self.clients, self.mail.queues(), &self.places);
         Ok(())
@@ -127,7 +127,7 @@ impl<L: Lines> State<L> {
         ensures same { self.new ≡ self.old }
         ensures homes { OnOk result (AreHomes (queue_handlers self.old) list.old homes.old.items → AreHomes (queue_handlers self.old) list.new homes.new.items) }
     {
-        self.mail.filled(false, &mut self.places)?;
+        self.mail.list_filled(false, &mut self.places)?;
         self.mail.list_fronts(self.alloc, moment, &self.places, &self.servers, list, homes)?;
         Ok(())
     }

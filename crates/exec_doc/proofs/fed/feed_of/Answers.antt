@@ -1,9 +1,9 @@
 use Rattle.std.proofs.Common.{List, ap, sym, ◌∙◌, ◌++◌, Some}
 use Rattle.std.proofs.lemmas.List.{drop_all, append-nil}
 use Rattle.exec_doc.specs.inner.Placing.{entry_by}
-use Rattle.exec_doc.specs.declared.draft.EntryDraft.{EntryDraft}
-use Rattle.exec_plan.specs.Options.{◌>>=◌, each}
-use Rattle.exec_plan.specs.declared.plan.Feed.{Feed}
+use Rattle.exec_doc.specs.Draft.{EntryDraft}
+use Rattle.exec_msg.specs.Options.{◌>>=◌, each}
+use Rattle.exec_plan.specs.Plan.{Feed}
 use Rattle.exec_doc.proofs.Placed.{goes}
 use Rattle.exec_doc.proofs.fed.feed_of.Goals as goal
 

@@ -1,5 +1,5 @@
 use Rattle.std.proofs.Common.{◌≡◌, ◌++◌, drop, Some}
-use Rattle.exec_plan.specs.Options.{◌>>=◌, each}
+use Rattle.exec_msg.specs.Options.{◌>>=◌, each}
 use Rattle.exec_doc.specs.inner.Placing.{entry_by}
 use Rattle.exec_doc.proofs.fed.feed_of.Given as goal
 

@@ -1,4 +1,4 @@
-use Rattle.exec_doc.specs.Refusals.{value_read}
+use Rattle.exec_doc.specs.Refusals.{document_value}
 use Rattle.exec_doc.proofs.Lawful.{Laws, value_lawful}
 use Rattle.exec_doc.proofs.laws.plans_are_lawful.Goals as goal
 
@@ -10,4 +10,4 @@ returns c =
       server = c.names_find_what_they_are_declared_as.ensures.server;
       plan = c.plans_without_faults_are_lawful.ensures;
     } in
-    λ bytes plan says. value_lawful laws (value_read bytes) plan says
+    λ bytes plan says. value_lawful laws (document_value bytes) plan says

@@ -1,7 +1,7 @@
 use Rattle.std.proofs.Common.{ℕ, List, nat_le, ap, sym, ◌∙◌, ◌++◌, Some}
 use Rattle.std.proofs.lemmas.List.{drop_all, append-nil}
 use Rattle.std.specs.Bool.{then_some}
-use Rattle.exec_plan.specs.Options.{◌>>=◌, each}
+use Rattle.exec_msg.specs.Options.{◌>>=◌, each}
 use Rattle.exec_doc.proofs.Scheduled.{each_only}
 use Rattle.exec_msg.specs.declared.limits.TheConstants.{TICKS}
 use Rattle.exec_doc.proofs.schedule.moments_of.Goals as goal

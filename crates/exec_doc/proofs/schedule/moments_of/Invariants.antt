@@ -1,6 +1,6 @@
 use Rattle.std.proofs.Common.{◌≡◌, ◌++◌, drop, nat_le, Some}
 use Rattle.std.specs.Bool.{then_some}
-use Rattle.exec_plan.specs.Options.{◌>>=◌, each}
+use Rattle.exec_msg.specs.Options.{◌>>=◌, each}
 use Rattle.exec_msg.specs.declared.limits.TheConstants.{TICKS}
 use Rattle.exec_doc.proofs.schedule.moments_of.Given as goal
 

@@ -9,5 +9,5 @@ abbrev pub invariant-loop-candidate : goal.invariant-loop-candidate
 invariant-loop-candidate l = record {
   variables = l.bank;
   given = l.effects;
-  decisions = l.decisions.items;
+  decisions = l.decisions;
 } ≡ fold (handle listed l.one) (record { variables = l.initial.bank; given = l.initial.effects; decisions = [] }) (take l.candidate-index l.candidate-items)

@@ -15,6 +15,6 @@ returns c =
         close = c.close_of-2.ensures ∙ ap (λ (state : ScriptState (List Effect)). close_of c.args.role state.answer) ends;
       };
       memory = search rules;
-      err_variables = search rules;
-      err_effects = search rules;
+      unchanged_variables = search rules;
+      unchanged_effects = search rules;
     }

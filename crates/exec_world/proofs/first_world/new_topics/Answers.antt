@@ -8,5 +8,5 @@ use Rattle.exec_world.proofs.first_world.new_topics.Goals as goal
 pub loop-number-preserved : goal.loop-number-preserved
 loop-number-preserved c =
     next_made (new_topic c.args.graph.now) is_topic c.args.graph.now c.loop-number.number c.loop-number.topics _ _ (omega arith)
-    (c.in_ok-declare_topic.ensures ∙ ap (λ (declared : Declared). c.loop-number.topics ++ cons_if (is_topic declared) (new_topic c.args.graph.now c.loop-number.number) []) c.declared.ensures)
+    (c.in_ok-declare_topic.ensures ∙ ap (λ (declared : Declared). c.loop-number.topics ++ cons_if (is_topic declared) (new_topic c.args.graph.now c.loop-number.number) []) c.declaration.ensures)
     c.loop-number.invariant

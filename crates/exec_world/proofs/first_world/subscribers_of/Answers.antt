@@ -11,5 +11,5 @@ loop-number-init c = rw c.new-subscribers.ensures.items (as_they_are (entities_w
 pub loop-number-preserved : goal.loop-number-preserved
 loop-number-preserved c =
     next_made (λ number. number) (of_entity false (subscribes_to c.args.topic)) c.args.graph.now c.loop-number.number c.loop-number.subscribers.items _ _ (omega arith)
-    (c.in_ok-push_subscriber.ensures ∙ ap (λ (declared : Declared). c.loop-number.subscribers.items ++ cons_if (of_entity false (subscribes_to c.args.topic) declared) c.loop-number.number []) c.declared.ensures)
+    (c.in_ok-push_subscriber.ensures ∙ ap (λ (declared : Declared). c.loop-number.subscribers.items ++ cons_if (of_entity false (subscribes_to c.args.topic) declared) c.loop-number.number []) c.declaration.ensures)
     c.loop-number.invariant

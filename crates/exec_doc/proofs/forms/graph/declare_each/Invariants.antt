@@ -1,6 +1,6 @@
 use Rattle.std.proofs.Common.{◌≡◌, ◌++◌, map, Some}
 use Rattle.serde_json.specs.View.{view}
-use Rattle.exec_plan.specs.Options.{◌>>=◌, each}
+use Rattle.exec_msg.specs.Options.{◌>>=◌, each}
 use Rattle.exec_doc.specs.Forms.{text}
 use Rattle.exec_doc.proofs.forms.graph.declare_each.Given as goal
 

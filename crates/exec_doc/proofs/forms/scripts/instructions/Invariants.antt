@@ -1,6 +1,6 @@
 use Rattle.std.proofs.Common.{◌≡◌, ◌++◌, map, drop, Some}
 use Rattle.serde_json.specs.View.{view}
-use Rattle.exec_plan.specs.Options.{◌>>=◌, each}
+use Rattle.exec_msg.specs.Options.{◌>>=◌, each}
 use Rattle.exec_doc.specs.Forms.{list_of, word}
 use Rattle.exec_doc.proofs.forms.scripts.instructions.Given as goal
 

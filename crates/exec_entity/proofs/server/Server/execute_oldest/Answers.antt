@@ -13,13 +13,13 @@ use Rattle.exec_entity.proofs.server.Server.execute_oldest.Goals as goal
 pub invariant_of-self : goal.invariant_of-self
 invariant_of-self c =
     let moved : c.apply-state.new.self ≡ change_first (has_id c.in_ok-id.id) (after_event event.Execute) c.self.inside.goals =
-    applied c.in_ok-id.id event.Execute c.self.inside.goals c.apply-state.new.self c.apply-state.result c.apply-state.ensures.moved c.apply-state.ensures.illegal c.apply-state.ensures.refused in
+    applied c.in_ok-id.id event.Execute c.self.inside.goals c.apply-state.new.self c.apply-state.result c.apply-state.ensures.moved c.apply-state.ensures.illegal c.apply-state.ensures.unchanged in
     rw moved (kept-changed (has_id c.in_ok-id.id) (after_event event.Execute) (λ goal. refl) c.self.inside.goals (held_goals_of c.self.inside.held.entries) c.self.invariant)
 
 pub returns-clause-executed : goal.returns-clause-executed
 returns-clause-executed c =
     let moved : c.apply-state.new.self ≡ change_first (has_id c.in_ok-id.id) (after_event event.Execute) c.self.inside.goals =
-    applied c.in_ok-id.id event.Execute c.self.inside.goals c.apply-state.new.self c.apply-state.result c.apply-state.ensures.moved c.apply-state.ensures.illegal c.apply-state.ensures.refused in
+    applied c.in_ok-id.id event.Execute c.self.inside.goals c.apply-state.new.self c.apply-state.result c.apply-state.ensures.moved c.apply-state.ensures.illegal c.apply-state.ensures.unchanged in
     let done = executed-found (find (λ (goal : GoalRecord). is_accepted goal.state) c.args.self.now.goals) c.in_ok-id.id c.args.self.now.goals c.apply-state.new.self c.in_ok-id.ensures
     (moved ∙ ap (λ (server : ServerEntry). change_first (has_id c.in_ok-id.id) (after_event event.Execute) server.goals) c.self.view_is) in
     (λ i. record (c.self.view_is i) { goals = done i })

@@ -25,18 +25,18 @@ invariant_of-self c =
     let kept : Some c.unwrap-held.result.now ≡ slice_get (values_of c.self.inside.held.entries) c.in-Some.place = search rules in
     let at = kept-at c.args.id c.unwrap-held.result.now c.self.inside.goals c.self.inside.held.entries c.args.self.now.held c.in-Some.place is c.self.invariant c.in-Some.ensures.at kept in
     let after : Held = record { task = c.poll_any.new.task; client = c.unwrap-held.result.now.client } in
-    let changes : held_goal_of (c.args.id, after) ≡ held_goal_of (c.args.id, c.unwrap-held.result.now) = ap (λ (work : Option GoalWork). record (held_goal_of (c.args.id, c.unwrap-held.result.now)) { work = work }) c.in_err-close.ensures.refused in
+    let changes : held_goal_of (c.args.id, after) ≡ held_goal_of (c.args.id, c.unwrap-held.result.now) = ap (λ (work : Option GoalWork). record (held_goal_of (c.args.id, c.unwrap-held.result.now)) { work = work }) c.in_err-close.ensures.unchanged in
     let stays : held_goals_of (set_value_at c.self.inside.held.entries c.in-Some.place after) ≡ held_goals_of c.self.inside.held.entries =
     changed-at at after (λ (one : HeldGoal). one) changes ∙ unchanged_first (is_for c.args.id) (held_goals_of c.self.inside.held.entries) in
     subst (λ (held : List HeldGoal). AreKept c.self.inside.goals held) (sym stays) c.self.invariant
 
-pub returns-in_err-close-clause-refused : goal.returns-in_err-close-clause-refused
-returns-in_err-close-clause-refused c =
+pub returns-in_err-close-clause-unchanged : goal.returns-in_err-close-clause-unchanged
+returns-in_err-close-clause-unchanged c =
     let is : held_goals_of c.self.inside.held.entries ≡ c.args.self.now.held = ap (λ (server : ServerEntry). server.held) c.self.view_is in
     let kept : Some c.unwrap-held.result.now ≡ slice_get (values_of c.self.inside.held.entries) c.in-Some.place = search rules in
     let at = kept-at c.args.id c.unwrap-held.result.now c.self.inside.goals c.self.inside.held.entries c.args.self.now.held c.in-Some.place is c.self.invariant c.in-Some.ensures.at kept in
     let after : Held = record { task = c.poll_any.new.task; client = c.unwrap-held.result.now.client } in
-    let changes : held_goal_of (c.args.id, after) ≡ held_goal_of (c.args.id, c.unwrap-held.result.now) = ap (λ (work : Option GoalWork). record (held_goal_of (c.args.id, c.unwrap-held.result.now)) { work = work }) c.in_err-close.ensures.refused in
+    let changes : held_goal_of (c.args.id, after) ≡ held_goal_of (c.args.id, c.unwrap-held.result.now) = ap (λ (work : Option GoalWork). record (held_goal_of (c.args.id, c.unwrap-held.result.now)) { work = work }) c.in_err-close.ensures.unchanged in
     let stays : held_goals_of (set_value_at c.self.inside.held.entries c.in-Some.place after) ≡ held_goals_of c.self.inside.held.entries =
     changed-at at after (λ (one : HeldGoal). one) changes ∙ unchanged_first (is_for c.args.id) (held_goals_of c.self.inside.held.entries) in
     let entry : ServerEntry = record { handler = c.self.inside.handler; timeout = c.self.inside.timeout; goals = c.self.inside.goals; held = held_goals_of c.self.inside.held.entries } in

@@ -1,5 +1,5 @@
 use Rattle.std.proofs.Common.{◌≡◌, ℕ, take}
-use Rattle.exec_goal.specs.Calls.{is_among}
+use Rattle.exec_goal.specs.inner.Ids.{is_among}
 use Rattle.exec_goal.specs.Cancel.{is_accepted_for}
 use Rattle.exec_goal.proofs.cancel.AcceptedIds.of.Given as goal
 

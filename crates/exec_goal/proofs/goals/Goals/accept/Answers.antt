@@ -1,8 +1,10 @@
 use Rattle.std.proofs.Common.{ℕ, List, ◌<◌, ◌∙◌, sym, ap, subst, arith, length, leb-false, false, ◌≡◌, ◌++◌, ◌∷◌, [], rules, w64, to_z-of_z}
 use mir.Val.{SFits}
 use Rattle.exec_goal.proofs.Entries.{ids_decide, inserted-new}
+use Rattle.exec_goal.proofs.EndedPlaces.{length-flags, length-places}
+use Rattle.exec_goal.specs.inner.Ended.{ended_flags}
 use Rattle.exec_goal.proofs.Tallying.{tallied-fits, tallied-accepted}
-use Rattle.exec_goal.specs.Held.{records_of}
+use Rattle.exec_goal.specs.inner.Held.{records_of}
 use Rattle.exec_goal.specs.Table.{GoalRecord, holds_id, new_goal}
 use Rattle.exec_goal.specs.declared.state.State.TheVariants as state
 use Rattle.exec_goal.specs.inner.Tally.{CountsMove, IsTallied}
@@ -14,12 +16,21 @@ returns-clause-accepted c =
     let fits : SFits w64 c.args.value = search rules in
     let none : holds_id c.args.id (records_of c.self.inside.held.entries) ≡ false = ap (holds_id c.args.id) c.self.view_is ∙ sym c.holds.ensures ∙ c.if-holds.false in
     ap records_of c.in_ok-insert.ensures.entries ∙ inserted-new _ (λ a b. ids_decide a b) c.args.id _ c.self.inside.held.entries none
-    ∙ ap (λ goal. records_of c.self.inside.held.entries ++ goal ∷ []) (c.accepted-goal.ensures.stands_for c.args.id)
+    ∙ ap (λ goal. records_of c.self.inside.held.entries ++ goal ∷ []) (c.new-goal.ensures.stands_for c.args.id)
     ∙ ap (λ value. records_of c.self.inside.held.entries ++ new_goal c.args.id value c.args.moment c.args.decision ∷ []) (to_z-of_z fits)
     ∙ ap (λ goals. goals ++ new_goal c.args.id c.args.value c.args.moment c.args.decision ∷ []) c.self.view_is
 
 pub count_move-requires-clause-fits : goal.count_move-requires-clause-fits
 count_move-requires-clause-fits c = tallied-fits c.self.inside.tally (records_of c.self.inside.held.entries) c.self.invariant
+
+pub count_move-requires-clause-room : goal.count_move-requires-clause-room
+count_move-requires-clause-room c =
+    let goals : List GoalRecord = records_of c.self.inside.held.entries in
+    let room : length goals < GOALS = omega (arith, leb-false GOALS (length c.args.self.now) (sym c.is_full.ensures ∙ c.if-is_full.false), ap length c.self.view_is) in
+    λ _. (
+      omega (arith, room, c.len-place.ensures.count, ap length c.self.view_is),
+      omega (arith, room, ap length c.self.invariant.ended, length-places (ended_flags goals) 0, length-flags goals),
+    )
 
 pub invariant_of-self-2 : goal.invariant_of-self-2
 invariant_of-self-2 c =
@@ -28,6 +39,7 @@ invariant_of-self-2 c =
     let room : length goals < GOALS = omega (arith, leb-false GOALS (length c.args.self.now) (sym c.is_full.ensures ∙ c.if-is_full.false), ap length c.self.view_is) in
     subst (λ (goals : List GoalRecord). IsTallied c.count_move.new.self goals)
     (sym (ap records_of c.in_ok-insert.ensures.entries ∙ inserted-new _ (λ a b. ids_decide a b) c.args.id _ c.self.inside.held.entries none))
-    (tallied-accepted c.self.inside.tally c.count_move.new.self goals _ room
-    (subst (λ (ended : ℕ). CountsMove state.Accepted c.accepted-goal.result.state ended c.self.inside.tally c.count_move.new.self) (sym (ap (λ goal. goal.ended) (c.accepted-goal.ensures.stands_for c.args.id))) c.count_move.ensures)
+    (tallied-accepted c.self.inside.tally c.count_move.new.self goals _ c.len-place.result (c.len-place.ensures.count ∙ sym (ap length c.self.view_is)) room
+    (subst (λ (ended : ℕ). CountsMove state.Accepted c.new-goal.result.state ended c.self.inside.tally c.count_move.new.self) (sym (ap (λ goal. goal.ended) (c.new-goal.ensures.stands_for c.args.id))) c.count_move.ensures.counts)
+    c.count_move.ensures.notes
     c.self.invariant)

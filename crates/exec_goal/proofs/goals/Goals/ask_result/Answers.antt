@@ -2,7 +2,7 @@ use Rattle.std.proofs.Common.{◌∙◌, sym, ap, refl, rules, true, false, w64,
 use mir.Val.{SFits}
 use Rattle.exec_goal.proofs.Entries.{ids_decide, key_test, changed-in, change_first-same, asked-unknown, asked-held, on_err}
 use Rattle.exec_goal.specs.Calls.{noted}
-use Rattle.exec_goal.specs.Held.{record_of, records_of}
+use Rattle.exec_goal.specs.inner.Held.{record_of, records_of}
 use Rattle.exec_goal.specs.Info.{answer_of}
 use Rattle.exec_goal.specs.Table.{GoalRecord, Asked, asked_by}
 use Rattle.exec_goal.specs.declared.asked.Asked.TheVariants as answer
@@ -48,10 +48,10 @@ returns-in_err-push-clause-memory c =
     let asked = asked-held _ c.args.id (key_test _ (λ a b. ids_decide a b) c.args.id) false c.in-Some.goal.now c.self.inside.held.entries c.args.self.now c.self.view_is c.in-Some.ensures.value (sym c.is_terminal.ensures ∙ c.if-is_terminal.false) in
     search rules
 
-pub returns-in_err-push-clause-refused : goal.returns-in_err-push-clause-refused
-returns-in_err-push-clause-refused c =
+pub returns-in_err-push-clause-unchanged : goal.returns-in_err-push-clause-unchanged
+returns-in_err-push-clause-unchanged c =
     let goal = record_of (c.args.id, c.in-Some.goal.now) in
-    let kept = changed-in _ c.args.id (key_test _ (λ a b. ids_decide a b) c.args.id) (λ (goal : GoalRecord). goal) c.in-Some.goal.now _ (ap (λ askers. record goal { askers = askers }) c.in_err-push.ensures.err)
+    let kept = changed-in _ c.args.id (key_test _ (λ a b. ids_decide a b) c.args.id) (λ (goal : GoalRecord). goal) c.in-Some.goal.now _ (ap (λ askers. record goal { askers = askers }) c.in_err-push.ensures.unchanged)
     c.self.inside.held.entries (c.get_mut.follows.lender _).entries c.args.self.now c.self.view_is c.in-Some.ensures.value (c.get_mut.follows.holds _).0
     ∙ change_first-same c.args.id c.args.self.now in
     on_err c.from_residual.result kept
@@ -61,10 +61,10 @@ invariant_of-self-then-is_terminal c = tallied-kept _ c.args.id (key_test _ (λ 
 
 pub invariant_of-self-in_err-push : goal.invariant_of-self-in_err-push
 invariant_of-self-in_err-push c =
-    tallied-in _ c.args.id (key_test _ (λ a b. ids_decide a b) c.args.id) c.in-Some.goal.now c.self.inside.held.entries c.in-Some.ensures.value _ (c.get_mut.follows.lender _).entries c.self.inside.tally c.self.inside.tally (c.get_mut.follows.holds _).0
-    (unmoved c.in-Some.goal.now.state c.in-Some.goal.now.ended c.self.inside.tally (sym c.is_terminal.ensures ∙ c.if-is_terminal.false)) c.self.invariant
+    tallied-in _ c.args.id (key_test _ (λ a b. ids_decide a b) c.args.id) c.in-Some.goal.now c.self.inside.held.entries c.in-Some.ensures.value _ (c.get_mut.follows.lender _).entries c.self.inside.tally (c.get_mut.follows.holds _).0
+    (unmoved c.in-Some.goal.now.state c.in-Some.goal.now.ended c.self.inside.tally (sym c.is_terminal.ensures ∙ c.if-is_terminal.false)) refl c.self.invariant
 
 pub invariant_of-self-2 : goal.invariant_of-self-2
 invariant_of-self-2 c =
-    tallied-in _ c.args.id (key_test _ (λ a b. ids_decide a b) c.args.id) c.in-Some.goal.now c.self.inside.held.entries c.in-Some.ensures.value _ (c.get_mut.follows.lender _).entries c.self.inside.tally c.self.inside.tally (c.get_mut.follows.holds _).0
-    (unmoved c.in-Some.goal.now.state c.in-Some.goal.now.ended c.self.inside.tally (sym c.is_terminal.ensures ∙ c.if-is_terminal.false)) c.self.invariant
+    tallied-in _ c.args.id (key_test _ (λ a b. ids_decide a b) c.args.id) c.in-Some.goal.now c.self.inside.held.entries c.in-Some.ensures.value _ (c.get_mut.follows.lender _).entries c.self.inside.tally (c.get_mut.follows.holds _).0
+    (unmoved c.in-Some.goal.now.state c.in-Some.goal.now.ended c.self.inside.tally (sym c.is_terminal.ensures ∙ c.if-is_terminal.false)) refl c.self.invariant

@@ -1,7 +1,7 @@
 use Rattle.std.proofs.Common.{◌∙◌, sym, ap, Some, List, map, slice_get}
 use Rattle.std.specs.Option.{option_map}
 use Rattle.std.proofs.lemmas.Option.{slice_get-map}
-use Rattle.exec_goal.specs.Held.{record_of}
+use Rattle.exec_goal.specs.inner.Held.{record_of}
 use Rattle.exec_goal.specs.Info.{info_of}
 use Rattle.exec_goal.specs.Table.{GoalRecord}
 use Rattle.exec_goal.proofs.goals.Goals.at.Goals as goal

@@ -1,6 +1,6 @@
 use Rattle.std.proofs.Common.{◌∙◌, ◌<◌, ap, pos, length, arith, add-one, List, slice_set, slice_index_or}
 use Rattle.exec_goal.proofs.Looping.{length-mapped_upto, next_mapped, all_mapped}
-use Rattle.exec_goal.specs.Calls.{is_among}
+use Rattle.exec_goal.specs.inner.Ids.{is_among}
 use Rattle.exec_goal.specs.Cancel.{after_answer_by}
 use Rattle.exec_goal.specs.Table.{GoalRecord, new_goal}
 use Rattle.exec_goal.proofs.goals.Goals.cancel.Goals as goal

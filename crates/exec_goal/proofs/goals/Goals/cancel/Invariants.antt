@@ -1,5 +1,5 @@
 use Rattle.std.proofs.Common.{◌≡◌}
-use Rattle.exec_goal.specs.Calls.{is_among}
+use Rattle.exec_goal.specs.inner.Ids.{is_among}
 use Rattle.exec_goal.specs.Cancel.{after_answer_by}
 use Rattle.exec_goal.proofs.Looping.{mapped_upto}
 use Rattle.exec_goal.proofs.goals.Goals.cancel.Given as goal

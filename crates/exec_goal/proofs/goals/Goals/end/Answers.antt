@@ -1,52 +1,71 @@
-use Rattle.std.proofs.Common.{◌∙◌, ◌≡◌, sym, ap, refl, rules, None, Some, w64, to_z, of_z, to_z-of_z}
+use Rattle.std.proofs.Common.{ℕ, ◌∙◌, ◌≡◌, sym, ap, subst, rules, None, Some, w64, to_z, of_z, to_z-of_z, List}
 use Rattle.std.specs.Option.{unwrap_or}
 use mir.Val.{SFits}
-use Rattle.exec_goal.proofs.Entries.{ids_decide, key_test, next-in, changed-in, change_first-same, terminal-reached}
+use Rattle.exec_goal.proofs.Entries.{ids_decide, key_test, next-in, changed-in, terminal-reached, none-looked, found-there, set-there, set_value_at-same}
 use Rattle.exec_goal.specs.Calls.{where_terminal}
-use Rattle.exec_goal.specs.Held.{record_of, records_of}
 use Rattle.exec_goal.specs.State.{after}
-use Rattle.exec_goal.specs.Table.{GoalRecord, after_end}
-use Rattle.exec_goal.proofs.Tallying.{tallied-fits, counted-in, tallied-in, tallied-kept}
+use Rattle.exec_goal.specs.Table.{after_end}
+use Rattle.exec_goal.specs.declared.held.GoalEntry.{GoalEntry}
+use Rattle.exec_goal.specs.inner.Held.{record_of, records_of}
+use Rattle.exec_goal.specs.inner.Tally.{IsTallied}
+use Rattle.exec_goal.proofs.Tallying.{tallied-fits, counted-at, room-at, tallied-at}
 use Rattle.exec_goal.proofs.goals.Goals.end.Goals as goal
 
 pub returns-in_default-clause-illegal : goal.returns-in_default-clause-illegal
 returns-in_default-clause-illegal c =
-    ap where_terminal (next-in _ c.args.id (key_test _ (λ a b. ids_decide a b) c.args.id) c.args.event c.self.inside.held.entries c.args.self.now None c.self.view_is c.in_default.ensures.value)
+    ap where_terminal (next-in _ c.args.id (key_test _ (λ a b. ids_decide a b) c.args.id) c.args.event c.self.inside.held.entries c.args.self.now None c.self.view_is (none-looked _ c.self.inside.held.entries c.in_default.ensures.found))
+
+pub invariant_of-self : goal.invariant_of-self
+invariant_of-self c =
+    let entry : ℕ × GoalEntry = (c.pair_mut-goal.result.0.now, c.pair_mut-goal.result.1.now) in
+    subst (λ (entries : List (ℕ × GoalEntry)). IsTallied c.self.inside.tally (records_of entries)) (sym (set_value_at-same c.self.inside.held.entries c.in-Some.place entry c.pair_mut-goal.ensures.value)) c.self.invariant
 
 pub returns-in_default-end-clause-illegal : goal.returns-in_default-end-clause-illegal
 returns-in_default-end-clause-illegal c =
-    ap where_terminal (next-in _ c.args.id (key_test _ (λ a b. ids_decide a b) c.args.id) c.args.event c.self.inside.held.entries c.args.self.now (Some c.in-Some.goal.now) c.self.view_is c.in-Some.ensures.value)
+    let entry : ℕ × GoalEntry = (c.pair_mut-goal.result.0.now, c.pair_mut-goal.result.1.now) in
+    ap where_terminal (next-in _ c.args.id (key_test _ (λ a b. ids_decide a b) c.args.id) c.args.event c.self.inside.held.entries c.args.self.now (Some entry.1) c.self.view_is
+    (found-there _ c.self.inside.held.entries c.in-Some.place entry c.in-Some.ensures.index c.pair_mut-goal.ensures.value))
     ∙ sym c.in_default-end.ensures
 
-pub returns-in_default-end-clause-refused : goal.returns-in_default-end-clause-refused
-returns-in_default-end-clause-refused c =
-    changed-in _ c.args.id (key_test _ (λ a b. ids_decide a b) c.args.id) (λ (goal : GoalRecord). goal) c.in-Some.goal.now c.in-Some.goal.now refl
-    c.self.inside.held.entries (c.get_mut.follows.lender c.in-Some.goal.now).entries c.args.self.now c.self.view_is c.in-Some.ensures.value (c.get_mut.follows.holds c.in-Some.goal.now).0
-    ∙ change_first-same c.args.id c.args.self.now
+pub returns-in_default-end-clause-unchanged : goal.returns-in_default-end-clause-unchanged
+returns-in_default-end-clause-unchanged c =
+    let entry : ℕ × GoalEntry = (c.pair_mut-goal.result.0.now, c.pair_mut-goal.result.1.now) in
+    ap records_of (set_value_at-same c.self.inside.held.entries c.in-Some.place entry c.pair_mut-goal.ensures.value) ∙ c.self.view_is
 
 pub returns-clause-state : goal.returns-clause-state
 returns-clause-state c =
-    ap where_terminal (next-in _ c.args.id (key_test _ (λ a b. ids_decide a b) c.args.id) c.args.event c.self.inside.held.entries c.args.self.now (Some c.in-Some.goal.now) c.self.view_is c.in-Some.ensures.value)
+    let entry : ℕ × GoalEntry = (c.pair_mut-goal.result.0.now, c.pair_mut-goal.result.1.now) in
+    ap where_terminal (next-in _ c.args.id (key_test _ (λ a b. ids_decide a b) c.args.id) c.args.event c.self.inside.held.entries c.args.self.now (Some entry.1) c.self.view_is
+    (found-there _ c.self.inside.held.entries c.in-Some.place entry c.in-Some.ensures.index c.pair_mut-goal.ensures.value))
     ∙ sym c.in-Some-end.ensures
 
 pub returns-clause-ended : goal.returns-clause-ended
 returns-clause-ended c =
+    let entry : ℕ × GoalEntry = (c.pair_mut-goal.result.0.now, c.pair_mut-goal.result.1.now) in
     let fits : SFits w64 c.args.value = search rules in
-    let goal = record_of (c.args.id, c.in-Some.goal.now) in
-    let reached = terminal-reached (after c.in-Some.goal.now.state c.args.event) c.in-Some-end.next c.in-Some-end.ensures in
+    let goal = record_of (c.args.id, entry.1) in
+    let reached = terminal-reached (after entry.1.state c.args.event) c.in-Some-end.next c.in-Some-end.ensures in
     let changes : record goal { state = c.in-Some-end.next; result = to_z w64 (of_z w64 c.args.value); ended = c.args.moment } ≡ after_end c.args.event c.args.value c.args.moment goal =
     (λ i. record goal { state = unwrap_or (sym reached i) goal.state; result = to_z-of_z fits i; ended = c.args.moment }) in
-    changed-in _ c.args.id (key_test _ (λ a b. ids_decide a b) c.args.id) (after_end c.args.event c.args.value c.args.moment) c.in-Some.goal.now _ changes
-    c.self.inside.held.entries (c.get_mut.follows.lender _).entries c.args.self.now c.self.view_is c.in-Some.ensures.value (c.get_mut.follows.holds _).0
-
-pub invariant_of-self-in_default-end : goal.invariant_of-self-in_default-end
-invariant_of-self-in_default-end c = tallied-kept _ c.args.id (key_test _ (λ a b. ids_decide a b) c.args.id) c.in-Some.goal.now c.self.inside.held.entries c.in-Some.ensures.value (c.get_mut.follows.lender c.in-Some.goal.now).entries c.self.inside.tally (c.get_mut.follows.holds c.in-Some.goal.now).0 c.self.invariant
+    changed-in _ c.args.id (key_test _ (λ a b. ids_decide a b) c.args.id) (after_end c.args.event c.args.value c.args.moment) entry.1 _ changes
+    c.self.inside.held.entries _ c.args.self.now c.self.view_is
+    (found-there _ c.self.inside.held.entries c.in-Some.place entry c.in-Some.ensures.index c.pair_mut-goal.ensures.value)
+    (set-there _ c.self.inside.held.entries c.in-Some.place entry c.in-Some.ensures.index c.pair_mut-goal.ensures.value _)
 
 pub count_move-requires-clause-counted : goal.count_move-requires-clause-counted
-count_move-requires-clause-counted c = counted-in _ c.args.id (key_test _ (λ a b. ids_decide a b) c.args.id) c.in-Some.goal.now c.self.inside.held.entries c.in-Some.ensures.value c.self.inside.tally c.self.invariant
+count_move-requires-clause-counted c =
+    let entry : ℕ × GoalEntry = (c.pair_mut-goal.result.0.now, c.pair_mut-goal.result.1.now) in
+    counted-at c.self.inside.held.entries c.in-Some.place entry c.pair_mut-goal.ensures.value c.self.inside.tally c.self.invariant
 
 pub count_move-requires-clause-fits : goal.count_move-requires-clause-fits
 count_move-requires-clause-fits c = tallied-fits c.self.inside.tally (records_of c.self.inside.held.entries) c.self.invariant
 
+pub count_move-requires-clause-room : goal.count_move-requires-clause-room
+count_move-requires-clause-room c =
+    let entry : ℕ × GoalEntry = (c.pair_mut-goal.result.0.now, c.pair_mut-goal.result.1.now) in
+    room-at c.self.inside.held.entries c.in-Some.place entry c.pair_mut-goal.ensures.value c.self.inside.tally c.self.invariant
+
 pub invariant_of-self-2 : goal.invariant_of-self-2
-invariant_of-self-2 c = tallied-in _ c.args.id (key_test _ (λ a b. ids_decide a b) c.args.id) c.in-Some.goal.now c.self.inside.held.entries c.in-Some.ensures.value _ (c.get_mut.follows.lender _).entries c.self.inside.tally c.count_move.new.self (c.get_mut.follows.holds _).0 c.count_move.ensures c.self.invariant
+invariant_of-self-2 c =
+    let entry : ℕ × GoalEntry = (c.pair_mut-goal.result.0.now, c.pair_mut-goal.result.1.now) in
+    tallied-at c.self.inside.held.entries c.in-Some.place entry c.pair_mut-goal.ensures.value _ c.self.inside.tally c.count_move.new.self c.count_move.ensures.counts c.count_move.ensures.notes c.self.invariant

@@ -3,8 +3,8 @@ use Rattle.std.specs.Option.{option_map}
 use Rattle.std.proofs.lemmas.Option.{slice_get-map}
 use Rattle.exec_goal.proofs.Looping.{removed-first, found-first, find-filter, filter-drop_first, others-drop_first, drop_first-none, records-remove}
 use Rattle.exec_goal.proofs.Tallying.{tallied-removed}
-use Rattle.exec_goal.specs.Calls.{IsFirst}
-use Rattle.exec_goal.specs.Held.{record_of, records_of}
+use Rattle.exec_goal.specs.inner.Places.{IsFirst}
+use Rattle.exec_goal.specs.inner.Held.{record_of, records_of}
 use Rattle.exec_goal.specs.Table.{GoalRecord, is_expired}
 use Rattle.exec_goal.specs.inner.Tally.{IsTallied}
 use Rattle.exec_goal.proofs.goals.Goals.expire.Goals as goal
@@ -49,8 +49,8 @@ invariant_of-self c =
     let goals : List GoalRecord = records_of c.self.inside.held.entries in
     let found : IsFirst (is_expired c.args.moment (Some c.args.timeout)) goals c.in_ok-index.index =
     subst (λ (goals : List GoalRecord). IsFirst (is_expired c.args.moment (Some c.args.timeout)) goals c.in_ok-index.index) (sym (c.self.view_is ∙ c.next_expired.ensures.same)) c.in_ok-index.ensures.found in
-    subst (λ (goals : List GoalRecord). IsTallied c.self.inside.tally goals) (sym (ap records_of c.shift_remove_index.ensures.entries ∙ records-remove c.self.inside.held.entries c.in_ok-index.index))
-    (tallied-removed c.args.moment c.args.timeout c.self.inside.tally goals c.in_ok-index.index found c.self.invariant)
+    subst (λ (goals : List GoalRecord). IsTallied (record c.self.inside.tally { ended = c.forget.new.self }) goals) (sym (ap records_of c.shift_remove_index.ensures.entries ∙ records-remove c.self.inside.held.entries c.in_ok-index.index))
+    (tallied-removed c.args.moment c.args.timeout c.self.inside.tally goals c.in_ok-index.index c.forget.new.self found c.forget.ensures c.self.invariant)
 
 pub returns-in_err-index-clause-found : goal.returns-in_err-index-clause-found
 returns-in_err-index-clause-found c =

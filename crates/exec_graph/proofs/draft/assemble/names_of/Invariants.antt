@@ -5,4 +5,4 @@ abbrev pub invariant-loop-topic : goal.invariant-loop-topic
 invariant-loop-topic l = map string_bytes l.names.items ≡ take l.topic-index l.topics
 
 abbrev pub invariant-loop-placed : goal.invariant-loop-placed
-invariant-loop-placed l = map string_bytes l.names.items ≡ l.topics ++ map (λ placed. placed.entity.name) (take l.placed-index l.entities)
+invariant-loop-placed l = map string_bytes l.names.items ≡ l.draft.topics ++ map (λ placed. placed.entity.name) (take l.placed-index l.entities)

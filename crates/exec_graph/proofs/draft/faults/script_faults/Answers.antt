@@ -7,5 +7,5 @@ use Rattle.exec_graph.proofs.draft.faults.script_faults.Goals as goal
 pub loop-number-preserved : goal.loop-number-preserved
 loop-number-preserved c =
     next_at (faults_of c.args.groups.now) (values_of c.args.entities.now.entries) c.loop-number.number c.index.result.now
-    c.loop-number.faults.items c.append_declared.new.faults.items c.index.ensures c.in_ok-append_declared.ensures
+    c.loop-number.faults.items c.append_faults.new.faults.items c.index.ensures c.in_ok-append_faults.ensures
     ∙ c.loop-number.invariant

@@ -1,7 +1,7 @@
 use Rattle.std.proofs.Common.{◌<◌, String, ap, sym, ◌∙◌, true, false, rules}
 use Rattle.std.specs.Global.{Global}
 use Rattle.std.specs.List.{position_from}
-use Rattle.exec_plan.specs.inner.Entries.{entity_of, entities_in}
+use Rattle.exec_plan.specs.inner.Entries.{entry_data, entities_in}
 use Rattle.exec_plan.specs.Graph.{GraphData, is_topic}
 use Rattle.exec_plan.specs.declared.entity.Declared.{Declared}
 use Rattle.exec_plan.proofs.Counting.{number_below}
@@ -19,7 +19,7 @@ pub overflow_cast-result : goal.overflow_cast-result
 overflow_cast-result c =
     let shape : GraphData = record { nodes = c.self.inside.nodes; groups = c.self.inside.groups.items; entities = entities_in c.self.inside.entities.entries } in
     let entry : String Global × Declared = (c.in_ok-place.field-0-1.now, c.in_ok-place.declared.now) in
-    let below : c.in_ok-place.place < 65536 = number_below shape c.in_ok-place.place (entity_of entry) c.self.invariant.0 (slice_get-map entity_of c.self.inside.entities.entries c.in_ok-place.place entry c.in_ok-place.ensures.entry) in
+    let below : c.in_ok-place.place < 65536 = number_below shape c.in_ok-place.place (entry_data entry) c.self.invariant.0 (slice_get-map entry_data c.self.inside.entities.entries c.in_ok-place.place entry c.in_ok-place.ensures.entry) in
     search rules
 
 pub returns-then-is_topic : goal.returns-then-is_topic

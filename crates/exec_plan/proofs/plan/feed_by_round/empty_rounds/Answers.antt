@@ -2,7 +2,7 @@ use Rattle.std.proofs.Common.{◌≡◌, ◌∙◌, Vec, List, [], ◌∷◌, �
 use Rattle.std.specs.declared.alloc.Global.{Global}
 use Rattle.std.proofs.lemmas.List.{append-nil, map-append, drop_all}
 use Rattle.exec_plan.specs.Feeding.{feeds_from}
-use Rattle.exec_plan.specs.declared.plan.Feed.{Feed}
+use Rattle.exec_plan.specs.Plan.{Feed}
 use Rattle.exec_plan.proofs.ByRound.{one_more_empty}
 use Rattle.exec_plan.proofs.plan.feed_by_round.empty_rounds.Goals as goal
 

@@ -3,7 +3,7 @@ use Rattle.std.specs.declared.alloc.Global.{Global}
 use Rattle.std.proofs.lemmas.List.{length-map, take_more}
 use Rattle.exec_plan.specs.Feeding.{feeds_from}
 use Rattle.exec_plan.specs.Entity.{is_from_1}
-use Rattle.exec_plan.specs.declared.plan.Feed.{Feed}
+use Rattle.exec_plan.specs.Plan.{Feed}
 use Rattle.exec_plan.proofs.ByRound.{as_many_rounds, is_round, put_in}
 use Rattle.exec_plan.proofs.plan.feed_by_round.rounds_of.Goals as goal
 

@@ -3,5 +3,5 @@ use Rattle.exec_plan.specs.Schedule.{greatest, stamp_of}
 use Rattle.exec_plan.proofs.plan.schedule.greatest_stamp.Given as goal
 
 abbrev pub invariant-loop-entry : goal.invariant-loop-entry
-invariant-loop-entry l =
+invariant-loop-entry g l =
     max l.greatest (greatest (map (λ entry. stamp_of entry.fed) (drop l.entry-index l.feed))) ≡ greatest (map (λ entry. stamp_of entry.fed) l.feed)

@@ -40,7 +40,7 @@ invariant_of-self-in-Err c =
     let left : c.pop.new.self.items ≡ c.self.inside.filled.items =
     unnoted (is_filled_at c.self.inside.entries.items c.in-Some.place) c.self.inside.filled.items c.note_filled.new.filled.items c.pop.new.self.items c.in-Some.place (vec_len c.note_filled.new.filled) c.in-Err.ensures.memory noted
     c.note_filled.new.filled.ok.0 c.pop.ensures.rest in
-    let same = c.in-Err.ensures.err in (
+    let same = c.in-Err.ensures.unchanged in (
       subst (FindsQueues c.self.inside.places) (sym same) c.self.invariant.0,
       subst (CoversFilled c.pop.new.self.items) (sym same) (subst (λ places. CoversFilled places c.self.inside.entries.items) (sym left) c.self.invariant.1),
       subst (AreFilled c.pop.new.self.items) (sym same) (subst (λ places. AreFilled places c.self.inside.entries.items) (sym left) c.self.invariant.2),

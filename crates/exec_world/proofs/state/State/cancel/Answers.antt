@@ -1,7 +1,7 @@
 use Rattle.std.proofs.Common.{List, length, ap, sym, ◌∙◌}
 use Rattle.std.proofs.lemmas.Result.{on_ok_weaker}
 use Rattle.exec_entity.proofs.Closings.{cancels}
-use Rattle.exec_rules.specs.Item.{GoalId}
+use Rattle.exec_msg.specs.Numbers.{GoalId}
 use Rattle.exec_world.proofs.state.State.cancel.Goals as goal
 
 pub returns : goal.returns

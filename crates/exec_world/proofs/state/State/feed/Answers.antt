@@ -2,7 +2,7 @@ use Rattle.std.proofs.Common.{List, take, ap, sym, ◌∙◌}
 use Rattle.std.specs.List.{fold}
 use Rattle.std.proofs.lemmas.List.{take_all}
 use Rattle.std.proofs.lemmas.List.Sums.{fold_more}
-use Rattle.exec_plan.specs.declared.plan.Feed.{Feed}
+use Rattle.exec_plan.specs.Plan.{Feed}
 use Rattle.exec_rules.specs.Transcript.{feed, feed_one}
 use Rattle.exec_rules.specs.World.{WorldState}
 use Rattle.exec_world.proofs.state.State.feed.Goals as goal

@@ -7,16 +7,16 @@ use Rattle.exec_world.proofs.state.State.list_before_polls.Goals as goal
 
 pub returns-clause-list : goal.returns-clause-list
 returns-clause-list g c =
-    listed_before c.self.view_is c.filled.new.self.queues c.deref.result.now c.args.moment c.args.list.now c.list_fronts.new.list
-    (ap (λ (mail : MailState). mail.queues) c.filled.ensures.same) (c.deref.ensures.value ∙ c.in_ok-filled.ensures.places) c.in_ok-list_fronts.ensures.list
+    listed_before c.self.view_is c.list_filled.new.self.queues c.deref.result.now c.args.moment c.args.list.now c.list_fronts.new.list
+    (ap (λ (mail : MailState). mail.queues) c.list_filled.ensures.same) (c.deref.ensures.value ∙ c.in_ok-list_filled.ensures.places) c.in_ok-list_fronts.ensures.list
 
 pub returns-clause-taken : goal.returns-clause-taken
 returns-clause-taken g c =
-    let same = c.in_ok-list_fronts.ensures.same ∙ c.filled.ensures.same in
+    let same = c.in_ok-list_fronts.ensures.same ∙ c.list_filled.ensures.same in
     answered c.self.view_is c.queues.result.now c.deref-2.result.now c.list_fronts.new.self c.answer_calls.new.clients
-    same (c.queues.ensures ∙ ap (λ (mail : MailState). mail.queues) same) (c.deref-2.ensures.value ∙ c.in_ok-filled.ensures.places) c.answer_calls.ensures
+    same (c.queues.ensures ∙ ap (λ (mail : MailState). mail.queues) same) (c.deref-2.ensures.value ∙ c.in_ok-list_filled.ensures.places) c.answer_calls.ensures
 
 pub returns-clause-homes : goal.returns-clause-homes
 returns-clause-homes g c =
     subst (λ (queues : List Queue). AreHomes (handlers_of queues) c.args.list.now c.args.homes.now.items → AreHomes (handlers_of queues) c.list_fronts.new.list c.list_fronts.new.homes.items)
-    (ap (λ (mail : MailState). mail.queues) c.filled.ensures.same ∙ ap (λ (world : WorldState). world.queues) c.self.view_is) c.in_ok-list_fronts.ensures.homes
+    (ap (λ (mail : MailState). mail.queues) c.list_filled.ensures.same ∙ ap (λ (world : WorldState). world.queues) c.self.view_is) c.in_ok-list_fronts.ensures.homes

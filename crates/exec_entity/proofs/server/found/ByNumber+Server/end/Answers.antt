@@ -17,7 +17,7 @@ invariant_of-self-2 c =
     let ended : IfSome c.end.result (λ _. c.end.new.self ≡ with_goals (change_first (has_id c.args.id) (after_end c.args.event c.args.value c.args.moment)) c.in_ok-entry.entry.now) =
     subst (λ (value : ℤ). IfSome c.end.result (λ _. c.end.new.self ≡ with_goals (change_first (has_id c.args.id) (after_end c.args.event value c.args.moment)) c.in_ok-entry.entry.now)) (to_z-of_z c.ranges.value) c.end.ensures.ended in
     finds_set number_of c.self.inside.places c.self.inside.entries.items c.place-place.result c.in_ok-entry.entry.now c.end.new.self c.self.invariant c.in_ok-entry.ensures.value
-    (number_ended c.end.result (change_first (has_id c.args.id) (after_end c.args.event c.args.value c.args.moment)) c.in_ok-entry.entry.now c.end.new.self ended c.end.ensures.refused)
+    (number_ended c.end.result (change_first (has_id c.args.id) (after_end c.args.event c.args.value c.args.moment)) c.in_ok-entry.entry.now c.end.new.self ended c.end.ensures.unchanged)
 
 pub returns-clause-reached : goal.returns-clause-reached
 returns-clause-reached c = c.end.ensures.reached ∙ sym (ap (end_state c.args.id c.args.event) (goals_found c.args.server c.self.inside.entries.items c.args.self.now c.place-place.result c.self.view_is c.place-place.ensures c.in_ok-entry.entry.now c.in_ok-entry.ensures.item.0 c.in_ok-entry.ensures.value))

@@ -2,7 +2,7 @@ use Rattle.std.proofs.Common.{◌≡◌, ◌∙◌, List, Vec, ap, sym, map, len
 use Rattle.std.specs.declared.alloc.Global.{Global}
 use Rattle.exec_plan.specs.Feeding.{feeds_by_round}
 use Rattle.exec_plan.specs.Entity.{is_from_1}
-use Rattle.exec_plan.specs.declared.plan.Feed.{Feed}
+use Rattle.exec_plan.specs.Plan.{Feed}
 use Rattle.exec_plan.proofs.ByRound.{entries_at}
 use Rattle.exec_plan.proofs.plan.feed_by_round.FeedByRound.fed_in.Goals as goal
 

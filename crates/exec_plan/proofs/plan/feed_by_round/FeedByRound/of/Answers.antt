@@ -1,5 +1,5 @@
 use Rattle.std.proofs.Common.{ℕ, List, ◌∙◌, ap, length}
-use Rattle.exec_plan.specs.declared.plan.Feed.{Feed}
+use Rattle.exec_plan.specs.Plan.{Feed}
 use Rattle.exec_plan.proofs.ByRound.{as_many_rounds}
 use Rattle.exec_plan.proofs.plan.feed_by_round.FeedByRound.of.Goals as goal
 

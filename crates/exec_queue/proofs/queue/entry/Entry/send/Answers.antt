@@ -1,5 +1,5 @@
 use Rattle.std.proofs.Common.{rules, ◌≡◌, ◌==◌, ◌∙◌, false, length, not, ap, sym}
-use Rattle.exec_msg.specs.KeepLast.{Queue as KeptQueue}
+use Rattle.exec_msg.specs.KeepLast.{BoundedQueue}
 use Rattle.exec_rules.specs.declared.item.Item.{Item}
 use Rattle.exec_queue.proofs.Filled.{has_sent}
 use Rattle.exec_queue.specs.inner.Queues.{has_item}
@@ -7,7 +7,7 @@ use Rattle.exec_queue.proofs.queue.entry.Entry.send.Goals as goal
 
 pub returns-clause-has : goal.returns-clause-has
 returns-clause-has c =
-    ap (λ (queue : KeptQueue Item). not (length queue.items == 0)) c.in_ok-lost.ensures.ok
+    ap (λ (queue : BoundedQueue Item). not (length queue.items == 0)) c.in_ok-lost.ensures.ok
     ∙ has_sent c.self.inside.queue.depth c.args.item c.self.inside.queue.items c.self.invariant
 
 pub returns-in_err-lost-clause-memory : goal.returns-in_err-lost-clause-memory
