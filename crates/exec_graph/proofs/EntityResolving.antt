@@ -1,9 +1,11 @@
 -- What an entity is that is linked, where its directory is that of a draft.
-use Rattle.std.proofs.Common.{◌≡◌, ℕ, true, Option, None, Some, option_and_then, sym, ap, subst, ◌∙◌}
+use Rattle.std.proofs.Common.{◌≡◌, ℕ, ◌<◌, true, List, length, get_or, All, Option, None, Some, option_and_then, option_map, refl, sym, ap, subst, ◌∙◌}
+use Rattle.std.proofs.lemmas.List.Elements.{All-get_or}
 use Rattle.std.proofs.lemmas.Option.{same_Some}
-use Rattle.exec_graph.specs.inner.Directory.{DirectoryData, Linked, NodeData, directory_of, group_in, reference_number, linked_in, resolved_by, titled}
+use Rattle.exec_graph.specs.inner.Directory.{DirectoryData, IsLinked, Linked, NodeData, directory_of, group_in, reference_number, linked_in, resolved_by, declaration_in, titled}
 use Rattle.exec_graph.specs.declared.draft.GraphDraft.{GraphDraft}
 use Rattle.exec_plan.specs.Entity.{Resolved, read_by}
+use Rattle.exec_plan.specs.declared.entity.Declared.{Declared}
 use Rattle.exec_graph.specs.Faults.{drafted_names}
 use Rattle.exec_plan.specs.Graph.{in_group}
 use Rattle.exec_plan.specs.Names.{are_distinct}
@@ -30,35 +32,41 @@ has_links directory placed linked is =
       same = sym (ap (λ (l : Linked). l.placed) same);
     }))
 
-module _ (directory : DirectoryData) (linked : Linked) (by : linked_in directory linked.placed ≡ Some linked) (scope : NodeData) (of : scope ≡ record { directory = directory; node = linked.placed.node }) where
-  -- what an entity is, where it is known what is said of it
-  is_said : (source : GraphDraft) (said : Option Resolved) → are_distinct (drafted_names source) ≡ true → directory ≡ directory_of source →
-      resolved_by scope linked.reference linked.placed.entity.is ≡ said → entity_in source linked.placed ≡ option_and_then (λ is. Some (titled linked.placed (in_group linked.group is))) said
-  is_said source said distinct from is =
-      let placed = linked.placed in
-      let links = has_links directory placed linked by in
-      let grouped : group_named source placed.node placed.entity.group ≡ Some linked.group = sym (group_same source placed.node placed.entity.group) ∙ ap (λ (d : DirectoryData). group_in d placed.node placed.entity.group) (sym from) ∙ links.group in
-      let there : reference_number (directory_of source) placed.entity.is ≡ Some linked.reference = ap (λ (d : DirectoryData). reference_number d placed.entity.is) (sym from) ∙ links.reference in
-      let same : read_by (named source) (script_in (scope_of source placed.node)) placed.entity.is ≡ said =
-      sym (resolved_same source distinct placed.node linked.reference placed.entity.is there) ∙ ap (λ (d : DirectoryData). resolved_by (record { directory = d; node = placed.node }) linked.reference placed.entity.is) (sym from) ∙ ap (λ (s : NodeData). resolved_by s linked.reference placed.entity.is) (sym of) ∙ is in
-      ap (λ (number : Option ℕ). option_and_then (λ group. option_and_then (λ is. Some (titled placed (in_group group is))) (read_by (named source) (script_in (scope_of source placed.node)) placed.entity.is)) number) grouped
-      ∙ ap (λ (said : Option Resolved). option_and_then (λ is. Some (titled placed (in_group linked.group is))) said) same
+-- what is said of it is what its name is declared as
+titled_said : (placed : Placed) (group : ℕ) (said : Option Resolved) → option_and_then (λ is. Some (titled placed (in_group group is))) said ≡ option_map (titled placed) (option_map (in_group group) said)
+titled_said placed group None = refl
+titled_said placed group (Some is) = refl
 
--- the same, where the entity is seen from inside
-module _ (directory : DirectoryData) (inside linked : Linked) (view : inside ≡ linked) (by : linked_in directory linked.placed ≡ Some linked) (scope : NodeData) (of : scope ≡ record { directory = directory; node = inside.placed.node }) (reference : Option ℕ) (same : reference ≡ inside.reference) where
-  seen : (source : GraphDraft) (said : Option Resolved) → are_distinct (drafted_names source) ≡ true → directory ≡ directory_of source →
-      resolved_by scope reference inside.placed.entity.is ≡ said → entity_in source linked.placed ≡ option_and_then (λ is. Some (titled linked.placed (in_group inside.group is))) said
-  seen source said distinct from is =
-      ap (λ (l : Linked). entity_in source l.placed) (sym view)
-      ∙ is_said directory inside (subst (λ (l : Linked). linked_in directory l.placed ≡ Some l) (sym view) by) scope of source said distinct from (ap (λ (r : Option ℕ). resolved_by scope r inside.placed.entity.is) (sym same) ∙ is)
-      ∙ ap (λ (l : Linked). option_and_then (λ is. Some (titled l.placed (in_group inside.group is))) said) view
+-- the entity of a draft is what a directory of that draft declares
+pub is_declared : (directory : DirectoryData) (linked : Linked) → linked_in directory linked.placed ≡ Some linked →
+    (source : GraphDraft) → are_distinct (drafted_names source) ≡ true → directory ≡ directory_of source →
+    entity_in source linked.placed ≡ option_map (titled linked.placed) (declaration_in directory linked)
+is_declared directory linked by source distinct from =
+    let placed = linked.placed in
+    let links = has_links directory placed linked by in
+    let said : Option Resolved = resolved_by (record { directory = directory; node = placed.node }) linked.reference placed.entity.is in
+    let grouped : group_named source placed.node placed.entity.group ≡ Some linked.group = sym (group_same source placed.node placed.entity.group) ∙ ap (λ (d : DirectoryData). group_in d placed.node placed.entity.group) (sym from) ∙ links.group in
+    let there : reference_number (directory_of source) placed.entity.is ≡ Some linked.reference = ap (λ (d : DirectoryData). reference_number d placed.entity.is) (sym from) ∙ links.reference in
+    let same : read_by (named source) (script_in (scope_of source placed.node)) placed.entity.is ≡ said =
+    sym (resolved_same source distinct placed.node linked.reference placed.entity.is there) ∙ ap (λ (d : DirectoryData). resolved_by (record { directory = d; node = placed.node }) linked.reference placed.entity.is) (sym from) in
+    ap (λ (number : Option ℕ). option_and_then (λ group. option_and_then (λ is. Some (titled placed (in_group group is))) (read_by (named source) (script_in (scope_of source placed.node)) placed.entity.is)) number) grouped
+    ∙ ap (λ (said : Option Resolved). option_and_then (λ is. Some (titled placed (in_group linked.group is))) said) same
+    ∙ titled_said placed linked.group said
 
-  -- what it is where something is said
-  pub declared_is : (is : Resolved) → resolved_by scope reference inside.placed.entity.is ≡ Some is →
-      (source : GraphDraft) → are_distinct (drafted_names source) ≡ true → directory ≡ directory_of source → entity_in source linked.placed ≡ Some (titled linked.placed (in_group inside.group is))
-  declared_is is said source distinct from = seen source (Some is) distinct from said
+-- the same of one of those that were linked
+pub is_declared_at : (directory : DirectoryData) (links : List Linked) (i : ℕ) (linked : Linked) → All (IsLinked directory) links → i < length links → linked ≡ get_or links i linked →
+    (source : GraphDraft) → are_distinct (drafted_names source) ≡ true → directory ≡ directory_of source →
+    (found : Option Declared) → found ≡ declaration_in directory linked → entity_in source linked.placed ≡ option_map (titled linked.placed) found
+is_declared_at directory links i linked all within there source distinct from found is =
+    is_declared directory linked (subst (IsLinked directory) (sym there) (All-get_or (IsLinked directory) links i linked within all)).by source distinct from
+    ∙ ap (option_map (titled linked.placed)) (sym is)
 
-  -- and where nothing is
-  pub declared_none : resolved_by scope reference inside.placed.entity.is ≡ None →
-      (source : GraphDraft) → are_distinct (drafted_names source) ≡ true → directory ≡ directory_of source → entity_in source linked.placed ≡ None
-  declared_none said source distinct from = seen source None distinct from said
+-- what is said of it, seen from inside, is what its name is declared as
+pub said_inside : (directory : DirectoryData) (inside linked : Linked) → inside ≡ linked → (scope : NodeData) → scope ≡ record { directory = directory; node = inside.placed.node } →
+    (reference : Option ℕ) → reference ≡ inside.reference → (said : Option Resolved) → resolved_by scope reference inside.placed.entity.is ≡ said →
+    option_map (in_group inside.group) said ≡ declaration_in directory linked
+said_inside directory inside linked view scope of reference same said is =
+    ap (option_map (in_group inside.group))
+    (sym is ∙ ap (λ (s : NodeData). resolved_by s reference inside.placed.entity.is) of
+    ∙ ap (λ (r : Option ℕ). resolved_by (record { directory = directory; node = inside.placed.node }) r inside.placed.entity.is) same)
+    ∙ ap (declaration_in directory) view

@@ -15,7 +15,7 @@ use Rattle.std.specs.Str.{bytes_eq}
 use Rattle.exec_graph.specs.declared.draft.GraphDraft.{GraphDraft}
 use Rattle.exec_script.specs.Instruction.{Script}
 use Rattle.exec_plan.specs.Entity.{Drafted, Resolved, RoleScriptData, is_of, reference_of, scripts_of, if_there, read_by}
-use Rattle.exec_plan.specs.Graph.{EntityData, GroupNo}
+use Rattle.exec_plan.specs.Graph.{EntityData, GroupNo, in_group}
 use Rattle.exec_graph.specs.declared.draft.NodeDraft.{NodeDraft}
 use Rattle.exec_graph.specs.Faults.{drafted_names}
 use Rattle.exec_plan.specs.Names.{is_name}
@@ -142,6 +142,11 @@ pub record NodeData : Type 0 where
 -- what an entity of a node is that refers to this number, its scripts read by the directory
 abbrev pub resolved_by : NodeData → Option ℕ → Drafted → Option Resolved
 resolved_by scope reference = read_by (λ to name. reference) (script_in (scope_in scope.directory scope.node))
+
+-- what the name of a linked entity is declared as, its scripts read by the directory
+abbrev pub declaration_in : DirectoryData → Linked → Option Declared
+declaration_in directory linked =
+    option_map (in_group linked.group) (resolved_by (record { directory = directory; node = linked.placed.node }) linked.reference linked.placed.entity.is)
 
 -- what is declared as this, with the name of a placed entity
 abbrev pub titled : Placed → Declared → EntityData

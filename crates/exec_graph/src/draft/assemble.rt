@@ -4,8 +4,7 @@ ghost use Rattle.std.specs.Prelude.{◌≡◌, ◌⊎◌, ◌++◌, ◌<◌, ◌
 ghost use Rattle.std.specs.List.{All, list_any};
 ghost use Rattle.std.specs.Option.{option_map};
 ghost use Rattle.std.specs.Str.{bytes_eq};
-ghost use Rattle.exec_graph.specs.inner.Directory.{IsLinked, directory_of, linked_in, titled};
-ghost use Rattle.exec_graph.specs.declared.draft.GraphDraft.{GraphDraft};
+ghost use Rattle.exec_graph.specs.inner.Directory.{IsLinked, declaration_in, directory_of, linked_in};
 ghost use Rattle.exec_plan.specs.inner.Entries.{entities_in as entries_of};
 ghost use Rattle.exec_graph.specs.Faults.{drafted_names, is_well_named};
 ghost use Rattle.exec_plan.specs.Names.{are_distinct};
@@ -145,8 +144,7 @@ fn declaration_of(
 ) -> Result<Option<Declared>, Memory>
     requires names { length directory.now.names ≤ 65536 }
     requires linked { IsLinked directory.now linked.now }
-    ensures { IfOk result (λ found. (source : GraphDraft) → are_distinct (drafted_names source) ≡ true → directory.now ≡ directory_of source →
-        entity_in source linked.now.placed ≡ option_map (titled linked.now.placed) found) }
+    ensures { IfOk result (λ found. found ≡ declaration_in directory.now linked.now) }
 {
     let scope = NodeScope::of(directory, linked.node);
     let reference = entity_no(linked.reference);
