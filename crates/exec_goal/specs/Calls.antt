@@ -6,7 +6,7 @@ use Rattle.exec_msg.specs.Numbers.{EntityNo, GoalId, Moment, Ticks}
 use Rattle.exec_msg.specs.Lists.{change_first, drop_first}
 use Rattle.exec_msg.specs.declared.goal.Event.{Event}
 use Rattle.exec_goal.specs.State.{after, is_terminal}
-use Rattle.exec_goal.specs.Table.{GoalRecord, has_id, Asked, told, later, unknown, is_expired, asked_for, asked_by}
+use Rattle.exec_goal.specs.Table.{GoalRecord, has_id, Asked, later, is_expired, asked_for, asked_by}
 use Rattle.exec_goal.specs.declared.refusals.Reject.{Reject}
 use Rattle.exec_goal.specs.declared.refusals.Reject.TheVariants as reject
 use Rattle.exec_goal.specs.declared.state.State.{State}
@@ -43,9 +43,8 @@ end_state id event goals = where_terminal (next_state id event goals)
 
 -- the table after a result request that is told so: where the result comes later, the client is noted
 abbrev pub noted : Asked → GoalId → EntityNo → List GoalRecord → List GoalRecord
-noted (told status value) id client goals = goals
 noted later id client goals = change_first (has_id id) (asked_by client) goals
-noted unknown id client goals = goals
+noted _ id client goals = goals
 
 abbrev pub after_asking : GoalId → EntityNo → List GoalRecord → List GoalRecord
 after_asking id client goals = noted (asked_for id goals) id client goals
