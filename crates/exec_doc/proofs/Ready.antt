@@ -13,12 +13,12 @@ use Rattle.exec_plan.specs.Graph.{GraphData}
 use Rattle.exec_msg.specs.Options.{each}
 use Rattle.exec_plan.specs.Plan.{PlanData, Feed}
 use Rattle.exec_graph.specs.Resolved.{graph_in}
-use Rattle.exec_plan.specs.Schedule.{schedule_fits, greatest, stamp_of, is_in_order, is_identified, plan_fault_in}
+use Rattle.exec_plan.specs.Schedule.{schedule_fits, numbers_fit, greatest, greatest_stamp, stamp_of, is_in_order, is_identified, plan_fault_in}
 use Rattle.exec_graph.specs.Refusals.{fault_in}
 use Rattle.exec_graph.specs.declared.fault.GraphFault.{GraphFault}
 use Rattle.exec_graph.specs.declared.fault.GraphFault.TheVariants as graph_fault
 use Rattle.exec_plan.specs.declared.fault.PlanFault.{PlanFault}
-use Rattle.exec_msg.specs.declared.limits.TheConstants.{MOMENTS, FEED, TICKS}
+use Rattle.exec_msg.specs.declared.limits.TheConstants.{TICKS}
 use Rattle.exec_plan.proofs.Scheduled.{scheduled as scheduled_plan}
 use Rattle.exec_doc.proofs.Placed.{has_schedule, feed_there, are_declared, are_said, cancels_decide}
 use Rattle.exec_doc.proofs.Refusing.{plan_by, undeclared, of_graph, scheduled, by_schedule, plan_tests, IsScheduled, is_scheduled}
@@ -64,19 +64,17 @@ ready_refusal document graph moments entries feed ready read =
 scheduled_by : (within clocked identified w c i : Bool) → within ≡ w → clocked ≡ c → identified ≡ i → scheduled within clocked identified ≡ scheduled w c i
 scheduled_by within clocked identified w c i e f g = λ n. scheduled (e n) (f n) (g n)
 
--- moments beyond their limit
-beyond : (few fed stamped : Bool) → (few && false && fed && stamped) ≡ false
-beyond true fed stamped = refl
-beyond false fed stamped = refl
+-- a moment beyond its limit
+beyond : (fit : Bool) → (fit && false) ≡ false
+beyond true = refl
+beyond false = refl
 
 pub ready_limit : (document : DocumentDraft) (graph : GraphData) (moments : List ℕ) (entries : List EntryDraft) (feed : List Feed) → IsReady document graph moments entries → each (entry_by graph) entries ≡ Some feed
     → list_all (λ moment. nat_le moment TICKS) moments ≡ false → draft_refusal document ≡ Some refused.Limit
 ready_limit document graph moments entries feed ready read late_moment =
     let late : list_all (λ moment. nat_le moment TICKS) document.moments ≡ false = ap (list_all (λ moment. nat_le moment TICKS)) ready.ticks ∙ late_moment in
-    let few = nat_le (length document.moments) MOMENTS in
-    let fed = nat_le (length document.feed) FEED in
-    let stamped = nat_le (greatest (map (λ entry. stamp_of entry.fed) document.feed)) TICKS in
-    let within : has_small_schedule document ≡ false = ap (λ (b : Bool). few && b && fed && stamped) late ∙ beyond few fed stamped in
+    let fit = numbers_fit (length document.moments) (length document.feed) (greatest_stamp document.feed) in
+    let within : has_small_schedule document ≡ false = ap (λ (b : Bool). fit && b) late ∙ beyond fit in
     ready_refusal document graph moments entries feed ready read
     ∙ ap (λ (b : Bool). scheduled b (is_clocked document) (list_all (λ entry. has_identifier entry.fed) document.feed)) within
 

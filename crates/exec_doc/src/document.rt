@@ -11,8 +11,8 @@ use crate::draft::{DocumentDraft, EntryDraft};
 use crate::fed::{are_cancels_identified, are_declared, feed_of};
 use crate::forms::draft_of;
 use crate::refused::Refused;
-use crate::schedule::{moments_of, moments_within};
-use exec_graph::{Graph, GraphFault, NamedGraph, Plan};
+use crate::schedule::moments_of;
+use exec_graph::{Graph, GraphFault, NamedGraph, Plan, greatest_stamp, schedule_fits};
 use serde_json::Value;
 use std::alloc::Global;
 
@@ -55,13 +55,12 @@ fn plan_of(alloc: Global, draft: DocumentDraft) -> Result<Plan, Refused>
     let named = graph.named_graph()?;
     match named.graph() {
         Ok(graph) => plan_on(alloc, graph, &moments, &feed),
-        Err(fault) => Err(refusal_by(alloc, &named, fault, &moments, &feed)),
+        Err(fault) => Err(refusal_by(&named, fault, &moments, &feed)),
     }
 }
 
 // Why a document is refused whose names are right and whose graph has this fault.
 fn refusal_by(
-    alloc: Global,
     named: &NamedGraph<'_>,
     fault: GraphFault,
     moments: &[u64],
@@ -73,10 +72,10 @@ fn refusal_by(
     if !are_declared(named, feed) {
         return Refused::Name;
     }
-    match moments_within(alloc, moments, feed) {
-        Ok(moments) => code_of(fault, moments.is_some()),
-        Err(refused) => refused,
-    }
+    code_of(
+        fault,
+        schedule_fits(moments, feed.len(), greatest_stamp(feed)),
+    )
 }
 
 // The code of a graph's fault, where the schedule may be beyond its limits too.

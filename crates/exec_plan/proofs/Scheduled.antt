@@ -1,5 +1,5 @@
 -- What moments and a feed keep that have no fault.
-use Rattle.std.proofs.Common.{◌≡◌, ℕ, ◌≤◌, ◌-◌, ◌^◌, Bool, true, false, not, ◌&&◌, ◌||◌, length, map, nat_le, max, IsTrue, List, [], ◌∷◌, None, Some, All, refl, ap, ◌∙◌, arith}
+use Rattle.std.proofs.Common.{◌≡◌, ℕ, ◌≤◌, ◌-◌, ◌^◌, Bool, true, false, not, ◌&&◌, ◌||◌, length, map, nat_le, max, IsTrue, List, [], ◌∷◌, None, Some, All, refl, sym, ap, ◌∙◌, arith}
 use Rattle.std.specs.List.{list_all}
 use Rattle.std.proofs.Math.Nat.{le-max_left, le-max_right}
 use Rattle.std.proofs.lemmas.Bool.{leb-true, le-leb, and_parts, or_parts, not-false, and_from}
@@ -8,7 +8,7 @@ use Rattle.exec_plan.specs.Feeding.{goes_somewhere, has_128_bits}
 use Rattle.exec_plan.specs.Graph.{GraphData, is_server}
 use Rattle.exec_plan.specs.Entity.{is_from_1}
 use Rattle.exec_plan.specs.Lawful.{IsLawful, IsLawfulPlan, is_at, is_ascending_from, is_fed_well}
-use Rattle.exec_plan.specs.Schedule.{schedule_fits, greatest, stamp_of, is_in_order, is_identified, has_plan_fault, plan_faults_in_order, plan_fault_in}
+use Rattle.exec_plan.specs.Schedule.{schedule_fits, numbers_fit, greatest, stamp_of, is_in_order, is_identified, has_plan_fault, plan_faults_in_order, plan_fault_in}
 use Rattle.exec_plan.specs.Plan.{Fed, Feed}
 use Rattle.exec_plan.specs.declared.plan.FedOf.TheVariants.{Message, Goal, Cancel}
 use Rattle.exec_msg.specs.declared.limits.TheConstants.{MOMENTS, FEED, TICKS}
@@ -41,16 +41,15 @@ pub record IsFitting (times : List ℕ) (entries most : ℕ) : Type 0 where
 
 pub fitting : (moments : List ℕ) (entries stamp : ℕ) → schedule_fits moments entries stamp ≡ true → IsFitting moments entries stamp
 fitting moments entries stamp fits =
-    let limits_1 = nat_le (length moments) MOMENTS in
-    let limits_2 = limits_1 && list_all (λ moment. nat_le moment TICKS) moments in
-    let limits_3 = limits_2 && nat_le entries FEED in
-    let kept_3 = (and_parts limits_3 (nat_le stamp TICKS) fits).0 in
-    let kept_2 = (and_parts limits_2 (nat_le entries FEED) kept_3).0 in
+    let few = nat_le (length moments) MOMENTS in
+    let short = nat_le entries FEED in
+    let kept = and_parts (numbers_fit (length moments) entries stamp) (list_all (λ moment. nat_le moment TICKS) moments) fits in
+    let numbers = and_parts (few && short) (nat_le stamp TICKS) kept.0 in
     record {
-      few_moments = (and_parts limits_1 (list_all (λ moment. nat_le moment TICKS) moments) kept_2).0;
-      moments = (and_parts limits_1 (list_all (λ moment. nat_le moment TICKS) moments) kept_2).1;
-      short_feed = (and_parts limits_2 (nat_le entries FEED) kept_3).1;
-      stamp = (and_parts limits_3 (nat_le stamp TICKS) fits).1;
+      few_moments = (and_parts few short numbers.0).0;
+      moments = kept.1;
+      short_feed = (and_parts few short numbers.0).1;
+      stamp = numbers.1;
     }
 
 -- what moments and a feed keep that have no fault
@@ -110,6 +109,14 @@ rounds_among most (entry ∷ feed) = ap (λ (b : Bool). is_from_1 most entry.rou
 -- moments in order, and rounds that are theirs
 pub in_order : (moments : List ℕ) (feed : List Feed) (rounds : Bool) → is_ascending_from 0 moments ≡ true → rounds ≡ list_all (λ entry. is_from_1 (length moments) entry.round) feed → rounds ≡ is_in_order moments (map (λ entry. entry.round) feed)
 in_order moments feed rounds ascending are = rw ascending (are ∙ rounds_among (length moments) feed)
+
+-- where each moment is within its limit the numbers decide
+pub moments_fit : (moments : List ℕ) (entries stamp : ℕ) (fits : Bool) → list_all (λ moment. nat_le moment TICKS) moments ≡ true → fits ≡ numbers_fit (length moments) entries stamp → schedule_fits moments entries stamp ≡ fits
+moments_fit moments entries stamp fits within is = by (numbers_fit (length moments) entries stamp) (list_all (λ moment. nat_le moment TICKS) moments) within ∙ sym is where
+  by : (numbers moments : Bool) → moments ≡ true → (numbers && moments) ≡ numbers
+  by true true within = refl
+  by false true within = refl
+  by numbers false within = absurd cc
 
 -- a lawful graph, moments and a feed without a fault are a lawful plan
 pub plan_lawful : (graph : GraphData) (moments : List ℕ) (feed : List Feed) → IsLawful graph → list_all (λ entry. goes_somewhere graph entry.fed) feed ≡ true → list_all (λ entry. has_128_bits entry.fed) feed ≡ true → plan_fault_in moments feed ≡ None →

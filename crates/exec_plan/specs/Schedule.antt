@@ -13,13 +13,13 @@ use Rattle.exec_plan.specs.declared.plan.FedOf.TheVariants.{Message, Goal, Cance
 use Rattle.exec_plan.specs.declared.plan.FeedOf.{FeedOf}
 use Rattle.exec_msg.specs.declared.limits.TheConstants.{MOMENTS, FEED, TICKS}
 
--- the moments, their number, the number of entries of the feed and the greatest stamp are within their limits
+-- the number of moments, the number of entries of a feed and the greatest stamp in it are within their limits
+abbrev pub numbers_fit : ℕ → ℕ → Ticks → Bool
+numbers_fit moments entries stamp = nat_le moments MOMENTS && nat_le entries FEED && nat_le stamp TICKS
+
+-- these are, and so is each moment
 abbrev pub schedule_fits : List Moment → ℕ → Ticks → Bool
-schedule_fits moments entries stamp =
-    nat_le (length moments) MOMENTS
-    && list_all (λ moment. nat_le moment TICKS) moments
-    && nat_le entries FEED
-    && nat_le stamp TICKS
+schedule_fits moments entries stamp = numbers_fit (length moments) entries stamp && list_all (λ moment. nat_le moment TICKS) moments
 
 -- the greatest of numbers, or 0 where there is none
 abbrev pub greatest : List ℕ → ℕ

@@ -2,7 +2,7 @@ mod builders;
 mod graphs;
 mod plans;
 
-use crate::shared::{moment, same};
+use crate::shared::same;
 use exec_graph::{GraphFault, PlanFault, Script, schedule_fits};
 use exec_msg::limits::{FEED, TICKS};
 use exec_script::Instr;
@@ -11,13 +11,13 @@ use std::test::Fail;
 
 #[test]
 fn a_schedule_fits_up_to_its_limits(rt: HostRuntime) {
-    let moments = [moment(TICKS)];
     let fits = [
-        schedule_fits(&moments, FEED, TICKS),
-        schedule_fits(&moments, FEED + 1, TICKS),
-        schedule_fits(&moments, FEED, TICKS + 1),
+        schedule_fits(&[TICKS], FEED, TICKS),
+        schedule_fits(&[TICKS + 1], FEED, TICKS),
+        schedule_fits(&[TICKS], FEED + 1, TICKS),
+        schedule_fits(&[TICKS], FEED, TICKS + 1),
     ];
-    same(&rt, fits, [true, false, false]);
+    same(&rt, fits, [true, false, false, false]);
 }
 
 #[test]

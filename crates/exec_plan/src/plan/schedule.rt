@@ -4,7 +4,7 @@ ghost use Rattle.std.specs.List.{list_all};
 ghost use Rattle.exec_plan.specs.Feeding.{has_128_bits};
 ghost use Rattle.exec_plan.specs.Entity.{is_from_1};
 ghost use Rattle.exec_plan.specs.Lawful.{is_ascending_from};
-ghost use Rattle.exec_plan.specs.Schedule.{schedule_fits, greatest_stamp, stamp_of, is_in_order, is_identified, plan_fault_in};
+ghost use Rattle.exec_plan.specs.Schedule.{schedule_fits, numbers_fit, greatest_stamp, stamp_of, is_in_order, is_identified, plan_fault_in};
 ghost use Rattle.exec_msg.specs.declared.limits.TheConstants.{TICKS};
 
 use crate::fault::PlanFault;
@@ -12,36 +12,37 @@ use crate::plan::{Fed, FedOf, Feed, FeedOf};
 use exec_msg::Moment;
 use exec_msg::limits::{FEED, MOMENTS, TICKS};
 
-/// Whether moments, the number of entries of a feed, and the greatest stamp in it (0 where there is none) are within
-/// their limits.
-pub fn schedule_fits(moments: &[Moment], entries: usize, stamp: u64) -> bool
-    ensures { result ≡ schedule_fits moments.now entries stamp }
+/// Whether moments in ticks, the number of entries of a feed, and the greatest stamp in it (0 where there is none) are
+/// within their limits.
+pub fn schedule_fits(ticks: &[u64], entries: usize, stamp: u64) -> bool
+    ensures { result ≡ schedule_fits ticks.now entries stamp }
 {
-    moments.len() <= MOMENTS && are_within(moments) && entries <= FEED && stamp <= TICKS
+    numbers_fit(ticks.len(), entries, stamp) && are_within(ticks)
 }
 
-// It always holds, since no moment is beyond its limit: the walk tells the proof so of each.
-fn are_within(moments: &[Moment]) -> bool
-    ensures { result ≡ list_all (λ moment. nat_le moment TICKS) moments.now }
+fn numbers_fit(moments: usize, entries: usize, stamp: u64) -> bool
+    ensures { result ≡ numbers_fit moments entries stamp }
 {
-    moments.iter().all(is_within)
+    moments <= MOMENTS && entries <= FEED && stamp <= TICKS
 }
 
-fn is_within(moment: &Moment) -> bool
-    ensures { result ≡ nat_le moment.now TICKS }
+fn are_within(ticks: &[u64]) -> bool
+    ensures { result ≡ list_all (λ moment. nat_le moment TICKS) ticks.now }
 {
-    moment.ticks() <= TICKS
+    ticks.iter().all(|moment| *moment <= TICKS)
 }
 
-// The least fault of moments and of what is fed at them.
+// The least fault of moments and of what is fed at them. No moment is beyond its limit, by its type.
+#[tactic(auto, using(crate::proofs::Scheduled::moments_fit))]
 pub(crate) fn fault_of(moments: &[Moment], feed: &[Feed]) -> Option<PlanFault>
     ensures fault { result ≡ plan_fault_in moments.now feed.now }
     ensures bits { result ≡ None → list_all (λ entry. has_128_bits entry.fed) feed.now ≡ true }
 {
-    if !schedule_fits(moments, feed.len(), greatest_stamp(feed)) {
+    let ordered = is_in_order(moments, feed);
+    if !numbers_fit(moments.len(), feed.len(), greatest_stamp(feed)) {
         return Some(PlanFault::Limit);
     }
-    if !is_in_order(moments, feed) {
+    if !ordered {
         return Some(PlanFault::Clock);
     }
     if !are_identified(feed) {
@@ -52,7 +53,8 @@ pub(crate) fn fault_of(moments: &[Moment], feed: &[Feed]) -> Option<PlanFault>
 
 #[tactic(auto, using(crate::proofs::Scheduled::in_order))]
 fn is_in_order(moments: &[Moment], feed: &[Feed]) -> bool
-    ensures { result ≡ is_in_order moments.now (map (λ entry. entry.round) feed.now) }
+    ensures order { result ≡ is_in_order moments.now (map (λ entry. entry.round) feed.now) }
+    ensures bound { list_all (λ moment. nat_le moment TICKS) moments.now ≡ true }
 {
     is_ascending(moments) && are_rounds(feed, moments.len())
 }
@@ -77,17 +79,19 @@ fn stamp_of<N, I>(fed: &FedOf<N, I>) -> u64
     }
 }
 
+// The walk goes on where they aren't, and so tells the proof of each moment that it is within its limit.
 fn is_ascending(moments: &[Moment]) -> bool
-    ensures { result ≡ is_ascending_from 0 moments.now }
+    ensures order { result ≡ is_ascending_from 0 moments.now }
+    ensures bound { list_all (λ moment. nat_le moment TICKS) moments.now ≡ true }
 {
+    let mut ascending = true;
     let mut least = 0;
     for moment in moments {
-        if moment.ticks() < least {
-            return false;
-        }
-        least = moment.ticks();
+        let ticks = moment.ticks();
+        ascending = ascending && least <= ticks;
+        least = ticks;
     }
-    true
+    ascending
 }
 
 fn are_rounds(feed: &[Feed], most: usize) -> bool
