@@ -1,10 +1,7 @@
 //! The queues of a plan's entities in ready order, found by entity and kind. A snapshot walks over those that have an item,
 //! and over no other.
-ghost use Rattle.std.specs.Prelude.{◌≡◌, ◌&&◌, ◌||◌, ℕ, List, ◌<◌, ◌≤◌, ◌^◌, [], ◌∷◌, ◌++◌, false, true, not, if◌then◌else◌, None, Some, length, map, find, slice_get, vec_capacity, OnOk, OnErr, IfOk, IfSome};
-ghost use Rattle.std.specs.List.{Contains, filter};
-ghost use Rattle.std.specs.List.Sorted.{IsPermutation, IsSorted, IsStrictlyIncreasing};
+ghost use Rattle.std.specs.Prelude.{◌≡◌, ◌&&◌, ◌||◌, List, ◌<◌, ◌≤◌, ◌^◌, [], ◌∷◌, ◌++◌, false, true, not, None, Some, length, map, find, slice_get, vec_capacity, OnOk, OnErr, IfOk};
 ghost use Rattle.std.specs.Option.{option_copied, option_map, option_map_or, option_to_list};
-ghost use Rattle.std.specs.Ordering.{nat_cmp};
 ghost use Rattle.exec_msg.specs.KeepLast.{displaced};
 ghost use Rattle.exec_msg.specs.Kind.{ready_number};
 ghost use Rattle.exec_msg.specs.Lists.{change_first};
@@ -17,14 +14,16 @@ ghost use Rattle.exec_rules.specs.inner.Homes.{AreHomes, IsScriptHome, handlers_
 ghost use Rattle.exec_rules.specs.inner.Listing.{listed_behind};
 ghost use Rattle.exec_msg.specs.Places.{change_at};
 ghost use Rattle.exec_rules.specs.inner.Places.{change_each, places_where};
-ghost use Rattle.exec_queue.specs.inner.Queues.{slot_of, AreBeforePolls, has_item, is_filled_at, is_in_part, is_in_part_at};
+ghost use Rattle.exec_queue.specs.inner.Queues.{slot_of, has_item, is_filled_at, is_in_part};
 
 mod entry;
+mod filled;
 
 use entry::{Entry, list_plain_at};
 use exec_msg::{EntityNo, Kind, LazyQueue, Memory, Moment, PlaceTable};
 use exec_plan::Script;
 use exec_rules::{Handler, Home, Item, ReadyList};
+use filled::{keep_filled, leave_part, note_filled, settle};
 use std::alloc::Global;
 use std::marker::Model;
 
@@ -319,29 +318,6 @@ fn count(entries: &[Entry]) -> usize
     entries.len()
 }
 
-fn is_filled(entries: &[Entry], place: usize) -> bool
-    ensures value { result ≡ is_filled_at entries.now place }
-    ensures bound { IfSome (slice_get entries.now place) (λ queue. length queue.items ≤ queue.depth) }
-{
-    match entries.get(place) {
-        None => false,
-        Some(entry) => !entry.is_empty(),
-    }
-}
-
-// Notes a place at which an item is about to stand.
-fn note_filled(filled: &mut Vec<usize>, entries: &[Entry], place: usize) -> Result<(), Memory>
-    ensures noted { OnOk result (filled.new.items ≡ (if is_filled_at entries.now place then filled.old.items else filled.old.items ++ place ∷ [])) }
-    ensures unchanged { OnErr result (filled.new.items ≡ filled.old.items) }
-    ensures memory { OnErr result (is_filled_at entries.now place ≡ false) }
-    ensures bound { IfSome (slice_get entries.now place) (λ queue. length queue.items ≤ queue.depth) }
-{
-    if !is_filled(entries, place) {
-        filled.push(place)?;
-    }
-    Ok(())
-}
-
 fn send_at(entries: &mut Vec<Entry>, place: usize, item: Item) -> Result<Option<Item>, Memory>
     ensures ok { OnOk result (entries.new.items ≡ change_at place (queue_after item) entries.old.items) }
     ensures filled { OnOk result (place < length entries.old.items → is_filled_at entries.new.items place ≡ true) }
@@ -358,45 +334,6 @@ fn send_at(entries: &mut Vec<Entry>, place: usize, item: Item) -> Result<Option<
     }
 }
 
-// Leaves the same places in ascending order, each once, where they aren't settled so yet.
-fn settle(settled: &mut bool, places: &mut Vec<usize>)
-    requires { settled.old ≡ true → IsStrictlyIncreasing places.old.items }
-    ensures rises { IsStrictlyIncreasing places.new.items }
-    ensures keeps { (place : ℕ) → Contains places.old.items place → Contains places.new.items place }
-    ensures only { (place : ℕ) → Contains places.new.items place → Contains places.old.items place }
-{
-    if !*settled {
-        sort_places(places);
-        *settled = true;
-    }
-}
-
-// Leaves the places of queues that have an item.
-fn keep_filled(places: &mut Vec<usize>, entries: &[Entry])
-    ensures { places.new.items ≡ filter (λ place. is_filled_at entries.now place) places.old.items }
-{
-    places.retain(|place| is_filled(entries, *place));
-}
-
-fn sort_places(places: &mut Vec<usize>)
-    ensures rises { IsStrictlyIncreasing places.new.items }
-    ensures keeps { (place : ℕ) → Contains places.old.items place → Contains places.new.items place }
-    ensures only { (place : ℕ) → Contains places.new.items place → Contains places.old.items place }
-{
-    sort(places);
-    places.dedup();
-}
-
-// Callbacks run in ready order, so that the places rise in a few long runs: these are merged, where there is memory for it.
-fn sort(places: &mut Vec<usize>)
-    ensures sorted { IsSorted nat_cmp places.new.items }
-    ensures permutation { IsPermutation places.old.items places.new.items }
-{
-    if places.sort().is_err() {
-        places.sort_unstable();
-    }
-}
-
 fn take_at(entries: &mut Vec<Entry>, place: usize)
     ensures { entries.new.items ≡ change_at place queue_taken entries.old.items }
 {
@@ -410,35 +347,5 @@ fn take_each(entries: &mut Vec<Entry>, places: &[usize])
 {
     for &place in places {
         take_at(entries, place);
-    }
-}
-
-// Leaves the places of the queues of one part that have an item. Where there is no queue of a kind behind polls it looks at
-// none.
-fn leave_part(places: &mut Vec<usize>, entries: &[Entry], has_late: bool, before_polls: bool)
-    requires filled { places.old.items ≡ places_where has_item entries.now }
-    requires late { has_late ≡ false → AreBeforePolls entries.now }
-    ensures { places.new.items ≡ places_where (λ queue. has_item queue && is_in_part before_polls queue) entries.now }
-{
-    if has_late {
-        keep_part(places, entries, before_polls);
-    } else if !before_polls {
-        places.clear();
-    }
-}
-
-// Leaves the places of the queues of one part.
-fn keep_part(places: &mut Vec<usize>, entries: &[Entry], before_polls: bool)
-    ensures { places.new.items ≡ filter (λ place. is_in_part_at before_polls entries.now place) places.old.items }
-{
-    places.retain(|place| is_in_part(entries, *place, before_polls));
-}
-
-fn is_in_part(entries: &[Entry], place: usize, before_polls: bool) -> bool
-    ensures { result ≡ is_in_part_at before_polls entries.now place }
-{
-    match entries.get(place) {
-        None => false,
-        Some(entry) => entry.is_before_polls() == before_polls,
     }
 }

@@ -2,7 +2,7 @@ use Rattle.std.proofs.Common.{filter, ap, ◌∙◌}
 use Rattle.exec_queue.proofs.Filled.{in_part}
 use Rattle.exec_queue.proofs.Parts.{all_before, none_behind}
 use Rattle.exec_queue.specs.inner.Queues.{is_in_part_at}
-use Rattle.exec_queue.proofs.queue.leave_part.Goals as goal
+use Rattle.exec_queue.proofs.queue.filled.leave_part.Goals as goal
 
 pub returns-then-has_late : goal.returns-then-has_late
 returns-then-has_late c =

@@ -1,0 +1,111 @@
+//! The places of the queues that have an item.
+ghost use Rattle.std.specs.Prelude.{◌≡◌, ◌&&◌, ℕ, ◌≤◌, [], ◌∷◌, ◌++◌, false, true, if◌then◌else◌, length, slice_get, OnOk, OnErr, IfSome};
+ghost use Rattle.std.specs.List.{Contains, filter};
+ghost use Rattle.std.specs.List.Sorted.{IsPermutation, IsSorted, IsStrictlyIncreasing};
+ghost use Rattle.std.specs.Ordering.{nat_cmp};
+ghost use Rattle.exec_rules.specs.inner.Places.{places_where};
+ghost use Rattle.exec_queue.specs.inner.Queues.{AreBeforePolls, has_item, is_filled_at, is_in_part, is_in_part_at};
+
+use super::entry::Entry;
+use exec_msg::Memory;
+
+fn is_filled(entries: &[Entry], place: usize) -> bool
+    ensures value { result ≡ is_filled_at entries.now place }
+    ensures bound { IfSome (slice_get entries.now place) (λ queue. length queue.items ≤ queue.depth) }
+{
+    match entries.get(place) {
+        None => false,
+        Some(entry) => !entry.is_empty(),
+    }
+}
+
+// Notes a place at which an item is about to stand.
+pub(super) fn note_filled(
+    filled: &mut Vec<usize>,
+    entries: &[Entry],
+    place: usize,
+) -> Result<(), Memory>
+    ensures noted { OnOk result (filled.new.items ≡ (if is_filled_at entries.now place then filled.old.items else filled.old.items ++ place ∷ [])) }
+    ensures unchanged { OnErr result (filled.new.items ≡ filled.old.items) }
+    ensures memory { OnErr result (is_filled_at entries.now place ≡ false) }
+    ensures bound { IfSome (slice_get entries.now place) (λ queue. length queue.items ≤ queue.depth) }
+{
+    if !is_filled(entries, place) {
+        filled.push(place)?;
+    }
+    Ok(())
+}
+
+// Leaves the same places in ascending order, each once, where they aren't settled so yet.
+pub(super) fn settle(settled: &mut bool, places: &mut Vec<usize>)
+    requires { settled.old ≡ true → IsStrictlyIncreasing places.old.items }
+    ensures rises { IsStrictlyIncreasing places.new.items }
+    ensures keeps { (place : ℕ) → Contains places.old.items place → Contains places.new.items place }
+    ensures only { (place : ℕ) → Contains places.new.items place → Contains places.old.items place }
+{
+    if !*settled {
+        sort_places(places);
+        *settled = true;
+    }
+}
+
+// Leaves the places of queues that have an item.
+pub(super) fn keep_filled(places: &mut Vec<usize>, entries: &[Entry])
+    ensures { places.new.items ≡ filter (λ place. is_filled_at entries.now place) places.old.items }
+{
+    places.retain(|place| is_filled(entries, *place));
+}
+
+fn sort_places(places: &mut Vec<usize>)
+    ensures rises { IsStrictlyIncreasing places.new.items }
+    ensures keeps { (place : ℕ) → Contains places.old.items place → Contains places.new.items place }
+    ensures only { (place : ℕ) → Contains places.new.items place → Contains places.old.items place }
+{
+    sort(places);
+    places.dedup();
+}
+
+// Callbacks run in ready order, so that the places rise in a few long runs: these are merged, where there is memory for it.
+fn sort(places: &mut Vec<usize>)
+    ensures sorted { IsSorted nat_cmp places.new.items }
+    ensures permutation { IsPermutation places.old.items places.new.items }
+{
+    if places.sort().is_err() {
+        places.sort_unstable();
+    }
+}
+
+// Leaves the places of the queues of one part that have an item. Where there is no queue of a kind behind polls it looks at
+// none.
+pub(super) fn leave_part(
+    places: &mut Vec<usize>,
+    entries: &[Entry],
+    has_late: bool,
+    before_polls: bool,
+)
+    requires filled { places.old.items ≡ places_where has_item entries.now }
+    requires late { has_late ≡ false → AreBeforePolls entries.now }
+    ensures { places.new.items ≡ places_where (λ queue. has_item queue && is_in_part before_polls queue) entries.now }
+{
+    if has_late {
+        keep_part(places, entries, before_polls);
+    } else if !before_polls {
+        places.clear();
+    }
+}
+
+// Leaves the places of the queues of one part.
+fn keep_part(places: &mut Vec<usize>, entries: &[Entry], before_polls: bool)
+    ensures { places.new.items ≡ filter (λ place. is_in_part_at before_polls entries.now place) places.old.items }
+{
+    places.retain(|place| is_in_part(entries, *place, before_polls));
+}
+
+fn is_in_part(entries: &[Entry], place: usize, before_polls: bool) -> bool
+    ensures { result ≡ is_in_part_at before_polls entries.now place }
+{
+    match entries.get(place) {
+        None => false,
+        Some(entry) => entry.is_before_polls() == before_polls,
+    }
+}
