@@ -1,7 +1,7 @@
 use Rattle.std.proofs.Common.{◌≡◌, List, length}
 use Rattle.exec_msg.specs.declared.line.Line.{Line}
 use Rattle.exec_msg.specs.inner.Packed.{lines_in}
-use Rattle.exec_msg.proofs.packed.skip_ids.Given as goal
+use Rattle.exec_msg.proofs.packed.said.skip_ids.Given as goal
 
 -- the lines are the same from here
 abbrev pub invariant-loop-left : goal.invariant-loop-left
