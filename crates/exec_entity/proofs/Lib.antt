@@ -9,3 +9,4 @@ pub mod Pending
 pub mod Placed
 pub mod Polls
 pub mod Serving
+pub mod Wakes

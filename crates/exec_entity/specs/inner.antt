@@ -3,3 +3,4 @@ pub mod Numbered
 pub mod Polling
 pub mod Server
 pub mod Servers
+pub mod Waking

@@ -5,6 +5,7 @@ ghost use Rattle.indexmap.specs.IndexMap.{spare};
 ghost use Rattle.exec_msg.specs.Lists.{drop_first};
 ghost use Rattle.exec_rules.specs.World.{is_for};
 ghost use Rattle.exec_entity.specs.inner.Server.{held_goal_of, held_goals_of};
+ghost use Rattle.exec_entity.specs.inner.Waking.{wakes_of};
 
 mod expiring;
 mod found;
@@ -56,21 +57,26 @@ pub struct Server {
     timeout: Option<u64>,
     goals: Goals,
     held: IndexMap<GoalId, Held>,
+    // For each entry of `held`, at its place, from when on in ticks its task is awake where its goal isn't being canceled. Each
+    // round asks it of every goal, and an entry is so large that each would cost a fetch from memory.
+    wakes: Vec<u64>,
     // The place behind the goal that was polled last, or 0 where that was the last one: goals are polled in their order, so that
     // the next one mostly stands there.
     next: usize,
 }
 
 impl Model for Server {
+    ghost use Rattle.std.specs.Prelude.{◌≡◌};
     ghost use Rattle.exec_rules.specs.World.{ServerEntry};
     ghost use Rattle.exec_entity.specs.inner.Keeping.{AreKept};
     ghost use Rattle.exec_entity.specs.inner.Server.{held_goals_of};
+    ghost use Rattle.exec_entity.specs.inner.Waking.{wakes_of};
 
     ghost Value = { ServerEntry };
 
     ghost view = { λ server. record { handler = server.handler; timeout = server.timeout; goals = server.goals; held = held_goals_of server.held.entries } };
 
-    ghost invariant = { λ server. AreKept server.goals (held_goals_of server.held.entries) };
+    ghost invariant = { λ server. AreKept server.goals (held_goals_of server.held.entries) × (server.wakes.items ≡ wakes_of (held_goals_of server.held.entries)) };
 }
 
 impl Server {
@@ -96,6 +102,7 @@ impl Server {
             timeout,
             goals: Goals::new(alloc),
             held: IndexMap::new(alloc),
+            wakes: Vec::new(alloc),
             next: 0,
         }
     }
@@ -163,6 +170,7 @@ impl Server {
             task: Some(task),
         };
         self.held.reserve(1)?;
+        self.wakes.reserve(1)?;
         // Room and identifier are as they must be, so that memory alone may be refused.
         let Ok(_accepted) = self
             .goals
@@ -171,6 +179,7 @@ impl Server {
             return Err(Memory);
         };
         insert_new(&mut self.held, request.id, held);
+        self.wakes.push_reserved(0);
         Ok(())
     }
 
@@ -272,9 +281,13 @@ fn insert_new(held: &mut IndexMap<GoalId, Held>, id: GoalId, new: Held)
     let _none = held.insert(id, new).unwrap();
 }
 
-// Drops what is kept under an identifier, if anything is.
-fn remove(held: &mut IndexMap<GoalId, Held>, id: GoalId)
-    ensures { held_goals_of held.new.entries ≡ drop_first (is_for id) (held_goals_of held.old.entries) }
+// Drops what is kept under an identifier, if anything is, and from when on it is awake.
+fn remove(held: &mut IndexMap<GoalId, Held>, wakes: &mut Vec<u64>, id: GoalId)
+    requires { wakes.old.items ≡ wakes_of (held_goals_of held.old.entries) }
+    ensures held { held_goals_of held.new.entries ≡ drop_first (is_for id) (held_goals_of held.old.entries) }
+    ensures wakes { wakes.new.items ≡ wakes_of (held_goals_of held.new.entries) }
 {
-    let _dropped = held.shift_remove(&id);
+    if let Some(dropped) = held.shift_remove_full(&id) {
+        let _wake = wakes.remove(dropped.0);
+    }
 }

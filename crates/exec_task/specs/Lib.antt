@@ -4,3 +4,4 @@ pub mod Goal
 pub mod LawWords
 pub mod Task
 pub mod Wake
+pub mod Waking

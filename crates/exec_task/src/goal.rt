@@ -3,6 +3,7 @@ ghost use Rattle.std.specs.Arc.{arc_value};
 ghost use Rattle.futures.specs.Task.{Covers, Keeps};
 ghost use Rattle.exec_task.specs.Goal.{poll_of, IsSameGoal, IsPolled, IsRefused, GoalNeeds, LeftWakers, HasYielded, HoldsNoWaker};
 ghost use Rattle.exec_task.specs.Task.{new_task, has_ended, is_awake, ran, run_of};
+ghost use Rattle.exec_task.specs.Waking.{wake_of};
 ghost use Rattle.exec_script.specs.Script.{listed};
 
 use crate::progress::Progress;
@@ -117,6 +118,15 @@ pub fn is_awake(task: &GoalTask, moment: Moment, canceling: bool) -> bool
     ensures { result ≡ is_awake task.now.task (record { moment = moment; canceling = canceling }) }
 {
     task.progress.is_awake(moment, canceling)
+}
+
+/// From when on, in ticks, a goal is awake that isn't being canceled: 0 where it waits for the next round, the time where it
+/// waits until one, and 2^64 - 1, which no moment reaches, where it has ended.
+#[inline(always)]
+pub fn wakes_at(task: &GoalTask) -> u64
+    ensures { result ≡ wake_of task.now.task }
+{
+    task.progress.wakes_at()
 }
 
 /// Polls a goal in a round, with the variables of its callback group, in a context that the caller has made. A goal that is

@@ -1,8 +1,9 @@
 //! Laws of goals' tasks: each function's contract says one. They hold for all scripts, from every state of a task, and
 //! for effects that go anywhere: `S` is what they are put into, and `give` puts one there.
 
-ghost use Rattle.std.specs.Prelude.{◌≡◌, ◌≢◌, ◌↔◌, ◌⊎◌, ℕ, ◌≤◌, ℤ, List, [], ◌∷◌, length, Bool, true, false, Contains, None, Some, IfSome, not, ◌&&◌, ◌||◌};
+ghost use Rattle.std.specs.Prelude.{◌≡◌, ◌≢◌, ◌↔◌, ◌⊎◌, ℕ, ◌^◌, ◌-◌, ◌<◌, ◌≤◌, nat_le, ℤ, List, [], ◌∷◌, length, Bool, true, false, Contains, None, Some, IfSome, not, ◌&&◌, ◌||◌};
 ghost use Rattle.std.specs.List.{list_any};
+ghost use Rattle.exec_msg.specs.Numbers.{Moment};
 ghost use Rattle.exec_msg.specs.declared.goal.Event.{Event};
 ghost use Rattle.exec_msg.specs.declared.goal.Event.TheVariants as event;
 ghost use Rattle.exec_script.specs.LawWords.{IsEnding};
@@ -12,6 +13,7 @@ ghost use Rattle.exec_script.specs.declared.instr.Instr.{Instr};
 ghost use Rattle.exec_task.specs.Call.{CallState, completed, sources_of_call};
 ghost use Rattle.exec_task.specs.LawWords.{has_come, polled_later};
 ghost use Rattle.exec_task.specs.Task.{TaskState, has_ended, is_reached, is_awake, task_answer, polled, sources_of, ending_event};
+ghost use Rattle.exec_task.specs.Waking.{wake_of};
 ghost use Rattle.exec_task.specs.declared.wait.Answer.TheVariants as answer;
 ghost use Rattle.exec_task.specs.declared.wait.Ending.{Ending};
 ghost use Rattle.exec_task.specs.declared.wait.Source.TheVariants as source;
@@ -42,6 +44,12 @@ pub fn times_and_cancellation_wake()
 pub fn the_last_answer_wakes()
     ensures { (task : TaskState) (turn : Turn) (waits : Wait) → task_answer task ≡ answer.Pending waits →
         is_awake task turn ≡ (is_reached waits turn.moment || (turn.canceling && not task.told)) }
+{}
+
+/// Whether a task is awake that isn't being canceled is told by one moment, from which on it is.
+pub fn one_moment_wakes()
+    ensures { (task : TaskState) (moment : Moment) → moment < 2 ^ 64 - 1 →
+        is_awake task (record { moment = moment; canceling = false }) ≡ nat_le (wake_of task) moment }
 {}
 
 /// A poll of a task that isn't awake changes nothing, and answers as before.

@@ -11,6 +11,6 @@ mod wait;
 mod wake;
 
 pub use call::{Already, PendingCall};
-pub use goal::{GoalTask, is_awake, poll_goal, poll_goal_into};
+pub use goal::{GoalTask, is_awake, poll_goal, poll_goal_into, wakes_at};
 pub use poller::Poller;
 pub use wait::{Answer, Ending, Polled, Source, Turn, Wait};

@@ -1,7 +1,8 @@
-ghost use Rattle.std.specs.Prelude.{◌≡◌, ◌||◌, ◌^◌, OnOk, OnErr};
+ghost use Rattle.std.specs.Prelude.{◌≡◌, ◌||◌, ◌^◌, None, OnOk, OnErr};
 ghost use Rattle.exec_script.specs.Script.{WaitsWithin};
 ghost use Rattle.exec_script.specs.Script.{listed};
 ghost use Rattle.exec_task.specs.Task.{new_task, has_ended, is_reached, is_awake, after_stop, ran, run_of, task_answer, ending_event};
+ghost use Rattle.exec_task.specs.Waking.{wake_by, wake_of};
 
 use crate::wait::{Answer, Ending, Turn, Wait};
 use exec_msg::{Event, Memory, Moment};
@@ -67,6 +68,17 @@ impl Progress {
         ensures { result ≡ is_awake self.now (record { moment = moment; canceling = canceling }) }
     {
         !self.has_ended() && (is_reached(self.waits, moment) || (canceling && !self.told))
+    }
+
+    // From when on it is awake where it isn't being canceled.
+    #[inline(always)]
+    pub(crate) fn wakes_at(&self) -> u64
+        ensures { result ≡ wake_of self.now }
+    {
+        match self.ending {
+            Some(_) => u64::MAX,
+            None => wake_by(self.waits),
+        }
     }
 
     pub(crate) fn answer(&self) -> Answer
@@ -143,6 +155,16 @@ fn is_reached(waits: Wait, moment: Moment) -> bool
     match waits {
         Wait::NextRound => true,
         Wait::Until(time) => time <= moment.ticks(),
+    }
+}
+
+// From when on a task is awake that waits for this.
+fn wake_by(waits: Wait) -> u64
+    ensures { result ≡ wake_by None waits }
+{
+    match waits {
+        Wait::NextRound => 0,
+        Wait::Until(time) => time,
     }
 }
 

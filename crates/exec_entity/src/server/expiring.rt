@@ -23,7 +23,7 @@ impl Server {
     {
         let timeout = self.timeout?;
         let id = self.goals.expire(moment, timeout)?;
-        remove(&mut self.held, id);
+        remove(&mut self.held, &mut self.wakes, id);
         Some(id)
     }
 }

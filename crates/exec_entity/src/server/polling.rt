@@ -1,26 +1,28 @@
 //! Polls of a server's goals.
-ghost use Rattle.std.specs.Prelude.{◌≡◌, [], false, Some, IfOk, OnErr, OnOk};
+ghost use Rattle.std.specs.Prelude.{◌≡◌, [], true, false, Some, IfOk, OnErr, OnOk};
 ghost use Rattle.std.specs.Option.{option_map, option_map_or};
 ghost use Rattle.exec_script.specs.declared.effects.Close.TheVariants as close;
 ghost use Rattle.exec_task.specs.Task.{is_awake};
 ghost use Rattle.exec_rules.specs.Ready.{turn_at};
 ghost use Rattle.exec_rules.specs.World.{work_of};
+ghost use Rattle.exec_entity.specs.inner.Waking.{wake_in};
 
 use super::{Held, Server};
 use exec_goal::GoalInfo;
 use exec_msg::{GoalId, Items, Memory, Moment};
 use exec_rules::{AwakeGoal, Cause, Ready, ReadyList, poll_any};
 use exec_script::{Bank, Close, EffectList};
-use exec_task::{Answer, GoalTask, Turn, is_awake, poll_goal_into};
+use exec_task::{Answer, GoalTask, Turn, is_awake, poll_goal_into, wakes_at};
 use futures::task::Context;
 use std::alloc::Global;
 use std::mem;
 
 impl Server {
-    ghost use Rattle.std.specs.Prelude.{ℕ, ◌<◌, ◌∷◌, ◌++◌, None, length, map, filter, find, slice_get, slice_index_or, IfNone, IfSome};
+    ghost use Rattle.std.specs.Prelude.{ℕ, ◌<◌, ◌∷◌, ◌++◌, true, None, length, map, filter, find, slice_get, slice_index_or, IfNone, IfSome};
     ghost use Rattle.std.specs.List.{flat_map};
     ghost use Rattle.std.specs.Option.{option_and_then};
     ghost use Rattle.exec_goal.specs.Info.{info_of};
+    ghost use Rattle.exec_goal.specs.declared.info.GoalInfo.{GoalInfo};
     ghost use Rattle.exec_goal.specs.State.{is_canceling};
     ghost use Rattle.exec_goal.specs.Table.{GoalRecord, working};
     ghost use Rattle.exec_rules.specs.Ready.{is_goal_awake, is_task_awake, poll_ready};
@@ -46,13 +48,36 @@ impl Server {
         info.state.is_worked_on() && self.is_task_awake(index, info, moment)
     }
 
-    // Work is kept in the order of the goals, so that it is found by its place.
+    // Of a goal that isn't being canceled one moment tells, and its task isn't looked at.
     fn is_task_awake(&self, index: usize, goal: &GoalInfo, moment: Moment) -> bool
         requires { slice_get (map info_of self.now.goals) index ≡ Some goal.now }
         ensures { result ≡ is_task_awake (turn_at moment (is_canceling goal.now.state)) (find (is_for goal.now.id) self.now.held) }
     {
+        if goal.state.is_canceling() {
+            self.is_canceling_awake(index, moment)
+        } else {
+            self.has_woken(index, moment)
+        }
+    }
+
+    // Whether the task of the goal at this place is awake where the goal isn't being canceled.
+    #[inline(always)]
+    fn has_woken(&self, index: usize, moment: Moment) -> bool
+        requires { index < length self.now.goals }
+        ensures { (info : GoalInfo) → slice_get (map info_of self.now.goals) index ≡ Some info → result ≡ is_task_awake (turn_at moment false) (find (is_for info.id) self.now.held) }
+    {
+        self.wakes[index] <= moment.ticks()
+    }
+
+    // The same where the goal is being canceled, which few are: it stays out of the walk over all goals. Work is kept in the order
+    // of the goals, so that it is found by its place.
+    #[inline(never)]
+    fn is_canceling_awake(&self, index: usize, moment: Moment) -> bool
+        requires { index < length self.now.goals }
+        ensures { (info : GoalInfo) → slice_get (map info_of self.now.goals) index ≡ Some info → result ≡ is_task_awake (turn_at moment true) (find (is_for info.id) self.now.held) }
+    {
         let entry = self.held.get_index(index).unwrap();
-        is_any_awake(&entry.1.task, moment, goal.state.is_canceling())
+        is_any_awake(&entry.1.task, moment)
     }
 
     // Lists a poll for each goal that is awake at a moment, in the order of acceptance. The room is used again.
@@ -189,6 +214,7 @@ impl Server {
         self.next = self.behind(place);
         let held = self.held.get_index_mut(place).unwrap();
         let close = poll_any(&mut held.task, turn, bank, cx, effects)?;
+        self.wakes[place] = wake_in(&held.task);
         Ok(close)
     }
 
@@ -225,18 +251,25 @@ impl Server {
         ensures taken { option_map work_of result ≡ option_and_then (λ held. held.work) (find (is_for id) self.old.held) }
         ensures out { self.new ≡ server_with_work id None self.old }
     {
-        let held = self.held.get_mut(&id)?;
-        replace_task(held, None)
+        self.exchange_task(id, None)
     }
 
     // Puts a goal's task in its place. Where no such goal is held, nothing changes.
     pub(crate) fn put_task(&mut self, id: GoalId, task: GoalTask)
         ensures { self.new ≡ server_with_work id (Some (work_of task)) self.old }
     {
-        let Some(held) = self.held.get_mut(&id) else {
-            return;
-        };
-        let _replaced = replace_task(held, Some(task));
+        let _replaced = self.exchange_task(id, Some(task));
+    }
+
+    // Puts a task, or none, in the place of a goal's, which it answers. Where no such goal is held, nothing changes.
+    fn exchange_task(&mut self, id: GoalId, task: Option<GoalTask>) -> Option<GoalTask>
+        ensures taken { option_map work_of result ≡ option_and_then (λ held. held.work) (find (is_for id) self.old.held) }
+        ensures put { self.new ≡ server_with_work id (option_map work_of task) self.old }
+    {
+        let place = self.place_of(id)?;
+        let held = self.held.get_index_mut(place).unwrap();
+        self.wakes[place] = wake_in(&task);
+        replace_task(held, task)
     }
 }
 
@@ -248,12 +281,23 @@ fn replace_task(held: &mut Held, task: Option<GoalTask>) -> Option<GoalTask>
     mem::replace(&mut held.task, task)
 }
 
-// Whether a task is awake; one that is out never is.
-fn is_any_awake(task: &Option<GoalTask>, moment: Moment, canceling: bool) -> bool
-    ensures { result ≡ option_map_or (λ work. is_awake work.task (turn_at moment canceling)) (option_map work_of task.now) false }
+// Whether a task is awake where its goal is being canceled; one that is out never is.
+fn is_any_awake(task: &Option<GoalTask>, moment: Moment) -> bool
+    ensures { result ≡ option_map_or (λ work. is_awake work.task (turn_at moment true)) (option_map work_of task.now) false }
 {
     match task {
         None => false,
-        Some(task) => is_awake(task, moment, canceling),
+        Some(task) => is_awake(task, moment, true),
+    }
+}
+
+// From when on, in ticks, a task is awake where its goal isn't being canceled; one that is out never is.
+#[inline(always)]
+fn wake_in(task: &Option<GoalTask>) -> u64
+    ensures { result ≡ wake_in (option_map work_of task.now) }
+{
+    match task {
+        None => u64::MAX,
+        Some(task) => wakes_at(task),
     }
 }

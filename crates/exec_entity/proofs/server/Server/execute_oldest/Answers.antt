@@ -14,7 +14,7 @@ pub invariant_of-self : goal.invariant_of-self
 invariant_of-self c =
     let moved : c.apply-state.new.self ≡ change_first (has_id c.in_ok-id.id) (after_event event.Execute) c.self.inside.goals =
     applied c.in_ok-id.id event.Execute c.self.inside.goals c.apply-state.new.self c.apply-state.result c.apply-state.ensures.moved c.apply-state.ensures.illegal c.apply-state.ensures.unchanged in
-    rw moved (kept-changed (has_id c.in_ok-id.id) (after_event event.Execute) (λ goal. refl) c.self.inside.goals (held_goals_of c.self.inside.held.entries) c.self.invariant)
+    (rw moved (kept-changed (has_id c.in_ok-id.id) (after_event event.Execute) (λ goal. refl) c.self.inside.goals (held_goals_of c.self.inside.held.entries) c.self.invariant.0), c.self.invariant.1)
 
 pub returns-clause-executed : goal.returns-clause-executed
 returns-clause-executed c =

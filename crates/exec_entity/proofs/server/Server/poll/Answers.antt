@@ -1,4 +1,4 @@
-use Rattle.std.proofs.Common.{◌≡◌, List, Option, Some, slice_get, ap, sym, subst, ◌∙◌, refl, rules}
+use Rattle.std.proofs.Common.{◌≡◌, ℕ, List, Option, Some, slice_get, slice_set, ap, sym, subst, ◌∙◌, refl, rules}
 use Rattle.std.specs.List.{find}
 use Rattle.std.specs.Map.{values_of}
 use Rattle.std.specs.Option.{option_map}
@@ -10,12 +10,14 @@ use Rattle.exec_task.specs.Task.{TaskState}
 use Rattle.exec_entity.proofs.Awake.{polled-in, unchanged_first, after_poll_of, server-polled}
 use Rattle.exec_entity.proofs.Placed.{kept-at, found-at, changed-at}
 use Rattle.exec_entity.proofs.Serving.{kept-same, changed-ids, held_ids}
+use Rattle.exec_entity.proofs.Wakes.{wake-set}
 use Rattle.exec_rules.specs.Callback.{Outcome}
 use Rattle.exec_rules.specs.World.{GoalWork, HeldGoal, ServerEntry, is_for, work_of}
 use Rattle.exec_entity.specs.inner.Keeping.{AreKept}
 use Rattle.exec_rules.specs.Callback.{poll_listed}
 use Rattle.exec_entity.specs.inner.Polling.{server_polled}
 use Rattle.exec_entity.specs.inner.Server.{held_goal_of, held_goals_of}
+use Rattle.exec_entity.specs.inner.Waking.{wake_in, wakes_of}
 use Rattle.exec_entity.specs.declared.server.Held.{Held}
 use Rattle.exec_entity.proofs.server.Server.poll.Goals as goal
 
@@ -23,18 +25,18 @@ pub invariant_of-self : goal.invariant_of-self
 invariant_of-self c =
     let is : held_goals_of c.self.inside.held.entries ≡ c.args.self.now.held = ap (λ (server : ServerEntry). server.held) c.self.view_is in
     let kept : Some c.unwrap-held.result.now ≡ slice_get (values_of c.self.inside.held.entries) c.in-Some.place = search rules in
-    let at = kept-at c.args.id c.unwrap-held.result.now c.self.inside.goals c.self.inside.held.entries c.args.self.now.held c.in-Some.place is c.self.invariant c.in-Some.ensures.at kept in
+    let at = kept-at c.args.id c.unwrap-held.result.now c.self.inside.goals c.self.inside.held.entries c.args.self.now.held c.in-Some.place is c.self.invariant.0 c.in-Some.ensures.at kept in
     let after : Held = record { task = c.poll_any.new.task; client = c.unwrap-held.result.now.client } in
     let changes : held_goal_of (c.args.id, after) ≡ held_goal_of (c.args.id, c.unwrap-held.result.now) = ap (λ (work : Option GoalWork). record (held_goal_of (c.args.id, c.unwrap-held.result.now)) { work = work }) c.in_err-close.ensures.unchanged in
     let stays : held_goals_of (set_value_at c.self.inside.held.entries c.in-Some.place after) ≡ held_goals_of c.self.inside.held.entries =
     changed-at at after (λ (one : HeldGoal). one) changes ∙ unchanged_first (is_for c.args.id) (held_goals_of c.self.inside.held.entries) in
-    subst (λ (held : List HeldGoal). AreKept c.self.inside.goals held) (sym stays) c.self.invariant
+    (subst (λ (held : List HeldGoal). AreKept c.self.inside.goals held) (sym stays) c.self.invariant.0, c.self.invariant.1 ∙ ap wakes_of (sym stays))
 
 pub returns-in_err-close-clause-unchanged : goal.returns-in_err-close-clause-unchanged
 returns-in_err-close-clause-unchanged c =
     let is : held_goals_of c.self.inside.held.entries ≡ c.args.self.now.held = ap (λ (server : ServerEntry). server.held) c.self.view_is in
     let kept : Some c.unwrap-held.result.now ≡ slice_get (values_of c.self.inside.held.entries) c.in-Some.place = search rules in
-    let at = kept-at c.args.id c.unwrap-held.result.now c.self.inside.goals c.self.inside.held.entries c.args.self.now.held c.in-Some.place is c.self.invariant c.in-Some.ensures.at kept in
+    let at = kept-at c.args.id c.unwrap-held.result.now c.self.inside.goals c.self.inside.held.entries c.args.self.now.held c.in-Some.place is c.self.invariant.0 c.in-Some.ensures.at kept in
     let after : Held = record { task = c.poll_any.new.task; client = c.unwrap-held.result.now.client } in
     let changes : held_goal_of (c.args.id, after) ≡ held_goal_of (c.args.id, c.unwrap-held.result.now) = ap (λ (work : Option GoalWork). record (held_goal_of (c.args.id, c.unwrap-held.result.now)) { work = work }) c.in_err-close.ensures.unchanged in
     let stays : held_goals_of (set_value_at c.self.inside.held.entries c.in-Some.place after) ≡ held_goals_of c.self.inside.held.entries =
@@ -46,19 +48,22 @@ pub invariant_of-self-2 : goal.invariant_of-self-2
 invariant_of-self-2 c =
     let is : held_goals_of c.self.inside.held.entries ≡ c.args.self.now.held = ap (λ (server : ServerEntry). server.held) c.self.view_is in
     let kept : Some c.unwrap-held.result.now ≡ slice_get (values_of c.self.inside.held.entries) c.in-Some.place = search rules in
-    let at = kept-at c.args.id c.unwrap-held.result.now c.self.inside.goals c.self.inside.held.entries c.args.self.now.held c.in-Some.place is c.self.invariant c.in-Some.ensures.at kept in
+    let at = kept-at c.args.id c.unwrap-held.result.now c.self.inside.goals c.self.inside.held.entries c.args.self.now.held c.in-Some.place is c.self.invariant.0 c.in-Some.ensures.at kept in
     let after : Held = record { task = c.poll_any.new.task; client = c.unwrap-held.result.now.client } in
     let task : Option TaskState = (poll_listed c.args.turn.now (option_map work_of c.unwrap-held.result.now.task) c.args.bank.now).task in
     let changes : held_goal_of (c.args.id, after) ≡ after_poll_of task (held_goal_of (c.args.id, c.unwrap-held.result.now)) = ap (λ (work : Option GoalWork). record (held_goal_of (c.args.id, c.unwrap-held.result.now)) { work = work }) c.in_ok-close.ensures.task in
     let moved : held_goals_of (set_value_at c.self.inside.held.entries c.in-Some.place after) ≡ change_first (is_for c.args.id) (after_poll_of task) (held_goals_of c.self.inside.held.entries) = changed-at at after (after_poll_of task) changes in
-    kept-same c.self.inside.goals c.self.inside.goals (held_goals_of c.self.inside.held.entries) (held_goals_of (set_value_at c.self.inside.held.entries c.in-Some.place after)) refl
-    (ap held_ids moved ∙ changed-ids (λ (one : HeldGoal). one.id) (is_for c.args.id) (after_poll_of task) (λ one. refl) (held_goals_of c.self.inside.held.entries)) c.self.invariant
+    let set = ap (λ (wakes : List ℕ). slice_set wakes c.in-Some.place (wake_in (option_map work_of c.poll_any.new.task))) c.self.invariant.1 ∙ sym (wake-set c.self.inside.held.entries c.in-Some.place after) in (
+      kept-same c.self.inside.goals c.self.inside.goals (held_goals_of c.self.inside.held.entries) (held_goals_of (set_value_at c.self.inside.held.entries c.in-Some.place after)) refl
+          (ap held_ids moved ∙ changed-ids (λ (one : HeldGoal). one.id) (is_for c.args.id) (after_poll_of task) (λ one. refl) (held_goals_of c.self.inside.held.entries)) c.self.invariant.0,
+      ap (λ (wake : ℕ). slice_set c.self.inside.wakes.items c.in-Some.place wake) c.wake_in.ensures ∙ set,
+    )
 
 pub returns-clause-effects : goal.returns-clause-effects
 returns-clause-effects c =
     let is : held_goals_of c.self.inside.held.entries ≡ c.args.self.now.held = ap (λ (server : ServerEntry). server.held) c.self.view_is in
     let kept : Some c.unwrap-held.result.now ≡ slice_get (values_of c.self.inside.held.entries) c.in-Some.place = search rules in
-    let at = kept-at c.args.id c.unwrap-held.result.now c.self.inside.goals c.self.inside.held.entries c.args.self.now.held c.in-Some.place is c.self.invariant c.in-Some.ensures.at kept in
+    let at = kept-at c.args.id c.unwrap-held.result.now c.self.inside.goals c.self.inside.held.entries c.args.self.now.held c.in-Some.place is c.self.invariant.0 c.in-Some.ensures.at kept in
     let found : find (is_for c.args.id) c.args.self.now.held ≡ Some (held_goal_of (c.args.id, c.unwrap-held.result.now)) = subst (λ (helds : List HeldGoal). find (is_for c.args.id) helds ≡ Some (held_goal_of (c.args.id, c.unwrap-held.result.now))) is (found-at c.args.id c.unwrap-held.result.now c.self.inside.held.entries c.in-Some.place at) in
     let polled = polled-in c.args.turn.now c.args.id c.args.self.now c.args.bank.now (Some (held_goal_of (c.args.id, c.unwrap-held.result.now))) found in
     c.in_ok-close.ensures.effects ∙ sym (ap (λ (done : Outcome (List Effect)). done.given) polled)
@@ -67,7 +72,7 @@ pub returns-clause-close : goal.returns-clause-close
 returns-clause-close c =
     let is : held_goals_of c.self.inside.held.entries ≡ c.args.self.now.held = ap (λ (server : ServerEntry). server.held) c.self.view_is in
     let kept : Some c.unwrap-held.result.now ≡ slice_get (values_of c.self.inside.held.entries) c.in-Some.place = search rules in
-    let at = kept-at c.args.id c.unwrap-held.result.now c.self.inside.goals c.self.inside.held.entries c.args.self.now.held c.in-Some.place is c.self.invariant c.in-Some.ensures.at kept in
+    let at = kept-at c.args.id c.unwrap-held.result.now c.self.inside.goals c.self.inside.held.entries c.args.self.now.held c.in-Some.place is c.self.invariant.0 c.in-Some.ensures.at kept in
     let found : find (is_for c.args.id) c.args.self.now.held ≡ Some (held_goal_of (c.args.id, c.unwrap-held.result.now)) = subst (λ (helds : List HeldGoal). find (is_for c.args.id) helds ≡ Some (held_goal_of (c.args.id, c.unwrap-held.result.now))) is (found-at c.args.id c.unwrap-held.result.now c.self.inside.held.entries c.in-Some.place at) in
     let polled = polled-in c.args.turn.now c.args.id c.args.self.now c.args.bank.now (Some (held_goal_of (c.args.id, c.unwrap-held.result.now))) found in
     c.in_ok-close.ensures.close ∙ sym (ap (λ (done : Outcome (List Effect)). done.close) polled)
@@ -76,7 +81,7 @@ pub returns-clause-variables : goal.returns-clause-variables
 returns-clause-variables c =
     let is : held_goals_of c.self.inside.held.entries ≡ c.args.self.now.held = ap (λ (server : ServerEntry). server.held) c.self.view_is in
     let kept : Some c.unwrap-held.result.now ≡ slice_get (values_of c.self.inside.held.entries) c.in-Some.place = search rules in
-    let at = kept-at c.args.id c.unwrap-held.result.now c.self.inside.goals c.self.inside.held.entries c.args.self.now.held c.in-Some.place is c.self.invariant c.in-Some.ensures.at kept in
+    let at = kept-at c.args.id c.unwrap-held.result.now c.self.inside.goals c.self.inside.held.entries c.args.self.now.held c.in-Some.place is c.self.invariant.0 c.in-Some.ensures.at kept in
     let found : find (is_for c.args.id) c.args.self.now.held ≡ Some (held_goal_of (c.args.id, c.unwrap-held.result.now)) = subst (λ (helds : List HeldGoal). find (is_for c.args.id) helds ≡ Some (held_goal_of (c.args.id, c.unwrap-held.result.now))) is (found-at c.args.id c.unwrap-held.result.now c.self.inside.held.entries c.in-Some.place at) in
     let polled = polled-in c.args.turn.now c.args.id c.args.self.now c.args.bank.now (Some (held_goal_of (c.args.id, c.unwrap-held.result.now))) found in
     c.in_ok-close.ensures.variables ∙ sym (ap (λ (done : Outcome (List Effect)). done.variables) polled)
@@ -85,7 +90,7 @@ pub returns-clause-task : goal.returns-clause-task
 returns-clause-task c =
     let is : held_goals_of c.self.inside.held.entries ≡ c.args.self.now.held = ap (λ (server : ServerEntry). server.held) c.self.view_is in
     let kept : Some c.unwrap-held.result.now ≡ slice_get (values_of c.self.inside.held.entries) c.in-Some.place = search rules in
-    let at = kept-at c.args.id c.unwrap-held.result.now c.self.inside.goals c.self.inside.held.entries c.args.self.now.held c.in-Some.place is c.self.invariant c.in-Some.ensures.at kept in
+    let at = kept-at c.args.id c.unwrap-held.result.now c.self.inside.goals c.self.inside.held.entries c.args.self.now.held c.in-Some.place is c.self.invariant.0 c.in-Some.ensures.at kept in
     let found : find (is_for c.args.id) c.args.self.now.held ≡ Some (held_goal_of (c.args.id, c.unwrap-held.result.now)) = subst (λ (helds : List HeldGoal). find (is_for c.args.id) helds ≡ Some (held_goal_of (c.args.id, c.unwrap-held.result.now))) is (found-at c.args.id c.unwrap-held.result.now c.self.inside.held.entries c.in-Some.place at) in
     let polled = polled-in c.args.turn.now c.args.id c.args.self.now c.args.bank.now (Some (held_goal_of (c.args.id, c.unwrap-held.result.now))) found in
     let after : Held = record { task = c.poll_any.new.task; client = c.unwrap-held.result.now.client } in
