@@ -9,8 +9,7 @@ use exec_msg::{Event, Memory, Moment};
 use exec_script::{Bank, EffectList, Input, Instr, Regs, Stop, run_from};
 use std::marker::Model;
 
-// How far a goal's script has come. What tells whether the goal is awake stands first, so that it lies together: each round
-// asks it of every goal.
+// How far a goal's script has come. What tells whether the goal is awake stands first, so that it lies together.
 #[derive(Clone, Copy, Debug, PartialEq, Eq)]
 pub(crate) struct Progress {
     waits: Wait,

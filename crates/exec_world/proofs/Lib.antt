@@ -2,6 +2,7 @@ pub mod Committed
 pub mod Giving
 pub mod Grouped
 pub mod ListedFronts
+pub mod Plain
 pub mod Polled
 pub mod Snapshots
 pub mod Sound

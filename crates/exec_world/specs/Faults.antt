@@ -1,8 +1,8 @@
 -- What a world's calls answer that came to nothing.
 use Rattle.std.specs.Prelude.{◌≡◌, ℕ, true, false}
 use Rattle.exec_rules.specs.Calls.{WorldData}
-use Rattle.exec_world.specs.declared.world.WorldFault.{WorldFault}
-use Rattle.exec_world.specs.declared.world.WorldFault.TheVariants as fault
+use Rattle.exec_world.specs.declared.fault.WorldFault.{WorldFault}
+use Rattle.exec_world.specs.declared.fault.WorldFault.TheVariants as fault
 
 -- what a call answers that came to nothing: a failed world says so and is left as it was, and one that is refused memory has
 -- failed from then on

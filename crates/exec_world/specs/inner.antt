@@ -1,5 +1,6 @@
 pub mod Mail
 pub mod Parts
+pub mod Plain
 pub mod Rounds
 pub mod Snapshots
 pub mod Sound

@@ -2,6 +2,7 @@
 #![tactic(auto)]
 
 mod callback_script;
+mod fault;
 mod first_world;
 mod fronts;
 mod mail;
@@ -10,4 +11,5 @@ mod taken;
 mod world;
 
 pub use exec_rules::{Cause, Item, Ready};
-pub use world::{World, WorldFault, run_plan};
+pub use fault::WorldFault;
+pub use world::{World, run_plan};

@@ -3,6 +3,7 @@ mod act;
 mod close;
 mod give;
 mod lend;
+mod plain;
 mod round;
 mod snapshot;
 

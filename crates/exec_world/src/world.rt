@@ -2,6 +2,7 @@ ghost use Rattle.std.specs.Prelude.{◌≡◌, [], IfOk};
 ghost use Rattle.std.specs.Arc.{arc_value};
 ghost use Rattle.exec_rules.specs.Transcript.{lines_of};
 
+use crate::fault::WorldFault;
 use crate::state::State;
 use exec_msg::{EntityNo, GoalId, Line, LineList, Lines, Memory};
 use exec_plan::{FeedByRound, GroupNo, Plan};
@@ -11,37 +12,6 @@ use exec_task::{GoalTask, Poller};
 use std::alloc::Global;
 use std::marker::Model;
 use std::sync::Arc;
-use thiserror::Error;
-
-/// Why a call of a world came to nothing.
-#[derive(Clone, Copy, Debug, PartialEq, Eq, Error)]
-pub enum WorldFault {
-    /// A growth or a clone was refused. The world has failed from then on.
-    #[error("a growth was refused")]
-    Memory = 1,
-    /// The world had failed before. Nothing changes.
-    #[error("the world has failed")]
-    Failed = 2,
-}
-
-impl WorldFault {
-    ghost use Rattle.std.specs.Prelude.{◌≡◌};
-    ghost use Rattle.exec_world.specs.Faults.{world_fault_number};
-
-    /// Its number.
-    pub fn number(self) -> u8
-        ensures { result ≡ world_fault_number self }
-    {
-        self as u8
-    }
-}
-
-/// A world that answers a fault was refused memory, in that call or before.
-impl From<WorldFault> for Memory {
-    fn from(_fault: WorldFault) -> Memory {
-        Memory
-    }
-}
 
 /// What a plan's rounds change, and its transcript, whose lines go to `L`. A world that has failed answers
 /// [`WorldFault::Failed`] from then on where it is asked to go on, and changes nothing then.
@@ -106,7 +76,7 @@ impl<L: Lines> World<L> {
     ghost use Rattle.std.specs.Arc.{arc_value};
     ghost use Rattle.exec_world.specs.Faults.{HasFailed};
     ghost use Rattle.exec_rules.specs.Calls.{AreHome, HaveVariables, IsNext, after_all, after_commit, after_finish, after_round, after_snapshot, new_world, ready_in, world_after};
-    ghost use Rattle.exec_world.specs.declared.world.WorldFault.TheVariants as fault;
+    ghost use Rattle.exec_world.specs.declared.fault.WorldFault.TheVariants as fault;
     ghost use Rattle.exec_rules.specs.World.{GoalWork, variables_of, with_variables, with_work, work_at, work_of};
     ghost use Rattle.exec_rules.specs.Transcript.{lines_of};
 

@@ -9,8 +9,8 @@ ghost use Rattle.exec_rules.specs.Run.{work_by};
 
 use super::State;
 use exec_entity::Servers;
-use exec_msg::{Lines, Memory};
-use exec_rules::{Cause, Ready, call_in, take_item};
+use exec_msg::{Kind, Lines, Memory};
+use exec_rules::{Cause, Item, Ready, call_in, take_item};
 use exec_script::{Bank, Close, Effect, EffectList, Input, Role};
 use exec_task::Turn;
 use futures::task::Context;
@@ -21,8 +21,34 @@ impl<L: Lines> State<L> {
     ghost use Rattle.exec_rules.specs.Run.{apart, brought_home, commit, run};
 
     // Runs a ready callback; a goal is polled in a context that the caller has made. The list has room for effects, which is used
-    // again and again.
+    // again and again. The causes that most callbacks have are told apart here, once, and the others wherever one is asked for.
+    #[inline(always)]
     pub(super) fn run(
+        &mut self,
+        one: &Ready,
+        effects: &mut EffectList,
+        cx: &mut Context<'_>,
+    ) -> Result<(), Memory>
+        ensures { OnOk result (self.new ≡ run one.now self.old) }
+    {
+        match one.cause {
+            Cause::Due => {
+                let ticks = one.moment.ticks() as i64;
+                self.run_plain(one, Kind::Timer, ticks, 0, effects)
+            }
+            Cause::Took(Item::Message { value }) => {
+                self.run_plain(one, Kind::Message, value, 0, effects)
+            }
+            Cause::Took(Item::Reply { number, value }) => {
+                self.run_plain(one, Kind::Reply, value, number.cast_signed(), effects)
+            }
+            _ => self.run_any(one, effects, cx),
+        }
+    }
+
+    // The same, of any cause.
+    #[inline(always)]
+    fn run_any(
         &mut self,
         one: &Ready,
         effects: &mut EffectList,
@@ -69,7 +95,7 @@ impl<L: Lines> State<L> {
     // Runs a ready callback apart from the world, with its group's variables and its goal's task where they stand, where this is
     // what it is handed. The list then has its effects, and these alone.
     #[inline(always)]
-    fn run_apart(
+    pub(super) fn run_apart(
         &mut self,
         one: &Ready,
         input: &Input,
@@ -168,6 +194,7 @@ fn act(
 
 // Runs a ready callback whose group keeps no variables, as a reentrant one: it begins with zeros, and what it leaves is
 // nobody's.
+#[inline(always)]
 fn act_for_nobody(
     alloc: Global,
     servers: &mut Servers,

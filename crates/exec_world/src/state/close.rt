@@ -254,7 +254,7 @@ impl<L: Lines> State<L> {
         self.push(server, Item::Ask { id, client })
     }
 
-    fn close_poll(
+    pub(super) fn close_poll(
         &mut self,
         server: EntityNo,
         id: GoalId,

@@ -23,6 +23,7 @@ impl<L: Lines> State<L> {
         Ok(())
     }
 
+    #[inline(always)]
     fn give(&mut self, one: &Ready, effect: Effect) -> Result<(), Memory>
         ensures { OnOk result (self.new ≡ give one.now effect self.old) }
     {

@@ -11,9 +11,9 @@ use exec_msg::{Line, Lines, Memory, Moment};
 use exec_plan::{Fed, Feed};
 use exec_queue::bring_home_to_timers;
 use exec_rules::{AwakeGoal, Homes, Item, Ready, ReadyList};
-use exec_script::EffectList;
+use exec_script::{Close, EffectList};
 use futures::task::Context;
-use std::{mem, slice};
+use std::mem;
 
 impl<L: Lines> State<L> {
     ghost use Rattle.std.specs.Prelude.{◌≡◌, ◌≤◌, length, map, take, drop, OnOk};
@@ -123,7 +123,7 @@ impl<L: Lines> State<L> {
         Ok(())
     }
 
-    // Polls a goal as a list of one callback is run: where `run` is called from two places, it isn't written in place in either.
+    // Polls a goal as its ready callback runs. It is written in place, and so its cause is known wherever that is asked for.
     #[inline(always)]
     fn run_poll(
         &mut self,
@@ -135,8 +135,12 @@ impl<L: Lines> State<L> {
         ensures { OnOk result (self.new ≡ run (poll_at moment goal.now) self.old) }
     {
         let one = goal.poll_at(self.alloc, moment);
-        self.run_all(slice::from_ref(&one), effects, cx)?;
-        Ok(())
+        let input = one.input();
+        let mut close = Close::Nothing;
+        self.run_apart(&one, &input, effects, &mut close, cx)?;
+        self.add_line(one.run_line(&input))?;
+        self.give_all(&one, effects.as_slice())?;
+        self.close_poll(goal.server, goal.id, moment, &close)
     }
 
     // Brings home the scripts of callbacks that ran.

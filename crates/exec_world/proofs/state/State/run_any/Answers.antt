@@ -1,7 +1,7 @@
 use Rattle.std.proofs.Common.{◌∙◌}
 use Rattle.std.proofs.lemmas.Result.{on_ok_weaker}
 use Rattle.exec_world.proofs.Committed.{committed}
-use Rattle.exec_world.proofs.state.State.run.Goals as goal
+use Rattle.exec_world.proofs.state.State.run_any.Goals as goal
 
 pub returns : goal.returns
 returns g c =
