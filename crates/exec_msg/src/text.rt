@@ -13,11 +13,10 @@ use crate::memory::Memory;
 use crate::name_texts::NameTexts;
 use crate::names::Names;
 use crate::numbers::{EntityNo, GoalId};
-use crate::place::id::place_id;
 use crate::place::numbers::{place_count, place_small, place_value, small};
 use crate::place::{
-    place, place_callback, place_goal_count, place_goal_line, place_goal_value, place_kind,
-    place_named_count, place_named_value, place_short_named,
+    place, place_callback, place_goal_count, place_goal_line, place_goal_value, place_named_count,
+    place_named_value, place_short_named,
 };
 use crate::value_texts::ValueTexts;
 use run::{place_goal_run, place_run, place_run_beside};

@@ -12,7 +12,7 @@ use crate::first_world::{
 };
 use crate::mail::Mail;
 use exec_entity::{ActionClients, Clients, Servers, Topics};
-use exec_msg::{EntityNo, Line, Lines, Memory};
+use exec_msg::{Line, Lines, Memory};
 use exec_plan::{Graph, GroupNo};
 use exec_queue::EntityTimer;
 use exec_rules::AwakeGoal;

@@ -12,7 +12,7 @@ use exec_goal::GoalInfo;
 use exec_msg::{GoalId, Items, Memory, Moment};
 use exec_rules::{AwakeGoal, Cause, Ready, ReadyList, poll_any};
 use exec_script::{Bank, Close, EffectList};
-use exec_task::{Answer, GoalTask, Turn, is_awake, poll_goal_into, wakes_at};
+use exec_task::{GoalTask, Turn, is_awake, wakes_at};
 use futures::task::Context;
 use std::alloc::Global;
 use std::mem;
