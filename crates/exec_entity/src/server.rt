@@ -115,14 +115,14 @@ impl Server {
     }
 
     // How many goals are held, in whatever state.
-    pub(crate) fn len(&self) -> usize
+    fn len(&self) -> usize
         ensures { result ≡ length self.now.goals }
     {
         self.goals.len()
     }
 
     // The goal at this place, from 0, in the order of acceptance.
-    pub(crate) fn goal_at(&self, index: usize) -> GoalInfo
+    fn goal_at(&self, index: usize) -> GoalInfo
         requires { index < length self.now.goals }
         ensures { slice_get (map info_of self.now.goals) index ≡ Some result }
     {

@@ -167,12 +167,6 @@ pub length-flags : (goals : List GoalRecord) → length (ended_flags goals) ≡ 
 length-flags [] = refl
 length-flags (goal ∷ goals) = ap suc (length-flags goals)
 
-pub flags-remove : (goals : List GoalRecord) (i : ℕ) → ended_flags (remove goals i) ≡ remove (ended_flags goals) i
-flags-remove [] zero = refl
-flags-remove [] (suc i) = refl
-flags-remove (goal ∷ goals) zero = refl
-flags-remove (goal ∷ goals) (suc i) = ap (λ flags. is_terminal goal.state ∷ flags) (flags-remove goals i)
-
 -- a goal that has ended is one of them
 ended_within : (goals : List GoalRecord) (at place : ℕ) → slice_get (ended_places goals) at ≡ Some place → slice_get (ended_flags goals) place ≡ Some true
 ended_within goals at place is =
@@ -192,15 +186,15 @@ pub flags-append : (goals : List GoalRecord) (goal : GoalRecord) → ended_flags
 flags-append [] goal = refl
 flags-append (first ∷ goals) goal = ap (λ flags. is_terminal first.state ∷ flags) (flags-append goals goal)
 
--- ---- a flag behind the others
+-- ---- what stands behind the others
 
-pub last-there : (flags : List Bool) (flag : Bool) → slice_get (flags ++ flag ∷ []) (length flags) ≡ Some flag
-last-there [] flag = refl
-last-there (first ∷ flags) flag = last-there flags flag
+pub last-there : {A : Type 0} (xs : List A) (x : A) → slice_get (xs ++ x ∷ []) (length xs) ≡ Some x
+last-there [] x = refl
+last-there (first ∷ xs) x = last-there xs x
 
-pub set-last : (flags : List Bool) (old new : Bool) → slice_set (flags ++ old ∷ []) (length flags) new ≡ flags ++ new ∷ []
+pub set-last : {A : Type 0} (xs : List A) (old new : A) → slice_set (xs ++ old ∷ []) (length xs) new ≡ xs ++ new ∷ []
 set-last [] old new = refl
-set-last (first ∷ flags) old new = ap (λ rest. first ∷ rest) (set-last flags old new)
+set-last (first ∷ xs) old new = ap (λ rest. first ∷ rest) (set-last xs old new)
 
 pub places-append : (flags : List Bool) (n : ℕ) → flagged_from n (flags ++ false ∷ []) ≡ flagged_from n flags
 places-append [] n = refl

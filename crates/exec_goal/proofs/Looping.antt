@@ -160,13 +160,6 @@ records-set_value_at (first ∷ entries) zero entry held is =
     ap (λ (entry : ℕ × GoalEntry). record_of (entry.0, held) ∷ records_of entries) same
 records-set_value_at (first ∷ entries) (suc i) entry held is = ap (λ goals. record_of first ∷ goals) (records-set_value_at entries i entry held is)
 
--- an entry is taken out by its place
-pub records-remove : (entries : List (ℕ × GoalEntry)) (i : ℕ) → records_of (remove entries i) ≡ remove (records_of entries) i
-records-remove [] zero = refl
-records-remove [] (suc i) = refl
-records-remove (entry ∷ entries) zero = refl
-records-remove (entry ∷ entries) (suc i) = ap (λ goals. record_of entry ∷ goals) (records-remove entries i)
-
 -- ---- the code of an answer
 
 -- a list of which nothing is made is empty

@@ -1,10 +1,12 @@
 -- How a table's tally follows what is done to its goals.
-use Rattle.std.proofs.Common.{◌≡◌, ℕ, zero, suc, ◌+◌, ◌≤◌, ◌<◌, ◌^◌, ◌==◌, ◌&&◌, List, [], ◌∷◌, ◌++◌, length, Bool, true, false, cond, nat_le, if◌then◌else◌, Option, None, Some, slice_get, slice_set, remove, get_or, refl, ap, sym, subst, ◌∙◌, arith}
+use Rattle.std.proofs.Common.{◌≡◌, ℕ, zero, suc, ◌+◌, ◌≤◌, ◌<◌, ◌^◌, ◌==◌, ◌&&◌, List, [], ◌∷◌, ◌++◌, length, map, Bool, true, false, cond, nat_le, if◌then◌else◌, Option, None, Some, slice_get, slice_set, remove, get_or, refl, ap, sym, subst, ◌∙◌, arith}
 use Rattle.std.specs.List.{filter, find, AllByRecursion}
 use Rattle.std.specs.Map.{lookup, set_value}
 use Rattle.std.specs.Option.{option_map}
 use Rattle.std.proofs.lemmas.Bool.{and_parts, leb-true, leb-false, lt-leb}
-use Rattle.std.proofs.lemmas.Option.{slice_get-map}
+use Rattle.std.proofs.lemmas.List.{length-map, map_push, map-set}
+use Rattle.std.proofs.lemmas.Option.{get_or_from_slice_get, slice_get_within, slice_get-map}
+use Rattle.indexmap.proofs.SetLemmas.{map-remove}
 use Rattle.indexmap.specs.IndexMap.{set_value_at}
 use Rattle.exec_msg.specs.Lists.{change_first}
 use Rattle.exec_msg.specs.declared.limits.TheConstants.{GOALS}
@@ -13,16 +15,18 @@ use Rattle.exec_goal.proofs.Looping.{records-set_value_at}
 use Rattle.exec_goal.specs.inner.Places.{IsFirst}
 use Rattle.exec_goal.specs.inner.Held.{record_of, records_of}
 use Rattle.exec_goal.specs.Cancel.{after_answer_by}
+use Rattle.exec_goal.specs.Info.{info_of}
 use Rattle.exec_goal.specs.State.{is_cancelable, is_worked_on, is_terminal}
 use Rattle.exec_msg.specs.declared.goal.Event.TheVariants as event
 use Rattle.exec_goal.specs.Table.{GoalRecord, after_event, has_id, working, is_expired, expired}
 use Rattle.exec_goal.specs.declared.held.GoalEntry.{GoalEntry}
+use Rattle.exec_goal.specs.declared.info.GoalInfo.{GoalInfo}
 use Rattle.exec_goal.specs.declared.state.State.{State}
 use Rattle.exec_goal.specs.declared.state.State.TheVariants as state
 use Rattle.exec_goal.specs.declared.tally.Tally.{Tally}
-use Rattle.exec_goal.proofs.EndedPlaces.{IsWalked, next-walked, flag-at, flag-within, flags-remove, flags-set, flags-append, length-flags, room-places, last-there, set-last, places-append}
+use Rattle.exec_goal.proofs.EndedPlaces.{IsWalked, next-walked, flag-at, flag-within, flags-set, flags-append, length-flags, room-places, last-there, set-last, places-append}
 use Rattle.exec_goal.specs.inner.Ended.{flagged_places, ended_flags, ended_places}
-use Rattle.exec_goal.specs.inner.Tally.{one_where, first_with, first_with_goal, may_expire, CountsMove, NotesEnd, EndsFrom, IsTallied}
+use Rattle.exec_goal.specs.inner.Tally.{one_where, first_with, first_with_goal, may_expire, CountsMove, NotesEnd, TellsState, EndsFrom, IsTallied}
 
 -- ---- how many goals are worked on
 
@@ -107,14 +111,19 @@ module _ (old new : GoalRecord) where
   replaced-ends b ended first _ _ ends-new (here goals) ends = (ends-new, all-weaker b ended first goals ends.1)
   replaced-ends b ended first _ _ ends-new (later goal goals others replaced) ends = (ends-weaker b ended first goal ends.0, replaced-ends b ended first goals others ends-new replaced ends.1)
 
+  replaced-infos : (goals others : List GoalRecord) → Replaced old new goals others → info_of new ≡ info_of old → map info_of others ≡ map info_of goals
+  replaced-infos _ _ (here goals) same = ap (λ info. info ∷ map info_of goals) same
+  replaced-infos _ _ (later goal goals others replaced) same = ap (λ infos. info_of goal ∷ infos) (replaced-infos goals others replaced same)
+
   -- the tally after it
   pub tallied-replaced : (before after : Tally) (goals others : List GoalRecord) → Replaced old new goals others → CountsMove old.state new.state new.ended before after →
-      after.ended ≡ ended_places others → IsTallied before goals → IsTallied after others
-  tallied-replaced before after goals others replaced counts ended tallied = record {
+      after.ended ≡ ended_places others → after.infos.items ≡ map info_of others → IsTallied before goals → IsTallied after others
+  tallied-replaced before after goals others replaced counts ended infos tallied = record {
     counted = omega (arith, tallied.counted, counts.working, replaced-working goals others replaced);
     ends = subst (λ first. AllByRecursion (EndsFrom first) others) (sym counts.first)
         (replaced-ends (is_terminal new.state) new.ended before.first_end goals others (ends-here (is_terminal new.state) before.first_end new refl) replaced tallied.ends);
     ended = ended;
+    infos = infos;
     within = omega (arith, tallied.within, replaced-length goals others replaced);
   }
 
@@ -144,6 +153,19 @@ replaced-at old new (goal ∷ goals) zero is =
     subst (λ goal. Replaced old new (goal ∷ goals) (new ∷ goals)) (sym same) (here goals)
 replaced-at old new (goal ∷ goals) (suc i) is = later goal goals (slice_set goals i new) (replaced-at old new goals i is)
 
+-- ---- what is told
+
+-- what is told of a goal at a place that is of another state
+pub tells-in : (i : ℕ) (old new : GoalRecord) (goals : List GoalRecord) (infos after : List GoalInfo) → slice_get goals i ≡ Some old → info_of new ≡ record (info_of old) { state = new.state } →
+    TellsState i new.state infos after → infos ≡ map info_of goals → after ≡ map info_of (slice_set goals i new)
+tells-in i old new goals infos after there other tells are =
+    let at : slice_get infos i ≡ Some (info_of old) = ap (λ (infos : List GoalInfo). slice_get infos i) are ∙ slice_get-map info_of goals i ∙ ap (option_map info_of) there in
+    tells (info_of old)
+    ∙ ap (λ (info : GoalInfo). slice_set infos i (record info { state = new.state })) (get_or_from_slice_get infos i (info_of old) (info_of old) at)
+    ∙ ap (λ (infos : List GoalInfo). slice_set infos i (record (info_of old) { state = new.state })) are
+    ∙ ap (slice_set (map info_of goals) i) (sym other)
+    ∙ sym (map-set info_of goals i new)
+
 -- ---- a goal is accepted, or forgotten
 
 ends-append : (first : Option ℕ) (goals : List GoalRecord) (goal : GoalRecord) → AllByRecursion (EndsFrom first) goals → EndsFrom first goal → AllByRecursion (EndsFrom first) (goals ++ goal ∷ [])
@@ -163,15 +185,24 @@ ended_behind place goals goal old new last notes are =
     ∙ ap (λ (i : ℕ). flagged_places (slice_set (flags ++ false ∷ []) i (is_terminal goal.state))) end
     ∙ ap flagged_places (set-last flags false (is_terminal goal.state) ∙ sym (flags-append goals goal))
 
+-- what is told of it
+told_behind : (place : ℕ) (goals : List GoalRecord) (goal : GoalRecord) (old new : List GoalInfo) → place ≡ length goals → TellsState place goal.state (old ++ info_of goal ∷ []) new → old ≡ map info_of goals → new ≡ map info_of (goals ++ goal ∷ [])
+told_behind place goals goal old new last tells are =
+    let all = goals ++ goal ∷ [] in
+    let told : old ++ info_of goal ∷ [] ≡ map info_of all = ap (λ infos. infos ++ info_of goal ∷ []) are ∙ sym (map_push info_of goals goal) in
+    let there : slice_get all place ≡ Some goal = ap (slice_get all) last ∙ last-there goals goal in
+    tells-in place goal goal all (old ++ info_of goal ∷ []) new there refl tells told ∙ ap (map info_of) (ap (λ (i : ℕ). slice_set all i goal) last ∙ set-last goals goal goal)
+
 -- a new goal, which counts as one that was ACCEPTED
 pub tallied-accepted : (before after : Tally) (goals : List GoalRecord) (goal : GoalRecord) (place : ℕ) → place ≡ length goals → length goals < GOALS → CountsMove state.Accepted goal.state goal.ended before after →
-    NotesEnd place state.Accepted goal.state before.ended after.ended → IsTallied before goals → IsTallied after (goals ++ goal ∷ [])
-tallied-accepted before after goals goal place last room counts notes tallied = record {
+    NotesEnd place state.Accepted goal.state before.ended after.ended → TellsState place goal.state (before.infos.items ++ info_of goal ∷ []) after.infos.items → IsTallied before goals → IsTallied after (goals ++ goal ∷ [])
+tallied-accepted before after goals goal place last room counts notes tells tallied = record {
   counted = omega (arith, tallied.counted, counts.working, working-append goals goal);
   ends = subst (λ first. AllByRecursion (EndsFrom first) (goals ++ goal ∷ [])) (sym counts.first)
       (ends-append (first_with (is_terminal goal.state) goal.ended before.first_end) goals goal (all-weaker (is_terminal goal.state) goal.ended before.first_end goals tallied.ends)
       (ends-here (is_terminal goal.state) before.first_end goal refl));
   ended = ended_behind place goals goal before.ended after.ended last notes tallied.ended;
+  infos = told_behind place goals goal before.infos.items after.infos.items last tells tallied.infos;
   within = omega (arith, room, length-append goals goal);
 }
 
@@ -192,6 +223,14 @@ pub answered-ended : (accepted : Bool) (goal : GoalRecord) → is_terminal goal.
 answered-ended accepted goal ended =
     ap (λ (moves : Bool). is_terminal (if moves then after_event event.CancelGoal goal else goal).state) (ap (λ (b : Bool). accepted && b) (uncancelable goal.state ended) ∙ and_false accepted)
     ∙ ended
+
+-- and is told of as before but for its state
+pub answered-info : (accepted : Bool) (goal : GoalRecord) → info_of (after_answer_by (λ _. accepted) goal) ≡ record (info_of goal) { state = (after_answer_by (λ _. accepted) goal).state }
+answered-info accepted goal = by (accepted && is_cancelable goal.state)
+  where
+    by : (moves : Bool) → info_of (if moves then after_event event.CancelGoal goal else goal) ≡ record (info_of goal) { state = (if moves then after_event event.CancelGoal goal else goal).state }
+    by true = refl
+    by false = refl
 
 idle_ended : (before : State) → is_terminal before ≡ true → one_where (is_worked_on before) ≡ 0
 idle_ended state.Accepted is = absurd cc
@@ -225,19 +264,20 @@ ended_left : (goals : List GoalRecord) (i : ℕ) (old left : List ℕ) → i < l
 ended_left [] i old left within ended forgets are = absurd (omega (arith, within))
 ended_left (goal ∷ goals) i old left within ended forgets are =
     forgets (ended_flags (goal ∷ goals)) are (flag-at (goal ∷ goals) i goal within ∙ ap Some (ended goal))
-    ∙ ap flagged_places (sym (flags-remove (goal ∷ goals) i))
+    ∙ ap flagged_places (sym (map-remove (λ (goal : GoalRecord). is_terminal goal.state) (goal ∷ goals) i))
 
 -- a goal that has expired is taken out
-pub tallied-removed : (moment timeout : ℕ) (tally : Tally) (goals : List GoalRecord) (i : ℕ) (left : List ℕ) → IsFirst (is_expired moment (Some timeout)) goals i →
-    ((flags : List Bool) → tally.ended ≡ flagged_places flags → slice_get flags i ≡ Some true → left ≡ flagged_places (remove flags i)) →
-    IsTallied tally goals → IsTallied (record tally { ended = left }) (remove goals i)
-tallied-removed moment timeout tally goals i left first forgets tallied =
+pub tallied-removed : (moment timeout : ℕ) (tally after : Tally) (goals : List GoalRecord) (i : ℕ) → IsFirst (is_expired moment (Some timeout)) goals i →
+    ((flags : List Bool) → tally.ended ≡ flagged_places flags → slice_get flags i ≡ Some true → after.ended ≡ flagged_places (remove flags i)) →
+    after.working ≡ tally.working → after.first_end ≡ tally.first_end → after.infos.items ≡ remove tally.infos.items i → IsTallied tally goals → IsTallied after (remove goals i)
+tallied-removed moment timeout tally after goals i first forgets working same infos tallied =
     let ended : (d : GoalRecord) → is_terminal (get_or goals i d).state ≡ true =
     λ d. (and_parts (is_terminal (get_or goals i d).state) (nat_le ((get_or goals i d).ended + timeout) moment) (first.passes d)).0 in
     record {
-      counted = omega (arith, tallied.counted, removed-working goals i first.within ended);
-      ends = removed-ends tally.first_end goals i tallied.ends;
-      ended = ended_left goals i tally.ended left first.within ended forgets tallied.ended;
+      counted = omega (arith, working, tallied.counted, removed-working goals i first.within ended);
+      ends = subst (λ first. AllByRecursion (EndsFrom first) (remove goals i)) (sym same) (removed-ends tally.first_end goals i tallied.ends);
+      ended = ended_left goals i tally.ended after.ended first.within ended forgets tallied.ended;
+      infos = infos ∙ ap (λ (infos : List GoalInfo). remove infos i) tallied.infos ∙ sym (map-remove info_of goals i);
       within = omega (arith, tallied.within, removed-length goals i);
     }
 
@@ -293,23 +333,17 @@ pub unmoved : (before : State) (ended : ℕ) (tally : Tally) → is_terminal bef
 unmoved before ended tally is = record { working = refl; first = ap (λ (b : Bool). first_with b ended tally.first_end) (sym is) }
 
 module _ (test : ℕ → Bool) (id : ℕ) (same : (key : ℕ) → test key ≡ (key == id)) (held : GoalEntry) (entries : List (ℕ × GoalEntry)) (found : Some held ≡ lookup test entries) where
-  -- a goal that is found by its identifier is counted
-  pub counted-in : (tally : Tally) → IsTallied tally (records_of entries) → one_where (is_worked_on held.state) ≤ tally.working
-  counted-in tally tallied =
-      let goal = record_of (id, held) in
-      tallied-counted goal goal tally (records_of entries) _
-      (replaced-first (has_id id) (λ _. goal) goal (records_of entries) (found-in test id same entries (records_of entries) (Some held) refl found)) tallied
-
   -- another value is written in its place
   pub tallied-in : (after : GoalEntry) (set : List (ℕ × GoalEntry)) (tally : Tally) → set ≡ set_value test entries after → CountsMove held.state after.state after.ended tally tally →
-      is_terminal after.state ≡ is_terminal held.state → IsTallied tally (records_of entries) → IsTallied tally (records_of set)
-  tallied-in after set tally is counts same_end tallied =
+      info_of (record_of (id, after)) ≡ info_of (record_of (id, held)) → IsTallied tally (records_of entries) → IsTallied tally (records_of set)
+  tallied-in after set tally is counts told tallied =
       let goal = record_of (id, held) in
       let other = record_of (id, after) in
       let replaced = replaced-first (has_id id) (λ _. other) goal (records_of entries) (found-in test id same entries (records_of entries) (Some held) refl found) in
       subst (λ goals. IsTallied tally goals) (sym (changed-in test id same (λ _. other) held after refl entries set (records_of entries) refl found is))
       (tallied-replaced goal other tally tally (records_of entries) _ replaced counts
-      (tallied.ended ∙ ap flagged_places (sym (replaced-flags goal other (records_of entries) _ replaced same_end))) tallied)
+      (tallied.ended ∙ ap flagged_places (sym (replaced-flags goal other (records_of entries) _ replaced (ap (λ (info : GoalInfo). is_terminal info.state) told))))
+      (tallied.infos ∙ sym (replaced-infos goal other (records_of entries) _ replaced told)) tallied)
 
   -- it is written back as it was
   pub tallied-kept : (set : List (ℕ × GoalEntry)) (tally : Tally) → set ≡ set_value test entries held → IsTallied tally (records_of entries) → IsTallied tally (records_of set)
@@ -337,10 +371,15 @@ module _ (entries : List (ℕ × GoalEntry)) (i : ℕ) (entry : ℕ × GoalEntry
   pub counted-at : (tally : Tally) → IsTallied tally (records_of entries) → one_where (is_worked_on entry.1.state) ≤ tally.working
   counted-at tally tallied = tallied-counted (record_of entry) (record_of entry) tally (records_of entries) _ (replaced-at (record_of entry) (record_of entry) (records_of entries) i goal-at) tallied
 
+  pub told-within : (tally : Tally) → IsTallied tally (records_of entries) → i < length tally.infos.items
+  told-within tally tallied = omega (arith, ap length tallied.infos, length-map (records_of entries) info_of, slice_get_within (records_of entries) i (record_of entry) goal-at)
+
   pub tallied-at : (after : GoalEntry) (old new : Tally) → CountsMove entry.1.state after.state after.ended old new → NotesEnd i entry.1.state after.state old.ended new.ended →
+      TellsState i after.state old.infos.items new.infos.items → info_of (record_of (entry.0, after)) ≡ record (info_of (record_of entry)) { state = after.state } →
       IsTallied old (records_of entries) → IsTallied new (records_of (set_value_at entries i after))
-  tallied-at after old new counts notes tallied =
+  tallied-at after old new counts notes tells told tallied =
       let other = record_of (entry.0, after) in
       subst (λ goals. IsTallied new goals) (sym (records-set_value_at entries i entry after found))
       (tallied-replaced (record_of entry) other old new (records_of entries) _ (replaced-at (record_of entry) other (records_of entries) i goal-at) counts
-      (notes (ended_flags (records_of entries)) flag-of tallied.ended ∙ ap flagged_places (sym (flags-set (records_of entries) i other))) tallied)
+      (notes (ended_flags (records_of entries)) flag-of tallied.ended ∙ ap flagged_places (sym (flags-set (records_of entries) i other)))
+      (tells-in i (record_of entry) other (records_of entries) old.infos.items new.infos.items goal-at told tells tallied.infos) tallied)

@@ -57,7 +57,7 @@ impl Goals {
         Goals {
             alloc,
             held: IndexMap::new(alloc),
-            tally: Tally::new(),
+            tally: Tally::new(alloc),
         }
     }
 
@@ -99,13 +99,19 @@ impl Goals {
         Some(held.state)
     }
 
+    /// What is told of all goals, in the order of acceptance.
+    pub fn infos(&self) -> &[GoalInfo]
+        ensures { result.now ≡ map info_of self.now }
+    {
+        self.tally.infos.as_slice()
+    }
+
     /// The goal at this place, from 0, in the order of acceptance.
     pub fn at(&self, index: usize) -> GoalInfo
         requires { index < length self.now }
         ensures { slice_get (map info_of self.now) index ≡ Some result }
     {
-        let (id, goal) = self.held.get_index(index).unwrap();
-        goal.info(*id)
+        self.infos()[index]
     }
 
     /// Accepts a goal of a value at a moment by decision 2, which executes it at once, or by
@@ -133,8 +139,11 @@ impl Goals {
         }
         let goal = GoalEntry::new(self.alloc, value, moment, decision);
         let state = goal.state;
+        let info = goal.info(id);
         let place = self.len();
+        self.tally.infos.reserve(1)?;
         self.held.insert(id, goal)?;
+        self.tally.infos.push_reserved(info);
         self.tally.count_move(place, State::Accepted, state, moment);
         Ok(Accepted { state })
     }

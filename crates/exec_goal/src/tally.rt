@@ -1,11 +1,13 @@
 ghost use Rattle.std.specs.Prelude.{◌≡◌, ◌≤◌, ◌<◌, ◌+◌, ◌^◌, [], false, length, nat_le, true, None};
 ghost use Rattle.exec_goal.specs.State.{is_worked_on, is_terminal};
 ghost use Rattle.exec_msg.specs.declared.limits.TheConstants.{GOALS};
-ghost use Rattle.exec_goal.specs.inner.Tally.{CountsMove, NotesEnd, one_where, earlier, first_with, may_expire};
+ghost use Rattle.exec_goal.specs.inner.Tally.{CountsMove, NotesEnd, TellsState, one_where, earlier, first_with, may_expire};
 
 use crate::ended::EndedPlaces;
+use crate::info::GoalInfo;
 use crate::state::State;
 use exec_msg::Moment;
+use std::alloc::Global;
 
 // What a table knows of its goals without a look at each.
 #[derive(Debug, Drop)]
@@ -16,19 +18,24 @@ pub(crate) struct Tally {
     pub(crate) first_end: Option<Moment>,
     // Which goals have ended.
     pub(crate) ended: EndedPlaces,
+    // What is told of each goal, in the order of acceptance. A round looks at all of them where the server works on some, and an
+    // entry is so large that each look would be a fetch from memory.
+    pub(crate) infos: Vec<GoalInfo>,
 }
 
 impl Tally {
     // That of no goals.
-    pub(crate) fn new() -> Tally
+    pub(crate) fn new(alloc: Global) -> Tally
         ensures working { result.working ≡ 0 }
         ensures first { result.first_end ≡ None }
         ensures ended { result.ended ≡ [] }
+        ensures infos { result.infos.items ≡ [] }
     {
         Tally {
             working: 0,
             first_end: None,
             ended: EndedPlaces::new(),
+            infos: Vec::new(alloc),
         }
     }
 
@@ -43,18 +50,21 @@ impl Tally {
     }
 
     // Counts that the goal at a place which was of one state is of another, and ended at a moment
-    // where that one is terminal.
+    // where that one is terminal, and tells it so.
     pub(crate) fn count_move(&mut self, place: usize, before: State, after: State, ended: Moment)
         requires counted { one_where (is_worked_on before) ≤ self.old.working }
         requires fits { self.old.working < 2 ^ 63 }
         requires stays { is_terminal before ≡ true → is_terminal after ≡ true }
         requires room { is_terminal before ≡ false → (place < GOALS) × (length self.old.ended < GOALS) }
+        requires told { place < length self.old.infos.items }
         ensures counts { CountsMove before after ended self.old self.new }
         ensures notes { NotesEnd place before after self.old.ended self.new.ended }
+        ensures tells { TellsState place after self.old.infos.items self.new.infos.items }
     {
         self.working = count_working(self.working, before, after);
         self.first_end = first_with(after.is_terminal(), ended, self.first_end);
         note_end(&mut self.ended, place, before, after);
+        self.infos[place].state = after;
     }
 }
 

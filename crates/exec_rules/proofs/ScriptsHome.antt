@@ -3,6 +3,7 @@ use Rattle.std.proofs.Common.{◌≡◌, ℕ, zero, suc, Bool, true, false, ◌+
 use Rattle.std.proofs.lemmas.List.Elements.{All-nil, All-push, All-weaker}
 use Rattle.std.proofs.lemmas.Option.{none-some, same_Some, slice_get-map}
 use Rattle.std.specs.Option.{option_map, option_map_or}
+use Rattle.exec_goal.proofs.EndedPlaces.{last-there}
 use Rattle.exec_script.specs.Instruction.{Script}
 use Rattle.exec_msg.specs.Places.{change_at}
 use Rattle.exec_msg.specs.Timer.{is_due}
@@ -24,11 +25,6 @@ slice_front [] ys i within = absurd (omega arith)
 slice_front (x ∷ xs) ys zero within = refl
 slice_front (x ∷ xs) ys (suc i) within = slice_front xs ys i (omega arith)
 
--- what is put behind stands behind
-slice_end : {X : Type 0} (xs : List X) (x : X) → slice_get (xs ++ x ∷ []) (length xs) ≡ Some x
-slice_end [] x = refl
-slice_end (y ∷ xs) x = slice_end xs x
-
 -- callbacks that are listed behind change no home
 pub grown : (handlers : List Handler) (list more : List Ready) (homes : List Home) → AreHomes handlers list homes → AreHomes handlers (list ++ more) homes
 grown handlers list more homes are =
@@ -42,7 +38,7 @@ pushed handlers list ready homes at place behind has are =
     let placed : Ready = record ready { position = length list + 1 } in
     All-push (IsScriptHome handlers (listed_behind list (ready ∷ []))) homes (record { at = at; place = place }) (grown handlers list (placed ∷ []) homes are) (
       omega (arith, behind, length-append list (placed ∷ [])),
-      λ one there. subst (HasScriptOf (slice_get handlers place)) (same_Some placed one (sym (slice_end list placed) ∙ ap (slice_get (list ++ placed ∷ [])) (sym behind) ∙ there)) has,
+      λ one there. subst (HasScriptOf (slice_get handlers place)) (same_Some placed one (sym (last-there list placed) ∙ ap (slice_get (list ++ placed ∷ [])) (sym behind) ∙ there)) has,
     )
 
 length_changed : {X : Type 0} (change : X → X) (at : ℕ) (xs : List X) → length (change_at at change xs) ≡ length xs

@@ -18,7 +18,7 @@ use std::alloc::Global;
 use std::mem;
 
 impl Server {
-    ghost use Rattle.std.specs.Prelude.{ℕ, ◌<◌, ◌∷◌, ◌++◌, true, None, length, map, filter, find, slice_get, slice_index_or, IfNone, IfSome};
+    ghost use Rattle.std.specs.Prelude.{ℕ, ◌<◌, ◌∷◌, ◌++◌, true, None, length, map, filter, find, slice_get, IfNone, IfSome};
     ghost use Rattle.std.specs.List.{flat_map};
     ghost use Rattle.std.specs.Option.{option_and_then};
     ghost use Rattle.exec_goal.specs.Info.{info_of};
@@ -69,8 +69,8 @@ impl Server {
         self.wakes[index] <= moment.ticks()
     }
 
-    // The same where the goal is being canceled, which few are: it stays out of the walk over all goals. Work is kept in the order
-    // of the goals, so that it is found by its place.
+    // The same where the goal is being canceled, which few are: it stays out of the walk over all goals. Work is kept in the
+    // order of the goals, so that it is found by its place.
     #[inline(never)]
     fn is_canceling_awake(&self, index: usize, moment: Moment) -> bool
         requires { index < length self.now.goals }
@@ -124,27 +124,16 @@ impl Server {
     fn add_each_awake(&self, moment: Moment, goals: &mut Vec<AwakeGoal>) -> Result<(), Memory>
         ensures { OnOk result (goals.new.items ≡ goals.old.items ++ awake_goals moment self.now) }
     {
-        for index in 0..self.len() {
-            self.add_where_awake(moment, index, goals)?;
+        let infos = self.goals.infos();
+        for index in 0..infos.len() {
+            self.add_where_awake(moment, index, &infos[index], goals)?;
         }
         Ok(())
     }
 
-    // Adds the goal at this place, from 0, in the order of acceptance, where it is awake.
+    // Adds the goal at this place, from 0, in the order of acceptance, of which this is told, where it is awake.
+    #[inline(always)]
     fn add_where_awake(
-        &self,
-        moment: Moment,
-        index: usize,
-        goals: &mut Vec<AwakeGoal>,
-    ) -> Result<(), Memory>
-        requires { index < length self.now.goals }
-        ensures { OnOk result ((d : GoalRecord) → goals.new.items ≡ goals.old.items ++ goal_awake moment self.now (slice_index_or self.now.goals index d)) }
-    {
-        let goal = self.goal_at(index);
-        self.add_goal(moment, index, &goal, goals)
-    }
-
-    fn add_goal(
         &self,
         moment: Moment,
         index: usize,

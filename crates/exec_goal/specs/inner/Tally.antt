@@ -1,9 +1,11 @@
 -- What a table knows of its goals without a look at each.
-use Rattle.std.specs.Prelude.{◌≡◌, ℕ, ◌+◌, ◌≤◌, List, length, Bool, true, false, nat_le, if◌then◌else◌, Option, None, Some, slice_get, slice_set}
+use Rattle.std.specs.Prelude.{◌≡◌, ℕ, ◌+◌, ◌≤◌, List, length, map, Bool, true, false, nat_le, if◌then◌else◌, Option, None, Some, slice_get, slice_index_or, slice_set}
 use Rattle.std.specs.List.{AllByRecursion}
 use Rattle.exec_msg.specs.declared.limits.TheConstants.{GOALS}
+use Rattle.exec_goal.specs.Info.{info_of}
 use Rattle.exec_goal.specs.State.{is_worked_on, is_terminal}
 use Rattle.exec_goal.specs.Table.{GoalRecord, working}
+use Rattle.exec_goal.specs.declared.info.GoalInfo.{GoalInfo}
 use Rattle.exec_goal.specs.declared.state.State.{State}
 use Rattle.exec_goal.specs.declared.tally.Tally.{Tally}
 use Rattle.exec_goal.specs.inner.Ended.{flagged_places, ended_places}
@@ -38,6 +40,10 @@ abbrev pub NotesEnd : ℕ → State → State → List ℕ → List ℕ → Type
 NotesEnd place before after old new =
     (flags : List Bool) → slice_get flags place ≡ Some (is_terminal before) → old ≡ flagged_places flags → new ≡ flagged_places (slice_set flags place (is_terminal after))
 
+-- what is told of the goal at a place is told with another state
+abbrev pub TellsState : ℕ → State → List GoalInfo → List GoalInfo → Type 0
+TellsState place after old new = (d : GoalInfo) → new ≡ slice_set old place (record (slice_index_or old place d) { state = after })
+
 -- the first end that is known, once a goal was looked at
 abbrev pub first_with_goal : GoalRecord → Option ℕ → Option ℕ
 first_with_goal goal first = first_with (is_terminal goal.state) goal.ended first
@@ -52,4 +58,5 @@ pub record IsTallied (tally : Tally) (goals : List GoalRecord) : Type 0 where
   pub counted : tally.working ≡ working goals
   pub ends : AllByRecursion (EndsFrom tally.first_end) goals
   pub ended : tally.ended ≡ ended_places goals
+  pub infos : tally.infos.items ≡ map info_of goals
   pub within : length goals ≤ GOALS

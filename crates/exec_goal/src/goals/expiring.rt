@@ -25,6 +25,7 @@ impl Goals {
     {
         let index = self.next_expired(moment, timeout)?;
         self.tally.ended.forget(index);
+        let _told = self.tally.infos.remove(index);
         let (id, _forgotten) = self.held.shift_remove_index(index).unwrap();
         Some(id)
     }

@@ -12,11 +12,8 @@ use std::test::Fail;
 type Reading = Option<(GoalInfo, Option<EntityNo>, Option<EntityNo>)>;
 
 fn read(goals: &Goals, index: usize) -> Reading {
-    if index >= goals.len() {
-        return None;
-    }
-    let info = goals.at(index);
-    Some((info, goals.asker(info.id, 0), goals.asker(info.id, 1)))
+    let id = goals.infos().get(index)?.id;
+    Some((goals.at(index), goals.asker(id, 0), goals.asker(id, 1)))
 }
 
 fn read_all(goals: &Goals) -> [Reading; 3] {

@@ -1,11 +1,11 @@
-use Rattle.std.proofs.Common.{ℕ, ◌∙◌, ◌≡◌, sym, ap, subst, None, Some, List}
+use Rattle.std.proofs.Common.{ℕ, ◌∙◌, ◌≡◌, refl, sym, ap, subst, None, Some, List}
 use Rattle.std.specs.Option.{unwrap_or}
 use Rattle.exec_goal.proofs.Entries.{ids_decide, key_test, next-in, changed-in, none-looked, found-there, set-there, set_value_at-same}
 use Rattle.exec_goal.specs.Table.{after_event}
 use Rattle.exec_goal.specs.declared.held.GoalEntry.{GoalEntry}
 use Rattle.exec_goal.specs.inner.Held.{record_of, records_of}
 use Rattle.exec_goal.specs.inner.Tally.{IsTallied}
-use Rattle.exec_goal.proofs.Tallying.{tallied-fits, counted-at, room-at, tallied-at}
+use Rattle.exec_goal.proofs.Tallying.{tallied-fits, counted-at, room-at, told-within, tallied-at}
 use Rattle.exec_goal.proofs.goals.Goals.apply.Goals as goal
 
 pub returns-in_default-clause-illegal : goal.returns-in_default-clause-illegal
@@ -60,7 +60,12 @@ count_move-requires-clause-room c =
     let entry : ℕ × GoalEntry = (c.pair_mut-goal.result.0.now, c.pair_mut-goal.result.1.now) in
     room-at c.self.inside.held.entries c.in-Some.place entry c.pair_mut-goal.ensures.value c.self.inside.tally c.self.invariant
 
+pub count_move-requires-clause-told : goal.count_move-requires-clause-told
+count_move-requires-clause-told c =
+    let entry : ℕ × GoalEntry = (c.pair_mut-goal.result.0.now, c.pair_mut-goal.result.1.now) in
+    told-within c.self.inside.held.entries c.in-Some.place entry c.pair_mut-goal.ensures.value c.self.inside.tally c.self.invariant
+
 pub invariant_of-self-2 : goal.invariant_of-self-2
 invariant_of-self-2 c =
     let entry : ℕ × GoalEntry = (c.pair_mut-goal.result.0.now, c.pair_mut-goal.result.1.now) in
-    tallied-at c.self.inside.held.entries c.in-Some.place entry c.pair_mut-goal.ensures.value _ c.self.inside.tally c.count_move.new.self c.count_move.ensures.counts c.count_move.ensures.notes c.self.invariant
+    tallied-at c.self.inside.held.entries c.in-Some.place entry c.pair_mut-goal.ensures.value _ c.self.inside.tally c.count_move.new.self c.count_move.ensures.counts c.count_move.ensures.notes c.count_move.ensures.tells refl c.self.invariant
