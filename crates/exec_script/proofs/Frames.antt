@@ -81,6 +81,22 @@ eight P all (a ∷ b ∷ c ∷ d ∷ e ∷ f ∷ g ∷ []) h = absurd (omega ari
 eight P all (a ∷ b ∷ c ∷ d ∷ e ∷ f ∷ g ∷ x ∷ []) h = all a b c d e f g x
 eight P all (a ∷ b ∷ c ∷ d ∷ e ∷ f ∷ g ∷ x ∷ y ∷ xs) h = absurd (omega arith)
 
+-- what a vector writes of the integer that was read at a place
+abbrev lane : List ℤ → ℕ → ℤ
+lane xs place = to_z w64 (of_z w64 (to_z w64 (of_z w64 (get_or xs place (pos 0)))))
+
+abbrev FitsAt : List ℤ → ℕ → Type 0
+FitsAt xs place = SFits w64 (get_or xs place (pos 0))
+
+lane_is : (xs : List ℤ) (place : ℕ) → FitsAt xs place → lane xs place ≡ get_or xs place (pos 0)
+lane_is xs place h = ap (λ (x : ℤ). to_z w64 (of_z w64 x)) (to_z-of_z w64 _ h) ∙ to_z-of_z w64 _ h
+
+-- the eight lanes of a vector are the eight integers that were read
+pub lanes_are : (xs : List ℤ) → length xs ≡ 8 → FitsAt xs 0 → FitsAt xs 1 → FitsAt xs 2 → FitsAt xs 3 → FitsAt xs 4 → FitsAt xs 5 → FitsAt xs 6 → FitsAt xs 7 → lane xs 0 ∷ lane xs 1 ∷ lane xs 2 ∷ lane xs 3 ∷ lane xs 4 ∷ lane xs 5 ∷ lane xs 6 ∷ lane xs 7 ∷ [] ≡ xs
+lanes_are xs p f0 f1 f2 f3 f4 f5 f6 f7 =
+    rw (lane_is xs 0 f0, lane_is xs 1 f1, lane_is xs 2 f2, lane_is xs 3 f3, lane_is xs 4 f4, lane_is xs 5 f5, lane_is xs 6 f6, lane_is xs 7 f7)
+    (eight (λ xs. get_or xs 0 (pos 0) ∷ get_or xs 1 (pos 0) ∷ get_or xs 2 (pos 0) ∷ get_or xs 3 (pos 0) ∷ get_or xs 4 (pos 0) ∷ get_or xs 5 (pos 0) ∷ get_or xs 6 (pos 0) ∷ get_or xs 7 (pos 0) ∷ [] ≡ xs) (λ a b c d e f g h. refl) xs p)
+
 abbrev framed : List ℤ → List ℤ → ℤ → ℤ → ℤ → FrameState
 framed registers variables first aux moment = record { registers = registers; variables = variables; input = record { first = first; aux = aux; moment = at_least_0 moment } }
 

@@ -1,4 +1,7 @@
+ghost use Rattle.std.specs.Prelude.{◌≡◌, length};
+
 use std::marker::Model;
+use std::simd::i64x8;
 
 /// The place of one of eight integers, from 0 to 7.
 #[derive(Clone, Copy, Debug, PartialEq, Eq)]
@@ -33,6 +36,18 @@ impl Slot {
     {
         self.0 as usize
     }
+}
+
+// Copies eight integers. All are read before one is written, so that nobody asks whether both overlap.
+#[inline(always)]
+pub(crate) fn copy_eight(from: &[i64], to: &mut [i64])
+    requires { (length from.now ≡ 8) × (length to.old ≡ 8) }
+    ensures { to.new ≡ from.now }
+{
+    let lanes = [
+        from[0], from[1], from[2], from[3], from[4], from[5], from[6], from[7],
+    ];
+    i64x8::from_array(lanes).copy_to_slice(to);
 }
 
 // Eight integers, all 0 at first.
@@ -87,7 +102,7 @@ impl Cells {
         requires { length values.now ≡ 8 }
         ensures { self.new ≡ values.now }
     {
-        self.values.copy_from_slice(values);
+        copy_eight(values, &mut self.values);
     }
 }
 

@@ -1,4 +1,4 @@
-use crate::cells::{Bank, Regs};
+use crate::cells::{Bank, Regs, copy_eight};
 use crate::instr::{Destination, Operand};
 use crate::run::Input;
 use std::fmt;
@@ -161,7 +161,7 @@ impl Frame {
         ensures { self.new ≡ record { registers = zeros; variables = bank.now; input = input.now } }
     {
         self.values = [0; 20];
-        self.values[8..16].copy_from_slice(bank.0.as_array());
+        copy_eight(bank.0.as_array(), &mut self.values[8..16]);
         self.values[16] = input.first;
         self.values[17] = input.aux;
         self.values[18] = input.moment.ticks() as i64;
@@ -173,8 +173,8 @@ impl Frame {
         ensures { self.new ≡ record { registers = regs.now; variables = bank.now; input = input.now } }
     {
         self.values = [0; 20];
-        self.values[..8].copy_from_slice(regs.0.as_array());
-        self.values[8..16].copy_from_slice(bank.0.as_array());
+        copy_eight(regs.0.as_array(), &mut self.values[..8]);
+        copy_eight(bank.0.as_array(), &mut self.values[8..16]);
         self.values[16] = input.first;
         self.values[17] = input.aux;
         self.values[18] = input.moment.ticks() as i64;

@@ -1,6 +1,7 @@
-ghost use Rattle.std.specs.Prelude.{◌≡◌, ◌<◌, ◌^◌, IfSome};
+ghost use Rattle.std.specs.Prelude.{◌≡◌, ◌<◌, ◌^◌, IfSome, bytes_eq};
+ghost use Rattle.std.specs.Map.{lookup};
 ghost use Rattle.std.specs.Option.{option_copied};
-ghost use Rattle.exec_script.specs.Spelling.{cell_named, operand_of, destination_of, operation_of, count_of, text_in};
+ghost use Rattle.exec_script.specs.Spelling.{cell_named, inputs, operand_named, operand_of, destination_of, operation_of, count_of, text_in};
 
 use crate::cells::Slot;
 use crate::instr::{Destination, Operand, Operation};
@@ -12,15 +13,32 @@ pub(crate) fn operand_of(word: &Word) -> Option<Operand>
 {
     match word {
         Word::Number(value) => Some(Operand::Value(*value)),
-        Word::Text(text) => match text.as_str() {
-            "in" => Some(Operand::In),
-            "aux" => Some(Operand::Aux),
-            "now" => Some(Operand::Now),
-            text => match cell_named(text)? {
-                Destination::Register(slot) => Some(Operand::Register(slot)),
-                Destination::Variable(slot) => Some(Operand::Variable(slot)),
-            },
-        },
+        Word::Text(text) => operand_named(text.as_str()),
+    }
+}
+
+// The operand that a text names. Cells are asked first, since most operands are registers; no cell has the name of an input.
+fn operand_named(text: &str) -> Option<Operand>
+    ensures { result ≡ operand_named text.now }
+{
+    let Some(cell) = cell_named(text) else {
+        return input_named(text);
+    };
+    match cell {
+        Destination::Register(slot) => Some(Operand::Register(slot)),
+        Destination::Variable(slot) => Some(Operand::Variable(slot)),
+    }
+}
+
+// The operand that has a name of its own. Bytes are compared in place, where texts take a call for each name.
+fn input_named(text: &str) -> Option<Operand>
+    ensures { result ≡ lookup (bytes_eq text.now) inputs }
+{
+    match text.as_bytes() {
+        b"in" => Some(Operand::In),
+        b"aux" => Some(Operand::Aux),
+        b"now" => Some(Operand::Now),
+        _ => None,
     }
 }
 
@@ -55,14 +73,14 @@ pub(crate) fn operation_of(word: &Word) -> Option<Operation>
     let Word::Text(text) = word else {
         return None;
     };
-    match text.as_str() {
-        "add" => Some(Operation::Add),
-        "sub" => Some(Operation::Sub),
-        "mul" => Some(Operation::Mul),
-        "min" => Some(Operation::Min),
-        "max" => Some(Operation::Max),
-        "lt" => Some(Operation::Lt),
-        "eq" => Some(Operation::Eq),
+    match text.as_str().as_bytes() {
+        b"add" => Some(Operation::Add),
+        b"sub" => Some(Operation::Sub),
+        b"mul" => Some(Operation::Mul),
+        b"min" => Some(Operation::Min),
+        b"max" => Some(Operation::Max),
+        b"lt" => Some(Operation::Lt),
+        b"eq" => Some(Operation::Eq),
         _ => None,
     }
 }
