@@ -14,22 +14,23 @@ ghost use Rattle.exec_doc.specs.inner.Reading.{ReadingGives};
 
 use crate::draft::DocumentDraft;
 use crate::refused::Refused;
-use fields::{list, required_field};
+use fields::{list, required_field, taken_list};
 use graph::declarations;
 use serde_json::Value;
 use std::alloc::Global;
 
-/// The draft of a document.
+/// The draft of a document. Its feed, which may be most of it, is taken out and let go before the declarations are read, which
+/// then take its memory.
 ///
 /// # Errors
 /// [`Refused::Shape`] where the value hasn't the forms of a document, [`Refused::Memory`] where a growth was refused.
-pub fn draft_of(alloc: Global, document: Value) -> Result<DocumentDraft, Refused>
+pub fn draft_of(alloc: Global, mut document: Value) -> Result<DocumentDraft, Refused>
     ensures { ReadingGives (λ draft. draft) result (draft_of (view document)) }
 {
     Ok(DocumentDraft {
         version: required_field(alloc, &document, "version")?,
         moments: list(alloc, &document, "moments")?,
-        feed: list(alloc, &document, "feed")?,
+        feed: taken_list(alloc, &mut document, "feed")?,
         graph: declarations(alloc, document)?,
     })
 }

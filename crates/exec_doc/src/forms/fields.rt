@@ -4,9 +4,11 @@ ghost use Rattle.serde_json.specs.View.{view};
 ghost use Rattle.exec_doc.specs.Forms.{text, count, integer, list_of, field_value, required_field, optional_field, list};
 ghost use Rattle.exec_doc.specs.inner.Picking.{found};
 ghost use Rattle.exec_doc.specs.inner.Reading.{ReadingGives};
+ghost use Rattle.exec_doc.specs.inner.Taking.{LosesField};
 ghost use Rattle.exec_plan.specs.Entity.{if_there};
 ghost use Rattle.exec_msg.specs.Options.{each};
 
+use crate::forms::owned::take_field;
 use crate::refused::Refused;
 use exec_script::WordText;
 use serde_json::Value;
@@ -90,6 +92,17 @@ pub fn list<T: Form>(alloc: Global, holder: &Value, name: &str) -> Result<Vec<T>
 {
     match holder.get(name) {
         Some(value) => list_of(alloc, value),
+        None => Ok(Vec::new(alloc)),
+    }
+}
+
+/// The same, but the field is taken out of its holder and let go.
+pub fn taken_list<T: Form>(alloc: Global, holder: &mut Value, name: &str) -> Result<Vec<T>, Refused>
+    ensures read { ReadingGives (λ found. found.items) result (list T.form name.now (view holder.old)) }
+    ensures left { LosesField name.now (view holder.old) (view holder.new) }
+{
+    match take_field(holder, name) {
+        Some(value) => list_of(alloc, &value),
         None => Ok(Vec::new(alloc)),
     }
 }

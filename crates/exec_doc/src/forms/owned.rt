@@ -2,15 +2,24 @@
 ghost use Rattle.std.specs.Prelude.{◌≡◌, map, option_map, string_bytes};
 ghost use Rattle.serde_json.specs.Find.{as_array, as_str, get};
 ghost use Rattle.serde_json.specs.View.{items_of, view};
+ghost use Rattle.exec_doc.specs.inner.Taking.{LosesField};
 
 use serde_json::Value;
 
 /// The field of a name, where the value is an object that has it.
-pub fn into_field(value: Value, name: &str) -> Option<Value>
+pub fn into_field(mut value: Value, name: &str) -> Option<Value>
     ensures { option_map view result ≡ get name.now (view value) }
 {
+    take_field(&mut value, name)
+}
+
+/// The field of a name, where the value is an object that has it. It is taken out of the value, and all other fields stay.
+pub fn take_field(value: &mut Value, name: &str) -> Option<Value>
+    ensures taken { option_map view result ≡ get name.now (view value.old) }
+    ensures left { LosesField name.now (view value.old) (view value.new) }
+{
     match value {
-        Value::Object(mut fields) => fields.remove(name),
+        Value::Object(fields) => fields.remove(name),
         _ => None,
     }
 }

@@ -50,13 +50,14 @@ impl<'a> EntryFields<'a> {
     fn note(&mut self, name: &str, value: &'a Value)
         ensures { seen self.new ≡ field_noted name.now (view value.now) (seen self.old) }
     {
+        // The names that most entries have stand first, since they are compared in turn.
         match name {
             "round" => self.round = Some(value),
-            "topic" => self.topic = Some(value),
-            "goal" => self.goal = Some(value),
-            "cancel" => self.cancel = Some(value),
             "action" => self.action = Some(value),
             "value" => self.value = Some(value),
+            "goal" => self.goal = Some(value),
+            "topic" => self.topic = Some(value),
+            "cancel" => self.cancel = Some(value),
             "stamp" => self.stamp = Some(value),
             _ => {}
         }
