@@ -2,7 +2,6 @@
 ghost use Rattle.std.specs.Prelude.{◌≡◌, ◌<◌, ◌^◌, ◌++◌, [], false, true, length, map, IsTrue, OnOk, IfOk};
 ghost use Rattle.exec_plan.specs.Entity.{is_within};
 ghost use Rattle.exec_plan.specs.Graph.{callback_script, cons_if, entities_where, has_kind, in_group, is_action_client, is_client, is_exclusive, is_server, is_timer, is_topic, of_entity};
-ghost use Rattle.exec_plan.specs.declared.entity.EntityOf.TheVariants as resolved;
 ghost use Rattle.exec_rules.specs.Transcript.{as_entity, first_world, new_topic, subscribes_to, takes_from_queue, action_client_for, client_for, queue_for, server_for, timer_for};
 ghost use Rattle.exec_world.specs.inner.Parts.{new_queue_of, queues_of};
 

@@ -4,6 +4,7 @@ mod close;
 mod give;
 mod lend;
 mod plain;
+mod poll;
 mod round;
 mod snapshot;
 

@@ -95,7 +95,7 @@ impl<L: Lines> State<L> {
     // Runs a ready callback apart from the world, with its group's variables and its goal's task where they stand, where this is
     // what it is handed. The list then has its effects, and these alone.
     #[inline(always)]
-    pub(super) fn run_apart(
+    fn run_apart(
         &mut self,
         one: &Ready,
         input: &Input,

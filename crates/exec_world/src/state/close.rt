@@ -254,6 +254,8 @@ impl<L: Lines> State<L> {
         self.push(server, Item::Ask { id, client })
     }
 
+    // Closes a poll. Most pend, and are closed with no call.
+    #[inline(always)]
     pub(super) fn close_poll(
         &mut self,
         server: EntityNo,
@@ -269,6 +271,8 @@ impl<L: Lines> State<L> {
         }
     }
 
+    // Ends a goal by an event, where its table lets it. Few polls come here, so it isn't written where polls are closed.
+    #[inline(never)]
     fn end(
         &mut self,
         server: EntityNo,

@@ -11,7 +11,7 @@ use exec_msg::{Line, Lines, Memory, Moment};
 use exec_plan::{Fed, Feed};
 use exec_queue::bring_home_to_timers;
 use exec_rules::{AwakeGoal, Homes, Item, Ready, ReadyList};
-use exec_script::{Close, EffectList};
+use exec_script::EffectList;
 use futures::task::Context;
 use std::mem;
 
@@ -19,7 +19,6 @@ impl<L: Lines> State<L> {
     ghost use Rattle.std.specs.Prelude.{◌≡◌, ◌≤◌, length, map, take, drop, OnOk};
     ghost use Rattle.exec_msg.specs.declared.line.Line.TheVariants as line;
     ghost use Rattle.exec_rules.specs.Ready.{ready_list, take_inputs};
-    ghost use Rattle.exec_rules.specs.Run.{run};
     ghost use Rattle.exec_rules.specs.Transcript.{expire, feed, feed_one, finish, run_all, snapshot_and_run};
     ghost use Rattle.exec_rules.specs.World.{add_line};
     ghost use Rattle.exec_rules.specs.inner.Awake.{poll_at};
@@ -105,42 +104,6 @@ impl<L: Lines> State<L> {
         self.run_polls(moment, goals, effects, cx)?;
         self.run_all(&list[before..], effects, cx)?;
         Ok(())
-    }
-
-    // Polls goals that are awake at a moment, one after another.
-    fn run_polls(
-        &mut self,
-        moment: Moment,
-        goals: &[AwakeGoal],
-        effects: &mut EffectList,
-        cx: &mut Context<'_>,
-    ) -> Result<(), Memory>
-        ensures { OnOk result (self.new ≡ run_all (map (poll_at moment) goals.now) self.old) }
-    {
-        for goal in goals {
-            self.run_poll(moment, goal, effects, cx)?;
-        }
-        Ok(())
-    }
-
-    // Polls a goal as its ready callback runs. It is written in place, and so its cause is known wherever that is asked for.
-    #[inline(always)]
-    fn run_poll(
-        &mut self,
-        moment: Moment,
-        goal: &AwakeGoal,
-        effects: &mut EffectList,
-        cx: &mut Context<'_>,
-    ) -> Result<(), Memory>
-        ensures { OnOk result (self.new ≡ run (poll_at moment goal.now) self.old) }
-    {
-        let one = goal.poll_at(self.alloc, moment);
-        let input = one.input();
-        let mut close = Close::Nothing;
-        self.run_apart(&one, &input, effects, &mut close, cx)?;
-        self.add_line(one.run_line(&input))?;
-        self.give_all(&one, effects.as_slice())?;
-        self.close_poll(goal.server, goal.id, moment, &close)
     }
 
     // Brings home the scripts of callbacks that ran.
