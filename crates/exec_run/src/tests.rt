@@ -1,6 +1,6 @@
 //! Calls of a world, one after another, as they stand without lanes.
 use exec_doc::{Refused, read_document};
-use exec_msg::{Line, Memory};
+use exec_msg::Memory;
 use exec_task::Poller;
 use exec_world::{Ready, World, WorldFault};
 use std::alloc::Global;

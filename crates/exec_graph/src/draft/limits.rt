@@ -11,7 +11,6 @@ use crate::draft::{Drafted, GraphDraft};
 use crate::spelled::Spelled;
 use exec_msg::limits::{ENTITIES, INSTRUCTIONS, NAMED_GROUPS, NODES, TOPICS};
 use exec_plan::RoleScript;
-use exec_script::WordText;
 
 // Whether no number and no length of a graph is beyond its limit. The entities are those of the nodes in the order of
 // their numbers.
