@@ -13,3 +13,4 @@ pub mod Planned
 pub mod Ready
 pub mod Refusing
 pub mod Scheduled
+pub mod Sets

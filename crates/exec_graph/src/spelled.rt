@@ -1,35 +1,35 @@
-use exec_script::Word;
+use exec_script::SpelledInstr;
 use std::marker::Model;
 
 /// A script as a document spells it, seen by contracts as a list of lists of words.
 #[derive(Debug, Drop)]
 pub struct Spelled {
-    words: Vec<Vec<Word>>,
+    instrs: Vec<SpelledInstr>,
 }
 
 impl Model for Spelled {
-    ghost use Rattle.std.specs.Prelude.{List, map};
+    ghost use Rattle.std.specs.Prelude.{List};
     ghost use Rattle.exec_script.specs.declared.word.Word.{Word};
 
     ghost Value = { List (List Word) };
 
-    ghost view = { λ script. map (λ words. words.items) script.words.items };
+    ghost view = { λ script. script.instrs.items };
 }
 
 impl Spelled {
-    ghost use Rattle.std.specs.Prelude.{◌≡◌, map};
+    ghost use Rattle.std.specs.Prelude.{◌≡◌};
 
     /// The script of a vector of instructions. It takes no memory.
-    pub fn of(words: Vec<Vec<Word>>) -> Spelled
-        ensures { result ≡ map (λ words. words.items) words.items }
+    pub fn of(instrs: Vec<SpelledInstr>) -> Spelled
+        ensures { result ≡ instrs.items }
     {
-        Spelled { words }
+        Spelled { instrs }
     }
 
     /// The instructions in their order.
-    pub fn as_slice(&self) -> &[Vec<Word>]
-        ensures { map (λ words. words.items) result.now ≡ self.now }
+    pub fn as_slice(&self) -> &[SpelledInstr]
+        ensures { result.now ≡ self.now }
     {
-        self.words.as_slice()
+        self.instrs.as_slice()
     }
 }

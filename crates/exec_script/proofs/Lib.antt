@@ -3,3 +3,4 @@ pub mod Flats
 pub mod Following
 pub mod Frames
 pub mod Lasting
+pub mod Spelt

@@ -1,5 +1,5 @@
 -- How words spell a script, and the fault of each misspelling.
-use Rattle.std.specs.Prelude.{ℕ, ◌-◌, pos, negsuc, List, [], ◌∷◌, codes, ◌==◌, nat_le, ◌&&◌, if◌then◌else◌, Option, None, Some, option_and_then, Result, Ok, Err}
+use Rattle.std.specs.Prelude.{ℕ, ◌-◌, pos, negsuc, List, [], ◌∷◌, codes, ◌==◌, nat_le, ◌&&◌, if◌then◌else◌, Option, None, Some, option_and_then, Result, Ok, Err, ◌≤◌, length, ⊤}
 use Rattle.std.specs.Map.{lookup}
 use Rattle.std.specs.Option.{option_map, option_or, ok_or}
 use Rattle.std.specs.Str.{bytes_eq}
@@ -16,6 +16,18 @@ use Rattle.exec_script.specs.declared.instr.Operation.{Operation}
 use Rattle.exec_script.specs.declared.instr.Operation.TheVariants as operation
 use Rattle.exec_script.specs.declared.word.Word.{Word}
 use Rattle.exec_script.specs.declared.word.Word.TheVariants.{Text, Number}
+use Rattle.exec_script.specs.declared.word.WordRef.{WordRef}
+use Rattle.exec_script.specs.declared.word.WordRef.TheVariants as word_ref
+
+-- the word that is read where it stands
+abbrev pub word_of : WordRef → Word
+word_of (word_ref.Text text) = Text text.now
+word_of (word_ref.Number value) = Number value
+
+-- a word that holds its text in place
+abbrev pub IsShort : Word → Type 0
+IsShort (Number value) = ⊤
+IsShort (Text text) = length text ≤ 24
 
 -- the names that a script may use: for each name the number of the topic, the service client, the action client or the
 -- action server that has it

@@ -3,4 +3,5 @@ pub mod Flat
 pub mod Frame
 pub mod Held
 pub mod Places
+pub mod SetWords
 pub mod Steps

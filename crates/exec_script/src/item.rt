@@ -1,19 +1,26 @@
 ghost use Rattle.std.specs.Prelude.{◌≡◌, ◌<◌, ◌^◌, IfSome, bytes_eq};
 ghost use Rattle.std.specs.Map.{lookup};
 ghost use Rattle.std.specs.Option.{option_copied};
-ghost use Rattle.exec_script.specs.Spelling.{cell_named, inputs, operand_named, operand_of, destination_of, operation_of, count_of, text_in};
+ghost use Rattle.exec_script.specs.Spelling.{cell_named, inputs, operations, operand_named, operand_of, count_of, text_in, word_of};
 
 use crate::cells::Slot;
 use crate::instr::{Destination, Operand, Operation};
-use crate::word::Word;
+use crate::word::{Word, WordRef};
 
 /// The operand that a word spells.
 pub(crate) fn operand_of(word: &Word) -> Option<Operand>
     ensures { result ≡ operand_of word.now }
 {
+    operand_in(word.as_ref())
+}
+
+/// The same of a word that is read where it stands.
+pub(crate) fn operand_in(word: WordRef<'_>) -> Option<Operand>
+    ensures { result ≡ operand_of (word_of word.entry) }
+{
     match word {
-        Word::Number(value) => Some(Operand::Value(*value)),
-        Word::Text(text) => operand_named(text.as_str()),
+        WordRef::Number(value) => Some(Operand::Value(value)),
+        WordRef::Text(text) => operand_named(text),
     }
 }
 
@@ -42,17 +49,8 @@ fn input_named(text: &str) -> Option<Operand>
     }
 }
 
-/// The destination that a word spells.
-pub(crate) fn destination_of(word: &Word) -> Option<Destination>
-    ensures { result ≡ destination_of word.now }
-{
-    match word {
-        Word::Number(_) => None,
-        Word::Text(text) => cell_named(text.as_str()),
-    }
-}
-
-fn cell_named(text: &str) -> Option<Destination>
+/// The register or group variable that a text names.
+pub(crate) fn cell_named(text: &str) -> Option<Destination>
     ensures { result ≡ cell_named text.now }
 {
     let [letter, digit @ b'0'..=b'7'] = text.as_bytes() else {
@@ -66,14 +64,11 @@ fn cell_named(text: &str) -> Option<Destination>
     }
 }
 
-/// The operation that a word spells.
-pub(crate) fn operation_of(word: &Word) -> Option<Operation>
-    ensures { result ≡ operation_of word.now }
+/// The operation that a text names.
+pub(crate) fn operation_named(text: &str) -> Option<Operation>
+    ensures { result ≡ lookup (bytes_eq text.now) operations }
 {
-    let Word::Text(text) = word else {
-        return None;
-    };
-    match text.as_str().as_bytes() {
+    match text.as_bytes() {
         b"add" => Some(Operation::Add),
         b"sub" => Some(Operation::Sub),
         b"mul" => Some(Operation::Mul),

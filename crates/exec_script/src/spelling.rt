@@ -1,37 +1,58 @@
-ghost use Rattle.std.specs.Prelude.{◌≡◌, ◌⊎◌, map, IfOk, IfErr};
-ghost use Rattle.exec_script.specs.Spelling.{set_of, skip_of, of_operand, of_name_and_operand, operand_alone, execute_of, yield_of, instruction_named, instruction_of, script_of};
+ghost use Rattle.std.specs.Prelude.{◌≡◌, ◌⊎◌, List, [], ◌∷◌, map, IfOk, IfErr};
+ghost use Rattle.std.specs.Option.{ok_or};
+ghost use Rattle.exec_script.specs.Spelling.{set_of, skip_of, of_operand, of_name_and_operand, operand_alone, execute_of, yield_of, instruction_named, instruction_of, script_of, word_of};
 ghost use Rattle.exec_script.specs.Instruction as instr;
+ghost use Rattle.exec_script.specs.declared.word.Word.{Word};
+ghost use Rattle.exec_script.specs.declared.word.Word.TheVariants.{Text};
 
 use crate::cancel::cancel;
 use crate::fault::ScriptFault;
 use crate::instr::{Instr, Operand};
-use crate::item::{count_of, destination_of, operand_of, operation_of, text_in};
+use crate::item::{cell_named, count_of, operand_in, operand_of, operation_named, text_in};
 use crate::scope::Scope;
-use crate::word::Word;
+use crate::word::{Word, WordRef};
 use std::alloc::Global;
+
+/// What spells an instruction by words.
+pub trait Spelling {
+    ghost words: { Self → List Word };
+
+    /// The instruction, or its least fault.
+    fn instruction<S: Scope>(&self, scope: &S) -> Result<Instr, ScriptFault>
+        ensures { result ≡ instruction_of (S.names scope.now) (words self.now) };
+}
+
+impl Spelling for Vec<Word> {
+    ghost words = { λ words. words.items };
+
+    fn instruction<S: Scope>(&self, scope: &S) -> Result<Instr, ScriptFault> {
+        instruction_of(self.as_slice(), scope)
+    }
+}
 
 /// The script that lists of words spell. Where one is misspelt, the fault is that of the first such
 /// instruction, and of its faults the least.
-pub fn decode<S: Scope>(
+pub fn decode<W: Spelling, S: Scope>(
     alloc: Global,
-    spelled: &[Vec<Word>],
+    spelled: &[W],
     scope: &S,
 ) -> Result<Vec<Instr>, ScriptFault>
-    ensures script { IfOk result (λ script. script_of (S.names scope.now) (map (λ words. words.items) spelled.now) ≡ Ok script.items) }
+    ensures script { IfOk result (λ script. script_of (S.names scope.now) (map W.words spelled.now) ≡ Ok script.items) }
     ensures fault { IfErr result (λ fault. (fault ≡ ScriptFault.Memory)
-        ⊎ (script_of (S.names scope.now) (map (λ words. words.items) spelled.now) ≡ Err fault)) }
+        ⊎ (script_of (S.names scope.now) (map W.words spelled.now) ≡ Err fault)) }
 {
     let Ok(mut script) = Vec::with_capacity(alloc, spelled.len()) else {
         return Err(ScriptFault::Memory);
     };
     for words in spelled {
-        let instr = instruction(words.as_slice(), scope)?;
+        let instr = words.instruction(scope)?;
         script.push(instr)?;
     }
     Ok(script)
 }
 
-fn instruction<S: Scope>(words: &[Word], scope: &S) -> Result<Instr, ScriptFault>
+/// The instruction that words spell, or its least fault.
+pub(crate) fn instruction_of<S: Scope>(words: &[Word], scope: &S) -> Result<Instr, ScriptFault>
     ensures { result ≡ instruction_of (S.names scope.now) words.now }
 {
     let [Word::Text(name), items @ ..] = words else {
@@ -67,14 +88,33 @@ fn instruction_named<S: Scope>(name: &str, items: &[Word], scope: &S) -> Result<
 fn set(items: &[Word]) -> Result<Instr, ScriptFault>
     ensures { result ≡ set_of items.now }
 {
-    let [destination, operation, left, right] = items else {
-        return Err(ScriptFault::Count);
-    };
-    let destination = destination_of(destination).ok_or(ScriptFault::Operand)?;
-    let operation = operation_of(operation).ok_or(ScriptFault::Operand)?;
-    let left = operand_of(left).ok_or(ScriptFault::Operand)?;
-    let right = operand_of(right).ok_or(ScriptFault::Operand)?;
-    Ok(Instr::set(destination, operation, left, right))
+    match items {
+        [Word::Text(destination), Word::Text(operation), left, right] => set_with(
+            destination.as_str(),
+            operation.as_str(),
+            left.as_ref(),
+            right.as_ref(),
+        )
+        .ok_or(ScriptFault::Operand),
+        [_, _, _, _] => Err(ScriptFault::Operand),
+        _ => Err(ScriptFault::Count),
+    }
+}
+
+/// The `set` with these items, or `None` where they are misspelt.
+pub(crate) fn set_with(
+    destination: &str,
+    operation: &str,
+    left: WordRef<'_>,
+    right: WordRef<'_>,
+) -> Option<Instr>
+    ensures { ok_or result ScriptFault.Operand ≡ set_of (Text destination.now ∷ Text operation.now ∷ word_of left.entry ∷ word_of right.entry ∷ []) }
+{
+    let destination = cell_named(destination)?;
+    let operation = operation_named(operation)?;
+    let left = operand_in(left)?;
+    let right = operand_in(right)?;
+    Some(Instr::set(destination, operation, left, right))
 }
 
 fn skip(items: &[Word]) -> Result<Instr, ScriptFault>

@@ -66,3 +66,41 @@ pub enum Word {
     /// A value.
     Number(i64),
 }
+
+impl Word {
+    ghost use Rattle.std.specs.Prelude.{◌≡◌, IsOk, IfOk};
+    ghost use Rattle.exec_script.specs.Spelling.{IsShort, word_of};
+
+    /// A copy of a word. One of at most 24 bytes takes no memory.
+    ///
+    /// # Errors
+    /// [`Memory`] where a growth was refused.
+    pub fn copy_of(alloc: Global, word: WordRef<'_>) -> Result<Word, Memory>
+        ensures copy { IfOk result (λ copy. copy ≡ word_of word.entry) }
+        ensures short { IsShort (word_of word.entry) → IsOk result }
+    {
+        match word {
+            WordRef::Text(text) => Ok(Word::Text(WordText::copy_of(alloc, text)?)),
+            WordRef::Number(value) => Ok(Word::Number(value)),
+        }
+    }
+
+    /// The word where it stands.
+    pub fn as_ref(&self) -> WordRef<'_>
+        ensures { word_of result ≡ self.now }
+    {
+        match self {
+            Word::Text(text) => WordRef::Text(text.as_str()),
+            Word::Number(value) => WordRef::Number(*value),
+        }
+    }
+}
+
+/// A word, read where its text stands.
+#[derive(Clone, Copy, Debug)]
+pub enum WordRef<'a> {
+    /// A text.
+    Text(&'a str),
+    /// A value.
+    Number(i64),
+}

@@ -8,8 +8,8 @@ use arithmetic::RESULTS;
 use exec_msg::{EntityNo, Event, Memory};
 use exec_script::{
     Bank, Close, Destination, Effect, EffectList, Effects, Input, Instr, Operand, Operation, Place,
-    Regs, Role, Scope, ScriptFault, Slot, Stop, Word, WordText, check, decode, run_call,
-    run_call_into, run_from,
+    Regs, Role, Scope, ScriptFault, Slot, SpelledInstr, Spelling, Stop, Word, WordRef, WordText,
+    check, decode, run_call, run_call_into, run_from,
 };
 use spellings::{LEGALITIES, SPELLINGS};
 use std::alloc::Global;
@@ -78,18 +78,60 @@ fn items(alloc: Global, line: &str) -> Result<Vec<Word>, Memory> {
 
 fn word(alloc: Global, item: &str) -> Result<Word, Memory> {
     match item.parse::<i64>() {
-        Ok(value) => Ok(Word::Number(value)),
-        Err(_) => Ok(Word::Text(WordText::copy_of(alloc, item)?)),
+        Ok(value) => Word::copy_of(alloc, WordRef::Number(value)),
+        Err(_) => Word::copy_of(alloc, WordRef::Text(item)),
     }
 }
 
-// Where memory is refused, the call is made once more.
+// The same script, each of its `set`s decoded where it is read.
+fn instructions(alloc: Global, script: &str) -> Result<Vec<SpelledInstr>, Memory> {
+    let mut spelled = Vec::new(alloc);
+    for line in script.split('\n') {
+        spelled.push(instruction(items(alloc, line)?))?;
+    }
+    Ok(spelled)
+}
+
+fn instruction(words: Vec<Word>) -> SpelledInstr {
+    match set_in(words.as_slice()) {
+        Some(set) => set,
+        None => SpelledInstr::of(words),
+    }
+}
+
+fn set_in(words: &[Word]) -> Option<SpelledInstr> {
+    let [
+        Word::Text(name),
+        Word::Text(destination),
+        Word::Text(operation),
+        left,
+        right,
+    ] = words
+    else {
+        return None;
+    };
+    if name.as_str() != "set" {
+        return None;
+    }
+    SpelledInstr::set(
+        destination.as_str(),
+        operation.as_str(),
+        left.as_ref(),
+        right.as_ref(),
+    )
+}
+
 fn decoded(alloc: Global, script: &str) -> Result<Vec<Instr>, ScriptFault> {
     let Ok(spelled) = words(alloc, script) else {
         return Err(ScriptFault::Memory);
     };
-    match decode(alloc, spelled.as_slice(), &Node) {
-        Err(ScriptFault::Memory) => decode(alloc, spelled.as_slice(), &Node),
+    decoded_by(alloc, spelled.as_slice())
+}
+
+// Where memory is refused, the call is made once more.
+fn decoded_by<W: Spelling>(alloc: Global, spelled: &[W]) -> Result<Vec<Instr>, ScriptFault> {
+    match decode(alloc, spelled, &Node) {
+        Err(ScriptFault::Memory) => decode(alloc, spelled, &Node),
         result => result,
     }
 }
@@ -98,6 +140,22 @@ fn decoded(alloc: Global, script: &str) -> Result<Vec<Instr>, ScriptFault> {
 fn printed(alloc: Global, script: &str) -> Result<String, Memory> {
     let result = decoded(alloc, script);
     Ok(format!(in alloc; "{result:?}")?)
+}
+
+// The same of a script whose `set`s are decoded where they are read.
+fn printed_at_once(alloc: Global, script: &str) -> Result<String, Memory> {
+    let spelled = instructions(alloc, script)?;
+    let result = decoded_by(alloc, spelled.as_slice());
+    Ok(format!(in alloc; "{result:?}")?)
+}
+
+#[test]
+fn decodes_a_set_where_it_is_read_as_the_rules_spell_it(rt: HostRuntime) -> Result<(), Fail> {
+    for (script, wanted) in SPELLINGS {
+        let found = printed_at_once(rt.alloc(), script)?;
+        same_at(&rt, script, found.as_str(), *wanted);
+    }
+    Ok(())
 }
 
 #[test]
