@@ -15,6 +15,7 @@ pub(crate) fn operand_of(word: &Word) -> Option<Operand>
 }
 
 /// The same of a word that is read where it stands.
+#[inline(always)]
 pub(crate) fn operand_in(word: WordRef<'_>) -> Option<Operand>
     ensures { result ≡ operand_of (word_of word.entry) }
 {

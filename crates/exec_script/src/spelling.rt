@@ -101,7 +101,8 @@ fn set(items: &[Word]) -> Result<Instr, ScriptFault>
     }
 }
 
-/// The `set` with these items, or `None` where they are misspelt.
+/// The `set` with these items, or `None` where they are misspelt. A long script is mostly `set`s, so it is written in place.
+#[inline(always)]
 pub(crate) fn set_with(
     destination: &str,
     operation: &str,

@@ -23,6 +23,7 @@ impl Form for Word {
 }
 
 // The word that a value is, where it stands.
+#[inline(always)]
 fn word_in(value: &Value) -> Option<WordRef<'_>>
     ensures { option_map word_of result ≡ word (view value.now) }
 {
