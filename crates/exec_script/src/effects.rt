@@ -61,6 +61,30 @@ pub enum Close {
     Ended(Event, i64),
 }
 
+impl Close {
+    ghost use Rattle.std.specs.Prelude.{◌≡◌, IfOk};
+
+    /// A copy, with decisions in room of their own.
+    ///
+    /// # Errors
+    /// [`Memory`] where a growth was refused.
+    pub fn copy_of(alloc: Global, close: &Close) -> Result<Close, Memory>
+        ensures { IfOk result (λ copy. copy ≡ close.now) }
+    {
+        let copy = match close {
+            Close::Nothing => Close::Nothing,
+            Close::Reply(value) => Close::Reply(*value),
+            Close::Decide(decision) => Close::Decide(*decision),
+            Close::Decisions(decisions) => {
+                Close::Decisions(Items::of(Vec::from_slice(alloc, decisions.as_slice())?))
+            }
+            Close::Pending => Close::Pending,
+            Close::Ended(event, value) => Close::Ended(*event, *value),
+        };
+        Ok(copy)
+    }
+}
+
 /// Effects in the order in which they were given.
 #[derive(Debug, Drop)]
 pub struct EffectList {
@@ -77,7 +101,7 @@ impl Model for EffectList {
 }
 
 impl EffectList {
-    ghost use Rattle.std.specs.Prelude.{◌≡◌, [], ◌∷◌, ◌++◌, length, OnOk, OnErr};
+    ghost use Rattle.std.specs.Prelude.{◌≡◌, [], ◌∷◌, ◌++◌, length, IfOk, OnOk, OnErr};
 
     /// No effects. It takes no memory.
     pub fn new(alloc: Global) -> EffectList
@@ -86,6 +110,18 @@ impl EffectList {
         EffectList {
             items: Vec::new(alloc),
         }
+    }
+
+    /// A copy, in room of its own.
+    ///
+    /// # Errors
+    /// [`Memory`] where a growth was refused.
+    pub fn copy_of(alloc: Global, effects: &EffectList) -> Result<EffectList, Memory>
+        ensures { IfOk result (λ copy. copy ≡ effects.now) }
+    {
+        Ok(EffectList {
+            items: Vec::from_slice(alloc, effects.as_slice())?,
+        })
     }
 
     /// Adds an effect at the end. Where memory is refused, the list stays as it was.
@@ -126,4 +162,20 @@ pub struct Effects {
     pub list: EffectList,
     /// What closes it.
     pub close: Close,
+}
+
+impl Effects {
+    ghost use Rattle.std.specs.Prelude.{◌≡◌, IfOk};
+
+    /// A copy, in room of its own.
+    ///
+    /// # Errors
+    /// [`Memory`] where a growth was refused.
+    pub fn copy_of(alloc: Global, effects: &Effects) -> Result<Effects, Memory>
+        ensures { IfOk result (λ copy. copy ≡ effects.now) }
+    {
+        let list = EffectList::copy_of(alloc, &effects.list)?;
+        let close = Close::copy_of(alloc, &effects.close)?;
+        Ok(Effects { list, close })
+    }
 }
