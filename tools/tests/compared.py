@@ -7,7 +7,7 @@ import sys
 import tempfile
 import xml.etree.ElementTree as tree
 
-from virraupez import difference, flow, picture, rules, scene, transcript
+from virraupez import command, difference, flow, picture, rules, scene, transcript
 
 from . import tool
 
@@ -98,8 +98,8 @@ def failure(text):
         check = rules.Check(rules.read(text))
     except rules.RuleError as wrong:
         return str(wrong)
-    for number, line in enumerate(transcript.lines(io.StringIO(TEXT)), 1):
-        check.line(line, transcript.words_of(line, number))
+    for line in transcript.checked(io.StringIO(TEXT), "it"):
+        check.line(line, line.split(" "))
     check.end()
     return check.rules[0].failure.number if check.rules[0].failure else None
 
@@ -126,15 +126,11 @@ def of_examples():
     for told in sorted((tool.TESTS / "differing").glob("*.told")):
         one, other = (str(path.relative_to(tool.TOP)) for path in (tool.TOP / "examples/robot.txt", told.with_suffix(".txt")))
         yield f"differ {told.name}", tool.run("differ", one, other, "--document", "examples/robot.json"), (1, told.read_text())
-    status, told = tool.run("differ", "tools/tests/differing/cut_off.txt", "examples/robot.txt")
-    yield "differ of a transcript that ends before the other", (status, told.split("\n")[0]), (1, "line 101, in round 10 at moment 13:")
     for text in sorted((tool.TOP / "examples").glob("*.txt")):
         told = tool.TESTS / "held" / f"{text.stem}.told"
         should = (1, told.read_text()) if told.exists() else (0, "10 hold, 0 fail\n")
         yield f"holds {text.name}", tool.run("holds", "tools/tests/held/any.rules", text.relative_to(tool.TOP)), should
     yield "holds of the robot", tool.run("holds", "examples/robot.rules", "examples/robot.txt"), (0, "7 hold, 0 fail\n")
-    should = (1, (tool.TESTS / "differing" / "cut_off.holds").read_text())
-    yield "holds of a transcript that is cut off", tool.run("holds", "examples/robot.rules", "tools/tests/differing/cut_off.txt"), should
 
 
 def of_words():
@@ -148,6 +144,24 @@ def of_words():
     yield "differ with a document that is refused", tool.run("differ", timer, timer, "--document", tool.TESTS / "mistakes/another_version.json")[0], 2
     yield "holds of standard input", tool.run("holds", "examples/robot.rules", "-", given=b"end 0\n")[0], 1
     yield from of_unread(timer)
+    yield from of_cut()
+
+
+CUT = "tools/tests/differing/cut_off.txt"
+
+
+def of_cut():
+    """A transcript without its end is none: what is missing is told, and no verdict."""
+    missing = f"{CUT}:101:1: the line `end` is missing: the transcript is cut off in round 10 at moment 13\n"
+    yield "holds of a transcript that is cut off", tool.run("holds", "examples/robot.rules", CUT), (2, missing)
+    yield "picture of a transcript that is cut off", tool.run("picture", "examples/robot.json", CUT), (2, missing)
+    for name, words in (("holds", ("examples/robot.rules", "-")), ("differ", ("examples/robot.txt", "-")), ("picture", ("examples/robot.json", "-"))):
+        status, told = tool.run(name, *words, given=b"")
+        yield f"{name} of nothing", (status, told.startswith(f"{name}: standard input: empty, and no transcript")), (2, True)
+        status, told = tool.run(name, *words, given=b"refused 4\n")
+        yield f"{name} of a refusal", (status, told.startswith("-:1:1: no transcript: the program refused the document")), (2, True)
+        for at, given in enumerate((b"round 1 5\nend 1\nend 1\n", b"round 2 5\nend 1\n", b"round 1 5\nround 2 4\nend 2\n", b"round 1 5\nend 2\n")):
+            yield f"{name} of rounds out of order {at}", tool.unread(name, *words, given=given), (2, True, 1)
 
 
 def of_unread(timer):
@@ -196,12 +210,12 @@ def told_of(document, text, other):
     """What the tools say of a transcript, in one word."""
     try:
         shown = scene.Scene(document, 1, 30)
-        shown.read(io.StringIO(other), "it")
+        shown.take(transcript.checked(io.StringIO(other), "it"))
         tree.fromstring(picture.Picture(shown).svg() if shown.columns else "<svg/>")
         found = difference.Difference(("one", "other"), [flow.Flow(document)])
-        found.read((io.StringIO(text), io.StringIO(other)))
+        found.take([transcript.checked(io.StringIO(it), "it") for it in (text, other)])
         return "differ" if found.differ and list(found.lines()) else "the same"
-    except transcript.TranscriptError:
+    except command.Trouble:
         return "no transcript"
 
 

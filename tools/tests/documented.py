@@ -86,7 +86,8 @@ def mistakes():
     """The page of the mistakes, by what stands beside them: the first refusal, or the last warning."""
     rows = []
     for told in sorted((tool.TESTS / "mistakes").glob("*.told")):
-        entries = [part.split("\n  ") for part in re.split(r"\n(?=[0-9]+:)", told.read_text().rstrip("\n"))]
+        text = told.read_text().replace(f"{tool.text(told.with_suffix('.json'))}:", "").lstrip()
+        entries = [part.split("\n  ") for part in re.split(r"\n(?=[0-9]+:)", text.rstrip("\n"))]
         warning = next((it for it in entries[1:] if "has no field" in it[1]), entries[-1])
         head, *rest = warning if entries[0][0].startswith("not refused") else entries[0]
         says = [it for it in rest if not it.startswith("stands: ")]

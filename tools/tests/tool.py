@@ -1,5 +1,6 @@
 """Runs of the tools, for the tests."""
 import pathlib
+import re
 import subprocess
 import sys
 
@@ -7,6 +8,7 @@ TOOLS = pathlib.Path(__file__).resolve().parent.parent
 TOP = TOOLS.parent
 TESTS = TOOLS / "tests"
 SECONDS = 60
+PLACED = re.compile("[^\\n]+:[0-9]+:[0-9]+: ")
 
 
 def run(tool, *words, given=None):
@@ -20,9 +22,14 @@ def run(tool, *words, given=None):
 
 
 def unread(tool, *words, given=None):
-    """What a tool must say that can't read what it is given: its status, whether it tells itself, and how many lines it says."""
+    """What a tool must say that can't read what it is given: its status, whether it tells itself or a place, and how many lines it says."""
     status, told = run(tool, *words, given=given)
-    return status, told.startswith(f"{tool}: "), told.count("\n")
+    return status, bool(PLACED.match(told)) or told.startswith(f"{tool}: "), told.count("\n")
+
+
+def text(path):
+    """A file's path as a page has it, from the top of the repository."""
+    return path.relative_to(TOP).as_posix()
 
 
 def difference(found, should):

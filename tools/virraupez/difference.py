@@ -33,10 +33,13 @@ class Difference:
         self.number, self.round, self.moment = 0, "0", "0"
         self.common, self.differ, self.running = collections.deque(maxlen=BEFORE), False, None
 
-    def read(self, streams):
-        """Reads both to their ends."""
-        read = [transcript.lines(stream, side.name) for stream, side in zip(streams, self.sides)]
-        pairs = itertools.zip_longest(*read)
+    def read(self):
+        """Reads both files to their ends."""
+        self.take([transcript.lines(side.name) for side in self.sides])
+
+    def take(self, both):
+        """Takes the lines of both to their ends."""
+        pairs = itertools.zip_longest(*both)
         for one, other in pairs:
             self.number += 1
             if one != other:
@@ -47,7 +50,7 @@ class Difference:
 
     def share(self, line):
         """Follows a line that both have."""
-        words = transcript.words_of(line, self.number, self.sides[0].name)
+        words = line.split(" ")
         if words[0] == "round":
             self.round, self.moment, self.running = words[1], words[2], None
         elif words[0] == "run":
@@ -65,7 +68,7 @@ class Difference:
         for side, line in zip(self.sides, (one, other)):
             side.line = line
             if line is not None:
-                words = transcript.words_of(line, self.number, side.name)
+                words = line.split(" ")
                 side.count(line, words)
                 if side.flow:
                     side.flow.take(self.number, words)
@@ -74,7 +77,7 @@ class Difference:
         for number, pair in enumerate(pairs, number + 1):
             for side, line in zip(self.sides, pair):
                 if line is not None:
-                    side.count(line, transcript.words_of(line, number, side.name))
+                    side.count(line, line.split(" "))
 
     # ---- what is told
 

@@ -5,23 +5,20 @@ A transcript that another executor wrote may not fit; what is taken then has no 
 import collections
 import json
 
-from . import report
+from . import command, grammar, report
 
 Origin = collections.namedtuple("Origin", "line round text sender client")
 Run = collections.namedtuple("Run", "line round entity kind words cause")
 
 
-class WrongDocument(ValueError):
-    """A document that can't go with a transcript."""
-
-
 def read_document(name):
-    """A lawful document."""
-    with open(name, "rb") as given:
-        text = given.read()
+    """A lawful document, by its file's name."""
+    with command.source(name) as stream:
+        text = stream.read(grammar.MOST_BYTES + 1)
     told = report.Report(text, 1)
     if told.code:
-        raise WrongDocument(f"{name} is refused with {report.named(told.code)}: tools/explain tells where")
+        first = told.entries[0]
+        raise command.Trouble(f"{command.place(name, first.line, first.column)}refused {report.named(told.code)}: explain tells why")
     return json.loads(text)
 
 

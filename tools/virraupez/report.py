@@ -110,18 +110,24 @@ def named(code):
     return f"{code} ({grammar.CODES[code]})"
 
 
-def lines(report):
-    """The lines that tell a report."""
+def unpainted(_colour, text):
+    return text
+
+
+def lines(report, name="", paint=unpainted):
+    """The lines that tell a report. Each that has a place begins with the document's name, if it is given, and the place."""
+    head = f"{name}:" if name else ""
     if not report.code:
-        yield f"not refused: {report.rounds} {'round' if report.rounds == 1 else 'rounds'}, {warned(report)}"
+        rounds = f"{report.rounds} {'round' if report.rounds == 1 else 'rounds'}"
+        yield f"{head}{' ' * bool(head)}{paint('fine', 'not refused')}: {rounds}, {warned(report)}"
     last = None
     for entry in [*report.entries, None]:
         code = entry.code if entry else None
         if last is not None and code != last and report.more(last):
-            yield f"and {report.more(last)} more {'places of ' + named(last) if last else 'warnings'}"
+            yield f"{head}{' ' * bool(head)}and {report.more(last)} more {'places of ' + named(last) if last else 'warnings'}"
         last = code
         if entry:
-            yield from map(shown, entry_lines(entry, report.code))
+            yield from entry_lines(entry, report.code, head, paint)
 
 
 def warned(report):
@@ -129,23 +135,24 @@ def warned(report):
     return "no warning" if not count else "1 warning" if count == 1 else f"{count} warnings"
 
 
-def entry_lines(entry, code):
+def entry_lines(entry, code, head, paint):
     """The lines that tell a fault or a warning of a document with a code."""
-    head = "warning" if not entry.code else f"refused {named(entry.code)}" if entry.code == code else f"behind it {named(entry.code)}"
-    yield f"{entry.line}:{entry.column}: {head}: {faults.path_text(entry.path)}"
+    what = "warning" if not entry.code else f"refused {named(entry.code)}" if entry.code == code else f"behind it {named(entry.code)}"
+    at = f"{head}{entry.line}:{entry.column}:"
+    yield f"{paint('place', at)} {paint('fault' if entry.code else 'warning', what)}: {shown(faults.path_text(entry.path))}"
     if entry.code:
-        yield f"  stands: {entry.stands}"
-        yield f"  wanted: {entry.wanted}" + (f" ({entry.kind})" if entry.kind else "")
+        yield f"  stands: {shown(entry.stands)}"
+        yield f"  wanted: {shown(entry.wanted)}" + (f" ({entry.kind})" if entry.kind else "")
     else:
-        yield f"  {entry.wanted}"
+        yield f"  {shown(entry.wanted)}"
     if entry.hint:
-        yield f"  hint: {entry.hint}"
+        yield paint("hint", f"  hint: {shown(entry.hint)}")
 
 
 # ---- as JSON
 
 
-def as_json(report):
+def as_json(report, file=""):
     """A report as JSON, for editors: lines and columns are counted from 1, columns and lengths in characters."""
     entries = [
         {
@@ -162,7 +169,7 @@ def as_json(report):
         }
         for it in report.entries
     ]
-    told = {"code": report.code, "name": grammar.CODES.get(report.code), "places": [it for it in entries if it["code"]]}
+    told = {"file": file, "code": report.code, "name": grammar.CODES.get(report.code), "places": [it for it in entries if it["code"]]}
     told["warnings"] = [it for it in entries if not it["code"]]
     told["more"] = {str(code): report.more(code) for code in sorted(report.counts) if report.more(code)}
     return json.dumps(told, indent=1)

@@ -5,7 +5,7 @@ word of capitals for a word that is the same wherever it stands in the rule; `=I
 import collections
 import re
 
-from . import grammar, hints, transcript
+from . import command, grammar, hints, transcript
 
 NUMBER = re.compile("-?[0-9]+")
 COMPARED = {">": lambda one, other: one > other, ">=": lambda one, other: one >= other, "<": lambda one, other: one < other, "<=": lambda one, other: one <= other}
@@ -23,7 +23,7 @@ FORMS = (
 )
 
 
-class RuleError(ValueError):
+class RuleError(command.Trouble):
     """A line of a text of rules that is none."""
 
 
@@ -59,7 +59,7 @@ def demand_line(words):
     for first in firsts:
         if first not in transcript.WORDS:
             raise RuleError(f"no line begins with {first!r}; {hints.meant(first, transcript.WORDS)}".rstrip("; "))
-    if firsts and len(words) > max(max(transcript.WORDS[first]) for first in firsts):
+    if firsts and len(words) > max(1 + len(forms) for first in firsts for forms in transcript.FORMS[first]):
         raise RuleError(f"a line {words[0]} has fewer words than {' '.join(words)!r}")
     if words[0] in ("run", "drop") and len(words) > 2 and test_of(words[2]) and not words[2].startswith("="):
         for kind in words[2].split("|"):

@@ -51,9 +51,12 @@ class Scene:
     def is_shown(self):
         return self.first <= self.flow.round <= self.last
 
-    def read(self, stream, name):
-        for number, line in enumerate(transcript.lines(stream, name), 1):
-            words = transcript.words_of(line, number, name)
+    def read(self, name):
+        self.take(transcript.lines(name))
+
+    def take(self, lines):
+        for number, line in enumerate(lines, 1):
+            words = line.split(" ")
             self.flow.take(number, words)
             if words[0] == "round":
                 self.rounds, self.box = self.rounds + 1, None

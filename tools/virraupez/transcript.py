@@ -1,73 +1,225 @@
-"""Transcripts as streams of lines: each with its number and its words, one at a time, whatever their length."""
+"""Transcripts as streams of lines. Each line is checked by docs/transcript.md: its words, the form of each, and its place."""
+import io
+import re
 
-from . import grammar
+from . import command, grammar
 
-# How many words the lines of each first word have.
-WORDS = {
-    "round": (3,),
-    "expire": (3,),
-    "run": (5, 6),
-    "drop": (4,),
-    "pub": (3,),
-    "call": (4,),
-    "reply": (3,),
-    "goal": (4,),
-    "cancel": (4,),
-    "log": (3,),
-    "feedback": (4,),
-    "decide": (4,),
-    "state": (4,),
-    "code": (4,),
-    "ask": (3,),
-    "result": (5,),
-    "pending": (3,),
-    "end": (2,),
-}
 # The words of callbacks, in the order in which they are ready.
 KINDS = ("timer", "message", "request", "reply", "goal", "cancel", "ask", "poll", "response", "code", "feedback", "result")
 # Those whose line has an identifier.
 IDENTIFIED = ("goal", "cancel", "ask", "poll", "response", "feedback", "result")
+# Those that nothing is queued for, so that nothing of theirs is dropped.
+UNQUEUED = ("timer", "poll")
 LONGEST = 1024
 STATES = {"1": "ACCEPTED", "2": "EXECUTING", "3": "CANCELING", "4": "SUCCEEDED", "5": "CANCELED", "6": "ABORTED"}
+LEAST, MOST, GOALS = -(2**63), 2**63 - 1, 64
 
 
-class TranscriptError(ValueError):
-    """A line that no transcript has."""
+# ---- forms
 
 
-def open_transcript(file):
-    """The stream of a file, by its name or its number."""
-    return open(file, encoding="latin-1", newline="\n")
+class Number:
+    """A number of some, given as a range or a set. Names may stand for some of them in rules."""
+
+    def __init__(self, says, values, names=()):
+        self.says, self.values, self.names = says, values, dict(names)
+        ends = sorted(values) if isinstance(values, frozenset) else values
+        self.low, self.high = ends[0], ends[-1]
+
+    def meets(self, other):
+        """Whether a number is of both."""
+        few = self.values if isinstance(self.values, frozenset) else getattr(other, "values", ())
+        if isinstance(few, frozenset):
+            return isinstance(other, Number) and any(it in self.values and it in other.values for it in few)
+        return isinstance(other, Number) and max(self.low, other.low) <= min(self.high, other.high)
+
+    def regex(self):
+        if isinstance(self.values, frozenset):
+            return f"(?:{'|'.join(map(str, sorted(self.values)))})"
+        parts = [up_to(self.high)] if self.low >= 0 else [up_to(self.high), "-" + up_to(-self.low, least=1)]
+        return f"(?:{'|'.join(parts)})" if self.low != 1 else f"(?:{up_to(self.high, least=1)})"
 
 
-def lines(stream, name="the transcript"):
-    """The lines of a stream, without their line feeds."""
-    number = 0
+def up_to(most, least=0):
+    """The regular expression of the decimal numbers up to one, from 0 or 1."""
+    digits = str(most)
+    parts = ["0"] * (least == 0) + [f"[1-9][0-9]{{0,{len(digits) - 2}}}"] * (len(digits) > 1)
+    for at, digit in enumerate(digits):
+        low, rest = "1" if at == 0 else "0", len(digits) - at - 1
+        if digit > low:
+            parts.append(f"{digits[:at]}[{low}-{chr(ord(digit) - 1)}][0-9]{{{rest}}}")
+    return f"(?:{'|'.join([*parts, digits])})" if most else "0"
+
+
+class Name:
+    """The name of a topic, or of an entity of some kinds."""
+
+    def __init__(self, *kinds):
+        self.kinds = frozenset(kinds)
+        nouns = ["topic" if kind == "topics" else grammar.ENTITIES[kind] for kind in kinds]
+        self.says = "the name of " + ("an entity" if len(kinds) > 2 else " or ".join(map(article, nouns)))
+
+    def meets(self, other):
+        """Whether a name may be of both: topics and all entities share one set of names."""
+        return isinstance(other, Name) and bool(self.kinds & other.kinds)
+
+    def regex(self):
+        return grammar.NAME.pattern
+
+
+class Identifier:
+    says = "an identifier: 8-4-4-4-12 hexadecimal digits"
+
+    def meets(self, other):
+        return isinstance(other, Identifier)
+
+    def regex(self):
+        return "[0-9a-f]{8}-[0-9a-f]{4}-[0-9a-f]{4}-[0-9a-f]{4}-[0-9a-f]{12}"
+
+
+class Kind:
+    """The word of a kind of callback."""
+
+    def __init__(self, word):
+        self.word, self.says = word, f"the kind {word}"
+
+    def meets(self, other):
+        return isinstance(other, Kind) and self.word == other.word
+
+    def regex(self):
+        return self.word
+
+
+def article(noun):
+    return f"{'an' if noun[0] in 'aeiou' else 'a'} {noun}"
+
+
+STATUSES = {name: int(number) for number, name in STATES.items()}
+DECISIONS = {"REJECT": 1, "ACCEPT_AND_EXECUTE": 2, "ACCEPT_AND_DEFER": 3}
+CODES = {"NONE": 0, "REJECTED": 1, "UNKNOWN_GOAL_ID": 2, "GOAL_TERMINATED": 3}
+VALUE, NUMBER = Number("a value", range(LEAST, MOST + 1)), Number("a number from 1", range(1, MOST + 1))
+ROUND, ROUNDS = Number("a round", range(1, grammar.MOMENTS + 1)), Number("a number of rounds", range(grammar.MOMENTS + 1))
+MOMENT, STAMP = Number("a moment", range(grammar.LATEST + 1)), Number("a stamp", range(MOST + 1))
+ZERO, TRUTH, MOVED = Number("0", frozenset([0])), Number("1 or 0", frozenset([0, 1])), Number("a number of goals", range(GOALS + 1))
+STATE = Number("a state", frozenset(STATUSES.values()), STATUSES)
+STATUS = Number("the status of a result", frozenset([0, 4, 5, 6]), {"UNKNOWN": 0, **STATUSES})
+DECISION = Number("a decision", frozenset(DECISIONS.values()), DECISIONS)
+CODE = Number("a return code", frozenset(CODES.values()), {**CODES, **{f"ERROR_{name}": number for name, number in CODES.items()}})
+ID = Identifier()
+TOPIC, SERVICE, CLIENT = Name("topics"), Name("services"), Name("clients")
+SERVER, ASKER, ENTITY = Name("actions"), Name("action_clients"), Name(*grammar.ENTITIES)
+# What a callback of each kind is of, its `in` and its `aux`.
+CALLBACKS = {
+    "timer": (Name("timers"), MOMENT, ZERO),
+    "message": (Name("subscriptions"), VALUE, ZERO),
+    "request": (SERVICE, VALUE, ZERO),
+    "reply": (CLIENT, VALUE, NUMBER),
+    "goal": (SERVER, VALUE, ZERO),
+    "cancel": (SERVER, STAMP, MOVED),
+    "ask": (SERVER, ZERO, ZERO),
+    "poll": (SERVER, VALUE, TRUTH),
+    "response": (ASKER, TRUTH, NUMBER),
+    "code": (ASKER, CODE, MOVED),
+    "feedback": (ASKER, VALUE, NUMBER),
+    "result": (ASKER, VALUE, STATUS),
+}
+# The forms of a line's words behind its first, one tuple for each shape that the line has.
+FORMS = {
+    "round": [(ROUND, MOMENT)],
+    "expire": [(SERVER, ID)],
+    "run": [(of, Kind(kind), *given, *[ID] * (kind in IDENTIFIED)) for kind, (of, *given) in CALLBACKS.items()],
+    "drop": [(of, Kind(kind), given) for kind, (of, given, _) in CALLBACKS.items() if kind not in UNQUEUED],
+    "pub": [(TOPIC, VALUE)],
+    "call": [(CLIENT, NUMBER, VALUE)],
+    "reply": [(SERVICE, VALUE)],
+    "goal": [(ASKER, ID, VALUE)],
+    "cancel": [(ASKER, ID, STAMP)],
+    "log": [(ENTITY, VALUE)],
+    "feedback": [(SERVER, ID, VALUE)],
+    "decide": [(SERVER, ID, DECISION)],
+    "state": [(SERVER, ID, STATE)],
+    "code": [(SERVER, CODE, MOVED)],
+    "ask": [(ASKER, ID)],
+    "result": [(SERVER, ID, STATUS, VALUE)],
+    "pending": [(CLIENT, NUMBER)],
+    "end": [(ROUNDS,)],
+}
+WORDS = tuple(FORMS)
+
+
+# ---- reading
+
+
+def regex(word):
+    """The regular expression of the lines of a first word."""
+    shapes = [" ".join(form.regex() for form in forms) for forms in FORMS[word]]
+    return f"{word} (?:{'|'.join(shapes)})"
+
+
+CHECKS = {word: re.compile(regex(word)).fullmatch for word in FORMS}
+
+
+def lines(name):
+    """The lines of a file, checked, to the line `end`, without their line feeds."""
+    with io.TextIOWrapper(command.source(name), encoding="latin-1", newline="\n") as stream:
+        yield from checked(stream, name)
+
+
+def checked(stream, name):
+    """The lines of a stream, checked: their forms, and the order of rounds to the end."""
+    order, number = Order(name), 0
     while True:
         line = stream.readline(LONGEST)
         if not line:
-            return
+            break
         number += 1
-        if line[-1] != "\n":
-            raise TranscriptError(f"{name}, line {number}: a line that doesn't end, or is too long for a transcript")
-        yield line[:-1]
+        text, word = line[:-1], line.split(" ", 1)[0]
+        if word not in CHECKS or not CHECKS[word](text) or line[-1] != "\n" or order.is_over:
+            raise order.wrong(number, line)
+        if word in ORDERED:
+            order.take(number, text, word)
+        yield text
+    if not order.is_over:
+        raise order.cut(number)
 
 
-def words_of(line, number, name="the transcript"):
-    """The words of a line."""
-    words = line.split(" ")
-    if len(words) not in WORDS.get(words[0], ()) or words[0] in CHECKED and not CHECKED[words[0]](words):
-        raise TranscriptError(f"{name}, line {number}: no line of a transcript: {line[:60]!r}")
-    return words
+# The lines whose place in a transcript is asked for.
+ORDERED = ("round", "pending", "end")
 
 
-def is_round(words):
-    return all(map(grammar.is_number, words[1:]))
+class Order:
+    """The order of a transcript: rounds from 1 on at moments that don't go back, then calls that are pending, then the end."""
 
+    def __init__(self, name):
+        self.name, self.round, self.moment, self.is_over = name, 0, 0, False
 
-def is_run(words):
-    return words[2] in KINDS and (len(words) == 6) == (words[2] in IDENTIFIED)
+    def take(self, number, line, word):
+        """Takes a line that says where in the run one is."""
+        words = line.split(" ")
+        if word == "round":
+            if int(words[1]) != self.round + 1 or int(words[2]) < self.moment:
+                raise self.trouble(number, f"{line!r} doesn't follow round {self.round} at moment {self.moment}")
+            self.round, self.moment = int(words[1]), int(words[2])
+        elif word == "end":
+            if int(words[1]) != self.round:
+                raise self.trouble(number, f"{line!r} doesn't follow {self.round} rounds")
+            self.is_over = True
 
+    def trouble(self, number, says):
+        return command.Trouble(f"{command.place(self.name, number)}{says}")
 
-# What else is asked of a line, since a number or a word is counted on there.
-CHECKED = {"round": is_round, "run": is_run}
+    def wrong(self, number, line):
+        """A line that no transcript has there."""
+        if self.is_over:
+            return self.trouble(number, "a line after the line `end`")
+        if line.startswith("refused "):
+            return self.trouble(number, "no transcript: the program refused the document, and explain tells where")
+        if line[-1] != "\n" and len(line) < LONGEST:
+            return self.trouble(number, f"the transcript is cut off within a line, in round {self.round}")
+        return self.trouble(number, f"no line of a transcript: {line.rstrip()[:60]!r}")
+
+    def cut(self, number):
+        """What is missing at the end of a file, if it is cut off."""
+        if not number:
+            return command.Trouble(f"{command.shown(self.name)}: empty, and no transcript: the program has refused the document, or didn't run")
+        return self.trouble(number + 1, f"the line `end` is missing: the transcript is cut off in round {self.round} at moment {self.moment}")

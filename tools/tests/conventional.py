@@ -1,0 +1,125 @@
+"""What the tools do alike: streams that fail, `-`, -o, colours, several files, and progress."""
+import os
+import pathlib
+import pty
+import re
+import select
+import subprocess
+import sys
+import tempfile
+import threading
+import time
+
+from virraupez import command, commands
+
+from . import tool
+
+ROBOT = ("examples/robot.json", "examples/robot.txt")
+# Words with which each tool writes something.
+WRITING = {
+    "explain": ("examples/robot.json",),
+    "write": ("examples/robot.py",),
+    "picture": ROBOT,
+    "differ": ("examples/robot.txt", "examples/timer.txt"),
+    "holds": ("examples/robot.rules", "examples/robot.txt"),
+    "schema": (),
+}
+MISTAKE = "tools/tests/mistakes/a_topic_with_a_typo.json"
+
+
+def into(name, words, stream):
+    """The status of a tool whose standard output is a stream, and what it says on standard error."""
+    ran = subprocess.run([sys.executable, "-B", tool.TOOLS / name, *words], stdout=stream, stderr=subprocess.PIPE, cwd=tool.TOP, timeout=tool.SECONDS)
+    return ran.returncode, ran.stderr.decode()
+
+
+def answers(_program):
+    for name, words in WRITING.items():
+        for each in (words, ("--help",)):
+            yield from of_streams(name, each)
+        yield from of_files(name, words)
+    yield from of_several()
+    yield from of_colours()
+    yield from of_progress()
+    for name in commands.NAMES:
+        parser = commands.tool(name).parser(f"virraupez {name}")
+        yield f"the words of {name}", ("usage: virraupez " + name in parser.format_help(), bool(parser.epilog)), (True, True)
+
+
+def of_streams(name, words):
+    """A stream that fails is told in one line, with status 2."""
+    read, write = os.pipe()
+    os.close(read)
+    status, told = into(name, words, write)
+    os.close(write)
+    yield f"{name} {words} into a broken pipe: {told}", (status, told.count("\n"), "Broken pipe" in told), (2, 1, True)
+    with open("/dev/full", "w") as full:
+        status, told = into(name, words, full)
+    yield f"{name} {words} on a full disk: {told}", (status, told.count("\n"), "No space left" in told), (2, 1, True)
+
+
+def of_files(name, words):
+    """-o writes to a file what standard output would have, and a tool that fails leaves the file as it is."""
+    with tempfile.TemporaryDirectory() as folder:
+        to = pathlib.Path(folder) / "to"
+        status, text = tool.run(name, *words)
+        yield f"{name} -o", (tool.run(name, *words, "-o", to), to.read_text()), ((status, ""), text)
+        yield f"{name} -o in no folder", tool.unread(name, *words, "-o", pathlib.Path(folder) / "none" / "to"), (2, True, 1)
+        if words:
+            yield f"{name} -o of no file", (tool.unread(name, *["nowhere"] * len(words), "-o", to)[0], to.read_text()), (2, text)
+
+
+def of_several():
+    """Several documents are told one after the other; the worst of them gives the status."""
+    good, nowhere = "examples/timer.json", "nowhere.json"
+    status, told = tool.run("explain", good, MISTAKE, good)
+    yield "explain of three", (status, told), (1, "".join(tool.run("explain", it)[1] for it in (good, MISTAKE, good)))
+    status, told = tool.run("explain", good, nowhere, MISTAKE)
+    yield "explain of one that is nowhere", (status, told.count("refused"), told.endswith(f"explain: {nowhere}: No such file or directory\n")), (2, 2, True)
+    yield "standard input twice", tool.unread("differ", "-", "-", given=b"end 0\n"), (2, True, 1)
+
+
+def on_terminal(words, given=None, **more):
+    """What a tool writes on a terminal, and its status."""
+    master, slave = pty.openpty()
+    environment = {**{name: value for name, value in os.environ.items() if name != "NO_COLOR"}, "TERM": "xterm", **more}
+    running = subprocess.Popen([sys.executable, "-B", *words], stdin=given, stdout=slave, stderr=slave, cwd=tool.TOP, env=environment)
+    os.close(slave)
+    told = b""
+    while select.select([master], [], [], tool.SECONDS)[0]:
+        try:
+            part = os.read(master, 65536)
+        except OSError:
+            break
+        if not part:
+            break
+        told += part
+    os.close(master)
+    return running.wait(), told.decode()
+
+
+def of_colours():
+    words = [str(tool.TOOLS / "explain"), MISTAKE]
+    plain = tool.run("explain", MISTAKE)[1]
+    status, told = on_terminal(words)
+    yield "colours on a terminal", (status, "\x1b[" in told, re.sub("\x1b\\[[0-9;]*m|\r", "", told)), (1, True, plain)
+    yield "no colours by NO_COLOR", on_terminal(words, NO_COLOR="1"), (1, plain.replace("\n", "\r\n"))
+    yield "no colours in a file", "\x1b" in plain, False
+
+
+def of_progress():
+    """Progress is told on a terminal once a second is over, and taken away before the answer comes."""
+    read, write = os.pipe()
+
+    def feed():
+        for part in (b"round 1 5\n", b"end 1\n"):
+            os.write(write, part)
+            time.sleep(command.Progress.AFTER + 0.7)
+        os.close(write)
+
+    threading.Thread(target=feed, daemon=True).start()
+    rules = "tools/tests/held/any.rules"
+    status, told = on_terminal([str(tool.TOOLS / "holds"), rules, "-"], read, NO_COLOR="1")
+    os.close(read)
+    yield f"progress on a terminal: {told!r}", (status, "\r\x1b[Kholds: 0 MB of standard input, " in told, "\r\x1b[K" in told.split(" s")[-1]), (0, True, True)
+    yield "no progress in a file", "\x1b" in tool.run("holds", rules, "examples/timer.txt")[1], False

@@ -1,0 +1,289 @@
+"""What every tool does alike: its words, what `-` is, where its output goes, its status, and how trouble and progress are told.
+
+A tool is a module of `commands`. Its `parser(prog)` gives the parser of its words, its `run(asked, out)` does the work: it
+writes to `out` and answers with a status. `main` is what a script calls with such a module.
+
+The statuses are those of grep and diff: FINE, FOUND where something is wrong or differs, TROUBLE where the work can't be done."""
+import argparse
+import contextlib
+import io
+import os
+import re
+import sys
+import threading
+import time
+
+FINE, FOUND, TROUBLE = 0, 1, 2
+STANDARD = "-"
+PLACED = re.compile(".+:[0-9]+:[0-9]+: ")
+# The colours of a terminal, by what they are for.
+COLOURS = {"fault": "1;31", "warning": "1;33", "hint": "36", "fine": "1;32", "place": "1", "less": "31", "more": "32"}
+
+
+class Trouble(Exception):
+    """What keeps a tool from its work. Each of its lines is told; one that has a place begins with FILE:LINE:COLUMN."""
+
+    def __init__(self, *lines):
+        super().__init__("\n".join(lines))
+        self.lines = lines
+
+
+def place(name, line, column=1):
+    """A place as editors find it; lines and columns are counted from 1, and columns count characters."""
+    return f"{name}:{line}:{column}: "
+
+
+# ---- words
+
+
+class Parser(argparse.ArgumentParser):
+    def print_help(self, file=None):
+        """Prints the help. The base class says nothing of a stream that fails."""
+        (sys.stdout if file is None else file).write(self.format_help())
+
+
+def parser(says, status, prog=None):
+    """A parser of a tool's words. The tool's own text begins 'NAME: WHAT IT DOES'."""
+    name, _, does = says.partition(": ")
+    made = Parser(
+        prog=prog or name,
+        description=does[0].upper() + does[1:],
+        epilog=status,
+        formatter_class=argparse.RawDescriptionHelpFormatter,
+    )
+    made.add_argument("-o", "--output", metavar="FILE", default=STANDARD, help="write to FILE and not to standard output")
+    return made
+
+
+def main(tool, words=None, prog=None):
+    """Runs a tool, and gives its status."""
+    prog = prog or os.path.basename(sys.argv[0])
+    try:
+        Source.taken = False
+        asked = tool.parser(prog).parse_args(words)
+        with PROGRESS.told(prog), Output(asked.output) as out:
+            return tool.run(asked, out)
+    except SystemExit as ended:
+        return flushed(prog, ended.code)
+    except Trouble as trouble:
+        return tell(prog, trouble.lines)
+    except OSError as wrong:
+        discard(sys.stdout)
+        return tell(prog, [said(wrong)])
+    except KeyboardInterrupt:
+        return 130
+
+
+def flushed(prog, status):
+    """The status of a parser that has ended the tool, behind its help or the words that are wrong."""
+    try:
+        sys.stdout.flush()
+    except OSError as wrong:
+        discard(sys.stdout)
+        return tell(prog, [said(wrong)])
+    return status
+
+
+def discard(stream):
+    """Lets a stream that failed write to nowhere, so that nothing more is said of it when Python ends."""
+    with contextlib.suppress(OSError, ValueError):
+        os.dup2(os.open(os.devnull, os.O_WRONLY), stream.fileno())
+
+
+def said(wrong):
+    """An error of the system in one line."""
+    names = [printable(it) for it in (wrong.filename, wrong.filename2) if it is not None]
+    return ": ".join([*names, wrong.strerror or str(wrong) or type(wrong).__name__])
+
+
+def printable(name):
+    """A file's name as standard error can have it: a name may be bytes of no encoding."""
+    return str(name).encode("utf-8", "backslashreplace").decode()
+
+
+def tell(prog, lines):
+    """Tells on standard error what keeps a tool from its work."""
+    note(*(line if PLACED.match(line) else f"{prog}: {line}" for line in lines))
+    return TROUBLE
+
+
+def note(*lines):
+    """Writes lines to standard error, be there one or not."""
+    with contextlib.suppress(OSError, ValueError, AttributeError):
+        PROGRESS.hide()
+        sys.stderr.write("".join(f"{printable(line)}\n" for line in lines))
+        sys.stderr.flush()
+
+
+# ---- output
+
+
+class Output:
+    """Standard output, or a file that is made when the first of the output comes: where trouble comes first it stays as it is.
+
+    A file's name may be no text, and a transcript's signs none of the locale's, so all is UTF-8 and no sign is refused."""
+
+    def __init__(self, name=STANDARD):
+        self.name, self.stream = name, None
+        self.coloured = name == STANDARD and is_terminal(1) and not os.environ.get("NO_COLOR") and os.environ.get("TERM") != "dumb"
+
+    def __enter__(self):
+        return self
+
+    def __exit__(self, kind, _wrong, _trace):
+        try:
+            self.close()
+        except Trouble:
+            if kind is None:
+                raise
+
+    def write(self, text):
+        PROGRESS.hide()
+        with self.named():
+            if self.stream is None:
+                file = 1 if self.name == STANDARD else self.name
+                self.stream = open(file, "w", encoding="utf-8", errors="backslashreplace", newline="\n", closefd=file != 1)
+            self.stream.write(text)
+            if self.coloured:
+                self.stream.flush()
+
+    def line(self, text=""):
+        self.write(f"{text}\n")
+
+    def flush(self):
+        if self.stream is not None:
+            with self.named():
+                self.stream.flush()
+
+    def close(self):
+        if self.stream is not None:
+            with self.named():
+                stream, self.stream = self.stream, None
+                stream.close()
+
+    @contextlib.contextmanager
+    def named(self):
+        """An error of the stream, with its name."""
+        try:
+            yield
+        except OSError as wrong:
+            raise Trouble(f"{'standard output' if self.name == STANDARD else printable(self.name)}: {wrong.strerror}") from None
+
+    def paint(self, colour, text):
+        """A text in a colour, on a terminal alone."""
+        return f"\x1b[{COLOURS[colour]}m{text}\x1b[0m" if self.coloured and text else text
+
+
+def is_terminal(number):
+    try:
+        return os.isatty(number)
+    except OSError:
+        return False
+
+
+# ---- input
+
+
+class Source(io.FileIO):
+    """A file, or standard input, that counts what is read of it."""
+
+    taken = False
+
+    def __init__(self, name):
+        if name == STANDARD and Source.taken:
+            raise Trouble("standard input can be read once: `-` stands twice")
+        Source.taken = Source.taken or name == STANDARD
+        try:
+            super().__init__(0 if name == STANDARD else name, "rb", closefd=name != STANDARD)
+        except OSError as wrong:
+            raise Trouble(f"{shown(name)}: {wrong.strerror}") from None
+        self.given, self.count = name, 0
+        self.size = os.fstat(self.fileno()).st_size
+        PROGRESS.source = self
+
+    def readinto(self, buffer):
+        try:
+            count = super().readinto(buffer)
+        except OSError as wrong:
+            raise Trouble(f"{shown(self.given)}: {wrong.strerror}") from None
+        self.count += count or 0
+        return count
+
+
+def shown(name):
+    """A file's name where no place stands behind it."""
+    return "standard input" if name == STANDARD else printable(name)
+
+
+def source(name):
+    """The bytes of a file, by its name, as a stream."""
+    return io.BufferedReader(Source(name), 1 << 16)
+
+
+def text_of(name):
+    """The text of a file in UTF-8, whatever the locale has."""
+    with source(name) as stream:
+        given = stream.read()
+    try:
+        return given.decode()
+    except UnicodeDecodeError as wrong:
+        line = given.count(b"\n", 0, wrong.start) + 1
+        column = len(given[given.rfind(b"\n", 0, wrong.start) + 1 : wrong.start].decode()) + 1
+        raise Trouble(f"{place(name, line, column)}no text in UTF-8: the byte 0x{given[wrong.start]:02x}") from None
+
+
+# ---- progress
+
+
+class Progress:
+    """A line on standard error that says how far a tool has come. It comes after a second, and on a terminal alone."""
+
+    AFTER, BETWEEN = 1.0, 0.25
+
+    def __init__(self):
+        self.prog, self.source, self.visible = "", None, False
+        self.lock, self.over = threading.Lock(), threading.Event()
+
+    @contextlib.contextmanager
+    def told(self, prog):
+        """Tells how far a tool is while a block of it runs."""
+        if not is_terminal(2):
+            yield
+            return
+        self.prog, self.source = prog, None
+        self.over.clear()
+        watch = threading.Thread(target=self.watch, daemon=True)
+        watch.start()
+        try:
+            yield
+        finally:
+            self.over.set()
+            watch.join()
+            self.hide()
+
+    def watch(self):
+        begun = time.monotonic()
+        wait = self.AFTER
+        while not self.over.wait(wait):
+            self.show(time.monotonic() - begun)
+            wait = self.BETWEEN
+
+    def show(self, seconds):
+        at = self.source
+        read = f": {at.count // 1000000} of {at.size // 1000000} MB of {shown(at.given)}" if at and at.size else ""
+        if at and not at.size:
+            read = f": {at.count // 1000000} MB of {shown(at.given)}"
+        with self.lock, contextlib.suppress(OSError, ValueError):
+            sys.stderr.write(f"\r\x1b[K{self.prog}{read}, {seconds:.0f} s")
+            sys.stderr.flush()
+            self.visible = True
+
+    def hide(self):
+        if self.visible:
+            with self.lock, contextlib.suppress(OSError, ValueError):
+                sys.stderr.write("\r\x1b[K")
+                sys.stderr.flush()
+                self.visible = False
+
+
+PROGRESS = Progress()

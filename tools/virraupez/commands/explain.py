@@ -1,0 +1,48 @@
+"""explain: tells where documents are wrong, what stands there and what is wanted.
+
+Where the program refuses a document, the first line begins 'FILE:LINE:COLUMN: refused CODE (Name): PATH'. Faults of greater
+codes come after it, and then warnings: what no code refuses and nobody means. A document that the program runs is told
+'not refused', with its warnings. docs/explain.md has more."""
+import gc
+import sys
+
+from .. import command, grammar, report
+
+STATUS = "The status is 0 if no document is refused, 1 if one is, and 2 if one can't be read."
+
+
+def parser(prog=None):
+    made = command.parser(__doc__, STATUS, prog)
+    made.add_argument("documents", metavar="DOCUMENT", nargs="+", help="a document; - is standard input")
+    made.add_argument("--json", action="store_true", help="tell it as JSON for editors, one object for each document")
+    made.add_argument("--all", action="store_true", help=f"tell every place, and not only the first {report.TOLD} of each code")
+    return made
+
+
+def given_by(name):
+    """The bytes of a document, by its name."""
+    with command.source(name) as stream:
+        given = stream.read(grammar.MOST_BYTES + 1)
+    if len(given) > grammar.MOST_BYTES:
+        raise command.Trouble(f"{command.shown(name)}: more than {grammar.MOST_BYTES} bytes; the program reads no longer document")
+    return given
+
+
+def run(asked, out):
+    gc.disable()  # a document is read into no cycles, and looking for them takes a third of the time
+    status, wrong = command.FINE, []
+    for name in asked.documents:
+        try:
+            told = report.Report(given_by(name), sys.maxsize if asked.all else report.TOLD)
+        except command.Trouble as trouble:
+            wrong += trouble.lines
+            continue
+        if asked.json:
+            out.line(report.as_json(told, name))
+        else:
+            for line in report.lines(told, name, out.paint):
+                out.line(line)
+        status = max(status, command.FOUND if told.code else command.FINE)
+    if wrong:
+        raise command.Trouble(*wrong)
+    return status

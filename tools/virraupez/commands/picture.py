@@ -1,0 +1,36 @@
+"""picture: draws a run as SVG: a column a round, a row a callback group with its callbacks, lines from who sent an item to who
+took it, and a bar a goal. docs/picture.md says how to read one."""
+import argparse
+
+from .. import command, flow, grammar, picture, scene
+
+STATUS = "The status is 0, and 2 if there is nothing to draw."
+
+
+def rounds_of(text):
+    """The first and the last round of A-B, A- or A."""
+    first, between, last = text.partition("-")
+    if not grammar.is_number(first) or last and not grammar.is_number(last):
+        raise argparse.ArgumentTypeError("rounds are A-B, A- or A")
+    first = max(int(first), 1)
+    return first, int(last) if last else first + scene.ROUNDS - 1 if between else first
+
+
+def parser(prog=None):
+    made = command.parser(__doc__, STATUS, prog)
+    made.add_argument("document", metavar="DOCUMENT", help="a document; - is standard input")
+    made.add_argument("transcript", metavar="TRANSCRIPT", help="its transcript; - is standard input")
+    shown = f"the rounds to draw, as A-B, A- or A; the first {scene.ROUNDS} if none are given"
+    made.add_argument("--rounds", metavar="A-B", type=rounds_of, default=(1, scene.ROUNDS), help=shown)
+    return made
+
+
+def run(asked, out):
+    shown = scene.Scene(flow.read_document(asked.document), *asked.rounds)
+    shown.read(asked.transcript)
+    if not shown.columns:
+        raise command.Trouble(f"there are no rounds {asked.rounds[0]} to {asked.rounds[1]}: the transcript has {shown.rounds}")
+    if shown.rounds > asked.rounds[1] and asked.rounds == (1, scene.ROUNDS):
+        command.note(f"picture: the first {scene.ROUNDS} of {shown.rounds} rounds are drawn; --rounds draws others")
+    out.write(picture.Picture(shown).svg())
+    return command.FINE
