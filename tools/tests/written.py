@@ -2,7 +2,6 @@
 that the schemas are those of the grammar's tables."""
 import importlib.util
 import json
-import tempfile
 
 import virraupez
 
@@ -92,8 +91,8 @@ REFUSED = (
     (lambda it: it.message("x", 1, at=5), "no moment at or after 5"),
     (lambda it: it.every(0, until=9), "every takes at least 1 tick and not 0"),
     (lambda it: it.every(-1, until=0, begin=9), "every takes at least 1 tick and not -1"),
-    *((lambda it, period=period: it.node("n").timer("t", period=period), "refused 2 (Shape): nodes[0].timers[0].period") for period in (None, -1, 1.5, "10", [10])),
-    (lambda it: it.node("n").timer("t", period=0), "refused 5 (Limit): nodes[0].timers[0].period"),
+    *((lambda it, period=period: it.node("n").timer("t", period=period), "refused 2 (Shape): timer t: period") for period in (None, -1, 1.5, "10", [10])),
+    (lambda it: it.node("n").timer("t", period=0), "refused 5 (Limit): timer t: period"),
 )
 
 
@@ -158,7 +157,3 @@ def refused():
         except virraupez.DocumentError as error:
             told = str(error)
         yield f"a wrong document: {told}", part in told, True
-    with tempfile.NamedTemporaryFile("w", suffix=".py") as program:
-        program.write("import virraupez\nmade = virraupez.Document()\nmade.every(0, until=5)\nmade.write()\n")
-        program.flush()
-        yield "write of a program with a wrong call", tool.run("write", program.name), (1, "write: every takes at least 1 tick and not 0\n")

@@ -1,14 +1,21 @@
-"""Documents that are written by a program: nodes and entities by their names, scripts with labels, moments that nobody counts."""
-import json
+"""Documents that are written by a program: nodes and entities by their names, scripts with labels, moments that nobody counts.
+
+Whatever a program says wrongly is kept until the document is asked for, and then told all at once, at its lines."""
 import sys
 
-from . import assemble, grammar, report
+from . import assemble, grammar, told
+from .made import Made, layout
+from .origin import Call
 
-WIDTH = 120
+# All documents that a program made, for who ran it.
+DOCUMENTS = []
 
 
 class DocumentError(ValueError):
-    """A document that the program would refuse, with what explain tells of it."""
+    """A document that the program would refuse, with all that is told of it."""
+
+    def __init__(self, lines):
+        super().__init__("\n".join(lines))
 
 
 class Group:
@@ -19,75 +26,81 @@ class Group:
 class Node:
     """A node, to which groups and entities are added. A script is a text, as `assemble` takes it, or a list of instructions."""
 
-    def __init__(self, name):
-        self.fields = {"name": name}
+    def __init__(self, name, call):
+        self.fields, self.call = {"name": name}, call
+        # What said each part of a list: its call, and its scripts by their fields.
+        self.said, self.wrong = {}, []
 
     def exclusive(self, name):
         """A mutually exclusive callback group."""
-        return self.group(name, "exclusive")
+        return self.group(name, "exclusive", Call(Node.exclusive))
 
     def reentrant(self, name):
         """A reentrant callback group, whose scripts have no group variables."""
-        return self.group(name, "reentrant")
+        return self.group(name, "reentrant", Call(Node.reentrant))
 
-    def group(self, name, kind):
-        self.fields.setdefault("groups", []).append({"name": name, "kind": kind})
+    def group(self, name, kind, call):
+        self.put("groups", {"name": name, "kind": kind}, call, {})
         return Group(name)
 
     def timer(self, name, period, script="", group=None):
-        self.add("timers", name, group, period=period, script=script)
+        self.add("timers", Call(Node.timer), name, group, period=period, script=script)
 
     def subscription(self, name, topic, script="", depth=None, group=None):
-        self.add("subscriptions", name, group, topic=topic, depth=depth, script=script)
+        self.add("subscriptions", Call(Node.subscription), name, group, topic=topic, depth=depth, script=script)
 
     def service(self, name, script="", depth=None, group=None):
-        self.add("services", name, group, depth=depth, script=script)
+        self.add("services", Call(Node.service), name, group, depth=depth, script=script)
 
     def client(self, name, service, script="", depth=None, group=None):
-        self.add("clients", name, group, service=service, depth=depth, script=script)
+        self.add("clients", Call(Node.client), name, group, service=service, depth=depth, script=script)
 
     def action(self, name, on_goal, script, on_cancel=None, result_timeout=None, depth=None, group=None):
         """An action server. Without on_goal it would reject every goal, so that is asked for."""
-        self.add("actions", name, group, depth=depth, result_timeout=result_timeout, on_goal=on_goal, on_cancel=on_cancel, script=script)
+        scripts = {"on_goal": on_goal, "on_cancel": on_cancel, "script": script}
+        self.add("actions", Call(Node.action), name, group, depth=depth, result_timeout=result_timeout, **scripts)
 
     def action_client(self, name, action, on_response=None, on_code=None, on_feedback=None, on_result=None, depth=None, group=None):
         """An action client, which asks for results where on_result is given, be it empty."""
         scripts = {"on_response": on_response, "on_code": on_code, "on_feedback": on_feedback, "on_result": on_result}
-        self.add("action_clients", name, group, action=action, depth=depth, **scripts)
+        self.add("action_clients", Call(Node.action_client), name, group, action=action, depth=depth, **scripts)
 
-    def add(self, kind, name, group, **fields):
-        entity = {"name": name}
+    def add(self, kind, call, name, group, **fields):
+        entity, scripts = {"name": name}, {}
         if group is not None:
             entity["group"] = group.name if isinstance(group, Group) else group
         for field, value in fields.items():
             if field in grammar.SCRIPTS[kind] and isinstance(value, str):
-                value = scripted(name, field, value)
-                if not value and field != "on_result":
-                    continue
+                made = scripts[field] = assemble.Assembled(value)
+                self.wrong += [told.of_script(call, field, name, value, wrong) for wrong in made.faults]
+                value = made.instructions if made.instructions or field == "on_result" else None
             if value is not None:
                 entity[field] = value
-        self.fields.setdefault(kind, []).append(entity)
+        self.put(kind, entity, call, scripts)
 
-
-def scripted(name, field, text):
-    try:
-        return assemble.script(text)
-    except assemble.ScriptError as wrong:
-        raise DocumentError(f"{field} of {name}: {wrong}") from None
+    def put(self, kind, entity, call, scripts):
+        entities = self.fields.setdefault(kind, [])
+        self.said[kind, len(entities)] = call, scripts
+        entities.append(entity)
 
 
 class Document:
     """A document of version 1, to which topics, nodes, moments and what is fed are added in any order."""
 
     def __init__(self, topics=()):
-        self.topics, self.nodes, self.fed = list(topics), [], []
-        self.written, self.computed = [], []
+        self.call, self.wrong, self.warnings = Call(Document.__init__), [], []
+        self.written, self.written_elsewhere = [], False
+        self.topics, self.nodes = list(topics), []
+        # Each with its call: topics, moments as numbers or as a function that gives ranges, and what is fed and when.
+        self.named, self.timed, self.fed = [self.call for _ in self.topics], [], []
+        DOCUMENTS.append(self)
 
     def topic(self, name):
         self.topics.append(name)
+        self.named.append(Call(Document.topic))
 
     def node(self, name):
-        node = Node(name)
+        node = Node(name, Call(Document.node))
         self.nodes.append(node)
         return node
 
@@ -95,75 +108,73 @@ class Document:
 
     def moments(self, *moments):
         """Rounds at these moments; one that is given twice is two rounds."""
-        self.written += moments
+        self.timed.append((Call(Document.moments), moments))
 
     def every(self, ticks, until, begin=0):
         """Rounds every so many ticks, from begin to until."""
-        if ticks < 1:
-            raise DocumentError(f"every takes at least 1 tick and not {ticks}")
-        self.computed.append(lambda: range(begin, until + 1, ticks))
+        call = Call(Document.every)
+        if grammar.is_count(ticks) and ticks >= 1:
+            self.timed.append((call, lambda: [range(begin, until + 1, ticks)]))
+        else:
+            self.wrong.append(told.of_call(call, f"every takes at least 1 tick and not {ticks}", "ticks"))
 
     def when_due(self, until):
         """Rounds at the moments, up to until, at which a timer is due."""
-        self.computed.append(lambda: [at for period in self.periods() for at in range(period, until + 1, period)])
+        self.timed.append((Call(Document.when_due), lambda: [range(period, until + 1, period) for period in self.periods()]))
 
     def periods(self):
-        """The periods of all timers, but for those that no timer may have: of these explain tells."""
+        """The periods of all timers, but for those that no timer may have, whose faults are told."""
         periods = [timer.get("period") for node in self.nodes for timer in node.fields.get("timers", [])]
         return {period for period in periods if grammar.is_count(period) and period >= 1}
-
-    def all_moments(self):
-        """All moments in order: those that were computed once each, where they weren't written."""
-        computed = {moment for moments in self.computed for moment in moments()}
-        return sorted(self.written + list(computed.difference(self.written)))
 
     # ---- what comes from outside
 
     def message(self, topic, value, **when):
         """Feeds a message, at a round or at a moment (at=), which is the first round at or after it."""
-        self.feed(when, topic=topic, value=value)
+        self.feed(Call(Document.message), when, topic=topic, value=value)
 
     def goal(self, action, goal, value, **when):
         """Feeds a goal request, with an identifier as a text or as a number."""
-        self.feed(when, action=action, goal=identifier(goal), value=value)
+        self.feed(Call(Document.goal), when, action=action, goal=identifier(goal), value=value)
 
     def cancel(self, action, goal=0, stamp=None, **when):
         """Feeds a cancel request: for all goals, or for that of an identifier, or for those up to a stamp."""
-        self.feed(when, action=action, cancel=identifier(goal), **({} if stamp is None else {"stamp": stamp}))
+        self.feed(Call(Document.cancel), when, action=action, cancel=identifier(goal), **({} if stamp is None else {"stamp": stamp}))
 
-    def feed(self, when, **fields):
-        if set(when) not in ({"at"}, {"round"}):
-            raise DocumentError("what is fed needs either its round or its moment, at")
-        self.fed.append((when, fields))
-
-    def round_of(self, when, moments):
-        if "round" in when:
-            return when["round"]
-        found = next((number for number, moment in enumerate(moments, 1) if moment >= when["at"]), None)
-        if found is None:
-            raise DocumentError(f"there is no moment at or after {when['at']}")
-        return found
+    def feed(self, call, when, **fields):
+        if set(when) in ({"at"}, {"round"}):
+            self.fed.append((call, when, fields))
+        else:
+            self.wrong.append(told.of_call(call, "what is fed needs either its round or its moment, at"))
 
     # ---- the document
 
     def value(self):
         """The document as JSON's values."""
-        moments = self.all_moments()
-        fed = sorted(({"round": self.round_of(when, moments), **fields} for when, fields in self.fed), key=lambda entry: entry["round"])
-        parts = {"topics": self.topics, "nodes": [node.fields for node in self.nodes], "moments": moments, "feed": fed}
-        return {"version": 1, **{name: part for name, part in parts.items() if part}}
+        made = Made(self)
+        if made.wrong:
+            raise DocumentError(told.lines(made.wrong))
+        return made.value
 
     def text(self):
-        """The document's text, which is lawful; what explain would tell of it is raised."""
-        text = layout(self.value()) + "\n"
-        told = report.Report(text.encode())
-        if told.code:
-            raise DocumentError("\n".join(report.lines(told)))
+        """The document's text, which is lawful: what is wrong is raised, and what explain would warn of is kept as warnings."""
+        made = Made(self)
+        text = layout(made.value) + "\n"
+        checked = told.Checked(made, text)
+        if made.wrong or checked.faults:
+            raise DocumentError(checked.lines())
+        self.warnings = checked.lines()
         return text
 
     def write(self, to=None):
-        """Writes the document to a stream, which is standard output where none is given."""
-        (sys.stdout if to is None else to).write(self.text())
+        """Writes the document to a stream, which is standard output if none is given, and its warnings to standard error."""
+        text = self.text()
+        for warning in self.warnings:
+            print(warning, file=sys.stderr)
+        if to is None:
+            self.written.append(text)
+        self.written_elsewhere |= to is not None
+        (sys.stdout if to is None else to).write(text)
 
 
 def identifier(goal):
@@ -175,27 +186,3 @@ def goal_of(client, number):
     return grammar.hyphenated((client + 1) * 2**64 + number)
 
 
-def layout(value, indent=0):
-    """JSON that a person reads: what fits stands in one line."""
-    flat = json.dumps(value, separators=(",", ":"))
-    if len(flat) + indent <= WIDTH or not isinstance(value, (list, dict)):
-        return flat
-    if isinstance(value, dict):
-        parts = [(f"{json.dumps(name)}:{layout(part, indent + 1)}", isinstance(part, (list, dict))) for name, part in value.items()]
-        return "{" + joined(parts, indent) + "}"
-    if all(isinstance(part, int) for part in value):
-        return "[" + joined([(str(part), False) for part in value], indent) + "]"
-    return "[" + joined([(layout(part, indent + 1), True) for part in value], indent) + "]"
-
-
-def joined(parts, indent):
-    """Parts with commas: each that is a list or an object begins a line, and others where a line is full."""
-    text, width = "", 0
-    for part, begins in parts:
-        if text:
-            text += ","
-            if begins or width + len(part) + 1 > WIDTH - indent:
-                text, width = text + "\n" + " " * (indent + 1), 0
-        text += part
-        width += len(part) + 1
-    return text

@@ -1,40 +1,48 @@
-"""write: runs a Python program that can `import virraupez`, the module with which documents are written without counting. The
-program writes its document to standard output; one that the executor would refuse is told as explain does.
+"""write: runs a Python program that can `import virraupez`, the module with which documents are written without counting. What the
+program writes goes to standard output once its document is there. One that the executor would refuse isn't written: what is wrong
+is told at the program's lines, as explain tells it.
 
-With --script, FILE is a script with labels, and its instructions are written as a document has them. docs/write.md has both."""
-import contextlib
+Words after the program's name are its own; those that begin with - come after a --. With --script, FILE is a script with labels,
+and its instructions are written as a document has them. docs/write.md has both."""
+import gc
 import json
-import runpy
-import sys
 
-import virraupez
+from .. import assemble, command, program
 
-from .. import command
-
-STATUS = "The status is 0, 1 if the program or the script is wrong, and 2 if a file can't be read."
+STATUS = "The status is 0, 1 if the program or the script is wrong, and 2 if a file can't be read. A program that ends itself with another status has that."
 
 
 def parser(prog=None):
     made = command.parser(__doc__, STATUS, prog)
-    made.add_argument("file", metavar="FILE", help="a Python program, or a script; - is standard input, for a script")
     made.add_argument("--script", action="store_true", help="assemble a script with labels")
+    made.add_argument("file", metavar="FILE", help="a Python program, or a script; - is standard input")
+    made.add_argument("words", metavar="WORD", nargs="*", help="words for the program, in its sys.argv")
+    # So -o may stand between the words too.
+    made.parse_args = made.parse_intermixed_args
     return made
-
-
-def assembled(text):
-    instructions = virraupez.script(text)
-    return "[" + ",\n ".join(json.dumps(it, separators=(",", ":")) for it in instructions) + "]"
 
 
 def run(asked, out):
     try:
         if asked.script:
-            out.line(assembled(command.text_of(asked.file)))
+            out.line(instructions(asked.file))
         else:
-            sys.argv = [asked.file]
-            with contextlib.redirect_stdout(out):
-                runpy.run_path(asked.file, run_name="__main__")
-    except (virraupez.DocumentError, virraupez.ScriptError) as wrong:
-        command.note(f"write: {wrong}")
-        return command.FOUND
+            gc.disable()  # a document is made of no cycles, and looking for them takes a third of the time
+            text = program.output(asked.file, asked.words)
+            if text:
+                out.write(text)
+    except program.Stopped as stopped:
+        command.note(*stopped.lines)
+        return stopped.status
     return command.FINE
+
+
+def instructions(file):
+    """The instructions of a script, as a document has them."""
+    text = command.text_of(file)
+    made = assemble.Assembled(text)
+    if made.faults:
+        lines = text.split("\n")
+        places = [command.place(file, it.line, max(lines[it.line - 1].find(it.part), 0) + 1) for it in made.faults]
+        raise program.Stopped(command.FOUND, *(place + it.wrong for place, it in zip(places, made.faults)))
+    return "[" + ",\n ".join(json.dumps(it, separators=(",", ":")) for it in made.instructions) + "]"

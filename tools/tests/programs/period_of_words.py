@@ -1,0 +1,2 @@
+"""A module beside a program."""
+PERIOD = 10

@@ -1,0 +1,102 @@
+"""What is told of a document that a Python program makes: its faults and warnings, each at the place of the program that said
+what is wrong."""
+import json
+
+from . import faults, grammar, json_text, report
+
+NOUNS = {**grammar.ENTITIES, "groups": "group"}
+# The argument that gives a field, if it has another name.
+ARGUMENTS = {"cancel": "goal"}
+# How many faults of calls and scripts are told at most.
+MOST = 100
+
+
+class Entry:
+    """A fault or a warning: its file, line and column, a line that says what it is, and lines that say more."""
+
+    def __init__(self, file, place, says, more=()):
+        self.file, (self.line, self.column), self.says, self.more = file, place, says, list(more)
+
+    def __str__(self):
+        return "\n".join([f"{self.file}:{self.line}:{self.column}: {self.says}", *self.more])
+
+
+def of_call(call, says, argument=None):
+    """What is wrong with a call."""
+    return Entry(call.file, call.place(argument), says)
+
+
+def of_script(call, argument, entity, script, wrong):
+    """What is wrong with a line of a script."""
+    place = call.script_place(argument, script, wrong.line, wrong.part)
+    return Entry(call.file, place, f"{argument} of {entity}: {wrong.wrong}")
+
+
+def lines(entries, more=()):
+    """The lines of entries in the order of their places: the first of them, and how many more there are."""
+    entries = sorted(entries, key=lambda it: (it.file, it.line, it.column))
+    rest = len(entries) - MOST
+    return [*map(str, entries[:MOST]), *([f"and {rest} more"] if rest > 0 else []), *more]
+
+
+class Checked:
+    """The faults and the warnings of a document that was made, by its text."""
+
+    def __init__(self, made, text):
+        self.made, self.faults, self.warnings, self.counts = made, [], [], {}
+        for fault in report.every(read(text)):
+            self.counts[fault.code] = self.counts.get(fault.code, 0) + 1
+            if self.counts[fault.code] <= report.TOLD:
+                (self.faults if fault.code else self.warnings).append(self.entry(fault))
+
+    def lines(self):
+        # With a part of the program missing, much would be warned of that isn't there yet.
+        entries = [*self.made.wrong, *self.faults] if self.made.wrong else [*self.faults, *self.warnings]
+        more = [(code, count - report.TOLD) for code, count in sorted(self.counts.items()) if code or not self.made.wrong]
+        named = {code: f"places of {report.named(code)}" if code else "warnings" for code, _ in more}
+        return lines(entries, [f"and {count} more {named[code]}" for code, count in more if count > 0])
+
+    def entry(self, fault):
+        stands = "nothing" if fault.missing else report.clip(json.dumps(at(self.made.value, fault.path), default=repr))
+        call, place = self.place(fault.path)
+        told = report.Entry(fault, *place, 1, stands)
+        _, *more = report.entry_lines(told, fault.code, "", report.unpainted)
+        kind = f"refused {report.named(fault.code)}" if fault.code else "warning"
+        return Entry(call.file, place, report.shown(f"{kind}: {self.name(told.path)}"), more)
+
+    def place(self, path):
+        """The call that said a part of the document, and the line and the column of that part."""
+        call, scripts, rest = self.made.said(path)
+        field, index = (*rest, None, None)[:2]
+        if field in scripts and index is not None:
+            made, part = scripts[field], str(at(self.made.value, path)) if len(rest) > 2 else ""
+            return call, call.script_place(field, made.text, made.lines[index], part)
+        return call, call.place(ARGUMENTS.get(field, field), index)
+
+    def name(self, path):
+        """What a person calls a part of a document: an entity by its kind and its name, with the field."""
+        owner, rest = faults.path_text(path), ()
+        if path[:1] == ("nodes",) and len(path) > 1:
+            length = 4 if len(path) > 3 else 2
+            noun = NOUNS[path[2]] if length == 4 else "node"
+            owner, rest = f"{noun} {at(self.made.value, path[:length]).get('name')}", path[length:]
+        elif path[:1] == ("topics",) and len(path) > 1:
+            owner = f"topic {at(self.made.value, path)}"
+        elif path[:1] == ("feed",) and len(path) > 1:
+            entry = at(self.made.value, path[:2])
+            owner, rest = f"what is fed to {entry.get('topic', entry.get('action'))}", path[2:]
+        return f"{owner}: {rest[0]}" if rest else owner
+
+
+def at(value, path):
+    for key in path:
+        value = value[key]
+    return value
+
+
+def read(text):
+    """The value of a text that `json` wrote, with numbers as the program's reader has them: others than those of 64 bits have
+    no value there."""
+    fraction = lambda _: json_text.FRACTION
+    integer = lambda digits: int(digits) if len(digits) < 19 or -(2**63) <= int(digits) < 2**64 else json_text.FRACTION
+    return json.loads(text, parse_float=fraction, parse_constant=fraction, parse_int=integer)
