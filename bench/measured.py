@@ -22,7 +22,7 @@ def program():
     """The program that the command line names, or else the proved one of this repository."""
     path = sys.argv[1] if len(sys.argv) > 1 else PROGRAM
     if not os.path.exists(path):
-        sys.exit(f"there is no {path}: run ./exec_run first")
+        sys.exit(f"there is no {path}: run ./build first")
     return path
 
 
