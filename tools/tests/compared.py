@@ -1,4 +1,4 @@
-"""What differ and holds tell, and that what flow follows is what each callback takes."""
+"""What differ tells, what is told of files that are no transcripts, and that what flow follows is what each callback takes."""
 import io
 import json
 import os
@@ -7,7 +7,7 @@ import sys
 import tempfile
 import xml.etree.ElementTree as tree
 
-from virraupez import command, difference, flow, picture, rules, scene, transcript
+from virraupez import command, difference, flow, picture, scene, transcript
 
 from . import tool
 
@@ -16,100 +16,7 @@ import executor
 import generate
 
 FOLLOWED, SPOILED = 400, 600
-TEXT = """round 1 5
-run t timer 5 0
-pub x 7
-state a 00000000-0000-0000-0000-000000000001 2
-round 2 6
-drop s message 7
-run s message 7 0
-log s 7
-round 3 9
-state a 00000000-0000-0000-0000-000000000001 4
-log s -3
-pending c 2
-end 3
-"""
-# Rules with the line at which they fail in TEXT, or None where they hold.
-RULES = (
-    ("never drop s message _", 6),
-    ("never drop s request _", None),
-    ("never drop t", None),
-    ("never log s <0", 11),
-    ("never log s <=-4", None),
-    ("never log s >=7", 8),
-    ("never log s >7", None),
-    ("never log t|s 7", 8),
-    ("never log =s 7", 8),
-    ("never pub", 3),
-    ("never pub X X", None),
-    ("never round N N", None),
-    ("never log s _ before drop s", None),
-    ("never run s before drop s", None),
-    ("never run t before drop s", 2),
-    ("never log s after pending c", None),
-    ("never log s after drop s", 8),
-    ("never log s V after drop s message V", 8),
-    ("never log s V before drop s message V", 11),
-    ("never log s V after pending c V", None),
-    ("never state A ID 4 after state A ID 2", 10),
-    ("never state A ID 4 after state A ID 3", None),
-    ("never pub X X before end", None),
-    ("some log s", None),
-    ("some log t", 13),
-    ("count log s is 2", None),
-    ("count log s is 3", 13),
-    ("count log s is 1", 11),
-    ("count log s at least 2", None),
-    ("count log s at most 1", 11),
-    ("every state a ID 2 then state a ID 4", None),
-    ("every state a ID 2 then state a ID 4 within 2 rounds", None),
-    ("every state a ID 2 then state a ID 4 within 1 round", 4),
-    ("every state a ID 2 then state a ID 4 within 4 ticks", None),
-    ("every state a ID 2 then state a ID 4 within 3 ticks", 4),
-    ("every state a ID 2 then state a ID 5", 4),
-    ("every pub x V then run s message V", None),
-    ("every pub x V then log s V within 0 rounds", 3),
-    ("every log s then end", None),
-    ("at end no pending", 12),
-    ("at end no pending d", None),
-)
-WRONG = (
-    ("nevr drop s", "line 1: no rule"),
-    ("never dorp s", "did you mean drop?"),
-    ("never drop s mesage", "did you mean message?"),
-    ("never", "a pattern is missing"),
-    ("never pub x 1 2", "fewer words"),
-    ("every log s then log t within x rounds", "a number of rounds or of ticks"),
-    ("every log s then log t within ² rounds", "a number of rounds or of ticks"),
-    ("every log s then log t within " + "1" * 5000 + " rounds", "a number of rounds or of ticks"),
-    ("count log s", "is N, at least N or at most N"),
-    ("count log s is ²", "is N, at least N or at most N"),
-    ("count log s is " + "1" * 5000, "more digits than a number of a transcript"),
-    ("never log s >-" + "1" * 5000, "more digits than a number of a transcript"),
-    ("never log s >5x", "'>5x' compares with no number"),
-    ("never log s <=", "'<=' compares with no number"),
-)
-
-
-def failure(text):
-    """The line at which a rule fails in TEXT, or what is told of a rule that is none."""
-    try:
-        check = rules.Check(rules.read(text))
-    except rules.RuleError as wrong:
-        return str(wrong)
-    for line in transcript.checked(io.StringIO(TEXT), "it"):
-        check.line(line, line.split(" "))
-    check.end()
-    return check.rules[0].failure.number if check.rules[0].failure else None
-
-
 def answers(_program):
-    for text, line in RULES:
-        yield f"the rule {text!r}", failure(text), line
-    for text, part in WRONG:
-        told = failure(text)
-        yield f"the wrong rule {text!r}: {told}", part in str(told), True
     yield from of_examples()
     yield from of_words()
     yield from of_spoiled()
@@ -126,11 +33,6 @@ def of_examples():
     for told in sorted((tool.TESTS / "differing").glob("*.told")):
         one, other = (str(path.relative_to(tool.TOP)) for path in (tool.TOP / "examples/robot.txt", told.with_suffix(".txt")))
         yield f"differ {told.name}", tool.run("differ", one, other, "--document", "examples/robot.json"), (1, told.read_text())
-    for text in sorted((tool.TOP / "examples").glob("*.txt")):
-        told = tool.TESTS / "held" / f"{text.stem}.told"
-        should = (1, told.read_text()) if told.exists() else (0, "10 hold, 0 fail\n")
-        yield f"holds {text.name}", tool.run("holds", "tools/tests/held/any.rules", text.relative_to(tool.TOP)), should
-    yield "holds of the robot", tool.run("holds", "examples/robot.rules", "examples/robot.txt"), (0, "7 hold, 0 fail\n")
 
 
 def of_words():
@@ -142,7 +44,6 @@ def of_words():
         yield f"{name} of no file", tool.run(name, "nowhere", timer)[0], 2
     yield "differ of what is no transcript", tool.run("differ", timer, tool.TOP / "README.md")[0], 2
     yield "differ with a document that is refused", tool.run("differ", timer, timer, "--document", tool.TESTS / "mistakes/another_version.json")[0], 2
-    yield "holds of standard input", tool.run("holds", "examples/robot.rules", "-", given=b"end 0\n")[0], 1
     yield from of_unread(timer)
     yield from of_cut()
 
@@ -169,8 +70,6 @@ def of_unread(timer):
     for given in (b"round \xb2 5\n", b"round 1 \xb2\n", b"\xff\n", b"round 1 5", b"round 1 " + b"5" * 21 + b"\n", b"x" * 5000):
         yield f"holds of {given[:40]}", tool.unread("holds", "examples/robot.rules", "-", given=given), (2, True, 1)
         yield f"differ of {given[:40]}", tool.unread("differ", timer, "/dev/stdin", given=given), (2, True, 1)
-    for rule in (b"never log s \xff", b"never log s >" + b"9" * 5000, "every log s then log t within ² rounds".encode()):
-        yield f"holds by the rule {rule[:40]}", tool.unread("holds", "/dev/stdin", timer, given=rule), (2, True, 1)
     for words in (("holds", "nowhere", timer), ("holds", tool.TOP, timer), ("differ", timer, "nowhere"), ("differ", timer, tool.TOP)):
         yield f"what {' '.join(map(str, words))} tells", tool.unread(*words), (2, True, 1)
     with tempfile.TemporaryDirectory() as folder:

@@ -1,8 +1,10 @@
 """Runs of the tools, for the tests."""
+import contextlib
 import pathlib
 import re
 import subprocess
 import sys
+import tempfile
 
 TOOLS = pathlib.Path(__file__).resolve().parent.parent
 TOP = TOOLS.parent
@@ -25,6 +27,15 @@ def unread(tool, *words, given=None):
     """What a tool must say that can't read what it is given: its status, whether it tells itself or a place, and how many lines it says."""
     status, told = run(tool, *words, given=given)
     return status, bool(PLACED.match(told)) or told.startswith(f"{tool}: "), told.count("\n")
+
+
+@contextlib.contextmanager
+def file(text):
+    """The name of a file with a text, which goes when it was used."""
+    with tempfile.NamedTemporaryFile("w", encoding="utf-8") as made:
+        made.write(text)
+        made.flush()
+        yield made.name
 
 
 def text(path):

@@ -86,14 +86,14 @@ KINDS = {
 NAMES = 2000
 
 
-def nearest(word, names):
-    """The name that is nearest to a word, or None where none is near."""
+def nearest(word, names, least=0.6):
+    """The name that is nearest to a word, or None if none is near."""
     among = {}
     for name in names:
         if len(among) == NAMES:
             break
         among.setdefault(str(name).lower(), name)
-    found = difflib.get_close_matches(word.lower()[:80], among, 1, 0.6)
+    found = difflib.get_close_matches(word.lower()[:80], among, 1, least)
     return among[found[0]] if found else None
 
 

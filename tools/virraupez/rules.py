@@ -1,16 +1,12 @@
 """Rules that a transcript is held to (docs/holds.md), read from a text with a rule a line, and checked line by line.
 
-A pattern is the first words of a line. `_` stands for any word, A|B for one of some, >5, >=5, <5 and <=5 for a number, and a
-word of capitals for a word that is the same wherever it stands in the rule; `=ID` is the word ID itself."""
+A rule that holds of every transcript, whatever happens in it, is a fault of the rules."""
 import collections
 import re
 
-from . import command, grammar, hints, transcript
+from . import command, pattern, transcript
+from .pattern import Pattern, Wrong
 
-NUMBER = re.compile("-?[0-9]+")
-COMPARED = {">": lambda one, other: one > other, ">=": lambda one, other: one >= other, "<": lambda one, other: one < other, "<=": lambda one, other: one <= other}
-BOUND = re.compile("([<>]=?)(-?[0-9]+)")
-VARIABLE = re.compile("[A-Z]+")
 # The rules' forms, as a person writes them.
 FORMS = (
     "never PATTERN",
@@ -19,78 +15,14 @@ FORMS = (
     "some PATTERN",
     "every PATTERN then PATTERN [within N rounds|ticks]",
     "count PATTERN is|at least|at most N",
-    "at end no PATTERN",
+    "at end no pending [PATTERN]",
 )
+ROUNDS, TICKS = 0, 1
+UNITS = {"round": ROUNDS, "rounds": ROUNDS, "tick": TICKS, "ticks": TICKS}
 
 
-class RuleError(command.Trouble):
-    """A line of a text of rules that is none."""
-
-
-class Pattern:
-    """The first words of a line, some of them open."""
-
-    def __init__(self, words):
-        demand_line(words)
-        self.tests = [(at, test_of(word)) for at, word in enumerate(words)]
-        self.least = len(words)
-        self.variables = [(at, word) for at, word in enumerate(words) if VARIABLE.fullmatch(word)]
-        self.first = None if words[0] == "_" or VARIABLE.fullmatch(words[0]) or "|" in words[0] else words[0]
-        self.tests = [(at, test) for at, test in self.tests if test]
-
-    def matches(self, words):
-        return len(words) >= self.least and all(test(words[at]) for at, test in self.tests)
-
-    def bound(self, words):
-        """What its variables stand for on a line; None where one stands for two words."""
-        found = {}
-        for at, name in self.variables:
-            if found.setdefault(name, words[at]) != words[at]:
-                return None
-        return found
-
-
-def demand_line(words):
-    """Refuses a pattern that no line of a transcript has: such a rule would say nothing."""
-    if not words:
-        raise RuleError("a pattern is missing")
-    open_word = words[0] == "_" or VARIABLE.fullmatch(words[0])
-    firsts = [] if open_word else words[0].split("|")
-    for first in firsts:
-        if first not in transcript.WORDS:
-            raise RuleError(f"no line begins with {first!r}; {hints.meant(first, transcript.WORDS)}".rstrip("; "))
-    if firsts and len(words) > max(1 + len(forms) for first in firsts for forms in transcript.FORMS[first]):
-        raise RuleError(f"a line {words[0]} has fewer words than {' '.join(words)!r}")
-    if words[0] in ("run", "drop") and len(words) > 2 and test_of(words[2]) and not words[2].startswith("="):
-        for kind in words[2].split("|"):
-            if kind not in transcript.KINDS:
-                raise RuleError(f"{kind!r} is no kind of callback; {hints.meant(kind, transcript.KINDS)}".rstrip("; "))
-
-
-def test_of(word):
-    """The test of a word, or None where any word will do."""
-    if word == "_" or VARIABLE.fullmatch(word):
-        return None
-    bound = BOUND.fullmatch(word)
-    if bound:
-        compare, number = COMPARED[bound[1]], number_of(bound[2])
-        return lambda it: bool(NUMBER.fullmatch(it)) and compare(int(it), number)
-    if word[0] in "<>":
-        raise RuleError(f"{word[:30]!r} compares with no number")
-    if word.startswith("="):
-        return lambda it: it == word[1:]
-    return frozenset(word.split("|")).__contains__
-
-
-def number_of(text):
-    """A number of a rule."""
-    if not grammar.is_number(text.lstrip("-")):
-        raise RuleError(f"{text[:30]!r} has more digits than a number of a transcript")
-    return int(text)
-
-
-class Failure:
-    """A line that breaks a rule: its number and text, its round and moment, and what is said of it."""
+class Finding:
+    """A line that decides a rule: its number and text, its round and moment, and what is said of it."""
 
     def __init__(self, number, line, now, says=""):
         self.number, self.line, self.says = number, line, says
@@ -98,20 +30,25 @@ class Failure:
 
 
 class Rule:
-    """A rule with the first line that breaks it, if any did."""
+    """A rule with the first line that breaks it, if any did, or the line of which the end leaves open whether it does."""
 
-    def __init__(self, number, text, patterns):
-        self.number, self.text, self.patterns, self.failure = number, text, patterns, None
+    def __init__(self, patterns):
+        self.patterns, self.failure, self.open_end = patterns, None, None
+        demand_variables(patterns)
 
-    def fail(self, number, line, now, says=""):
+    def fail(self, *finding):
         if self.failure is None:
-            self.failure = Failure(number, line, now, says)
+            self.failure = Finding(*finding)
 
     def line(self, number, line, words, now):
         """Takes a line."""
 
     def end(self, number, now):
         """Takes the end of the transcript."""
+
+    def unmet(self):
+        """The pattern that no line matched, so that the rule holds of nothing; None if it holds of something."""
+        return None
 
 
 class Never(Rule):
@@ -121,37 +58,40 @@ class Never(Rule):
 
 
 class Pair(Rule):
-    """A rule on lines of two patterns, which belong together where they have the same words for the same variables."""
+    """A rule on lines of two patterns, which belong together if they have the same words for the same variables."""
 
-    def __init__(self, number, text, patterns):
-        super().__init__(number, text, patterns)
-        first, second = ({name for _, name in pattern.variables} for pattern in patterns)
+    def __init__(self, patterns):
+        super().__init__(patterns)
+        first, second = ({name for _, name in it.variables} for it in patterns)
         self.shared = sorted(first & second)
 
-    def key(self, pattern, words):
+    def key(self, of, words):
         """What the shared variables stand for on a line of a pattern; None on any other line."""
-        found = pattern.bound(words) if pattern.matches(words) else None
+        found = of.bound(words) if of.matches(words) else None
         return None if found is None else tuple(found[name] for name in self.shared)
 
 
 class Order(Pair):
     """No line of a pattern before, or after, the first line of another that belongs to it."""
 
-    def __init__(self, number, text, patterns, fails_after):
-        super().__init__(number, text, patterns)
+    def __init__(self, patterns, fails_after):
+        super().__init__(patterns)
         self.fails_after, self.seen = fails_after, set()
 
     def line(self, number, line, words, now):
-        first, second = (self.key(pattern, words) for pattern in self.patterns)
+        first, second = (self.key(it, words) for it in self.patterns)
         if first is not None and (first in self.seen) == self.fails_after:
             self.fail(number, line, now, "" if self.fails_after else "before any of the others")
         if second is not None:
             self.seen.add(second)
 
+    def unmet(self):
+        return self.patterns[1] if not self.seen else None
+
 
 class Count(Rule):
-    def __init__(self, number, text, patterns, least, most):
-        super().__init__(number, text, patterns)
+    def __init__(self, patterns, least, most):
+        super().__init__(patterns)
         self.least, self.most, self.count = least, most, 0
 
     def line(self, number, line, words, now):
@@ -162,27 +102,27 @@ class Count(Rule):
 
     def end(self, number, now):
         if self.count < self.least:
-            self.fail(number, "(the end)", now, f"there are {self.count} of these lines")
+            self.fail(number, "the end", now, f"there are {self.count} of these lines")
 
 
 class Then(Pair):
-    """Behind every line of a pattern comes one of another that belongs to it."""
+    """After every line of a pattern comes one of another that belongs to it."""
 
-    def __init__(self, number, text, patterns, within, unit):
-        super().__init__(number, text, patterns)
-        self.within, self.unit = within, unit
+    def __init__(self, patterns, within, unit):
+        super().__init__(patterns)
+        self.within, self.unit, self.is_met = within, unit, False
         self.open = collections.OrderedDict()
 
     def line(self, number, line, words, now):
-        first, second = (self.key(pattern, words) for pattern in self.patterns)
-        self.overdue(now)
+        first, second = (self.key(it, words) for it in self.patterns)
         if second is not None:
             self.open.pop(second, None)
         if first is not None:
+            self.is_met = True
             self.open.setdefault(first, (number, line, now))
 
     def overdue(self, now):
-        """Fails where the time of the oldest line is over."""
+        """Fails if the time of the oldest line is over."""
         if self.within is None or not self.open:
             return
         number, line, begun = next(iter(self.open.values()))
@@ -190,62 +130,181 @@ class Then(Pair):
             self.fail(number, line, begun, "nothing followed in time")
 
     def end(self, number, now):
-        if self.open:
-            self.fail(*next(iter(self.open.values())), "nothing followed before the end")
+        if not self.open:
+            return
+        number, line, begun = next(iter(self.open.values()))
+        # A further round could stand at the last moment, but none has the number of the last.
+        if self.within is None or self.unit == ROUNDS and now[ROUNDS] - begun[ROUNDS] >= self.within:
+            self.fail(number, line, begun, "nothing followed before the end")
+        else:
+            self.open_end = Finding(number, line, begun, f"the run ends in round {now[0]} at moment {now[1]}, before the time is over")
+
+    def unmet(self):
+        return None if self.is_met else self.patterns[0]
+
+
+# ---- what a rule must not be
+
+
+def demand_variables(patterns):
+    """Refuses variables that can't be the same word, and those that stand once where a name of a few is wanted."""
+    places = collections.OrderedDict()
+    for of in patterns:
+        for at, name in of.variables:
+            places.setdefault(name, []).append((of, at))
+    for name, found in places.items():
+        for of, at in found:
+            if len(found) == 1 and is_of_few(of, at):
+                hint = hints_of(of, at, name)
+                raise Wrong(of.words[at].column, f"{name} is a variable, which stands once: `_` is any word{hint}")
+        for at, one in enumerate(found):
+            for other in found[at + 1 :]:
+                if not can_meet(one, other):
+                    says = f"no word is {says_of(*one)} and {says_of(*other)}, and {name} would be both"
+                    raise Wrong(other[0].words[other[1]].column, says)
+
+
+def is_of_few(of, at):
+    """Whether a place has the first word, a kind, or a number that has a name."""
+    return at == 0 or all(isinstance(form, transcript.Kind) or getattr(form, "names", None) for form in of.forms_at(at))
+
+
+def hints_of(of, at, name):
+    names = transcript.WORDS if at == 0 else [it for form in of.forms_at(at) for it in getattr(form, "names", None) or [form.word]]
+    return pattern.meant(name, names)
+
+
+def can_meet(one, other):
+    """Whether a word may stand at both of two places, each of a pattern."""
+    if one[1] == 0 or other[1] == 0:
+        return one[1] == other[1] and bool(one[0].firsts() & other[0].firsts())
+    return any(form.meets(it) for form in one[0].forms_at(one[1]) for it in other[0].forms_at(other[1]))
+
+
+def says_of(of, at):
+    return "the first word of a line" if at == 0 else of.forms_at(at)[0].says
+
+
+def rank(first):
+    """Where a line stands: those of rounds before the calls that are pending, and these before the end."""
+    return {"pending": 1, "end": 2}.get(first, 0)
+
+
+def demand_order(patterns, fails_after, column):
+    """Refuses `never P after Q` if no line of P stands after one of Q, and `before` if none stands before."""
+    of, other = (it.firsts() for it in patterns)
+    if fails_after:
+        is_kept = max(map(rank, of)) < min(map(rank, other)) or other == {"end"} or patterns[0].is_first_round()
+    else:
+        is_kept = "end" not in of and patterns[1].has_first_round() and not patterns[1].variables
+    if is_kept:
+        how = "after" if fails_after else "before"
+        says = f"no line `{patterns[0].words[0]}` comes {how} a line `{patterns[1].words[0]}`"
+        raise Wrong(column, f"this holds whatever happens: {says}{'' if fails_after else ', with which a run begins'}")
+
+
+def demand_end(of, column):
+    """Refuses a rule that is kept by the line `end`, which every transcript has."""
+    if of.is_every("end"):
+        raise Wrong(column, "this holds whatever happens: every transcript ends with one line `end`")
 
 
 # ---- reading
 
 
-def rule_of(number, text):
-    """A rule by its text."""
-    words = text.split()
-    head, rest = words[0], words[1:]
-    if head == "never":
+class Reader:
+    """Reads rules, beside the names that a document declares."""
+
+    def __init__(self, declared=None):
+        self.declared = declared
+
+    def pattern(self, words, column):
+        return Pattern(words, column, self.declared)
+
+    def rule(self, words):
+        """A rule by its words."""
+        head, rest = words[0], words[1:]
+        behind = words[-1].column + len(words[-1])
+        if head == "never":
+            return self.never(rest, behind)
+        if head == "some":
+            of = self.pattern(rest, behind)
+            demand_end(of, head.column)
+            return Count([of], 1, None)
+        if head == "every":
+            return self.then(head, rest, behind)
+        if head == "count":
+            return self.count(head, rest, behind)
+        if words[:3] == ["at", "end", "no"]:
+            return self.at_end(words[3:], behind)
+        raise Wrong(head.column, "no rule; there are: " + "; ".join(FORMS))
+
+    def never(self, rest, behind):
         for word in ("before", "after"):
             if word in rest:
                 at = rest.index(word)
-                return Order(number, text, [Pattern(rest[:at]), Pattern(rest[at + 1 :])], word == "after")
-        return Never(number, text, [Pattern(rest)])
-    if head == "some":
-        return Count(number, text, [Pattern(rest)], 1, None)
-    if head == "every" and "then" in rest:
-        return then_of(number, text, rest)
-    if head == "count":
-        return count_of(number, text, rest)
-    if words[:3] == ["at", "end", "no"]:
-        return Never(number, text, [Pattern(words[3:])])
-    raise RuleError("no rule; there are: " + "; ".join(FORMS))
+                patterns = [self.pattern(rest[:at], rest[at].column), self.pattern(rest[at + 1 :], behind)]
+                demand_order(patterns, word == "after", rest[at].column)
+                return Order(patterns, word == "after")
+        return Never([self.pattern(rest, behind)])
+
+    def at_end(self, rest, behind):
+        of = self.pattern(rest, behind)
+        if of.firsts() != {"pending"}:
+            raise Wrong(rest[0].column, "only lines `pending` stand at the end; `never` is of all lines")
+        return Never([of])
+
+    def then(self, head, rest, behind):
+        if "then" not in rest:
+            raise Wrong(head.column, "every needs a then: " + FORMS[4])
+        at = rest.index("then")
+        first, second, within, unit = rest[:at], rest[at + 1 :], None, ROUNDS
+        if "within" in second:
+            limit = second.index("within")
+            within, unit = self.limit(second[limit], second[limit + 1 :])
+            behind, second = second[limit].column, second[:limit]
+        patterns = [self.pattern(first, rest[at].column), self.pattern(second, behind)]
+        demand_end(patterns[1], rest[at].column)
+        return Then(patterns, within, unit)
+
+    def limit(self, word, rest):
+        """How long a rule waits, and in what."""
+        if len(rest) != 2 or not pattern.DECIMAL.fullmatch(rest[0]) or int(rest[0]) < 0 or rest[1] not in UNITS:
+            raise Wrong(word.column, "within takes a number of rounds or of ticks, at the end of the rule")
+        return int(rest[0]), UNITS[rest[1]]
+
+    def count(self, head, rest, behind):
+        text, of = " ".join(rest), len(rest)
+        found = re.search("(?:^| )(is|at least|at most) (0|[1-9][0-9]{0,17})$", text)
+        if not found:
+            raise Wrong(head.column, "a count ends with is N, at least N or at most N, and N is a number")
+        of -= len(found[0].split())
+        count, how = int(found[2]), found[1]
+        made = self.pattern(rest[:of], rest[of].column)
+        if how == "at least" and count == 0:
+            raise Wrong(rest[of].column, "this holds whatever happens: there are never fewer than 0 lines")
+        if how != "at most" and count == 1 or how == "at most" and count:
+            demand_end(made, head.column)
+        return Count([made], 0 if how == "at most" else count, None if how == "at least" else count)
 
 
-def then_of(number, text, rest):
-    at = rest.index("then")
-    first, second, within, unit = rest[:at], rest[at + 1 :], None, 0
-    if len(second) >= 3 and second[-3] == "within":
-        if not grammar.is_number(second[-2]) or second[-1].rstrip("s") not in ("round", "tick"):
-            raise RuleError("within takes a number of rounds or of ticks")
-        within, unit, second = int(second[-2]), 0 if second[-1].startswith("round") else 1, second[:-3]
-    return Then(number, text, [Pattern(first), Pattern(second)], within, unit)
-
-
-def count_of(number, text, rest):
-    found = re.fullmatch("(.*) (is|at least|at most) ([0-9]+)", " ".join(rest))
-    if not found:
-        raise RuleError("a count ends with is N, at least N or at most N")
-    count = number_of(found[3])
-    return Count(number, text, [Pattern(found[1].split())], 0 if found[2] == "at most" else count, None if found[2] == "at least" else count)
-
-
-def read(text):
-    """The rules of a text: a rule a line; # begins a remark."""
-    rules = []
+def read(text, name="the rules", declared=None):
+    """The rules of a text: a rule a line; # begins a remark. All faults are told at once."""
+    rules, wrong = [], []
     for number, line in enumerate(text.split("\n"), 1):
-        line = line.split("#", 1)[0].strip()
-        if line:
-            try:
-                rules.append(rule_of(number, line))
-            except RuleError as wrong:
-                raise RuleError(f"line {number}: {wrong}") from None
+        words = pattern.tokens(line)
+        if not words:
+            continue
+        try:
+            rule = Reader(declared).rule(words)
+            rule.number, rule.column, rule.text = number, words[0].column, " ".join(words)
+            rules.append(rule)
+        except Wrong as fault:
+            wrong.append(f"{command.place(name, number, fault.column)}{fault}")
+    if wrong:
+        raise command.Trouble(*wrong)
+    if not rules:
+        raise command.Trouble(f"{command.shown(name)}: no rule in it, so that nothing would be checked")
     return rules
 
 
@@ -257,20 +316,22 @@ class Check:
 
     def __init__(self, rules):
         self.rules, self.now, self.number = rules, (0, 0), 0
-        firsts = {pattern.first for rule in rules for pattern in rule.patterns}
-        self.by_first = {first: [rule for rule in rules if any(it.first in (first, None) for it in rule.patterns)] for first in firsts}
-        self.open = [rule for rule in rules if any(it.first is None for it in rule.patterns)]
+        self.by_first = {word: [rule for rule in rules if any(word in it.firsts() for it in rule.patterns)] for word in transcript.WORDS}
         self.timed = [rule for rule in rules if isinstance(rule, Then)]
 
-    def line(self, line, words):
+    def line(self, line):
         self.number += 1
-        if words[0] == "round":
-            self.now = int(words[1]), int(words[2])
+        first = line.split(" ", 1)[0]
+        if first == "round":
+            self.now = tuple(map(int, line.split(" ")[1:]))
             for rule in self.timed:
                 rule.overdue(self.now)
-        for rule in self.by_first.get(words[0], self.open):
-            if rule.failure is None:
-                rule.line(self.number, line, words, self.now)
+        concerned = self.by_first[first]
+        if concerned:
+            words = line.split(" ")
+            for rule in concerned:
+                if rule.failure is None:
+                    rule.line(self.number, line, words, self.now)
 
     def end(self):
         for rule in self.rules:

@@ -10,6 +10,8 @@ KINDS = ("timer", "message", "request", "reply", "goal", "cancel", "ask", "poll"
 IDENTIFIED = ("goal", "cancel", "ask", "poll", "response", "feedback", "result")
 # Those that nothing is queued for, so that nothing of theirs is dropped.
 UNQUEUED = ("timer", "poll")
+# Those whose queue gets at most one item a round and gives one, so that a run drops none.
+KEPT = ("reply", "ask", "response", "code")
 LONGEST = 1024
 STATES = {"1": "ACCEPTED", "2": "EXECUTING", "3": "CANCELING", "4": "SUCCEEDED", "5": "CANCELED", "6": "ABORTED"}
 LEAST, MOST, GOALS = -(2**63), 2**63 - 1, 64
@@ -159,14 +161,14 @@ def regex(word):
 CHECKS = {word: re.compile(regex(word)).fullmatch for word in FORMS}
 
 
-def lines(name):
+def lines(name, own=None):
     """The lines of a file, checked, to the line `end`, without their line feeds."""
     with io.TextIOWrapper(command.source(name), encoding="latin-1", newline="\n") as stream:
-        yield from checked(stream, name)
+        yield from checked(stream, name, own)
 
 
-def checked(stream, name):
-    """The lines of a stream, checked: their forms, and the order of rounds to the end."""
+def checked(stream, name, own=None):
+    """The lines of a stream, checked: their forms, the order of rounds to the end, and what a document's own lines must be."""
     order, number = Order(name), 0
     while True:
         line = stream.readline(LONGEST)
@@ -178,6 +180,8 @@ def checked(stream, name):
             raise order.wrong(number, line)
         if word in ORDERED:
             order.take(number, text, word)
+        if own is not None and own.misfit(text):
+            raise order.trouble(number, own.says(text))
         yield text
     if not order.is_over:
         raise order.cut(number)
@@ -216,7 +220,7 @@ class Order:
             return self.trouble(number, "no transcript: the program refused the document, and explain tells where")
         if line[-1] != "\n" and len(line) < LONGEST:
             return self.trouble(number, f"the transcript is cut off within a line, in round {self.round}")
-        return self.trouble(number, f"no line of a transcript: {line.rstrip()[:60]!r}")
+        return self.trouble(number, f"no line of a transcript: {line.rstrip(chr(10))[:100]!r}")
 
     def cut(self, number):
         """What is missing at the end of a file, if it is cut off."""

@@ -1,0 +1,56 @@
+"""Whether a transcript is one of a document: its names, their kinds, and its moments."""
+from . import command, flow, grammar, transcript
+
+
+class Own:
+    """The names of a document with their kinds, and its moments."""
+
+    def __init__(self, name, document):
+        self.name = name
+        self.kinds = {topic: "topics" for topic in document.get("topics", [])}
+        for node in document.get("nodes", []):
+            self.kinds.update({it["name"]: kind for kind in grammar.ENTITIES for it in node.get(kind, [])})
+        self.moments = document.get("moments", [])
+        self.known = set()
+
+    def misfit(self, line):
+        """What a line has that the document hasn't, or nothing."""
+        words = line.split(" ", 3)
+        if words[0] == "round":
+            return self.moment(int(words[1]), int(words[2]))
+        if words[0] == "end":
+            return "" if int(words[1]) == len(self.moments) else f"the document has {len(self.moments)} moments"
+        named = tuple(words[: 3 if words[0] in ("run", "drop") else 2])
+        if named not in self.known:
+            if not self.has(*named):
+                return f"the document has no {noun_of(named)} {words[1]}"
+            self.known.add(named)
+        return ""
+
+    def says(self, line):
+        """What is wrong with a line that doesn't fit."""
+        return f"{self.misfit(line)}: {command.shown(self.name)} isn't the document of this transcript"
+
+    def moment(self, number, moment):
+        if number > len(self.moments):
+            return f"the document has {len(self.moments)} moments"
+        return "" if self.moments[number - 1] == moment else f"in the document round {number} is at moment {self.moments[number - 1]}"
+
+    def has(self, word, name, kind=None):
+        return self.kinds.get(name) in kinds_of(word, kind)
+
+
+def kinds_of(word, kind):
+    """The kinds that the name on a line may have."""
+    of = transcript.CALLBACKS[kind][0] if kind else transcript.FORMS[word][0][0]
+    return of.kinds
+
+
+def noun_of(named):
+    kinds = kinds_of(named[0], named[2] if len(named) == 3 else None)
+    return "entity" if len(kinds) > 1 else "topic" if "topics" in kinds else grammar.ENTITIES[min(kinds)]
+
+
+def read(name):
+    """What a transcript of a document must fit, by the document's file."""
+    return Own(name, flow.read_document(name))

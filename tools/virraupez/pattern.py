@@ -1,0 +1,254 @@
+"""Patterns of transcript lines (docs/holds.md): the first words of a line, each with the column at which it stands.
+
+A pattern is read beside the forms of docs/transcript.md, so that one that no line can match is a fault of the rules. `_` stands
+for any word, A|B for one of some, >5, >=5, <5 and <=5 for a number, and a word of capitals for a word that is the same wherever it
+stands in the rule; `=ID` is the word ID itself. Names of states, decisions and return codes stand for their numbers."""
+import re
+
+from . import grammar, hints, transcript
+
+COMPARED = {">": lambda one, other: one > other, ">=": lambda one, other: one >= other, "<": lambda one, other: one < other, "<=": lambda one, other: one <= other}
+BOUND = re.compile("([<>]=?)(.*)")
+VARIABLE = re.compile("[A-Z]+")
+DECIMAL = re.compile("0|-?[1-9][0-9]{0,19}")
+# The words of the rules, which are no names unless `=` stands before them.
+RESERVED = ("then", "within", "before", "after", "is")
+# Each line's first word with the forms of its other words, once for each of its shapes that a run can have.
+SHAPES = [(word, forms) for word, shapes in transcript.FORMS.items() for forms in shapes if word != "drop" or forms[1].word not in transcript.KEPT]
+NAMED = {name for it in (transcript.STATUS, transcript.DECISION, transcript.CODE) for name in it.names}
+
+
+class Wrong(Exception):
+    """What is wrong with a rule, and the column at which it stands."""
+
+    def __init__(self, column, says):
+        super().__init__(says)
+        self.column = column
+
+
+class Token(str):
+    """A word of a rule, which knows its column."""
+
+    def __new__(cls, text, column):
+        made = super().__new__(cls, text)
+        made.column = column
+        return made
+
+
+def tokens(line):
+    """The words of a line, without its remark."""
+    return [Token(it.group(), it.start() + 1) for it in re.finditer(r"\S+", line.split("#", 1)[0])]
+
+
+def is_open(word):
+    return word == "_" or bool(VARIABLE.fullmatch(word))
+
+
+def shorter(text):
+    return repr(text if len(text) <= 40 else text[:39] + "…")
+
+
+class Pattern:
+    """The first words of a line, some of them open. Declared are the names of a document, if one is given."""
+
+    def __init__(self, words, column, declared=None):
+        if not words:
+            raise Wrong(column, "a pattern is missing")
+        self.words, self.declared = words, declared
+        self.alternatives = [[word] if is_open(word) else split(word) for word in words]
+        self.shapes = self.narrowed()
+        self.demand_alternatives()
+        self.tests = {word: self.tests_of(word) for word in {word for word, _ in self.shapes}}
+        self.variables = [(at, word) for at, word in enumerate(words) if self.is_variable(at)]
+
+    # ---- which lines it can match
+
+    def narrowed(self):
+        """The shapes of lines that it can match."""
+        shapes = SHAPES
+        for at, word in enumerate(self.words):
+            if word in RESERVED:
+                raise Wrong(word.column, f"{word!r} is a word of the rules; ={word} is the name")
+            fitting = [shape for shape in shapes if at <= len(shape[1]) and any(self.meaning(it, at, shape) is not None for it in self.alternatives[at])]
+            if not fitting:
+                raise self.wrong(at, word, shapes)
+            shapes = fitting
+        return shapes
+
+    def demand_alternatives(self):
+        """Refuses an alternative that no line has there, though another one may."""
+        for at, words in enumerate(self.alternatives):
+            for word in words:
+                if not any(self.meaning(word, at, shape) is not None for shape in self.shapes):
+                    raise self.wrong(at, word, self.shapes)
+
+    def meaning(self, word, at, shape):
+        """What a word stands for at a place of a shape: the word itself, a test, or nothing if the word can't stand there."""
+        if at == 0:
+            return word if is_open(word) or word == shape[0] else None
+        form = shape[1][at - 1]
+        if word == "_" or VARIABLE.fullmatch(word) and not (isinstance(form, transcript.Number) and word in form.names):
+            return word if word == "_" or word not in NAMED and not self.is_near(word, form) else None
+        if isinstance(form, transcript.Number):
+            return number(word, form)
+        return self.text(word[1:] if word[0] == "=" else word, form)
+
+    def text(self, word, form):
+        """A word that is no number, as a transcript has it."""
+        if isinstance(form, transcript.Identifier):
+            return grammar.hyphenated(grammar.identifier(word)) if grammar.IDENTIFIER.fullmatch(word) else None
+        if isinstance(form, transcript.Kind):
+            return word if word == form.word else None
+        if self.declared is not None:
+            return word if self.declared.get(word) in form.kinds else None
+        return word if grammar.NAME.fullmatch(word) else None
+
+    def is_near(self, word, form):
+        """Whether a word of capitals is hardly a variable, since it is nearly the name of a number or is declared."""
+        names = getattr(form, "names", ())
+        return bool(names) and hints.nearest(word, names, 0.8) is not None or bool(self.declared) and word in self.declared
+
+    # ---- what it tests
+
+    def is_variable(self, at):
+        """Whether a word is a variable; a name that stands for a number is none."""
+        word = self.words[at]
+        return bool(VARIABLE.fullmatch(word)) and any(self.meaning(word, at, shape) == word for shape in self.shapes)
+
+    def tests_of(self, first):
+        """The tests of the lines of a first word, with the places of what they test."""
+        tests = []
+        for at in range(1, len(self.words)):
+            meanings = [self.meaning(it, at, shape) for it in self.alternatives[at] for shape in self.shapes if shape[0] == first]
+            if not any(it is not None and not callable(it) and is_open(it) for it in meanings):
+                tests += [(at, it) for it in meanings if callable(it)] or [(at, frozenset(it for it in meanings if it is not None).__contains__)]
+        return tests
+
+    def matches(self, words):
+        tests = self.tests.get(words[0])
+        return tests is not None and len(words) >= len(self.words) and all(test(words[at]) for at, test in tests)
+
+    def bound(self, words):
+        """What its variables stand for on a line; None if one stands for two words."""
+        found = {}
+        for at, name in self.variables:
+            if found.setdefault(name, words[at]) != words[at]:
+                return None
+        return found
+
+    def forms_at(self, at):
+        """The forms that a word may have at a place; the first word has none."""
+        return [forms[at - 1] for _, forms in self.shapes if at]
+
+    def firsts(self):
+        return set(self.tests)
+
+    def is_every(self, first):
+        """Whether it matches each line of a first word, and no other."""
+        return self.firsts() == {first} and not self.tests[first] and not self.variables
+
+    def is_first_round(self):
+        """Whether it matches the line of the first round alone."""
+        return self.words[0] == "round" and len(self.words) > 1 and self.words[1] in ("1", "=1", "<=1", "<2")
+
+    def has_first_round(self):
+        """Whether it matches the line of the first round, whatever its moment is."""
+        return self.firsts() == {"round"} and all(at == 1 and test("1") for at, test in self.tests["round"])
+
+    # ---- what is wrong
+
+    def wrong(self, at, word, shapes):
+        """The fault of a word that no line has at a place."""
+        column = self.words[at].column + self.words[at].find(word)
+        if at == 0 and word in transcript.WORDS:
+            return Wrong(column, f"no line `{word}` has the words that follow")
+        if at == 0:
+            return Wrong(column, f"no line begins with {shorter(word)}" + meant(word, transcript.WORDS))
+        longest = max(len(forms) for _, forms in shapes)
+        if at > longest:
+            of = " ".join(self.words[:1] if is_open(self.words[0]) else [self.words[0]])
+            return Wrong(column, f"a line {of} has {longest + 1} words, and this is one more")
+        forms = [forms[at - 1] for _, forms in shapes if at <= len(forms)]
+        return Wrong(column, fault_of(word, forms, self.declared))
+
+
+def split(word):
+    """The alternatives of a word."""
+    parts = word.split("|")
+    if "" in parts:
+        raise Wrong(word.column, "a word is missing beside |")
+    for part in parts:
+        if len(parts) > 1 and (part == "_" or part[0] in "<>"):
+            raise Wrong(word.column + word.find(part), f"{part!r} can't stand beside |")
+    return parts
+
+
+def number(word, form):
+    """What stands for a number of a form: its text, or a test; None if no number of the form is meant."""
+    bound = BOUND.fullmatch(word)
+    if bound and DECIMAL.fullmatch(bound[2]):
+        compare, to = COMPARED[bound[1]], int(bound[2])
+        if any(compare(it, to) for it in (form.low, form.high)):
+            return lambda it: compare(int(it), to)
+        return None
+    word = word[1:] if word[0] == "=" else word
+    if word.upper() in form.names:
+        found = form.names[word.upper()]
+        return str(found) if found in form.values else None
+    return word if DECIMAL.fullmatch(word) and int(word) in form.values else None
+
+
+# ---- what is said of a word that can't be
+
+
+def meant(word, names):
+    hint = hints.meant(word, names)
+    return f"; {hint}" if hint else ""
+
+
+def fault_of(word, forms, declared):
+    """What is wrong with a word at a place of some forms."""
+    wanted = " or ".join(dict.fromkeys(form.says for form in forms))
+    named = next((form for form in forms if getattr(form, "names", None)), None)
+    if all(isinstance(form, transcript.Kind) for form in forms):
+        if word in (*transcript.KEPT, *transcript.UNQUEUED):
+            return f"this holds whatever happens: nothing of the kind {word} is ever dropped"
+        kinds = [form.word for form in forms]
+        return f"{shorter(word)} is no kind of callback there" + (meant(word, kinds) or f"; there {'is' if len(kinds) == 1 else 'are'} {', '.join(kinds)}")
+    if named and not BOUND.match(word) and not DECIMAL.fullmatch(word):
+        near = hints.nearest(word, named.names)
+        return f"{shorter(word)} is no {named.says.split(' ', 1)[1]}: " + (f"did you mean {near}?" if near else f"there are {', '.join(names_of(named))}")
+    if word in NAMED:
+        return f"{word} is the name of a number, and no variable; {wanted} is wanted: write the number"
+    if declared is not None and any(isinstance(form, transcript.Name) for form in forms):
+        return undeclared(word, forms, declared)
+    if BOUND.match(word):
+        compares = all(isinstance(form, transcript.Number) for form in forms) and DECIMAL.fullmatch(BOUND.match(word)[2])
+        return f"{shorter(word)} holds of no number that can stand there: {wanted}" if compares else f"{shorter(word)} compares with no number; {wanted} is wanted"
+    return f"{shorter(word)} can't stand there: {wanted} is wanted{ranged(forms)}"
+
+
+def names_of(form):
+    """The names that stand for numbers which a form has, each once."""
+    return [name for name, it in form.names.items() if it in form.values and not name.startswith("ERROR_")]
+
+
+def ranged(forms):
+    """The numbers that may stand at a place, if they are few."""
+    values = {it for form in forms for it in (form.values if isinstance(getattr(form, "values", None), frozenset) else ())}
+    return f", one of {', '.join(map(str, sorted(values)))}" if len(values) > 2 else ""
+
+
+def undeclared(word, forms, declared):
+    kinds = {kind for form in forms if isinstance(form, transcript.Name) for kind in form.kinds}
+    if VARIABLE.fullmatch(word) and word in declared:
+        return f"{word} is declared, and here a variable; ={word} is the name"
+    name = word.lstrip("=")
+    if name in declared:
+        kind = declared[name]
+        return f"{name} is {transcript.article(noun(kind))}, and here the name of {' or '.join(transcript.article(noun(it)) for it in sorted(kinds))} is wanted"
+    return f"the document declares no {shorter(name)}" + meant(name, [it for it, kind in declared.items() if kind in kinds])
+
+
+def noun(kind):
+    return "topic" if kind == "topics" else grammar.ENTITIES[kind]
