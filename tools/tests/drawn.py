@@ -1,9 +1,15 @@
 """What picture draws: every callback and drop of every example in a box with its lines, a line to each from what sent it, and a bar
 for each goal; and the two pictures of the docs."""
 import collections
+import sys
 import xml.etree.ElementTree as tree
 
+from virraupez import picture, scene
+
 from . import tool
+
+sys.path.insert(0, str(tool.TOP / "cases"))
+import executor
 
 SVG = "{http://www.w3.org/2000/svg}"
 KINDS = ("timer", "message", "request, reply", "action", "dropped")
@@ -53,6 +59,8 @@ def answers(_program):
     for name, words in PICTURES.items():
         yield f"docs/pictures/{name}.svg", drawn(name, *words), (0, (tool.TOP / "docs/pictures" / f"{name}.svg").read_text())
     yield from of_rounds()
+    yield from of_many_rounds()
+    yield from of_others()
     yield from of_words()
 
 
@@ -64,6 +72,43 @@ def of_rounds():
     yield "the goals of rounds 5 to 6", parts(text)[2:], (1, 2)
     status, text = drawn("robot", "--rounds", "21-")
     yield "the callbacks of the last round", (status, parts(text)[0]), (0, ["run laser timer 24 0", "run wheels timer 24 0", "run slow_down reply 3 3"])
+
+
+def of_many_rounds():
+    """The heads of a picture of many rounds are those of its columns, and no stripe is painted over one."""
+    document = {"version": 1, "nodes": [{"name": "n", "timers": [{"name": "t", "period": 7}]}], "moments": list(range(1, 7000, 7))}
+    for first, last in ((1, 60), (1, 61), (1, 120), (95, 320), (301, 1000)):
+        shown = scene.Scene(document, first, last)
+        shown.take(iter(executor.lines_of(document)))
+        root = tree.fromstring(picture.Picture(shown).svg())
+        parts = [it for it in root if it.get("class") == "stripe" or it.tag == SVG + "text" and it.get("y") == "38"]
+        stripes = [at for at, it in enumerate(parts) if it.get("class") == "stripe"]
+        heads = [(it.text.split(" ")[-1], float(it.get("x"))) for it in parts if it.tag == SVG + "text"]
+        wide, every, inset = (124, 1, 62) if last - first < 60 else (16, 10, 0)
+        should = [(str(number), 150 + wide * (number - first) + inset) for number in range(first, last + 1, every)]
+        yield f"the heads of rounds {first} to {last}", heads, should
+        yield f"what is painted over the heads of rounds {first} to {last}", stripes, list(range(len(stripes)))
+
+
+def of_others():
+    """A document whose run this isn't, and a transcript without its end, are told at their places, and nothing is drawn."""
+    for name, other, told in (
+        ("robot", "timer", "examples/timer.txt:1:1: in the document round 1 is at moment 4: examples/robot.json isn't"),
+        ("timer", "two_timers", "examples/two_timers.txt:1:1: in the document round 1 is at moment 0: examples/timer.json isn't"),
+        ("cancel_by_stamp", "cancel_by_identifier", "examples/cancel_by_identifier.txt:"),
+    ):
+        status, text = tool.run("picture", f"examples/{name}.json", f"examples/{other}.txt")
+        yield f"picture of {other} with {name}: {text}", (status, text.startswith(told), text.count("\n")), (2, True, 1)
+    lines = (tool.TOP / "examples/robot.txt").read_text().splitlines(True)
+    for change, told in (
+        (lines[:60], "-:61:1: the line `end` is missing"),
+        ([*lines[:60], "log ticks"], "-:61:1: the transcript is cut off within a line"),
+        ([lines[0], lines[1].replace("laser", "lasr"), *lines[2:]], "-:2:1: the document has no timer lasr"),
+        ([lines[0], lines[1].replace("laser timer", "laser message"), *lines[2:]], "-:2:1: the document has no subscription laser"),
+        ([it for it in lines if it[:8] != "round 21" and it[:3] != "end"][:175] + ["end 20\n"], ": the document has 21 moments"),
+    ):
+        status, text = tool.run("picture", "examples/robot.json", "-", given="".join(change).encode())
+        yield f"picture of a changed transcript: {text}", (status, told in text, text.count("\n")), (2, True, 1)
 
 
 def of_words():

@@ -114,15 +114,17 @@ class Picture:
         return "\n".join(self.parts) + "\n"
 
     def grid(self):
+        """The stripes and the heads of the columns. A head may be wider than its column, so all stripes come before."""
         every = 1 if self.scale.wordy else 10
-        for at, (number, moment) in enumerate(self.scene.columns):
-            if at % 2 and self.scale.wordy or at // 10 % 2 and not self.scale.wordy:
+        for at in range(len(self.scene.columns)):
+            if at // every % 2:
                 self.add(f'<rect class="stripe" x="{self.x(at)}" y="24" width="{self.scale.column}" height="{self.height - 60}"/>')
-            if at % every == 0:
-                middle = self.x(at) + (self.scale.column / 2 if self.scale.wordy else 0)
-                anchor = ' text-anchor="middle"' if self.scale.wordy else ""
-                self.words(middle, 38, f"round {number}" if self.scale.wordy or at == 0 else number, "head", anchor)
-                self.words(middle, 52, f"at {moment}" if self.scale.wordy or at == 0 else moment, "small", anchor)
+        for at in range(0, len(self.scene.columns), every):
+            number, moment = self.scene.columns[at]
+            middle = self.x(at) + (self.scale.column / 2 if self.scale.wordy else 0)
+            anchor = ' text-anchor="middle"' if self.scale.wordy else ""
+            self.words(middle, 38, f"round {number}" if self.scale.wordy or at == 0 else number, "head", anchor)
+            self.words(middle, 52, f"at {moment}" if self.scale.wordy or at == 0 else moment, "small", anchor)
 
     def row(self, row, node, group, kind):
         top = self.tops[row]

@@ -51,8 +51,9 @@ class Scene:
     def is_shown(self):
         return self.first <= self.flow.round <= self.last
 
-    def read(self, name):
-        self.take(transcript.lines(name))
+    def read(self, name, own):
+        """Reads a transcript that must be one of a document."""
+        self.take(transcript.lines(name, own))
 
     def take(self, lines):
         for number, line in enumerate(lines, 1):

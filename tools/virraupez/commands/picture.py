@@ -2,9 +2,9 @@
 took it, and a bar a goal. docs/picture.md says how to read one."""
 import argparse
 
-from .. import command, flow, grammar, picture, scene
+from .. import command, fit, flow, grammar, picture, scene
 
-STATUS = "The status is 0, and 2 if there is nothing to draw."
+STATUS = "The status is 0, and 2 if there is nothing to draw: a file is wrong, cut off or another run's, or hasn't these rounds."
 
 
 def rounds_of(text):
@@ -26,8 +26,9 @@ def parser(prog=None):
 
 
 def run(asked, out):
-    shown = scene.Scene(flow.read_document(asked.document), *asked.rounds)
-    shown.read(asked.transcript)
+    document = flow.read_document(asked.document)
+    shown = scene.Scene(document, *asked.rounds)
+    shown.read(asked.transcript, fit.Own(asked.document, document))
     if not shown.columns:
         raise command.Trouble(f"there are no rounds {asked.rounds[0]} to {asked.rounds[1]}: the transcript has {shown.rounds}")
     if shown.rounds > asked.rounds[1] and asked.rounds == (1, scene.ROUNDS):
