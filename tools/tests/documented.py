@@ -1,18 +1,13 @@
 """That the pages are right: commands with their output, scripts and programs in them, links, and the notices that are asked for."""
 import contextlib
 import io
-import json
 import re
 import shlex
-import sys
 
 import virraupez
 from virraupez import report, transcript
 
-from . import tool
-
-sys.path.insert(0, str(tool.TOP / "cases"))
-import executor
+from . import cooked, tool
 
 # The pages whose blocks are tried; links are followed in all.
 PAGES = sorted((tool.TOP / "docs").glob("*.md"))
@@ -36,23 +31,6 @@ def scripts(page):
     return re.findall(r"^```script (\w+)\n(.*?)^```$", page.read_text(), re.S | re.M)
 
 
-def around(**given):
-    """A document with a server, its client, a timer and a subscription, in which some scripts are others."""
-    scripts = {"timer": "goal driver 5", "callback": "log in", "on_goal": "decide 2", "goal": "succeed in", "on_result": "log aux", **given}
-    made = virraupez.Document(topics=["x", "y"])
-    node = made.node("n")
-    node.timer("tick", period=10, script=scripts["timer"])
-    node.subscription("listen", topic="x", script=scripts["callback"])
-    node.action("drive", on_goal=scripts["on_goal"], on_cancel="decide 2", script=scripts["goal"])
-    node.action_client("driver", action="drive", on_result=scripts["on_result"])
-    made.every(1, until=70, begin=1)
-    return made
-
-
-def lines(made):
-    return executor.lines_of(json.loads(made.text()))
-
-
 def answers(_program):
     for page in PAGES:
         for command, output in commands(page):
@@ -60,7 +38,7 @@ def answers(_program):
             if words[0].startswith("tools/"):
                 yield f"{page.name}: {command}", tool.run(words[0][len("tools/") :], *words[1:])[1], output
         for role, text in scripts(page):
-            told = report.Report(around(**{role: text}).text().encode())
+            told = report.Report(cooked.around(**{role: text}).text().encode())
             yield f"{page.name}: the script of a {role} {text!r}", told.code, 0
         for program in blocks(page, "python"):
             yield f"{page.name}: the program {program!r}", written(program), 0
@@ -69,7 +47,6 @@ def answers(_program):
             yield f"{page.name}: the link {link}", (page.parent / link).exists(), True
     yield from toured()
     yield "mistakes.md", (tool.TOP / "docs/mistakes.md").read_text(), mistakes()
-    yield from recipes()
     yield from notices()
 
 
@@ -114,61 +91,6 @@ def written(program):
     except virraupez.DocumentError as wrong:
         return str(wrong)
     return report.Report(out.getvalue().encode()).code
-
-
-# ---- what the recipes of the cookbook do
-
-
-def recipe(heading):
-    """The scripts below a heading of the cookbook."""
-    text = (tool.TOP / "docs/cookbook.md").read_text()
-    part = text.split(f"## {heading}\n", 1)[1].split("\n## ", 1)[0]
-    return dict(re.findall(r"^```script (\w+)\n(.*?)^```$", part, re.S | re.M))
-
-
-def count(made, begin):
-    return sum(line.startswith(begin) for line in lines(made))
-
-
-def statuses(made):
-    return [line.rsplit(" ", 1)[1] for line in lines(made) if line.startswith("state ")]
-
-
-def recipes():
-    made = around(**recipe("If and else"))
-    for value in (9, 10):
-        made.message("x", value, at=value)
-    yield "if and else", [line for line in lines(made) if line.startswith("log listen")], ["log listen 0", "log listen 1"]
-    once = around(timer=recipe("Something once")["callback"])
-    yield "something once", count(once, "goal "), 1
-    third = around(callback=recipe("Every third message")["callback"].replace("pub x", "pub y"), timer="pub x now")
-    yield "every third message", [line for line in lines(third) if line.startswith("pub y")], ["pub y 30", "pub y 60"]
-    loop = around(**recipe("A loop"), timer=recipe("Something once")["callback"])
-    yield "a loop", count(loop, "feedback "), 5
-    late = around(**recipe("A deadline"), timer=recipe("Something once")["callback"])
-    yield "a deadline", (statuses(late), count(late, "feedback ")), (["1", "2", "6"], 20)
-    again = around(**recipe("Retries"), goal="abort in", timer=recipe("Something once")["callback"].replace("g7", "g6"))
-    yield "retries", statuses(again), ["1", "2", "6"] * 3
-    alone = around(**recipe("One goal at a time"), timer="goal driver 1\ngoal driver 2")
-    decisions = [line.rsplit(" ", 1)[1] for line in lines(alone) if line.startswith("decide ")]
-    yield "one goal at a time", decisions[:6], ["2", "1", "2", "1", "2", "1"]
-    machine = around(**recipe("A state machine"))
-    for at in (5, 6, 7):
-        machine.message("x", 0, at=at)
-    yield "a state machine", [line for line in lines(machine) if line.startswith("pub ")], ["pub x 1", "pub x 0"]
-    yield from of_cancellation()
-    watch = around(**recipe("A watchdog"))
-    watch.message("x", 0, at=5)
-    yield "a watchdog", [line for line in lines(watch) if line.startswith("pub ")][:1], ["pub x -1"]
-
-
-def of_cancellation():
-    heard = around(**recipe("A goal that hears of its cancellation"), timer=recipe("Something once")["callback"])
-    heard.cancel("drive", at=15)
-    yield "a goal that hears of its cancellation", statuses(heard), ["1", "2", "3", "5"]
-    deaf = around(goal="wait 3\ncanceled 1", timer=recipe("Something once")["callback"])
-    deaf.cancel("drive", at=15)
-    yield "a goal that ends in the round of its cancellation", statuses(deaf), ["1", "2", "3", "6"]
 
 
 # ---- notices
