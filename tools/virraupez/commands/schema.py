@@ -1,4 +1,4 @@
-"""schema: writes the JSON Schema of documents, docs/document.schema.json, or with --strict docs/document.strict.schema.json,
+"""schema: writes the JSON Schema of documents, docs/document.schema.json. With --strict it is docs/document.strict.schema.json,
 which takes no unknown fields. Both are made from the tables of the grammar that explain reads documents by."""
 import json
 

@@ -1,6 +1,6 @@
-"""write: runs a Python program that can `import virraupez`, the module with which documents are written without counting. What the
-program writes goes to standard output once its document is there. One that the executor would refuse isn't written: what is wrong
-is told at the program's lines, as explain tells it.
+"""write: runs a Python program that writes a document, by `import virraupez`, the module with which documents are written without
+counting. What the program writes goes to standard output once its document is there. One that the executor would refuse isn't
+written: what is wrong is told at the program's lines, as explain tells it.
 
 Words after the program's name are its own; those that begin with - come after a --. With --script, FILE is a script with labels,
 and its instructions are written as a document has them. docs/write.md has both."""

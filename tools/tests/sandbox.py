@@ -1,0 +1,35 @@
+"""A copy of the repository's tools and documents in a folder of its own, in which ./exec_run is the program that is tested. So what
+is run there builds nothing, and leaves nothing in the repository."""
+import contextlib
+import pathlib
+import shutil
+import tempfile
+
+from . import tool
+
+FOLDERS = ("tools", "docs", "examples")
+FILES = ("virraupez", "VERSION", "README.md", "CHANGELOG.md", "CONTRIBUTING.md")
+
+
+def left_out(folder, names):
+    """What no copy needs: the tests, with all that stands beside them."""
+    return [name for name in names if name in ("tests", "__pycache__") and pathlib.Path(folder).name in ("tools", "virraupez", "commands")]
+
+
+@contextlib.contextmanager
+def of(script):
+    """The copy, with a program of the shell as ./exec_run."""
+    with tempfile.TemporaryDirectory() as folder:
+        top = pathlib.Path(folder) / "virraupez"
+        for name in FOLDERS:
+            shutil.copytree(tool.TOP / name, top / name, ignore=left_out)
+        (top / "cases").mkdir()
+        for path in [*(tool.TOP / name for name in FILES), *(tool.TOP / "cases").glob("*.py")]:
+            shutil.copy2(path, top / path.relative_to(tool.TOP))
+        (top / "exec_run").write_text(f"#!/bin/sh\n{script}\n")
+        (top / "exec_run").chmod(0o755)
+        yield top
+
+
+def with_program(program):
+    return of(f"exec '{program}' \"$@\"")

@@ -1,0 +1,117 @@
+"""run: runs a document and writes its transcript. The proved program does that, as ./exec_run starts it: if no program of these
+sources is at hand, it is proved and built first, which takes some 20 minutes. If the document is refused, the places of its
+faults are told, as explain tells them.
+
+The proved program is for Linux on x86-64. With --reference an executor in Python runs the document, on any machine. It is
+written apart from the program, by docs/rules.md alone. Nothing of it is proved; tests compare both byte by byte."""
+import argparse
+import pathlib
+import platform
+import subprocess
+import sys
+
+from .. import command, grammar
+
+STATUS = "The status is 0, 1 if the document is refused, and 2 if it can't be run."
+TOP = pathlib.Path(__file__).resolve().parent.parent.parent.parent
+CHUNK = 1 << 20
+REFUSED = 1
+
+
+def parser(prog=None):
+    made = command.parser(__doc__, STATUS, prog)
+    made.add_argument("document", metavar="DOCUMENT", help="a document; - is standard input")
+    workers = "how many workers run the callbacks of a round at most, 1 to 64; 1 if it isn't given. The transcript is the same"
+    made.add_argument("--workers", metavar="N", type=number_up_to(64), default=1, help=workers)
+    quantum = "how many callbacks a worker runs at a time at most, 1 to 1024; 1 if it isn't given. The transcript is the same"
+    made.add_argument("--quantum", metavar="N", type=number_up_to(1024), default=1, help=quantum)
+    made.add_argument("--reference", action="store_true", help="run it by the executor in Python, of which nothing is proved")
+    return made
+
+
+def number_up_to(most):
+    def number(text):
+        if not grammar.is_number(text) or not 1 <= int(text) <= most:
+            raise argparse.ArgumentTypeError(f"a number from 1 to {most}, and not {text[:40]!r}")
+        return int(text)
+
+    return number
+
+
+def run(asked, out):
+    with command.source(asked.document) as stream:
+        given = stream.read(grammar.MOST_BYTES + 1)
+    if len(given) > grammar.MOST_BYTES:
+        raise command.Trouble(f"{command.shown(asked.document)}: more than {grammar.MOST_BYTES} bytes; the program reads no longer document")
+    refused = by_reference(given, out) if asked.reference else by_program(asked, given, out)
+    if refused:
+        tell_faults(asked.document, given)
+    return command.FOUND if refused else command.FINE
+
+
+def tell_faults(name, given):
+    """Tells the places of a document's faults on standard error."""
+    from .. import report
+
+    told = report.Report(given)
+    if told.code:
+        command.note(*report.lines(told, name))
+
+
+# ---- the proved program
+
+
+def by_program(asked, given, out):
+    """Runs a document by ./exec_run; True if it was refused."""
+    demand_machine()
+    words = [str(TOP / "exec_run"), str(asked.workers), str(asked.quantum)]
+    program = subprocess.Popen(words, stdin=subprocess.PIPE, stdout=subprocess.PIPE)
+    try:
+        feed(program.stdin, given)
+        for chunk in iter(lambda: program.stdout.read1(CHUNK), b""):
+            out.write(chunk.decode("ascii"))
+        status = program.wait()
+    finally:
+        # If nobody takes the transcript, the program ends without a word of its own.
+        program.kill()
+        program.wait()
+    if status not in (0, REFUSED):
+        raise command.Trouble(f"./exec_run ended with the status {status}: there is no transcript")
+    return status == REFUSED
+
+
+def demand_machine():
+    system, machine = platform.system(), platform.machine()
+    if system != "Linux" or machine not in ("x86_64", "amd64"):
+        raise command.Trouble(
+            f"the proved program is for Linux on x86-64, and this is {system} on {machine}",
+            "--reference runs the document by an executor in Python, written apart from the program; nothing of it is proved",
+        )
+
+
+def feed(stream, given):
+    """Gives the program its document. One that ended before it had read all says by its status what was wrong."""
+    try:
+        stream.write(given)
+        stream.close()
+    except BrokenPipeError:
+        pass
+
+
+# ---- the executor in Python
+
+
+def by_reference(given, out):
+    """Runs a document by cases/executor.py; True if it was refused."""
+    sys.path.insert(0, str(TOP / "cases"))
+    import codes
+    import executor
+
+    try:
+        lines = executor.transcript(given)
+    except codes.Refused as refused:
+        command.note(f"refused {refused.args[0]}")
+        return True
+    command.note("run: this is the transcript of the executor in Python, and not of the proved program")
+    out.write("".join(f"{line}\n" for line in lines))
+    return False

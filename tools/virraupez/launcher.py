@@ -1,0 +1,74 @@
+"""virraupez: runs robot programs that are documents: nodes, topics, timers, services and actions, whose callbacks run as those of
+a ROS 2 executor do. A run is a transcript, which is the same bytes each time, whatever the number of workers.
+
+Each command is a tool of `commands`. Its module is read if it is asked for, and no other, so that a run begins at once."""
+import argparse
+import pathlib
+
+from . import command, commands, hints
+
+TOP = pathlib.Path(__file__).resolve().parent.parent.parent
+NAME = "virraupez"
+ABOUT = __doc__.partition(": ")[2].split("\n\n")[0]
+MORE = """A file's name may be - for standard input or output. A fault begins with FILE:LINE:COLUMN, as editors find it. Colours are for
+terminals alone, and NO_COLOR turns them off. tools/NAME is each command by itself, and tools/differ is diff."""
+STATUS = "The status is 0 if all is well, 1 if something is wrong or differs, and 2 if the work can't be done."
+
+
+class Overview:
+    """What is asked for if no command is: help, the version, or a command that there isn't."""
+
+    @staticmethod
+    def parser(prog=NAME):
+        made = command.Parser(
+            prog=prog,
+            usage="%(prog)s COMMAND [WORD ..]\n       %(prog)s COMMAND --help",
+            description=f"{ABOUT[0].upper()}{ABOUT[1:]}\n\ncommands:\n{rows()}",
+            epilog=f"{MORE}\n\n{STATUS}",
+            formatter_class=argparse.RawDescriptionHelpFormatter,
+        )
+        made.add_argument("--version", action=Version, nargs=0, help="write the version and end")
+        made.add_argument("command", metavar="COMMAND", type=known, help="one of these commands")
+        return made
+
+
+class Version(argparse.Action):
+    """Writes the version, which is that of the file VERSION, and ends."""
+
+    def __call__(self, parser, *_):
+        parser.exit(command.main(Told((TOP / "VERSION").read_text()), [], NAME))
+
+
+class Told:
+    """A tool that writes a text."""
+
+    def __init__(self, text):
+        self.text = text
+
+    def parser(self, prog):
+        return command.parser(f"{prog}: writes its version", "", prog)
+
+    def run(self, _asked, out):
+        out.write(f"{NAME} {self.text}")
+        return command.FINE
+
+
+def rows():
+    """A row for each command."""
+    from . import vocabulary
+
+    return "\n".join(f"  {it.name:12}{it.says}" for it in vocabulary.all_commands())
+
+
+def known(name):
+    near = hints.meant(name, commands.NAMES)
+    raise argparse.ArgumentTypeError(f"{name[:60]!r} is no command; {near}".rstrip("; "))
+
+
+def main(words):
+    """Runs a command, and gives its status."""
+    if words[:1] == ["help"]:
+        words = [*words[1:2], "--help"]
+    if words and words[0] in commands.NAMES:
+        return command.main(commands.tool(words[0]), words[1:], f"{NAME} {words[0]}")
+    return command.main(Overview, words, NAME)
