@@ -50,9 +50,9 @@ def answers(_program):
     yield from notices()
 
 
-MISTAKES = """# 48 mistakes
+MISTAKES = """# 100 mistakes
 
-Each stands as a document in `tools/tests/mistakes`, made of one that is right by one change, beside all that [explain](explain.md) tells of it. These are the lines of the mistake itself.
+Each is a document in `tools/tests/mistakes`, made from `tools/tests/right.json` by one change. Beside it is all that [explain](explain.md) tells of it. This table has the lines of the mistake itself. Each advice was followed: the document is then accepted, or its next fault is another one (`tools/tests/advised.py`).
 
 | Mistake | Where | What is told |
 |---|---|---|

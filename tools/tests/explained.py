@@ -8,24 +8,37 @@ EMPTY = {"empty.json": "{0}: not refused: 0 rounds, 1 warning\n{0}:1:1: warning:
 
 
 def answers(_program):
-    for document in sorted((tool.TESTS / "mistakes").glob("*.json")):
-        yield f"explain {document.name}", tool.run("explain", tool.text(document))[1], document.with_suffix(".told").read_text()
-    for document in sorted((tool.TOP / "examples").glob("*.json")):
-        rounds = len(json.loads(document.read_text()).get("moments", []))
-        should = EMPTY.get(document.name, f"{{0}}: not refused: {rounds} {'round' if rounds == 1 else 'rounds'}, no warning\n")
-        yield f"explain {document.name}", tool.run("explain", tool.text(document)), (0, should.format(tool.text(document)))
-    yield from as_json()
+    mistakes, examples = sorted((tool.TESTS / "mistakes").glob("*.json")), sorted((tool.TOP / "examples").glob("*.json"))
+    # One run has all, so that it is told too that a document changes nothing of what is told of the next.
+    status, told = tool.run("explain", *map(tool.text, mistakes))
+    yield "the status of explain of all mistakes", status, 1
+    for document in mistakes:
+        should = document.with_suffix(".told").read_text()
+        yield f"explain {document.name}", told[: len(should)], should
+        told = told[len(should) :]
+    yield "what explain tells of no mistake", told, ""
+    should = "".join(EMPTY.get(it.name, "{0}: not refused: {1}, no warning\n").format(tool.text(it), rounds_of(it)) for it in examples)
+    yield "explain of all examples", tool.run("explain", *map(tool.text, examples)), (0, should)
+    yield from as_json(mistakes)
     yield from of_words()
 
 
-def as_json():
-    """JSON says what the text says."""
-    for document in sorted((tool.TESTS / "mistakes").glob("*.json")):
-        told = json.loads(tool.run("explain", "--json", document)[1])
+def rounds_of(document):
+    rounds = len(json.loads(document.read_text()).get("moments", []))
+    return f"{rounds} {'round' if rounds == 1 else 'rounds'}"
+
+
+def as_json(mistakes):
+    """JSON says what the text says: an object for each document, one after the other."""
+    text = tool.run("explain", "--json", *map(tool.text, mistakes))[1]
+    for document in mistakes:
+        told, end = json.JSONDecoder().raw_decode(text)
+        text = text[end:].lstrip()
         first = (told["places"] or told["warnings"])[0]
         lines = document.with_suffix(".told").read_text().split("\n")
         line = lines[0] if told["code"] else lines[1]
-        yield f"explain --json {document.name}", f"{tool.text(document)}:{first['line']}:{first['column']}:", line.split(" ")[0]
+        yield f"explain --json {document.name}", f"{told['file']}:{first['line']}:{first['column']}:", line.split(" ")[0]
+    yield "what explain --json tells of no document", text, ""
 
 
 def of_words():

@@ -36,18 +36,20 @@ def fields_of(value, form, path=()):
         if name in forms:
             yield from fields_of(value[name], forms[name], path + (name,))
         else:
-            yield unknown_field(name, of, path)
+            yield unknown_field(name, of, path, value)
     for name in sorted(getattr(value, "twice", ())):
         yield warning(path + (name,), f"`{name}` stands more than once in this object, and the last one counts", at=NAME)
 
 
-def unknown_field(name, of, path):
+def unknown_field(name, of, path, fields):
     text = f"{article(of)} has no field `{clipped(name)}`: it is ignored"
     owners = [plural(form) for form, fields in g.OBJECTS.items() if name in fields]
-    hint = f"{hints.FIELDS[name.lower()]} stands for it here" if name.lower() in hints.FIELDS else ""
-    if owners:
+    meant = next((it for it in hints.FIELDS.get(name.lower(), ()) if it in g.OBJECTS[of] and it not in fields), None)
+    hint = f"rename `{clipped(name)}` to `{meant}`" if meant else hints.REMARKS.get(name.lower(), "")
+    if owners and not meant:
         hint = f"it is a field of {', '.join(owners)}; {article(of)} has {', '.join(g.OBJECTS[of])}"
-    return warning(path + (name,), text, hint, g.OBJECTS[of] if not owners else (), NAME)
+    near = () if owners else [it for it in g.OBJECTS[of] if it not in fields]
+    return warning(path + (name,), text, hint, near, NAME)
 
 
 def clipped(text, most=60):
@@ -111,10 +113,10 @@ def undecided(script):
     decisions = script.words("decide")
     if script.instructions and not decisions:
         yield warning(script.path, f"no `decide` is reached: {refuses}", '["decide", 2] accepts')
-    lawful = (1, 2, 3) if script.name == "on_goal" else (1, 2)
+    lawful = {1: "rejects", 2: "accepts", 3: "accepts and defers"} if script.name == "on_goal" else {1: "refuses", 2: "accepts"}
     for at, it in enumerate(script.instructions):
         if it[0] == "decide" and not g.is_text(it[1]) and it[1] not in lawful:
-            yield warning(script.path + (at, 1), f"a decision of {it[1]} counts as 1: {refuses.replace('every', 'the')}", f"decisions are {lawful}")
+            yield warning(script.path + (at, 1), f"a decision of {it[1]} counts as 1: {refuses.replace('every', 'the')}", ", ".join(f"{number} {does}" for number, does in lawful.items()))
 
 
 ENDLESS, END_IT = "no ending is reached: its goals never end", "succeed, abort and canceled end a goal"
@@ -135,7 +137,7 @@ class Traffic:
     """What scripts and the feed send to topics and servers, and through clients."""
 
     def __init__(self, declared):
-        self.sent, self.scripts, self.clients = {}, [], {}
+        self.sent, self.scripts, self.clients, self.named = {}, [], {}, set()
         for entity in declared.entities:
             if entity.refers_to() is not None and entity.name is not None:
                 self.clients.setdefault((entity.kind, entity.refers_to()), []).append(entity.name)
@@ -143,6 +145,9 @@ class Traffic:
                 self.scripts.append(script)
                 for word, *items in script.words("pub", "call", "goal", "cancel"):
                     self.sent.setdefault(word, set()).add(items[0])
+            for field in g.SCRIPTS[entity.kind]:
+                if field in entity.fields and all(it.name != field for it in self.scripts if it.entity is entity):
+                    self.named.update(texts(entity.fields[field]))
         for _, entry in declared.feed:
             field = form_of(entry, "entry")
             name = entry.get("topic" if field == "message" else "action")
@@ -150,11 +155,21 @@ class Traffic:
                 self.sent.setdefault(f"fed {field}", set()).add(name)
 
     def has(self, name, *words):
-        return any(name in self.sent.get(word, ()) for word in words)
+        """Whether something is sent to a name by some words. A script with a fault may send to each name in it."""
+        return name in self.named or any(name in self.sent.get(word, ()) for word in words)
 
     def through(self, kind, name, word):
         """Whether a client of a service or a server sends to it."""
         return any(self.has(client, word) for client in self.clients.get((kind, name), ()))
+
+
+def texts(value):
+    """The words of all texts in a value of lists."""
+    if isinstance(value, list):
+        for item in value:
+            yield from texts(item)
+    elif g.is_text(value):
+        yield from value.split()
 
 
 def unfed(declared, traffic):
@@ -195,13 +210,13 @@ def servers(declared, traffic):
     for entity in declared.entities:
         if entity.kind != "actions":
             continue
-        if not entity.fields.get("on_goal"):
-            yield warning(entity.path, "there is no `on_goal`: every goal request is rejected", 'an `on_goal` of [["decide", 2]] accepts', missing="on_goal")
+        if entity.fields.get("on_goal", []) == []:
+            yield warning(entity.path, "there is no `on_goal`: every goal request is rejected", 'add "on_goal": [["decide", 2]], which accepts', missing="on_goal")
         if "script" not in entity.fields:
             yield warning(entity.path, ENDLESS, END_IT, missing="script")
         canceled = traffic.has(entity.name, "fed cancel request") or traffic.through("action_clients", entity.name, "cancel")
-        if not entity.fields.get("on_cancel") and canceled:
-            yield warning(entity.path, "there is no `on_cancel`: every cancel request is refused", 'an `on_cancel` of [["decide", 2]] accepts', missing="on_cancel")
+        if entity.fields.get("on_cancel", []) == [] and canceled:
+            yield warning(entity.path, "there is no `on_cancel`: every cancel request is refused", 'add "on_cancel": [["decide", 2]], which accepts', missing="on_cancel")
 
 
 def moments(declared):

@@ -3,8 +3,11 @@
 They go over a value that json_text has read, and over what it declares. A part of a wrong form counts as a fault of Shape, and
 as missing for all greater codes."""
 import itertools
+import json
+import re
 
 from . import grammar as g
+from . import repairs
 
 VALUE, NAME = "value", "name"
 
@@ -23,17 +26,33 @@ class Fault:
 
 # ---- 2: forms
 
+# What is wanted in some fields, which is less than their form.
+TICKS = f"ticks, an integer from 0 to {g.LATEST}"
+WANTED = {
+    "version": "1, the only version",
+    "period": f"ticks, an integer from 1 to {g.LATEST}",
+    "depth": f"an integer from 1 to {g.DEPTH}",
+    "round": "the number of a round, an integer from 1",
+    "result_timeout": TICKS,
+    "stamp": TICKS,
+    "moments": TICKS,
+}
 
-def wanted_of(form):
+
+def wanted_of(form, path=()):
     if isinstance(form, list):
         if form == g.SCRIPT:
             return "a script: a list of instructions"
-        return "an instruction: a list" if form == ["word"] else f"a list of {plural(form[0])}"
-    return g.SINGLE[form][1] if form in g.SINGLE else f"{article(form)}: an object"
+        return "an instruction: a list" if form == ["word"] else f"a list of {plural(form[0]) if form[0] in g.OBJECTS or form[0] == 'entry' else LISTED[path[-1]]}"
+    name = next((it for it in reversed(path) if isinstance(it, str)), "")
+    return WANTED.get(name, g.SINGLE[form][1]) if form in g.SINGLE else f"{article(form)}: an object"
+
+
+LISTED = {"topics": "names", "moments": "moments, in ticks"}
 
 
 def article(noun):
-    return f"{'an' if noun[0] in 'aeiou' else 'a'} {noun}"
+    return repairs.article(noun)
 
 
 def plural(noun):
@@ -47,10 +66,19 @@ def has(value, form):
     return g.SINGLE[form][0](value) if form in g.SINGLE else isinstance(value, dict)
 
 
-def shape(value, form, path=()):
+def misshapen(value, form, path, owner=None):
+    """The fault of a value of another form."""
+    return Fault(2, path, wanted_of(form, path), lambda: repairs.of_value(value, form, path, owner), form=form)
+
+
+def shape(value, form, path=(), owner=None):
     """Each fault of a value's form."""
     if not has(value, form):
-        yield Fault(2, path, wanted_of(form), form=form)
+        yield misshapen(value, form, path, owner)
+    elif form == g.SCRIPT and repairs.flat(value):
+        made = repairs.flat(value)
+        hint = repairs.write(made, "an instruction is a list in the script's list", repairs.LISTED)
+        yield Fault(2, path, wanted_of(form), hint, form=form)
     elif isinstance(form, list):
         yield from list_shape(value, form[0], path)
     elif form == "entry":
@@ -62,16 +90,25 @@ def shape(value, form, path=()):
 def list_shape(items, form, path):
     if form == ["word"]:
         for at, item in enumerate(items):
-            if not g.is_instruction(item):
-                yield from shape(item, form, path + (at,))
+            if not isinstance(item, list):
+                yield misshapen(item, form, path + (at,))
+            elif not g.is_instruction(item):
+                yield from instruction_shape(item, path + (at,))
     elif isinstance(form, str) and form in g.SINGLE:
-        test, wanted = g.SINGLE[form]
+        test = g.SINGLE[form][0]
         for at, item in enumerate(items):
             if not test(item):
-                yield Fault(2, path + (at,), wanted, form=form)
+                yield misshapen(item, form, path + (at,))
     else:
         for at, item in enumerate(items):
             yield from shape(item, form, path + (at,))
+
+
+def instruction_shape(items, path):
+    test, wanted = g.SINGLE["word"]
+    for at, item in enumerate(items):
+        if not test(item):
+            yield Fault(2, path + (at,), wanted, lambda at=at: repairs.of_word(items, at), form="word")
 
 
 def object_shape(fields, form, path):
@@ -79,10 +116,11 @@ def object_shape(fields, form, path):
     for name in g.REQUIRED[form]:
         if name not in fields:
             others = [other for other in fields if other not in forms]
-            yield Fault(2, path, f"the field `{name}` of {article(form)}, {wanted_of(forms[name])}", names=others, missing=name)
+            wanted = f"the field `{name}` of {article(form)}: {wanted_of(forms[name], (name,))}"
+            yield Fault(2, path, wanted, repairs.of_missing(name, form, fields), others, missing=name)
     for name, of in forms.items():
         if name in fields:
-            yield from shape(fields[name], of, path + (name,))
+            yield from shape(fields[name], of, path + (name,), form)
 
 
 def entry_shape(fields, path):
@@ -91,11 +129,24 @@ def entry_shape(fields, path):
         yield from object_shape(fields, g.FED[stand[0]], path)
         return
     told = "there is none" if not stand else "there are " + " and ".join(f"`{name}`" for name in stand)
-    yield Fault(2, path, f"exactly one of `topic` (a message), `goal` (a goal request) and `cancel` (a cancel request); {told}")
+    hint = "" if stand else repairs.of_entry(fields)
+    yield Fault(2, path, f"exactly one of `topic` (a message), `goal` (a goal request) and `cancel` (a cancel request); {told}", hint)
     if "round" not in fields:
-        yield Fault(2, path, f"the field `round` of an entry, {wanted_of('count')}", missing="round")
+        wanted = f"the field `round` of an entry: {wanted_of('count', ('round',))}"
+        yield Fault(2, path, wanted, repairs.of_missing("round", "message", fields), missing="round")
     elif not g.is_count(fields["round"]):
-        yield Fault(2, path + ("round",), wanted_of("count"), form="count")
+        yield misshapen(fields["round"], "count", path + ("round",), "message")
+
+
+def with_moment(fault, declared):
+    """The fault of an entry without its round, with the round of the moment that the entry has."""
+    if fault.missing == "round":
+        fields = next((it for path, it in declared.feed if path == fault.path), {})
+        moment = next((fields[it] for it in repairs.ALIASES["round"] if g.is_count(fields.get(it))), None)
+        number, says = repairs.of_moment(moment, [it for _, it in declared.moments]) if moment is not None else (None, "")
+        if number:
+            fault.hint = f'add "round": {number}, since {says}'
+    return fault
 
 
 # ---- what is declared
@@ -145,6 +196,8 @@ class Declared:
 
     def __init__(self, document):
         document = document if isinstance(document, dict) else {}
+        # Whether all has its form. What hasn't counts as missing, and nobody is told then that it isn't there.
+        self.is_whole = True
         self.version = document.get("version")
         self.topics = listed(document, "topics", "text")
         self.nodes = [Node(("nodes", at), node) for at, node in listed(document, "nodes", "node")]
@@ -209,12 +262,14 @@ def name_hint(name):
     other = next((sign for sign in name if not g.NAME.fullmatch(sign)), None)
     if other is None:
         return "it is empty"
-    return f"{other!r} isn't of these; `_` could stand for it"
+    return f"write {json.dumps(re.sub('[^A-Za-z0-9_/]', '_', name))}: {other!r} isn't of these"
 
 
 def references(declared, entity):
     if "group" in entity.fields and g.is_text(entity.fields["group"]) and entity.fields["group"] not in entity.node.kinds:
-        hint = "" if entity.node.kinds else f"the node {entity.node.name} has no `groups`; leave `group` out for its default group"
+        none = f"the node {entity.node.name} has no `groups`; leave the field out for its default group"
+        is_plain = declared.is_whole and not entity.node.kinds and set(entity.node.fields) <= set(g.OBJECTS["node"])
+        hint = none if is_plain else ""
         yield Fault(4, entity.path + ("group",), f"a named group of the node {entity.node.name}", hint, entity.node.kinds)
     field, kind = g.REFERS.get(entity.kind, (None, None))
     if entity.refers_to() is not None and entity.refers_to() not in declared.named[kind]:
@@ -226,7 +281,7 @@ def unknown(declared, code, path, name, kind, among=None, owner=""):
     among = declared.named[kind] if among is None else among
     what = declared.what(name)
     noun = "topic" if kind == "topics" else g.ENTITIES[kind]
-    hint = f"{name} is {what}" if what else "" if among else f"there is no {noun}{owner}"
+    hint = f"{name} is {what}" if what else "" if among or not declared.is_whole else f"there is no {noun}{owner}"
     return Fault(code, path, f"the name of {article(noun)}{owner or ' of the document'}", hint, among, kind="UnknownName" if code == 6 else None)
 
 
@@ -277,8 +332,7 @@ def entity_limits(entity):
 
 def version(declared):
     if g.is_count(declared.version) and declared.version != 1:
-        yield Fault(3, ("version",), "1, the only version")
-
+        yield Fault(3, ("version",), "1, the only version", "write 1")
 
 
 def clock(declared):
@@ -290,7 +344,15 @@ def clock(declared):
     wanted = f"a round from 1 to {declared.rounds}, the number of moments" if declared.rounds else "no entry: there are no moments, and so no rounds"
     for path, entry in declared.feed:
         if g.is_count(entry.get("round")) and not 1 <= entry["round"] <= declared.rounds:
-            yield Fault(8, path + ("round",), wanted, "rounds are counted from 1" if entry["round"] == 0 else "")
+            yield Fault(8, path + ("round",), wanted, lambda entry=entry: round_hint(entry["round"], declared))
+
+
+def round_hint(number, declared):
+    """A hint for a number that no round has: it may be a moment."""
+    if number == 0:
+        return "rounds are counted from 1" if declared.rounds else ""
+    found, says = repairs.of_moment(number, [moment for _, moment in declared.moments])
+    return f"write {found}, since {says}" if found else ""
 
 
 def identifiers(declared):
@@ -307,6 +369,8 @@ def identifiers(declared):
 
 def identifier_hint(text):
     bare = text.strip("{}").replace("-", "")
+    if re.fullmatch("[0-9a-fA-F]{1,16}", text):
+        return f'write "{g.hyphenated(int(text, 16))}"'
     other = next((sign for sign in bare if sign not in "0123456789abcdefABCDEF"), None)
     if other is not None and not text.lower().startswith("urn:uuid:"):
         return f"{other!r} is no hexadecimal digit"

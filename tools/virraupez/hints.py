@@ -4,38 +4,36 @@ import difflib
 
 from . import json_text
 
-# What is often written, with what this grammar has for it.
+# What is often written, with the fields that this grammar has for it.
 FIELDS = {
-    "publishers": 'nothing is declared for it: any script publishes with ["pub", TOPIC, VALUE]',
-    "publisher": 'nothing is declared for it: any script publishes with ["pub", TOPIC, VALUE]',
-    "callback": "`script`",
-    "on_timer": "`script`",
-    "on_message": "`script`",
-    "on_request": "`script`",
-    "handle_goal": "`on_goal`",
-    "handle_cancel": "`on_cancel`",
-    "execute": "`script`",
-    "queue_size": "`depth`",
-    "queue": "`depth`",
-    "qos": "`depth`",
-    "history": "`depth`",
-    "callback_group": "`group`",
-    "callback_groups": "`groups`",
-    "type": "`kind`, where a group is meant",
-    "rate": "`period`, in ticks",
-    "frequency": "`period`, in ticks",
-    "period_ms": "`period`, in ticks",
-    "timeout": "`result_timeout`, where a server is meant",
-    "data": "`value`",
-    "msg": "`value`",
-    "message": "`value`",
-    "time": "`round`, where an entry is meant, or `moments`",
-    "times": "`moments`",
-    "action_servers": "`actions`",
-    "service_clients": "`clients`",
-    "inputs": "`feed`",
-    "uuid": "`goal` or `cancel`",
-    "id": "`goal` or `cancel`",
+    **dict.fromkeys(("callback", "on_timer", "on_message", "on_request", "execute", "instructions", "code"), ("script",)),
+    **dict.fromkeys(("handle_goal", "goal_callback", "on_goal_request"), ("on_goal",)),
+    **dict.fromkeys(("handle_cancel", "cancel_callback", "on_cancel_request"), ("on_cancel",)),
+    **dict.fromkeys(("goal_response_callback", "on_goal_response"), ("on_response",)),
+    **dict.fromkeys(("feedback_callback",), ("on_feedback",)),
+    **dict.fromkeys(("result_callback",), ("on_result",)),
+    **dict.fromkeys(("queue_size", "queue", "qos", "history", "queue_depth"), ("depth",)),
+    **dict.fromkeys(("callback_group",), ("group",)),
+    **dict.fromkeys(("callback_groups",), ("groups",)),
+    "type": ("kind",),
+    "period_ms": ("period",),
+    "timeout": ("result_timeout",),
+    **dict.fromkeys(("data", "msg", "message"), ("value",)),
+    "times": ("moments",),
+    "action_servers": ("actions",),
+    "service_servers": ("services",),
+    "subscribers": ("subscriptions",),
+    "service_clients": ("clients",),
+    "inputs": ("feed",),
+    **dict.fromkeys(("uuid", "id"), ("goal", "cancel")),
+}
+# What is often written and needs no field here.
+PUBLISHES = 'nothing is declared for it: any script publishes with ["pub", TOPIC, VALUE]'
+REMARKS = {
+    "publishers": PUBLISHES,
+    "publisher": PUBLISHES,
+    **dict.fromkeys(("rate", "frequency", "hz"), "a timer has a `period`, in ticks"),
+    **dict.fromkeys(("at", "time", "moment", "when"), "an entry has its `round`, counted from 1, and no moment"),
 }
 WORDS = {
     "publish": '["pub", TOPIC, VALUE]',
@@ -53,34 +51,26 @@ WORDS = {
     "respond": '["reply", VALUE]',
     "cancelled": '["canceled", VALUE]',
     "mov": '["set", D, "add", A, 0]',
+    "else": "a skip behind the first part passes the second over",
+    "loop": "a script never goes back: a goal's script begins at its top again in the next round",
+    "while": "a script never goes back: a goal's script begins at its top again in the next round",
     **{word: f'["set", D, "{word}", A, B]' for word in ("add", "sub", "mul", "min", "max", "lt", "eq")},
 }
 OPERATIONS = {
-    "+": "add",
-    "-": "sub",
-    "*": "mul",
-    "<": "lt",
-    "==": "eq",
-    "=": "add, with 0",
-    "mov": "add, with 0",
-    ">": "lt, with its operands exchanged",
-    "gt": "lt, with its operands exchanged",
-    "<=": "lt with its operands exchanged, and eq with 0 of that",
-    "!=": "eq, and eq with 0 of that",
-    "ne": "eq, and eq with 0 of that",
-    "not": "eq with 0",
-    "and": "mul, of operands that are 0 or 1",
-    "or": "max, of operands that are 0 or 1",
+    **{"+": "add", "-": "sub", "*": "mul", "<": "lt", "==": "eq", "plus": "add", "minus": "sub", "times": "mul", "less": "lt", "equal": "eq"},
+    **{"&": "mul", "&&": "mul", "and": "mul", "|": "max", "||": "max", "or": "max"},
     **dict.fromkeys(("/", "div", "mod", "%"), ""),
 }
 KINDS = {
-    "mutuallyexclusive": '"exclusive"',
-    "mutually_exclusive": '"exclusive"',
-    "mutually exclusive": '"exclusive"',
-    "reentrantcallbackgroup": '"reentrant"',
-    "mutuallyexclusivecallbackgroup": '"exclusive"',
-    "re-entrant": '"reentrant"',
-    "parallel": '"reentrant"',
+    "mutuallyexclusive": "exclusive",
+    "mutually_exclusive": "exclusive",
+    "mutually exclusive": "exclusive",
+    "mutuallyexclusivecallbackgroup": "exclusive",
+    "mutually_exclusive_callback_group": "exclusive",
+    "reentrantcallbackgroup": "reentrant",
+    "reentrant_callback_group": "reentrant",
+    "re-entrant": "reentrant",
+    "parallel": "reentrant",
 }
 # A word that is compared with more names than these takes too long.
 NAMES = 2000
@@ -112,31 +102,26 @@ def hint(fault, stands):
     word = stands.strip('"')
     if own or fault.missing:
         near = "" if own or not fault.code else nearest(fault.missing, fault.names)
-        return f"`{near}` stands there" if near else own
-    if fault.kind == "Instruction" and word in WORDS:
-        return f"{WORDS[word]} stands for it here"
-    if fault.form == "O" and word in OPERATIONS:
-        return f"{OPERATIONS[word]} stands for it here" if OPERATIONS[word] else "no operation divides"
+        return f"rename `{near}` to `{fault.missing}`" if near else own
+    if fault.kind == "Instruction" and word.lower() in WORDS:
+        return f"{WORDS[word.lower()]} stands for it here"
+    if fault.form == "O" and word.lower() in OPERATIONS:
+        return OPERATIONS[word.lower()] and f'write "{OPERATIONS[word.lower()]}"' or "no operation divides"
     if fault.code == 2:
         return of_form(fault, stands, word)
     return meant(word if fault.at == "value" else str(fault.path[-1]), fault.names) if fault.names else ""
 
 
 def of_form(fault, stands, bare):
-    """A hint where a value of another form stands."""
+    """A hint for a number in quotes, one that isn't whole, and what stands in place of a text."""
     is_number = fault.form in ("count", "value", "word")
-    if stands == "null":
-        return "leave the field out" if fault.path and isinstance(fault.path[-1], str) else "leave it out"
-    if stands in ("true", "false"):
-        return "write 1 or 0" if is_number else ""
-    if fault.form == "kind" and bare.lower() in KINDS:
-        return f"{KINDS[bare.lower()]} stands for it here"
-    if isinstance(fault.form, list) and stands[:1] in ("{", '"'):
-        return "put it in a list: [ ]"
+    if fault.form == "kind" and stands[:1] == '"':
+        kind = bare.lower() if bare.lower() in ("exclusive", "reentrant") else KINDS.get(bare.lower())
+        return f'write "{kind}"' if kind else meant(bare, ("exclusive", "reentrant"))
     if json_text.INTEGER(bare + " ") and not bare.lstrip("-").strip("0123456789"):
         return of_integer(stands, bare, is_number, fault.form)
-    number = json_text.DECIMAL(stands + " ")
-    return of_fraction(float(stands)) if is_number and number and number.end() == len(stands) else ""
+    number = json_text.DECIMAL(bare + " ")
+    return of_fraction(float(bare)) if is_number and number and number.end() == len(bare) else ""
 
 
 def of_integer(stands, bare, is_number, form):

@@ -14,6 +14,9 @@ DECIMAL = re.compile(r"-?(?:0|[1-9][0-9]*)(?:\.[0-9]+)?(?:[eE][+-]?[0-9]+)?(?![0
 HEXADECIMAL = re.compile(r"[0-9A-Fa-f]{4}").match
 WORDS = {"t": ("true", True), "f": ("false", False), "n": ("null", None)}
 ESCAPES = {'"': '"', "\\": "\\", "/": "/", "b": "\b", "f": "\f", "n": "\n", "r": "\r", "t": "\t"}
+# Digits that end where a list or an object should go on, and the letters behind them.
+NUMBER_BEFORE = re.compile(r"-?\b[0-9]+$").search
+WORD = re.compile(r"[A-Za-z_]").match
 # What stands behind a text that ends, so that there is a character to look at.
 END = "\0"
 
@@ -126,7 +129,8 @@ class Reader:
         """The name of a field, and where its value begins."""
         text = self.text
         if text[at] != '"':
-            hint = "JSON has no comments" if text[at] in "/#" else "texts stand in double quotes" if re.match(r"['\w]", text[at]) else ""
+            word = re.compile(r"'([^'\n]*)'|(\w+)").match(text, at)
+            hint = "JSON has no comments" if text[at] in "/#" else f'write "{word[1] or word[2]}": texts stand in double quotes' if word else ""
             raise NotJson(at, "the name of a field, in double quotes", hint)
         plain = PLAIN(text, at)
         name, at = (plain.group(1), plain.end()) if plain else self.string(at + 1)
@@ -189,10 +193,11 @@ class Reader:
         """The fault of a place where a value is wanted and none stands."""
         if at == self.length:
             return NotJson(at, "a value" if self.length else "a document", "the text ends too early")
-        rest = self.text[at : at + 12]
+        rest = self.text[at : at + 80]
         for begin, hint in HINTS:
-            if re.match(begin, rest):
-                return NotJson(at, "a value", hint)
+            found = re.match(begin, rest)
+            if found:
+                return NotJson(at, "a value", found.expand(hint))
         return NotJson(at, "a value: an object, a list, a text in double quotes, a number, true, false or null")
 
     def unended(self, at, close, begin):
@@ -200,24 +205,50 @@ class Reader:
         if at == self.length:
             line, column = line_column(self.text, begin)
             return NotJson(at, f"a comma or {close}", f"the {self.text[begin]} at {line}:{column} isn't closed")
+        begin = NUMBER_BEFORE(self.text[max(at - 40, 0) : at])
+        if begin and WORD(self.text, at):
+            return self.no_number(at - len(begin.group()))
         hint = "a comma is missing" if re.match(r'["\w\[{-]', self.text[at]) else ""
         return NotJson(at, f"a comma or {close}", "JSON has no comments" if self.text[at] in "/#" else hint)
 
+    def no_number(self, at):
+        """The fault of digits with letters behind them."""
+        word = re.compile(r"-?\w+").match(self.text, at).group()
+        number = numbered(word)
+        hint = f"write {number}, in decimal digits" if number is not None else "a text stands in double quotes"
+        unit = re.fullmatch("(-?(?:0|[1-9][0-9]{0,17}))([a-zA-Z]+)", word)
+        if number is None and unit:
+            hint = f"write {unit[1]} without the unit, since a tick is what you say it is"
+        return NotJson(at, "a number in decimal digits", hint)
+
 
 HINTS = (
+    (r"'([^'\"\\\n]*)'", r'write "\1": texts stand in double quotes'),
     ("'", "texts stand in double quotes"),
     ("[/#]", "JSON has no comments"),
-    ("True|False|None", "write true, false, or leave the field out"),
+    ("True", "write true, as JSON does"),
+    ("False", "write false, as JSON does"),
+    ("None", "write null, as JSON does, or leave the field out"),
     ("[-+]?(NaN|Infinity|inf|nan)", "JSON has no such number"),
+    (r"\+0*([0-9]+)(?![\w.])", r"write \1, without a sign"),
     (r"\+", "write the number without its sign"),
+    (r"(-?)0+([0-9]+)(?![\w.])", r"write \1\2, without zeros before it"),
     (r"-?0[0-9]", "a number has no zeros before it"),
-    (r"-?0[xX]", "write the number with decimal digits"),
+    (r"([A-Za-z_/][\w/]*)(?!\w)", r'write "\1": texts stand in double quotes'),
     (r"-?\.[0-9]", "a fraction has a digit before its point"),
     (r"-?[0-9]+\.", "a fraction has digits behind its point"),
     ("[,]", "a value is missing before the comma"),
     (r"[\]}:]", "a value is missing"),
     (r"\w", "a text stands in double quotes"),
 )
+
+
+def numbered(word):
+    """The number that a word of another language is, as 0x32 and 1_000 are, or None."""
+    try:
+        return int(word, 0) if re.fullmatch("-?(0[xX][0-9a-fA-F_]+|0[oO][0-7_]+|0[bB][01_]+|[1-9][0-9_]*)", word) else None
+    except ValueError:
+        return None
 
 
 def integer(whole, at):

@@ -6,7 +6,9 @@ PARTS = (faults.version, faults.names, faults.limits, scripts.faults, faults.clo
 
 def of(document, declared):
     """The faults of the codes 2 to 9 of a value that JSON's reader gave, and of what it declares."""
-    yield from faults.shape(document, "document")
+    for fault in faults.shape(document, "document"):
+        declared.is_whole = False
+        yield faults.with_moment(fault, declared)
     for part in PARTS:
         yield from part(declared)
 

@@ -2,6 +2,7 @@
 import re
 
 from . import grammar as g
+from . import repairs
 from .faults import Fault, unknown
 
 # What an item of each form takes, as a person reads it.
@@ -52,7 +53,8 @@ def spelling(instruction, path):
     if word is None:
         return Fault(6, path, "an instruction's word and its items", "leave an empty instruction out", kind="Instruction")
     if not g.is_text(word) or word not in SPELLED:
-        return Fault(6, path + (0,), "an instruction's word: " + ", ".join(SPELLED), names=SPELLED, kind="Instruction")
+        hint = repairs.of_other_word(instruction, g.SCRIPTS[path[2]][path[4]]) if g.is_text(word) else ""
+        return Fault(6, path + (0,), "an instruction's word: " + ", ".join(SPELLED), hint, SPELLED, kind="Instruction")
     if word == "cancel" and len(instruction) >= 3 and instruction[2] not in g.CANCELS:
         return Fault(6, path + (2,), "a form of cancel: " + ", ".join(g.CANCELS), names=g.CANCELS, kind="Operand")
     of = g.forms_of(instruction)
@@ -70,7 +72,8 @@ def operand(path, word, forms, items):
                 return Fault(6, path + (place,), "a name, in double quotes", kind="Operand")
         elif not is_item(form, item):
             names = {"D": g.CELLS, "O": g.OPERATIONS, "A": g.OPERANDS, "n": ()}[form]
-            return Fault(6, path + (place,), WANTED[form], operand_hint(form, item), names, form, kind="Operand")
+            hint = operand_hint(form, item) if form != "O" else repairs.of_operation([word, *items])
+            return Fault(6, path + (place,), WANTED[form], hint, names, form, kind="Operand")
     return None
 
 
@@ -85,7 +88,7 @@ def is_item(form, item):
 def operand_hint(form, item):
     if form == "D" and item in ("in", "aux", "now"):
         return f"{item} can only be read"
-    if form == "A" and g.is_text(item) and g.is_number(item[item.startswith("-") :]):
+    if form in "An" and g.is_text(item) and g.is_number(item[item.startswith("-") :]):
         return f"write {item} without quotes"
     if form == "n" and item in g.OPERANDS:
         return "the length of a skip is written, and can't be computed"
@@ -111,7 +114,7 @@ def legality(instruction, role, at, length, path):
     if word == "skip" and at + 1 + instruction[2] > length:
         behind = length - at - 1
         wanted = f"at most {behind}: as many instructions stand behind it" if behind else "an instruction behind it that can be passed over"
-        return Fault(6, path + (2,), wanted, kind="Skip")
+        return Fault(6, path + (2,), wanted, f"write {behind}: the script ends behind them" if behind else "", kind="Skip")
     if g.ONLY.get(word, role) != role:
         return Fault(6, path + (0,), f"an instruction of {g.PLACES[role]}", f"`{word}` stands in {g.PLACES[g.ONLY[word]]} alone", kind="Place")
     return None
