@@ -74,7 +74,7 @@ def mistakes():
 
 def toured():
     """The lines of the tour are those of its examples."""
-    runs = {line for name in ("robot", "cancel_and_success") for line in (tool.TOP / "examples" / f"{name}.txt").read_text().splitlines()}
+    runs = {line for name in ("timer", "robot", "cancel_and_success") for line in (tool.TOP / "examples" / f"{name}.txt").read_text().splitlines()}
     for block in blocks(tool.TOP / "docs/tour.md", "text"):
         for line in block.splitlines():
             said = re.split(" {2,}", line)[0]
