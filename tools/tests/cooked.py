@@ -175,5 +175,18 @@ def answers(_program):
         yield f"the cookbook's {recipe.heading!r}: {says}", status, 0
         status, says = held(recipe.made(*recipe.change), recipe.rules)
         yield f"the cookbook's {recipe.heading!r} with {recipe.change}: {says}", status, 1
+    yield from surprises()
     headings = {heading for heading, text in re.findall(r"^## (.*?)\n(.*?)(?=^## |\Z)", PAGE.read_text(), re.S | re.M) if SCRIPT.search(text)}
     yield "the recipes that are held to rules", {recipe.heading for recipe in RECIPES}, headings
+
+
+def surprises():
+    """What docs/from_rclcpp.md says under "What surprises" of messages and of goals."""
+    made = around()
+    for value in (1, 2):
+        made.message("x", value, at=5)
+    status, says = held(made, "every run listen message 1 then run listen message 2 within 1 round\nnever run listen message 2 before round 6\ncount run listen is 2")
+    yield f"one message a round: {says}", status, 0
+    made = around(period=1, timer="goal driver now")
+    status, says = held(made, "count decide drive _ ACCEPT_AND_EXECUTE is 64\ncount decide drive _ REJECT is 5\ncount state drive _ SUCCEEDED is 64")
+    yield f"a server that holds 64 goals: {says}", status, 0
