@@ -77,7 +77,10 @@ fault_of_release() {
 # if the same toolchain made other bytes of the same sources, and 2 if they can't be compared.
 compare_with_release() {
   fault=$(fault_of_release "$2") here=$(rt version 2>/dev/null) there=$(fact release/about toolchain)
-  if [ -n "$fault" ]; then
+  if ! [ -e "$1" ]; then
+    echo "there is no program to compare with that of release/"
+    return 1
+  elif [ -n "$fault" ]; then
     echo "its bytes weren't compared: $fault (./build --release renews it)"
     return 2
   elif [ "$here" != "$there" ]; then
@@ -144,7 +147,7 @@ take_release() {
     program=$room/exec_run
     [ "$(sum 2>/dev/null <"$program")" != "$(fact release/about program)" ] || return 0
     if why=$(unpack "$room" 2>&1); then
-      tell "its program was proved elsewhere from these sources, with $(fact release/about toolchain): ./build proves it here and compares the bytes"
+      tell "the program of release/ was proved elsewhere from these sources, with $(fact release/about toolchain); ./build proves it here and compares the bytes"
       return 0
     fi
   done

@@ -11,7 +11,7 @@ from . import cooked, tool
 
 # The pages whose blocks are tried; links are followed in all.
 PAGES = sorted((tool.TOP / "docs").glob("*.md"))
-LINKED = [*PAGES, *sorted(tool.TOP.glob("*.md")), *sorted((tool.TOP / "examples").glob("*.md"))]
+LINKED = [*PAGES, *(page for folder in (".", "examples", "release") for page in sorted((tool.TOP / folder).glob("*.md")))]
 
 
 def blocks(page, language):
