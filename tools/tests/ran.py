@@ -50,6 +50,8 @@ def of_streams():
     yield "write -", tool.run("write", "-", given=given), (1, told)
     wrote = tool.run("write", "-", "20", "1", given=given + b"import sys\nrobot.moments(int(sys.argv[1]))\nrobot.write()\n")[1]
     yield "write - with words", wrote.split("\n")[0], '{"version":1,"moments":[1,2,20]}'
+    wrong = tool.run("write", "-", given=b"import virraupez\nvirraupez.Document('scan').write()\n")
+    yield "write of topics that are a text", wrong, (1, "-:2:20: topics is a list of names, as in ['scan']\n")
     with tempfile.TemporaryDirectory() as folder:
         kept = pathlib.Path(folder) / "kept.json"
         kept.write_text("kept")

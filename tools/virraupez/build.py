@@ -91,6 +91,9 @@ class Document:
         self.call, self.wrong, self.warnings = Call(Document.__init__), [], []
         self.written, self.written_elsewhere = [], False
         self.topics, self.nodes = list(topics), []
+        if isinstance(topics, str):
+            self.wrong.append(told.of_call(self.call, f"topics is a list of names, as in [{topics!r}]", "topics"))
+            self.topics = [topics]
         # Each with its call: topics, moments as numbers or as a function that gives ranges, and what is fed and when.
         self.named, self.timed, self.fed = [self.call for _ in self.topics], [], []
         DOCUMENTS.append(self)
@@ -113,14 +116,22 @@ class Document:
     def every(self, ticks, until, begin=0):
         """Rounds every so many ticks, from begin to until."""
         call = Call(Document.every)
-        if grammar.is_count(ticks) and ticks >= 1:
+        if not grammar.is_count(ticks) or ticks < 1:
+            self.wrong.append(told.of_call(call, f"every takes at least 1 tick and not {ticks!r}", "ticks"))
+        elif self.are_moments(call, until=until, begin=begin):
             self.timed.append((call, lambda: [range(begin, until + 1, ticks)]))
-        else:
-            self.wrong.append(told.of_call(call, f"every takes at least 1 tick and not {ticks}", "ticks"))
 
     def when_due(self, until):
         """Rounds at the moments, up to until, at which a timer is due."""
-        self.timed.append((Call(Document.when_due), lambda: [range(period, until + 1, period) for period in self.periods()]))
+        call = Call(Document.when_due)
+        if self.are_moments(call, until=until):
+            self.timed.append((call, lambda: [range(period, until + 1, period) for period in self.periods()]))
+
+    def are_moments(self, call, **given):
+        """Whether arguments are moments; one that isn't is told."""
+        wrong = [told.of_call(call, f"{name} is a moment, a whole number from 0 on, and not {it!r}", name) for name, it in given.items() if not grammar.is_count(it)]
+        self.wrong += wrong
+        return not wrong
 
     def periods(self):
         """The periods of all timers, but for those that no timer may have, whose faults are told."""

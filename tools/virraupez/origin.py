@@ -17,7 +17,15 @@ class Call:
         frame = sys._getframe(1)
         while frame.f_back and own(frame.f_code.co_filename):
             frame = frame.f_back
-        self.method, self.file, self.line = method, frame.f_code.co_filename, frame.f_lineno
+        self.method, self.file, self.line, self.callers = method, frame.f_code.co_filename, frame.f_lineno, []
+        # The calls that led there, up to what runs the program.
+        while frame.f_back and not own(frame.f_back.f_code.co_filename):
+            frame = frame.f_back
+            self.callers.append((frame.f_code.co_filename, frame.f_lineno))
+
+    def led_by(self):
+        """Lines that say which calls led to this one."""
+        return [f"  called from {file}:{line}" for file, line in self.callers]
 
     def place(self, argument=None, index=None):
         """The line and the column of the call, of an argument by its name, or of an item of an argument that is a list."""

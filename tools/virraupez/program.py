@@ -44,19 +44,20 @@ def output(name, words):
 
 def execute(name, given, words):
     """Runs the bytes of a program as Python runs a file: its folder comes first among those of modules."""
+    code = compile(given, name, "exec", dont_inherit=True)
     keep_lines(name, given)
     module = types.ModuleType("__main__")
     module.__file__ = name
     sys.modules["__main__"] = module
     sys.argv = [name, *words]
     sys.path.insert(0, os.path.dirname(name))
-    exec(compile(given, name, "exec", dont_inherit=True), module.__dict__)
+    exec(code, module.__dict__)
 
 
 def keep_lines(name, given):
     """Keeps the lines of a program for the places in it: standard input isn't there to be read again."""
     encoding, _ = tokenize.detect_encoding(io.BytesIO(given).readline)
-    text = io.StringIO(given.decode(encoding), newline=None).getvalue()
+    text = io.StringIO(given.decode(encoding, "replace"), newline=None).getvalue()
     linecache.cache[name] = len(text), None, text.splitlines(True), name
 
 

@@ -23,13 +23,13 @@ class Entry:
 
 def of_call(call, says, argument=None):
     """What is wrong with a call."""
-    return Entry(call.file, call.place(argument), says)
+    return Entry(call.file, call.place(argument), says, call.led_by())
 
 
 def of_script(call, argument, entity, script, wrong):
     """What is wrong with a line of a script."""
     place = call.script_place(argument, script, wrong.line, wrong.part)
-    return Entry(call.file, place, f"{argument} of {entity}: {wrong.wrong}")
+    return Entry(call.file, place, f"{argument} of {entity}: {wrong.wrong}", call.led_by())
 
 
 def lines(entries, more=()):
@@ -62,7 +62,7 @@ class Checked:
         told = report.Entry(fault, *place, 1, stands)
         _, *more = report.entry_lines(told, fault.code, "", report.unpainted)
         kind = f"refused {report.named(fault.code)}" if fault.code else "warning"
-        return Entry(call.file, place, report.shown(f"{kind}: {self.name(told.path)}"), more)
+        return Entry(call.file, place, report.shown(f"{kind}: {self.name(told.path)}"), more + call.led_by())
 
     def place(self, path):
         """The call that said a part of the document, and the line and the column of that part."""
