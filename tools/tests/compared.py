@@ -18,6 +18,8 @@ import generate
 FOLLOWED, SPOILED = 400, 600
 def answers(_program):
     yield from of_examples()
+    yield from of_moments()
+    yield from of_lines()
     yield from of_words()
     yield from of_spoiled()
     yield from followed()
@@ -33,6 +35,68 @@ def of_examples():
     for told in sorted((tool.TESTS / "differing").glob("*.told")):
         one, other = (str(path.relative_to(tool.TOP)) for path in (tool.TOP / "examples/robot.txt", told.with_suffix(".txt")))
         yield f"differ {told.name}", tool.run("differ", one, other, "--document", "examples/robot.json"), (1, told.read_text())
+
+
+def differences(one, other, **more):
+    """What is told of two transcripts, by their lines."""
+    found = difference.Difference(("A", "B"), [], **more)
+    found.take([transcript.checked(io.StringIO("\n".join(it) + "\n"), name) for name, it in (("A", one), ("B", other))])
+    return list(found.lines())
+
+
+def heads(told):
+    return [line for line in told if not line.startswith(" ") and not line.startswith("lines of")]
+
+
+def of_moments():
+    """A moment that one of two runs has alone is one difference, wherever it stands."""
+    robot = json.loads((tool.TOP / "examples/robot.json").read_text())
+    text = executor.lines_of(robot)
+    ahead = {**robot, "moments": [1, *robot["moments"]], "feed": [{**it, "round": it["round"] + 1} for it in robot["feed"]]}
+    more = executor.lines_of(ahead)
+    yield "a moment in front", differences(text, more), ["B:1:1: only here: round 1 at moment 1", "  + round 1 1", "1 difference"]
+    yield "a moment in front of the other", heads(differences(more, text)), ["A:1:1: only here: round 1 at moment 1", "1 difference"]
+    quiet = {"version": 1, "nodes": [{"name": "n", "timers": [{"name": "t", "period": 10, "script": [["log", "now"]]}]}]}
+    run = lambda *moments: executor.lines_of({**quiet, "moments": list(moments)})
+    for one, other, told in (
+        ((10, 20, 30), (10, 15, 20, 30), ["B:4:1: only here: round 2 at moment 15"]),
+        ((10, 20, 30), (10, 20, 30, 31, 32), ["B:10:1: only here: round 4 at moment 31 to round 5 at moment 32"]),
+        ((10, 20, 30, 31), (10, 20, 30), ["A:10:1: only here: round 4 at moment 31"]),
+        ((10, 20, 30), (10, 20, 20, 30), ["B:7:1: only here: round 3 at moment 20"]),
+        ((10, 20, 20, 20, 30), (10, 20, 30), ["A:7:1: only here: round 3 at moment 20 to round 4 at moment 20"]),
+        ((10,), (11,), ["A:1:1: only here: round 1 at moment 10", "B:1:1: only here: round 1 at moment 11"]),
+        ((), (10,), ["B:1:1: only here: round 1 at moment 10"]),
+        ((10, 12, 20), (10, 13, 20), ["A:4:1: only here: round 2 at moment 12", "B:4:1: only here: round 2 at moment 13"]),
+    ):
+        count = f"{len(told)} difference" + "s" * (len(told) > 1)
+        yield f"the moments {one} and {other}", heads(differences(run(*one), run(*other))), [*told, count]
+    long = run(*range(0, 3000, 10))
+    yield "many differences", heads(differences(long, [it.replace("log t", "log u") for it in long]))[-1], "299 differences, of which 5 are told"
+    yield "all of many differences", len(heads(differences(long, [it.replace("log t", "log u") for it in long], most=1000))), 300
+
+
+LINES = ["round 1 5", "run t timer 5 0", "log t 1", "log t 2", "log t 3", "log t 4", "log t 5", "pub x 6", "round 2 9", "pending c 1", "end 2"]
+
+
+def of_lines():
+    """What is told of lines: those that one has alone or in another order, and the lines between two differences."""
+    changed = lambda old, *new: differences(LINES, [line for it in LINES for line in (new if it == old else (it,))])
+    head = "B:4:1: differs from A:4, in round 1 at moment 5"
+    before, cause = ["    run t timer 5 0", "    log t 1"], ["  in the callback of line 2: run t timer 5 0", "    it is a timer's: nothing was sent to it"]
+    rest = ["1 difference", "lines of t: log 1 fewer"]
+    yield "a line that is missing", changed("log t 2"), [head, *before, "  - log t 2", *cause, *rest]
+    rest = ["1 difference", "lines of t: log 1 more"]
+    yield "a line more", changed("log t 2", "log t 7", "log t 2"), [head, *before, "  + log t 7", *cause, *rest]
+    rest = ["1 difference", "lines of t: log 1 other"]
+    yield "another line", changed("log t 2", "log t 7"), [head, *before, "  - log t 2", "  + log t 7", *cause, *rest]
+    swapped = differences(LINES, [*LINES[:3], LINES[4], LINES[3], *LINES[5:]])
+    yield "two lines in another order", swapped[-1], "lines of t: log in another order"
+    far = [it.replace("log t 1", "log t 8").replace("pub x 6", "pub x 7") for it in LINES]
+    told = [it for it in differences(LINES, far) if it[:4] in ("  - ", "  + ", "    ")][1:6]
+    yield "two places of one round", told, ["  - log t 1", "  + log t 8", "    ..", "  - pub x 6", "  + pub x 7"]
+    other = changed("pending c 1", "pending c 2")
+    yield "other calls that are pending", other[0], "B:10:1: differs from A:10, in the calls that are pending"
+    yield "no calls that are pending", changed("pending c 1")[:2], ["A:10:1: only here: the calls that are pending", "  - pending c 1"]
 
 
 def of_words():
@@ -76,9 +140,9 @@ def of_unread(timer):
         # The name of a file may be no text, and is told with what differs.
         name = os.fsdecode(os.fsencode(folder) + b"/\xff")
         with open(name, "w") as other:
-            other.write("end 0\n")
-        status, told = tool.run("differ", timer, name)
-        yield "differ of a name that is no text", (status, told.count("udcff: end 0\n")), (1, 1)
+            other.write("round 1 0\nend 1\n")
+        status, told = tool.run("differ", "examples/empty.txt", name)
+        yield "differ of a name that is no text", (status, "udcff" in told), (1, True)
 
 
 # ---- transcripts that are none
@@ -109,10 +173,12 @@ def told_of(document, text, other):
     """What the tools say of a transcript, in one word."""
     try:
         shown = scene.Scene(document, 1, 30)
-        shown.take(transcript.checked(io.StringIO(other), "it"))
+        shown.take(line for block in transcript.checked(io.StringIO(other), "it") for line in block.split("\n")[:-1])
         tree.fromstring(picture.Picture(shown).svg() if shown.columns else "<svg/>")
         found = difference.Difference(("one", "other"), [flow.Flow(document)])
         found.take([transcript.checked(io.StringIO(it), "it") for it in (text, other)])
+        if found.trouble:
+            raise found.trouble
         return "differ" if found.differ and list(found.lines()) else "the same"
     except command.Trouble:
         return "no transcript"

@@ -179,8 +179,8 @@ UNDECLARED = (
 def verdict(text):
     """What becomes of a rule in TEXT, and the line that decides it if one does."""
     check = rules.Check(rules.read(text))
-    for line in transcript.checked(io.StringIO(TEXT), "it"):
-        check.line(line)
+    for block in transcript.checked(io.StringIO(TEXT), "it"):
+        check.block(block)
     check.end()
     rule = check.rules[0]
     if rule.failure:

@@ -1,135 +1,210 @@
-"""The first difference of two transcripts, what is known of its cause, and how the lines of each entity differ."""
+"""Where two transcripts differ, what is known of the causes, and how the lines of each entity differ."""
 import collections
 import copy
 import itertools
 
-from . import transcript
+from . import alignment, command, transcript
 
-BEFORE = 3
+# How many differences are told where not all are asked for, how many lines of each, and how many lines before it.
+TOLD, SHOWN, BEFORE = 5, 20, 3
 
 
 class Side:
-    """One of two transcripts behind their common lines."""
+    """One of two transcripts, with what is followed of it."""
 
     def __init__(self, name, flow):
         self.name, self.flow = name, flow
-        self.line = None
-        self.counts, self.sums = collections.Counter(), {}
+        # How many lines each entity has of each word that the other side hasn't.
+        self.own = collections.Counter()
 
-    def count(self, line, words):
-        if words[0] not in ("round", "end"):
-            key = words[1], words[0]
-            self.counts[key] += 1
-            self.sums[key] = hash((self.sums.get(key), line))
+
+class Place:
+    """A difference: what stands at the place of each side, and what is told of it."""
+
+    def __init__(self, head, lines, causes):
+        self.head, self.lines, self.causes = head, lines, causes
 
 
 class Difference:
-    """What two transcripts have in common, and what not."""
+    """The differences of two transcripts."""
 
-    def __init__(self, names, flows):
+    def __init__(self, names, flows, most=TOLD):
         """Flows of none, of both or of each of the transcripts."""
-        self.flows = flows
         self.sides = [Side(name, flow) for name, flow in zip(names, (flows * 2)[:2] or [None, None])]
-        self.number, self.round, self.moment = 0, "0", "0"
-        self.common, self.differ, self.running = collections.deque(maxlen=BEFORE), False, None
+        self.is_shared, self.most = len(flows) == 1, most
+        self.places, self.count, self.rounds, self.number = [], 0, 0, 0
+        self.moved, self.alone, self.trouble = set(), None, None
 
-    def read(self):
-        """Reads both files to their ends."""
-        self.take([transcript.lines(side.name) for side in self.sides])
+    @property
+    def differ(self):
+        return self.count > 0
+
+    def read(self, own):
+        """Reads both files, each of which must be one of its document if that is given."""
+        self.take([transcript.blocks(side.name, it) for side, it in zip(self.sides, own)])
 
     def take(self, both):
-        """Takes the lines of both to their ends."""
-        pairs = itertools.zip_longest(*both)
-        for one, other in pairs:
-            self.number += 1
-            if one != other:
-                self.part(one, other)
-                self.rest(self.number, pairs)
-                return
-            self.share(one)
+        """Takes both, by blocks of their lines, to their ends. One that is cut off leaves what was found before."""
+        try:
+            for one, other in alignment.pairs(*map(alignment.rounds, both)):
+                if one is None or other is None:
+                    self.one_alone(one, other)
+                elif one == other:
+                    self.common(one, other)
+                else:
+                    self.two(one, other)
+        except command.Trouble as trouble:
+            self.trouble = trouble
 
-    def share(self, line):
-        """Follows a line that both have."""
-        words = line.split(" ")
-        if words[0] == "round":
-            self.round, self.moment, self.running = words[1], words[2], None
-        elif words[0] == "run":
-            self.running = self.number, line
-        for following in self.flows:
-            following.take(self.number, words)
-        self.sides[0].count(line, words)
-        self.common.append(line)
+    # ---- rounds
 
-    def part(self, one, other):
-        """The first lines that differ, from which on each transcript has a flow of its own."""
-        if len(self.flows) == 1:
+    def common(self, one, other):
+        """Takes a round that both have."""
+        self.alone = None
+        if self.sides[0].flow and self.is_followed():
+            self.follow(0, one)
+            if not self.is_shared:
+                self.follow(1, other)
+        self.rounds, self.number = self.rounds + bool(one.number), one.begin + one.rest.count("\n")
+
+    def is_followed(self):
+        return len(self.places) < self.most
+
+    def follow(self, at, taken, places=()):
+        """Follows the lines of a round, and gives what is known of some of its lines, by their places."""
+        flow, found, running = self.sides[at].flow, {}, None
+        if flow and taken.number:
+            flow.take(taken.at, ["round", str(taken.number), str(taken.moment)])
+        for place, line in enumerate(taken.lines()):
+            words, number = line.split(" "), taken.begin + place
+            if words[0] == "run":
+                running = number, line
+            if flow:
+                flow.take(number, words)
+            if place in places:
+                found[place] = list(cause(flow, number, line, running))
+        return found
+
+    def part(self):
+        """Lets each side go its own way from the first difference on."""
+        self.count += 1
+        if self.is_shared:
+            self.is_shared = False
             self.sides[1].flow = copy.deepcopy(self.sides[0].flow)
-        self.differ, self.sides[1].counts, self.sides[1].sums = True, self.sides[0].counts.copy(), dict(self.sides[0].sums)
-        for side, line in zip(self.sides, (one, other)):
-            side.line = line
-            if line is not None:
-                words = line.split(" ")
-                side.count(line, words)
-                if side.flow:
-                    side.flow.take(self.number, words)
 
-    def rest(self, number, pairs):
-        for number, pair in enumerate(pairs, number + 1):
-            for side, line in zip(self.sides, pair):
-                if line is not None:
-                    side.count(line, line.split(" "))
+    def one_alone(self, one, other):
+        """Takes a round that one of the two has alone. Those that follow one another are one difference."""
+        at, taken = (0, one) if other is None else (1, other)
+        self.sides[at].own.update(map(key, taken.lines()))
+        if not self.alone or self.alone[0] != at:
+            self.part()
+            self.alone = at, taken, [taken]
+            if self.is_followed():
+                head = [f"round {taken.number} {taken.moment}"] if taken.number else []
+                self.places.append(Place(lambda it=self.alone: self.head_alone(*it), self.marked("-+"[at], head + taken.lines()), []))
+        self.alone[2][0] = taken
+        if self.sides[at].flow and self.is_followed():
+            self.follow(at, taken)
+
+    def head_alone(self, at, first, last):
+        rest = f" to {last[0].when()}" if last[0] is not first else ""
+        return command.place(self.sides[at].name, first.at), f"only here: {first.when()}{rest}"
+
+    def two(self, one, other):
+        """Takes two rounds of one moment that aren't the same."""
+        self.alone = None
+        ours, theirs = one.lines(), other.lines()
+        self.count_lines(ours, theirs)
+        self.part()
+        if self.is_followed():
+            self.tell(one, other, ours, theirs)
+
+    def count_lines(self, ours, theirs):
+        """Counts the lines that differ, or notes whose are in another order."""
+        both = collections.Counter(ours), collections.Counter(theirs)
+        for side, own, other in zip(self.sides, both, reversed(both)):
+            for line, count in (own - other).items():
+                side.own[key(line)] += count
+        if both[0] == both[1]:
+            before, behind = alignment.middle(ours, theirs)
+            self.moved.update(map(key, ours[before : len(ours) - behind]))
+
+    def tell(self, one, other, ours, theirs):
+        """Notes what is told of two rounds, and follows both."""
+        found = alignment.changes(ours, theirs)
+        (a, b), (c, d) = found[0]
+        lines, last = [("", it) for it in ours[max(a - BEFORE, 0) : a]], a
+        for (begin, end), (start, stop) in found:
+            between = ours[last:begin]
+            lines += [("", it) for it in between] if len(between) <= BEFORE else [("", "..")]
+            lines += self.marked("-", ours[begin:end]) + self.marked("+", theirs[start:stop])
+            last = end
+        causes = [self.follow(0, one, {a} if a < b else ()), self.follow(1, other, {c} if c < d else ())]
+        places = [(side.name, *it.values()) for side, it in zip(self.sides, causes) if it]
+        where = other.when() if one.number == other.number else f"{other.when()}, {one.when().split(' at ')[0]} of {self.sides[0].name}"
+        head = command.place(self.sides[1].name, other.begin + c), f"differs from {self.sides[0].name}:{one.begin + a}, in {where}"
+        self.places.append(Place(lambda: head, lines, told_causes(places)))
+
+    def marked(self, sign, lines):
+        return [(sign, line) for line in lines]
 
     # ---- what is told
 
-    def lines(self):
+    def lines(self, paint=lambda _colour, text: text):
         if not self.differ:
-            yield f"the same: {numbered(self.number, 'line')}, {numbered(int(self.round), 'round')}"
+            if not self.trouble:
+                yield f"the same: {numbered(max(self.number, 1), 'line')}, {numbered(self.rounds, 'round')}"
             return
-        yield f"line {self.number}, in round {self.round} at moment {self.moment}:"
-        for line in self.common:
-            yield f"    {line}"
-        for side in self.sides:
-            yield f"  {side.name}: {side.line if side.line is not None else '(its end)'}"
-        yield from self.causes()
-        yield from self.summary()
-
-    def causes(self):
-        """Of each transcript the callback whose line it is, and what that took."""
-        told = [list(self.cause(side)) for side in self.sides]
-        if told[0] == told[1]:
-            yield from told[0]
-            return
-        for side, lines in zip(self.sides, told):
-            yield f"{side.name}:"
-            yield from (f"  {line}" for line in lines)
-
-    def cause(self, side):
-        word = side.line.split(" ", 1)[0] if side.line is not None else "end"
-        if word in ("round", "end", "pending", "expire"):
-            yield "in no callback: " + OUTSIDE[word]
-            return
-        number, line = (self.number, side.line) if word == "run" else self.running or (None, None)
-        if line is None:
-            yield "in no callback: what is fed displaces it"
-            return
-        yield f"in the callback of line {number}: {line}"
-        yield from took(side.flow, line)
+        for place in self.places:
+            at, says = place.head()
+            yield paint("place", at) + says
+            for sign, line in place.lines[:SHOWN]:
+                yield paint({"-": "less", "+": "more"}[sign], f"  {sign} {line}") if sign else f"    {line}"
+            if len(place.lines) > SHOWN:
+                yield f"    and {numbered(len(place.lines) - SHOWN, 'line')} more"
+            yield from place.causes
+        yield numbered(self.count, "difference") + (f", of which {len(self.places)} are told" if self.count > len(self.places) else "")
+        if not self.trouble:
+            yield from self.summary()
 
     def summary(self):
-        """The entities and topics whose lines differ, with how many lines of each word they have."""
-        one, other = self.sides
-        keys = sorted(key for key in set(one.counts) | set(other.counts) if one.sums.get(key) != other.sums.get(key))
-        for entity, group in itertools.groupby(keys, key=lambda key: key[0]):
-            parts = [f"{word} {counted(one.counts[entity, word], other.counts[entity, word])}" for _, word in group]
+        """The entities and topics whose lines differ, with how many of each word."""
+        one, other = (side.own for side in self.sides)
+        for entity, group in itertools.groupby(sorted({*one, *other, *self.moved}), key=lambda it: it[0]):
+            parts = [f"{word} {counted(one[entity, word], other[entity, word])}" for _, word in group]
             yield f"lines of {entity}: {', '.join(parts)}"
 
 
-OUTSIDE = {
-    "round": "another round, or one that has no more callbacks",
-    "end": "a transcript ends",
-    "pending": "calls without a reply, at the end",
-    "expire": "a result expires",
-}
+def key(line):
+    """The entity of a line, and its word."""
+    word, entity, _ = line.split(" ", 2)
+    return entity, word
+
+
+def told_causes(places):
+    """What is told of the causes of each side, once if they are the same."""
+    if len(places) == 2 and places[0][1] == places[1][1]:
+        return [f"  {line}" for line in places[0][1]]
+    if len(places) == 1:
+        return [f"  {line}" for line in places[0][1]]
+    return [line for name, told in places for line in (f"  {name}:", *(f"    {it}" for it in told))]
+
+
+def cause(flow, number, line, running):
+    """The callback whose line it is, and what that took."""
+    word = line.split(" ", 1)[0]
+    if word in OUTSIDE:
+        yield "in no callback: " + OUTSIDE[word]
+        return
+    number, of = (number, line) if word == "run" else running or (None, None)
+    if of is None:
+        yield "in no callback: what is fed displaces it"
+        return
+    yield f"in the callback of line {number}: {of}"
+    yield from took(flow, of)
+
+
+OUTSIDE = {"pending": "calls without a reply, at the end", "expire": "a result expires"}
 
 
 def numbered(count, noun):
@@ -137,7 +212,11 @@ def numbered(count, noun):
 
 
 def counted(one, other):
-    return f"{one} and {other}" if one != other else f"{one} each, with other values or in another order"
+    """How many lines of B are others, and how many more or fewer they are than A's."""
+    same, rest = min(one, other), other - one
+    others = [f"{same} {'other' if same == 1 else 'others'}"] if same else []
+    more = [f"{abs(rest)} {'more' if rest > 0 else 'fewer'}"] if rest else []
+    return " and ".join(others + more) or "in another order"
 
 
 def took(flow, line):

@@ -1,5 +1,10 @@
 """Whether a transcript is one of a document: its names, their kinds, and its moments."""
+import re
+
 from . import command, flow, grammar, transcript
+
+# What stands before a name on each line that has one, and the name; of a callback its kind too.
+NAMED = re.compile("\n((?:run|drop) [^ ]+ [^ ]+|(?!round |end )[a-z]+ [^ ]+)").findall
 
 
 class Own:
@@ -13,23 +18,25 @@ class Own:
         self.moments = document.get("moments", [])
         self.known = set()
 
+    def fits(self, block):
+        """Whether all names of a block of lines are the document's."""
+        new = set(NAMED("\n" + block)) - self.known
+        self.known |= new
+        return all(self.has(*it.split(" ")) for it in new)
+
     def misfit(self, line):
         """What a line has that the document hasn't, or nothing."""
-        words = line.split(" ", 3)
+        words = line.split(" ")
+        says = self.of_order(words) if words[0] in ("round", "end") else self.of_names(words[: 3 if words[0] in ("run", "drop") else 2])
+        return f"{says}: {command.shown(self.name)} isn't the document of this transcript" if says else ""
+
+    def of_order(self, words):
         if words[0] == "round":
             return self.moment(int(words[1]), int(words[2]))
-        if words[0] == "end":
-            return "" if int(words[1]) == len(self.moments) else f"the document has {len(self.moments)} moments"
-        named = tuple(words[: 3 if words[0] in ("run", "drop") else 2])
-        if named not in self.known:
-            if not self.has(*named):
-                return f"the document has no {noun_of(named)} {words[1]}"
-            self.known.add(named)
-        return ""
+        return "" if int(words[1]) == len(self.moments) else f"the document has {len(self.moments)} moments"
 
-    def says(self, line):
-        """What is wrong with a line that doesn't fit."""
-        return f"{self.misfit(line)}: {command.shown(self.name)} isn't the document of this transcript"
+    def of_names(self, named):
+        return "" if self.has(*named) else f"the document has no {noun_of(named)} {named[1]}"
 
     def moment(self, number, moment):
         if number > len(self.moments):

@@ -47,16 +47,16 @@ class Flow:
         self.queues, self.filled = {}, set()
         self.taken, self.displaced = {}, collections.deque()
         self.goals, self.noted = {}, collections.defaultdict(collections.deque)
-        self.round, self.moment, self.run = 0, 0, None
+        self.round, self.moment, self.run, self.sender = 0, 0, None, None
 
     def take(self, number, words):
         """Follows a line. What it is about is then told by `run`, the callback that runs, and its `cause`."""
-        follow = getattr(self, f"on_{words[0]}", None)
+        follow = FOLLOWED.get(words[0])
         if follow:
-            follow(number, words)
+            follow(self, number, words)
 
     def origin(self, number, words, client=None):
-        return Origin(number, self.round, " ".join(words), self.run, client)
+        return Origin(number, self.round, " ".join(words), self.sender, client)
 
     def push(self, entity, kind, item):
         """Pushes an item to a queue, which may displace its oldest."""
@@ -71,7 +71,7 @@ class Flow:
     # ---- lines
 
     def on_round(self, number, words):
-        self.round, self.moment, self.run = int(words[1]), int(words[2]), None
+        self.round, self.moment, self.run, self.sender = int(words[1]), int(words[2]), None, None
         self.displaced.clear()
         for entry in self.wiring.fed.get(self.round, ()):
             self.feed(number, entry)
@@ -90,7 +90,9 @@ class Flow:
     def on_run(self, number, words):
         entity, kind = words[1], words[2]
         cause = self.goals.get((entity, words[5])) if kind == "poll" and len(words) == 6 else self.taken.pop((entity, kind), None)
-        self.run = Run(number, self.round, entity, kind, words, cause._replace(sender=sender_of(cause)) if cause else None)
+        # What is sent keeps its sender without what that took, so that what is kept is bounded.
+        self.sender = Run(number, self.round, entity, kind, words, None)
+        self.run = Run(number, self.round, entity, kind, words, cause)
         self.displaced.clear()
         if kind == "ask" and cause:
             self.noted[entity, words[5]].append(cause.client)
@@ -150,6 +152,5 @@ class Flow:
         return self.displaced.popleft() if self.displaced else None
 
 
-def sender_of(origin):
-    """The callback that sent an item, without what it took itself: what is kept is bounded so."""
-    return origin.sender._replace(cause=None) if origin.sender else None
+# The words of lines that are followed.
+FOLLOWED = {name[3:]: follow for name, follow in vars(Flow).items() if name.startswith("on_")}

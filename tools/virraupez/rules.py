@@ -312,26 +312,32 @@ def read(text, name="the rules", declared=None):
 
 
 class Check:
-    """Rules beside a transcript that is read line by line."""
+    """Rules beside a transcript that is read by blocks of lines. Lines that no rule is about aren't looked at."""
 
     def __init__(self, rules):
         self.rules, self.now, self.number = rules, (0, 0), 0
         self.by_first = {word: [rule for rule in rules if any(word in it.firsts() for it in rule.patterns)] for word in transcript.WORDS}
         self.timed = [rule for rule in rules if isinstance(rule, Then)]
+        firsts = [word for word, concerned in self.by_first.items() if concerned or word == "round"]
+        self.concerned = re.compile(f"\n(?:{'|'.join(firsts)}) .*").finditer
 
-    def line(self, line):
-        self.number += 1
-        first = line.split(" ", 1)[0]
-        if first == "round":
-            self.now = tuple(map(int, line.split(" ")[1:]))
+    def block(self, block):
+        """Takes a block of whole lines."""
+        number, at = self.number + 1, 0
+        for found in self.concerned("\n" + block):
+            number, at = number + block.count("\n", at, found.start()), found.start()
+            self.line(number, found.group()[1:])
+        self.number += block.count("\n")
+
+    def line(self, number, line):
+        words = line.split(" ")
+        if words[0] == "round":
+            self.now = int(words[1]), int(words[2])
             for rule in self.timed:
                 rule.overdue(self.now)
-        concerned = self.by_first[first]
-        if concerned:
-            words = line.split(" ")
-            for rule in concerned:
-                if rule.failure is None:
-                    rule.line(self.number, line, words, self.now)
+        for rule in self.by_first[words[0]]:
+            if rule.failure is None:
+                rule.line(number, line, words, self.now)
 
     def end(self):
         for rule in self.rules:

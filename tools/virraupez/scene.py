@@ -78,7 +78,7 @@ class Scene:
         elif words[0] == "drop":
             item, box = self.flow.dropped(), self.add_box(number, line, words)
             if box and item:
-                self.links.append((item._replace(sender=flow.sender_of(item)), box))
+                self.links.append((item, box))
         elif words[0] == "pending":
             self.pending.append((self.row_of.get(words[1]), words[1], words[2]))
         elif self.box and words[0] not in ("round", "end", "expire"):

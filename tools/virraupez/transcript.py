@@ -1,4 +1,5 @@
 """Transcripts as streams of lines. Each line is checked by docs/transcript.md: its words, the form of each, and its place."""
+import copy
 import io
 import re
 
@@ -159,68 +160,113 @@ def regex(word):
 
 
 CHECKS = {word: re.compile(regex(word)).fullmatch for word in FORMS}
+# The words of lines, the most frequent first, since they are tried in this order.
+FREQUENT = ("run", "pub", "log", "call", "reply", "round", "state", "feedback")
+ALL = re.compile("(?:(?:" + "|".join(regex(word) for word in (*FREQUENT, *(it for it in WORDS if it not in FREQUENT))) + ")\n)*").fullmatch
+BLOCK = 1 << 16
 
 
 def lines(name, own=None):
     """The lines of a file, checked, to the line `end`, without their line feeds."""
+    for block in blocks(name, own):
+        yield from block.split("\n")[:-1]
+
+
+def blocks(name, own=None):
+    """The lines of a file by blocks of whole lines, checked."""
     with io.TextIOWrapper(command.source(name), encoding="latin-1", newline="\n") as stream:
         yield from checked(stream, name, own)
 
 
 def checked(stream, name, own=None):
-    """The lines of a stream, checked: their forms, the order of rounds to the end, and what a document's own lines must be."""
-    order, number = Order(name), 0
+    """The blocks of a stream, checked: the form of each line, the order of rounds to the end, and what a document's own lines
+    must be. A block is tried as a whole, and line by line if something is wrong in it."""
+    order, number, rest = Order(name, own), 0, ""
     while True:
-        line = stream.readline(LONGEST)
-        if not line:
+        part = stream.read(BLOCK)
+        text = rest + part
+        cut = text.rfind("\n") + 1 if part else len(text)
+        block, rest = text[:cut], text[cut:]
+        before = copy.copy(order)
+        if not ALL(block) or not order.takes(block) or len(rest) > LONGEST:
+            before.demand(block + rest, number)
+        if block:
+            number += block.count("\n")
+            yield block
+        if not part:
             break
-        number += 1
-        text, word = line[:-1], line.split(" ", 1)[0]
-        if word not in CHECKS or not CHECKS[word](text) or line[-1] != "\n" or order.is_over:
-            raise order.wrong(number, line)
-        if word in ORDERED:
-            order.take(number, text, word)
-        if own is not None and own.misfit(text):
-            raise order.trouble(number, own.says(text))
-        yield text
     if not order.is_over:
         raise order.cut(number)
 
 
-# The lines whose place in a transcript is asked for.
-ORDERED = ("round", "pending", "end")
+# The lines whose place in a transcript is asked for, each behind a line feed: `^` would be tried at each sign.
+ORDERED = re.compile("\n(?:round|pending|end) .*").finditer
 
 
 class Order:
-    """The order of a transcript: rounds from 1 on at moments that don't go back, then calls that are pending, then the end."""
+    """The order of a transcript: rounds from 1 on at moments that don't go back, then calls that are pending, then the end; and
+    whether it is one of a document, if that is given."""
 
-    def __init__(self, name):
-        self.name, self.round, self.moment, self.is_over = name, 0, 0, False
+    def __init__(self, name, own=None):
+        self.name, self.own, self.round, self.moment, self.is_over = name, own, 0, 0, False
+        # The first words of lines that may follow, if not all may.
+        self.only = ("round ", "end ")
 
-    def take(self, number, line, word):
-        """Takes a line that says where in the run one is."""
-        words = line.split(" ")
-        if word == "round":
-            if int(words[1]) != self.round + 1 or int(words[2]) < self.moment:
-                raise self.trouble(number, f"{line!r} doesn't follow round {self.round} at moment {self.moment}")
-            self.round, self.moment = int(words[1]), int(words[2])
-        elif word == "end":
-            if int(words[1]) != self.round:
-                raise self.trouble(number, f"{line!r} doesn't follow {self.round} rounds")
-            self.is_over = True
+    def takes(self, block):
+        """Takes a block of lines that have their forms, and tells whether they may stand there."""
+        at = 0
+        for found in ORDERED("\n" + block):
+            if found.start() != at and not self.allows(block, at) or not self.allows(block, found.start()) or self.step(found.group()[1:]):
+                return False
+            at = found.end()
+        return (at == len(block) or self.allows(block, at)) and (self.own is None or self.own.fits(block))
+
+    def allows(self, block, at):
+        return self.only is None or block.startswith(self.only, at)
+
+    def step(self, line):
+        """Takes a line that says where in the run one is, and gives what is wrong with it."""
+        word, *numbers = line.split(" ")
+        if word == "pending":
+            self.only = ("pending ", "end ")
+            return ""
+        if word == "end":
+            if int(numbers[0]) != self.round:
+                return f"{line!r} doesn't follow {self.round} rounds"
+            self.is_over, self.only = True, ()
+            return self.own.misfit(line) if self.own else ""
+        if int(numbers[0]) != self.round + 1 or int(numbers[1]) < self.moment:
+            return f"{line!r} doesn't follow round {self.round} at moment {self.moment}"
+        self.round, self.moment, self.only = int(numbers[0]), int(numbers[1]), None
+        return self.own.misfit(line) if self.own else ""
+
+    # ---- what is wrong
+
+    def demand(self, text, number):
+        """Takes lines one by one to the first that is wrong, which is told."""
+        for number, line in enumerate(re.findall("[^\n]*\n|[^\n]+$", text), number + 1):
+            bare, word = line.rstrip("\n"), line.split(" ", 1)[0]
+            if line[-1] != "\n" or word not in CHECKS or not CHECKS[word](bare) or not self.allows(line, 0):
+                raise self.wrong(number, line)
+            says = self.step(bare) if word in ("round", "pending", "end") else self.own.misfit(bare) if self.own else ""
+            if says:
+                raise self.trouble(number, says)
 
     def trouble(self, number, says):
         return command.Trouble(f"{command.place(self.name, number)}{says}")
 
     def wrong(self, number, line):
-        """A line that no transcript has there."""
+        """The trouble with a line that no transcript has there."""
+        word = line.split(" ", 1)[0]
         if self.is_over:
             return self.trouble(number, "a line after the line `end`")
         if line.startswith("refused "):
             return self.trouble(number, "no transcript: the program refused the document, and explain tells where")
-        if line[-1] != "\n" and len(line) < LONGEST:
+        if line[-1] != "\n" and len(line) <= LONGEST:
             return self.trouble(number, f"the transcript is cut off within a line, in round {self.round}")
-        return self.trouble(number, f"no line of a transcript: {line.rstrip(chr(10))[:100]!r}")
+        if word in CHECKS and CHECKS[word](line.rstrip("\n")) and not self.allows(line, 0):
+            return self.trouble(number, f"a line `{word}` {'after a call that is pending' if self.round else 'before the first round'}")
+        return self.trouble(number, f"no line of a transcript: {line[:100].rstrip(chr(10))!r}")
 
     def cut(self, number):
         """What is missing at the end of a file, if it is cut off."""

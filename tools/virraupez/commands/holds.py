@@ -26,8 +26,8 @@ def run(asked, out):
     for name in asked.transcripts:
         check = rules.Check(rules.read(text, asked.rules, own.kinds if own else None))
         try:
-            for line in transcript.lines(name, own):
-                check.line(line)
+            for block in transcript.blocks(name, own):
+                check.block(block)
         except command.Trouble as trouble:
             wrong += trouble.lines
             continue
