@@ -40,6 +40,8 @@ _virraupez() {{
 compdef _virraupez virraupez
 """
 SHELLS = ("bash", "zsh")
+# What options take that is the name of a file.
+NAMES_OF_FILES = ("FILE", "DOCUMENT")
 
 
 def parser(prog=None):
@@ -73,7 +75,8 @@ def specs(it):
     """What _arguments of zsh takes for each option and place of a command."""
     for option in it.options:
         for name in option.names:
-            yield f"{name}[{bare(option.says)}]" + (f":{option.takes}:{'_files' if option.takes == 'FILE' else ''}" if option.takes else "")
+            taken = f":{option.takes}:{'_files' if option.takes in NAMES_OF_FILES else ''}" if option.takes else ""
+            yield f"*{name}[{bare(option.says)}]{taken}"
     for number, place in enumerate(it.places, 1):
         what = f"({' '.join(place.choices)})" if place.choices else "_files"
         yield f"{'*' if place.often else number}:{place.takes}:{what}"

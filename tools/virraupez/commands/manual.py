@@ -1,6 +1,14 @@
 """manual: writes the manual page of virraupez, docs/virraupez.1, which is made of the words that --help says. `man -l` shows it."""
 from .. import command, launcher, vocabulary
 
+SYNOPSIS = (
+    r"\fBvirraupez\fR \fICOMMAND\fR [\fIWORD\fR ..]",
+    ".br",
+    r"\fBvirraupez\fR \fICOMMAND\fR \fB\-\-help\fR",
+    ".br",
+    r"\fBvirraupez\fR \fB\-\-version\fR",
+)
+
 
 def parser(prog=None):
     return command.parser(__doc__, "The status is 0, and 2 if the page can't be written.", prog)
@@ -16,7 +24,7 @@ def page():
     all_commands = vocabulary.all_commands()
     yield '.TH VIRRAUPEZ 1 "" "Virraupez" "User Commands"'
     yield from section("NAME", [f"{launcher.NAME} \\- {escaped(vocabulary.sentence(launcher.ABOUT))}"])
-    yield from section("SYNOPSIS", [".B virraupez", r".I COMMAND", r"[\fIWORD\fR ..]", ".br", r"\fBvirraupez\fR \fICOMMAND\fR \fB\-\-help\fR", ".br", r"\fBvirraupez\fR \fB\-\-version\fR"])
+    yield from section("SYNOPSIS", SYNOPSIS)
     yield from section("DESCRIPTION", [escaped(launcher.ABOUT[0].upper() + launcher.ABOUT[1:]), ".PP", escaped(launcher.MORE)])
     yield ".SH COMMANDS"
     for it in all_commands:
