@@ -1,6 +1,6 @@
-"""run: runs a document and writes its transcript. The proved program does that, as ./exec_run starts it: if no program of these
-sources is at hand, it is proved and built first, which takes some 20 minutes. If the document is refused, the places of its
-faults are told, as explain tells them.
+"""run: runs a document and writes its transcript. The proved program does that, as ./exec_run finds it: it was built here, or is the
+one of release/. If neither is that of the sources, it is proved and built first, which takes some 20 minutes. If the document is
+refused, the places of its faults are told, as explain tells them.
 
 The proved program is for Linux on x86-64. With --reference an executor in Python runs the document, on any machine. It is
 written apart from the program, by docs/rules.md alone. Nothing of it is proved; tests compare both byte by byte."""
