@@ -2,10 +2,10 @@
 import json
 import os
 import re
+import resource
 import shutil
 import subprocess
 import sys
-import time
 
 from virraupez import commands
 
@@ -85,14 +85,16 @@ def of_reference():
     yield "run --reference of a refused document", tool.run(COMMAND, "run", "--reference", MISTAKE), (1, f"refused 4\n{tool.run('explain', MISTAKE)[1]}")
     yield "run of no file", tool.run(COMMAND, "run", "nowhere.json"), (2, "virraupez run: nowhere.json: No such file or directory\n")
     yield "run of much", tool.run(COMMAND, "run", "-", given=b" " * (2**24 + 1))[0], 2
-    seconds = min(seconds_of("run", "--reference", "examples/timer.json") for _ in range(3))
-    yield f"run --reference answers in {seconds} s", seconds < SECOND, True
+    begun = processor_seconds()
+    tool.run(COMMAND, "run", "--reference", "examples/timer.json")
+    seconds = processor_seconds() - begun
+    yield f"run --reference takes {seconds} s", seconds < SECOND, True
 
 
-def seconds_of(*words):
-    begun = time.monotonic()
-    tool.run(COMMAND, *words)
-    return time.monotonic() - begun
+def processor_seconds():
+    """What programs that have ended took of processors: a clock would say what else runs on the machine."""
+    used = resource.getrusage(resource.RUSAGE_CHILDREN)
+    return used.ru_utime + used.ru_stime
 
 
 def of_machines():
