@@ -99,29 +99,36 @@ compare_with_release() {
 # The folder for what is unpacked or known if the repository can't be written: one a checkout.
 cache=${XDG_CACHE_HOME:-${HOME-}/.cache}/virraupez$PWD
 
-# Lists the files on which the choice of a program rests, those of the sources of these crates and others, each with what changes
-# if the file does. It becomes find, so it is called in a subshell.
-list_files() {
+# Lists what the choice of a program rests on, be it there or not: the folders and files of the sources of these crates, and
+# other files.
+list_names() {
   for crate in "$@"; do
     set -- "$@" "crates/$crate/src" "crates/$crate/specs" "crates/$crate/proofs"
     shift
   done
-  exec find crates.txt HANDLES release/about $packed $out/built $out/exec_run "$@" -type f ! -name '.*' -printf '%p %i %s %C@\n'
-} 2>/dev/null
+  printf '%s\n' crates.txt HANDLES release/about $packed $out/built $out/exec_run
+  find "$@" ! -name '.*' 2>/dev/null
+}
+
+# Lists the inodes, sizes and times of change of the folders and files that are named on standard input. A folder has another
+# time if a file in it is new or gone. It becomes xargs, so it is called in a subshell.
+list_states() {
+  exec xargs -d '\n' stat -c '%i %s %.9Z' 2>/dev/null
+}
 
 # Whether nothing has changed since a program was chosen; then it is in $program.
 is_known() {
   room=release/out
-  [ -e $room/files ] || room=$cache
-  { read -r program && read -r crates; } <"$room/chosen" && [ -s "$program" ] && [ -x "$program" ] &&
-    list_files $crates | cmp -s - "$room/files"
+  [ -e $room/states ] || room=$cache
+  read -r program <"$room/chosen" && [ -s "$program" ] && [ -x "$program" ] && list_states <"$room/names" | cmp -s - "$room/states"
 } 2>/dev/null
 
-# Keeps the choice, with the files as they were before it was made.
+# Keeps the choice, with the files as they were before it was made, unless one is new since they were listed.
 keep() {
+  [ "$(list_names $crates)" = "$names" ] || return
   for room in release/out "$cache"; do
-    mkdir -p "$room" && rm -f "$room/files" && printf '%s\n' "$program" "$crates" >"$room/chosen" &&
-      echo "$files" >"$room/files.$$" && mv -f "$room/files.$$" "$room/files" && return
+    mkdir -p "$room" && rm -f "$room/states" && echo "$program" >"$room/chosen" && echo "$names" >"$room/names" &&
+      echo "$states" >"$room/states.$$" && mv -f "$room/states.$$" "$room/states" && return
   done
 } 2>/dev/null
 
@@ -163,7 +170,8 @@ choose() {
     return 1
   fi
   crates=$(names_of_crates)
-  files=$(list_files $crates)
+  names=$(list_names $crates)
+  states=$(echo "$names" | list_states)
   sources=$(sum_of_sources)
   program=$out/exec_run
   if is_built "$sources"; then
@@ -173,7 +181,7 @@ choose() {
   else
     tell "$fault, so that ./build is asked for one"
     ./build </dev/null || return
-    files=$(list_files $crates)
+    states=$(echo "$names" | list_states)
     is_built "$(sum_of_sources)" || return
   fi
   keep || :
