@@ -18,8 +18,8 @@ SCRIPT = re.compile(r"^```script (\w+)\n(.*?)^```$", re.S | re.M)
 ONCE = "if g7 goto end\ng7 = 1\ngoal driver 5"
 
 
-def around(period=10, **given):
-    """A document with one entity of each kind, in which some scripts are others. Its rounds are a tick apart."""
+def around(period=10, apart=1, **given):
+    """A document with one entity of each kind, in which some scripts are others."""
     scripts = {"timer": "log 0", "callback": "log in", "service": "reply in", "reply": "log in", "on_goal": "decide 2", "goal": "succeed in", **given}
     made = virraupez.Document(topics=["x", "y"])
     node = made.node("n")
@@ -30,7 +30,7 @@ def around(period=10, **given):
     node.action("drive", on_goal=scripts["on_goal"], on_cancel="decide 2", script=scripts["goal"])
     clients = {name: scripts[name] for name in ("on_response", "on_code", "on_feedback") if name in scripts}
     node.action_client("driver", action="drive", on_result=scripts.get("on_result", "log aux"), **clients)
-    made.every(1, until=70, begin=1)
+    made.every(apart, until=70, begin=1)
     return made
 
 
@@ -43,15 +43,18 @@ class Recipe:
     """A recipe by its heading: how its scripts are changed for a run, what is fed, rules that hold of the run, and a change of a
     line with which they don't."""
 
-    def __init__(self, heading, rules, change, feed=lambda made: None, period=10, **scripts):
+    def __init__(self, heading, rules, change, feed=lambda made: None, period=10, apart=1, edit=("", ""), **scripts):
         self.heading, self.rules, self.change, self.feed = heading, rules, change, feed
-        # {ROLE} in a script is that of the recipe.
-        self.period, self.scripts = period, scripts
+        # An edit is what the page says may stand for a part of the recipe; {ROLE} in a script is the script of the recipe.
+        self.period, self.apart, self.edit, self.scripts = period, apart, edit, scripts
 
     def made(self, *change):
         text = PAGE.read_text().split(f"## {self.heading}\n", 1)[1].split("\n## ", 1)[0]
-        scripts = {role: script.replace(*change) if change else script for role, script in SCRIPT.findall(text)}
-        made = around(**{**scripts, **{role: script.format(**scripts) for role, script in self.scripts.items()}}, period=self.period)
+        for old, new in (self.edit, change or self.edit):
+            text = text.replace(old, new)
+        scripts = dict(SCRIPT.findall(text))
+        given = {role: script.format(**scripts) for role, script in self.scripts.items()}
+        made = around(**{**scripts, **given}, period=self.period, apart=self.apart)
         self.feed(made)
         return made
 
@@ -86,6 +89,14 @@ RECIPES = (
         "A loop at N Hz",
         "count feedback drive is 5\nsome feedback drive _ 12\nsome feedback drive _ 22\nsome feedback drive _ 52\nsome state drive _ SUCCEEDED",
         ("wait 9", "wait 10"),
+        timer=ONCE,
+    ),
+    Recipe(
+        "A loop at N Hz",
+        "count feedback drive is 5\nsome feedback drive _ 21\nsome feedback drive _ 31\nsome feedback drive _ 61",
+        ("wait 5", "wait 6"),
+        apart=5,
+        edit=("wait 9", "wait 5"),
         timer=ONCE,
     ),
     Recipe(

@@ -16,7 +16,7 @@ WORDS = (
     ("ends_itself.py", ("5",), 5, ""),
     ("ends_itself.py", (), 1, "usage: ends_itself.py STATUS\n"),
 )
-# A program that feeds much, and some seconds behind which its time would grow faster than its text: it takes 3.
+# A program that feeds much. It takes 3 seconds, and took more than a test may while its time grew as the square of its messages.
 FED = """
 import virraupez
 
@@ -27,7 +27,6 @@ for at in range(1, 65001):
     robot.message("x", at, at=at)
 robot.write()
 """
-SECONDS = 20
 
 
 def answers(_program):
@@ -61,8 +60,5 @@ def of_streams():
 
 
 def of_much():
-    """A program that feeds 65,000 messages: it took 130 s, as the square of their number."""
-    seconds, tool.SECONDS = tool.SECONDS, SECONDS
     status, text = tool.run("write", "-", given=FED.encode())
-    tool.SECONDS = seconds
     yield "write of 65,000 messages", (status, text.count('"round"')), (0, 65000)
