@@ -80,7 +80,7 @@ class Repository:
         self.stand(self.room / "path" / name, text.format(name=name, file=shutil.which(name)))
 
     def around(self):
-        """The environment: where the toolchain isn't here, no folder of the path has one."""
+        """The environment: if the toolchain isn't here, no folder of the path has one."""
         folders = [it for it in os.environ["PATH"].split(":") if not os.path.exists(f"{it}/rt")]
         kit = [self.room / "kit"] * self.has_kit
         path = ":".join(map(str, [self.room / "path", *kit, *folders]))
@@ -134,7 +134,7 @@ def needed(below):
 
 
 def judged(answers, folder):
-    """Tells each answer that isn't the one that is wanted, and then how many are; the status is 1 where one isn't."""
+    """Tells each answer that isn't the one that is wanted, and then how many are; the status is 1 if one isn't."""
     passed = failed = 0
     for part in answers:
         room = pathlib.Path(folder) / part.__name__

@@ -62,7 +62,7 @@ note_built() {
   } >$out/built.new && mv -f $out/built.new $out/built
 }
 
-# What is wrong with release/ beside sources with this sum: nothing where it has their program.
+# What is wrong with release/ beside sources with this sum: nothing if it has their program.
 fault_of_release() {
   if [ "$(fact release/about sources)" != "$1" ]; then
     echo 'release/ has the program of other sources'
@@ -179,7 +179,7 @@ choose() {
   elif fault=$(fault_of_release "$sources") && [ -z "$fault" ]; then
     take_release || return
   else
-    tell "$fault, so that ./build is asked for one"
+    tell "$fault, so ./build must prove and build one"
     ./build </dev/null || return
     states=$(echo "$names" | list_states)
     is_built "$(sum_of_sources)" || return
