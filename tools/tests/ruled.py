@@ -212,7 +212,26 @@ def answers(program):
     yield from of_examples()
     yield from of_statuses()
     yield from of_wrong_files()
+    yield from of_scripts()
     yield from of_recipe(program)
+
+
+def of_scripts():
+    """A rule on lines that no script of the document writes holds of nothing, and is told so."""
+    for rule, word in (
+        ("never pub e_stop 5", "pub e_stop"),
+        ("never pub e_stop|e_stop 5", "pub e_stop|e_stop"),
+        ("never log laser", "log laser"),
+        ("never pub e_stop 1 before pub range", "pub e_stop"),
+        ("never pub base_cmd 99", None),
+        ("never pub e_stop|base_cmd 99", None),
+        ("never pub _ 99", None),
+        ("never pub T 99 after pub T 0", None),
+        ("never state navigate ID ABORTED", None),
+    ):
+        with tool.file(rule) as name:
+            told = tool.run("holds", "--document", "examples/robot.json", name, "examples/robot.txt")[1]
+        yield f"what scripts write, by {rule!r}: {told}", f"examples/robot.json: no script writes a line {word}\n" in told, bool(word)
 
 
 def of_recipe(program):

@@ -141,12 +141,14 @@ class Traffic:
         for entity in declared.entities:
             if entity.refers_to() is not None and entity.name is not None:
                 self.clients.setdefault((entity.kind, entity.refers_to()), []).append(entity.name)
+            followed = set()
             for script in scripts_of(entity):
                 self.scripts.append(script)
+                followed.add(script.name)
                 for word, *items in script.words("pub", "call", "goal", "cancel"):
                     self.sent.setdefault(word, set()).add(items[0])
             for field in g.SCRIPTS[entity.kind]:
-                if field in entity.fields and all(it.name != field for it in self.scripts if it.entity is entity):
+                if field in entity.fields and field not in followed:
                     self.named.update(texts(entity.fields[field]))
         for _, entry in declared.feed:
             field = form_of(entry, "entry")
@@ -165,11 +167,13 @@ class Traffic:
 
 def texts(value):
     """The words of all texts in a value of lists."""
-    if isinstance(value, list):
-        for item in value:
-            yield from texts(item)
-    elif g.is_text(value):
-        yield from value.split()
+    todo = [[value]]
+    while todo:
+        for item in todo.pop():
+            if isinstance(item, str):
+                yield from item.split()
+            elif isinstance(item, list):
+                todo.append(item)
 
 
 def unfed(declared, traffic):

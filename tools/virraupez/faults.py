@@ -95,10 +95,11 @@ def list_shape(items, form, path):
             elif not g.is_instruction(item):
                 yield from instruction_shape(item, path + (at,))
     elif isinstance(form, str) and form in g.SINGLE:
-        test = g.SINGLE[form][0]
+        test, wanted = g.SINGLE[form][0], wanted_of(form, path)
         for at, item in enumerate(items):
             if not test(item):
-                yield misshapen(item, form, path + (at,))
+                place = path + (at,)
+                yield Fault(2, place, wanted, lambda item=item, place=place: repairs.of_value(item, form, place), form=form)
     else:
         for at, item in enumerate(items):
             yield from shape(item, form, path + (at,))
@@ -163,7 +164,7 @@ class Entity:
 
     def __init__(self, kind, node, path, fields):
         self.kind, self.node, self.path, self.fields = kind, node, path, fields
-        self.name = self.field("name", "text")
+        self.name, self.read = self.field("name", "text"), None
 
     def field(self, name, form, default=None):
         """A field where it has its form."""
@@ -177,10 +178,11 @@ class Entity:
 
     def scripts(self):
         """Each script that is there, with its name and its role, its instructions that are lists of words, and its length."""
-        for name, role in g.SCRIPTS[self.kind].items():
-            script = self.field(name, ["word"])
-            if script is not None:
-                yield name, role, [(at, item) for at, item in enumerate(script) if g.is_instruction(item)], len(script)
+        if self.read is None:
+            found = [(name, role, self.field(name, ["word"])) for name, role in g.SCRIPTS[self.kind].items()]
+            found = [it for it in found if it[2] is not None]
+            self.read = [(name, role, [it for it in enumerate(script) if g.is_instruction(it[1])], len(script)) for name, role, script in found]
+        return self.read
 
 
 class Node:

@@ -16,7 +16,11 @@ class Own:
         for node in document.get("nodes", []):
             self.kinds.update({it["name"]: kind for kind in grammar.ENTITIES for it in node.get(kind, [])})
         self.moments = document.get("moments", [])
-        self.known = set()
+        self.known, self.writes = set(), set(written(document))
+
+    def may_write(self, of):
+        """Whether a run may have a line of a pattern, by the words of the scripts."""
+        return any(not is_of_script(word) or name == "_" or (word, name) in self.writes for word, name in of.begins())
 
     def fits(self, block):
         """Whether all names of a block of lines are the document's."""
@@ -45,6 +49,24 @@ class Own:
 
     def has(self, word, name, kind=None):
         return self.kinds.get(name) in kinds_of(word, kind)
+
+
+# The lines that a script's own instruction writes, which may stand in any script, with the name that is its first item.
+SENDING = ("pub", "call", "goal", "cancel")
+
+
+def is_of_script(word):
+    return word in SENDING or word in ("log", "feedback")
+
+
+def written(document):
+    """The first two words of the lines that scripts write."""
+    for node in document.get("nodes", []):
+        for kind, scripts in grammar.SCRIPTS.items():
+            for entity in node.get(kind, []):
+                for word, *items in (it for name in scripts for it in entity.get(name, [])):
+                    if is_of_script(word):
+                        yield word, items[0] if word in SENDING else entity["name"]
 
 
 def kinds_of(word, kind):

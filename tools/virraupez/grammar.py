@@ -47,7 +47,11 @@ def is_word(value):
 
 
 def is_instruction(value):
-    return isinstance(value, list) and all(map(is_word, value))
+    if not isinstance(value, list):
+        return False
+    # A list of millions of numbers is asked of as a whole.
+    types = set(map(type, value))
+    return types == {int} and max(value) < 2**63 or types <= {str, int} and all(map(is_word, value))
 
 
 # Forms of single values: the test, and how a person reads what is wanted.

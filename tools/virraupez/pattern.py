@@ -143,6 +143,11 @@ class Pattern:
     def firsts(self):
         return set(self.tests)
 
+    def begins(self):
+        """The first two words of the lines that it matches; `_` is any."""
+        names = [it.lstrip("=") for it in self.alternatives[1]] if len(self.words) > 1 and not self.is_variable(1) else ["_"]
+        return [(first, name) for first in self.firsts() for name in names]
+
     def is_every(self, first):
         """Whether it matches each line of a first word, and no other."""
         return self.firsts() == {first} and not self.tests[first] and not self.variables

@@ -32,7 +32,7 @@ def run(asked, out):
             wrong += trouble.lines
             continue
         check.end()
-        for line in told(asked.rules, name, check, out.paint):
+        for line in told(asked.rules, name, check, own, out.paint):
             out.line(line)
         status = max(status, verdict(out, check, f"{name}: " if len(asked.transcripts) > 1 else "", asked.accept_undecided))
     if wrong:
@@ -40,7 +40,7 @@ def run(asked, out):
     return status
 
 
-def told(file, name, check, paint):
+def told(file, name, check, own, paint):
     """What is told of each rule that doesn't hold, or holds of nothing."""
     for rule in check.rules:
         at = paint("place", command.place(file, rule.number, rule.column))
@@ -53,6 +53,9 @@ def told(file, name, check, paint):
         elif rule.unmet():
             yield f"{at}{paint('hint', 'holds of nothing')}: {rule.text}"
             yield f"  {name}: no line is {' '.join(rule.unmet().words)}"
+        elif own and not own.may_write(rule.patterns[0]):
+            yield f"{at}{paint('hint', 'holds of nothing')}: {rule.text}"
+            yield f"  {command.shown(own.name)}: no script writes a line {' '.join(rule.patterns[0].words[:2])}"
 
 
 def line_of(name, it):
