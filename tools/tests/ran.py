@@ -12,6 +12,7 @@ WORDS = (
     ("with_words.py", ("40", "--fast"), 2, "unrecognized arguments: --fast"),
     ("with_words.py", (), 1, "with_words.py:8:1: IndexError: list index out of range"),
     ("no_python.py", (), 1, "no_python.py:"),
+    ("stops_in_python.py", (), 1, "stops_in_python.py:6:5: JSONDecodeError: Expecting value: line 1 column 1 (char 0)\n  called from "),
     ("ends_itself.py", ("0",), 1, "ends_itself.py:1:1: the program makes no document"),
     ("ends_itself.py", ("5",), 5, ""),
     ("ends_itself.py", (), 1, "usage: ends_itself.py STATUS\n"),
@@ -55,6 +56,10 @@ def of_streams():
         kept = pathlib.Path(folder) / "kept.json"
         kept.write_text("kept")
         yield "write -o of a program that stops", (tool.run("write", "-o", kept, PROGRAMS / "never_written.py")[0], kept.read_text()), (1, "kept")
+        elsewhere = given + f"robot.write(open({str(pathlib.Path(folder) / 'own.json')!r}, 'w'))\n".encode()
+        says = "write: the program wrote to files of its own, and nothing to standard output\n"
+        yield "write of a program with a file of its own", tool.run("write", "-", given=elsewhere), (0, says)
+        yield "write -o of a program with a file of its own", (tool.run("write", "-", "-o", kept, given=elsewhere), kept.read_text()), ((1, says), "kept")
         should = (tool.TOP / "examples/robot.json").read_text()
         yield "write -o", (tool.run("write", "-o", kept, "examples/robot.py"), kept.read_text()), ((0, ""), should)
 

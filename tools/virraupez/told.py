@@ -7,8 +7,8 @@ from . import faults, grammar, json_text, report
 NOUNS = {**grammar.ENTITIES, "groups": "group"}
 # The argument that gives a field, if it has another name.
 ARGUMENTS = {"cancel": "goal"}
-# How many faults of calls and scripts are told at most.
-MOST = 100
+# How many faults or warnings of a place are told.
+AT_A_PLACE = 3
 
 
 class Entry:
@@ -33,10 +33,17 @@ def of_script(call, argument, entity, script, wrong):
 
 
 def lines(entries, more=()):
-    """The lines of entries in the order of their places: the first of them, and how many more there are."""
-    entries = sorted(entries, key=lambda it: (it.file, it.line, it.column))
-    rest = len(entries) - MOST
-    return [*map(str, entries[:MOST]), *([f"and {rest} more"] if rest > 0 else []), *more]
+    """The lines of entries in the order of their places: of each place the first, since a loop says a thing many times, and how
+    many more there are."""
+    by_place = {}
+    for entry in entries:
+        by_place.setdefault((entry.file, entry.line, entry.column), []).append(entry)
+    told = []
+    for (file, line, column), here in sorted(by_place.items()):
+        told += map(str, here[:AT_A_PLACE])
+        if len(here) > AT_A_PLACE:
+            told.append(f"{file}:{line}:{column}: and {len(here) - AT_A_PLACE} more at this place")
+    return [*told, *more]
 
 
 class Checked:

@@ -28,13 +28,20 @@ def run(asked, out):
             out.line(instructions(asked.file))
         else:
             gc.disable()  # a document is made of no cycles, and looking for them takes a third of the time
-            text = program.output(asked.file, asked.words)
-            if text:
-                out.write(text)
+            return written(program.output(asked.file, asked.words), asked.output, out)
     except program.Stopped as stopped:
         command.note(*stopped.lines)
         return stopped.status
     return command.FINE
+
+
+def written(text, to, out):
+    """Writes what a program wrote. If that is nothing, its documents went to streams of its own, and so to no file of -o."""
+    if text:
+        out.write(text)
+        return command.FINE
+    command.note("write: the program wrote to files of its own, and nothing to standard output")
+    return command.FINE if to == command.STANDARD else command.FOUND
 
 
 def instructions(file):
