@@ -305,6 +305,7 @@ def fault_of(given):
 ONE = "00000000-0000-0000-0000-000000000001"
 # A wrong form of each field of each line.
 WRONG_LINES = (
+    *("log s 9223372036854775808", "log s -9223372036854775809", "pub x 10000000000000000000", "round 2 4611686018427387905"),
     *("round 0 5", "round 01 5", "round 1 -1", "round 1 4611686018427387905", "round 1", "round 1 5 6", "Round 1 5", "round  1 5"),
     *(f"expire a {ONE[:-1]}", f"expire a {ONE.replace('1', 'A')}", "expire a.b " + ONE, "expire " + "a" * 65 + " " + ONE, "expire a"),
     *("run t timer -1 0", "run t timer 5 1", f"run t timer 5 0 {ONE}", "run s message 5 1", "run s message 9223372036854775808 0", "run s mesage 5 0"),

@@ -1,5 +1,6 @@
 """Transcripts as streams of lines. Each line is checked by docs/transcript.md: its words, the form of each, and its place."""
 import copy
+import functools
 import io
 import re
 
@@ -36,9 +37,12 @@ class Number:
             return isinstance(other, Number) and any(it in self.values and it in other.values for it in few)
         return isinstance(other, Number) and max(self.low, other.low) <= min(self.high, other.high)
 
-    def regex(self):
+    def regex(self, exact):
+        """The regular expression of its numbers. One that isn't exact takes all of 19 digits too, and is short."""
         if isinstance(self.values, frozenset):
             return f"(?:{'|'.join(map(str, sorted(self.values)))})"
+        if not exact and self.high >= 10**18:
+            return {0: "(?:0|[1-9][0-9]{0,18})", 1: "[1-9][0-9]{0,18}"}.get(self.low, "(?:0|-?[1-9][0-9]{0,18})")
         parts = [up_to(self.high)] if self.low >= 0 else [up_to(self.high), "-" + up_to(-self.low, least=1)]
         return f"(?:{'|'.join(parts)})" if self.low != 1 else f"(?:{up_to(self.high, least=1)})"
 
@@ -66,7 +70,7 @@ class Name:
         """Whether a name may be of both: topics and all entities share one set of names."""
         return isinstance(other, Name) and bool(self.kinds & other.kinds)
 
-    def regex(self):
+    def regex(self, _exact):
         return grammar.NAME.pattern
 
 
@@ -76,7 +80,7 @@ class Identifier:
     def meets(self, other):
         return isinstance(other, Identifier)
 
-    def regex(self):
+    def regex(self, _exact):
         return "[0-9a-f]{8}-[0-9a-f]{4}-[0-9a-f]{4}-[0-9a-f]{4}-[0-9a-f]{12}"
 
 
@@ -89,7 +93,7 @@ class Kind:
     def meets(self, other):
         return isinstance(other, Kind) and self.word == other.word
 
-    def regex(self):
+    def regex(self, _exact):
         return self.word
 
 
@@ -153,16 +157,34 @@ WORDS = tuple(FORMS)
 # ---- reading
 
 
-def regex(word):
+def regex(word, exact=True):
     """The regular expression of the lines of a first word."""
-    shapes = [" ".join(form.regex() for form in forms) for forms in FORMS[word]]
+    shapes = [" ".join(form.regex(exact) for form in forms) for forms in FORMS[word]]
     return f"{word} (?:{'|'.join(shapes)})"
 
 
-CHECKS = {word: re.compile(regex(word)).fullmatch for word in FORMS}
+@functools.lru_cache(None)
+def check(word):
+    return re.compile(regex(word)).fullmatch
+
+
+def is_line(line):
+    """Whether a line has the form of one of a transcript."""
+    word = line.split(" ", 1)[0]
+    return word in FORMS and bool(check(word)(line))
+
+
 # The words of lines, the most frequent first, since they are tried in this order.
 FREQUENT = ("run", "pub", "log", "call", "reply", "round", "state", "feedback")
-ALL = re.compile("(?:(?:" + "|".join(regex(word) for word in (*FREQUENT, *(it for it in WORDS if it not in FREQUENT))) + ")\n)*").fullmatch
+ALL = re.compile("(?:(?:" + "|".join(regex(word, False) for word in (*FREQUENT, *(it for it in WORDS if it not in FREQUENT))) + ")\n)*").fullmatch
+LONG = re.compile("[0-9]{19}").search
+
+
+def have_forms(block):
+    """Whether each line of a block has its form. Few blocks have numbers of 19 digits, which are asked of line by line."""
+    return bool(ALL(block)) and (not LONG(block) or all(map(is_line, block.split("\n")[:-1])))
+
+
 BLOCK = 1 << 16
 
 
@@ -188,7 +210,7 @@ def checked(stream, name, own=None):
         cut = text.rfind("\n") + 1 if part else len(text)
         block, rest = text[:cut], text[cut:]
         before = copy.copy(order)
-        if not ALL(block) or not order.takes(block) or len(rest) > LONGEST:
+        if not have_forms(block) or not order.takes(block) or len(rest) > LONGEST:
             before.demand(block + rest, number)
         if block:
             number += block.count("\n")
@@ -246,7 +268,7 @@ class Order:
         """Takes lines one by one to the first that is wrong, which is told."""
         for number, line in enumerate(re.findall("[^\n]*\n|[^\n]+$", text), number + 1):
             bare, word = line.rstrip("\n"), line.split(" ", 1)[0]
-            if line[-1] != "\n" or word not in CHECKS or not CHECKS[word](bare) or not self.allows(line, 0):
+            if line[-1] != "\n" or not is_line(bare) or not self.allows(line, 0):
                 raise self.wrong(number, line)
             says = self.step(bare) if word in ("round", "pending", "end") else self.own.misfit(bare) if self.own else ""
             if says:
@@ -264,7 +286,7 @@ class Order:
             return self.trouble(number, "no transcript: the program refused the document, and explain tells where")
         if line[-1] != "\n" and len(line) <= LONGEST:
             return self.trouble(number, f"the transcript is cut off within a line, in round {self.round}")
-        if word in CHECKS and CHECKS[word](line.rstrip("\n")) and not self.allows(line, 0):
+        if is_line(line.rstrip("\n")) and not self.allows(line, 0):
             return self.trouble(number, f"a line `{word}` {'after a call that is pending' if self.round else 'before the first round'}")
         return self.trouble(number, f"no line of a transcript: {line[:100].rstrip(chr(10))!r}")
 
