@@ -63,8 +63,9 @@ def of_words():
         yield f"virraupez help {name}", tool.run(COMMAND, "help", name), (status, text)
     for words in (("--help",), ("-h",), ("help",)):
         status, text = tool.run(COMMAND, *words)
-        found = re.findall(r"^  (\w+) +\S", text.partition("commands:\n")[2].partition("\n\n")[0], re.M)
-        yield f"virraupez {words}", (status, tuple(found)), (0, commands.NAMES)
+        rows = text.partition("commands:\n")[2].partition("\n\n")[0]
+        found = re.findall(r"^  (\w+) +\S", rows, re.M)
+        yield f"virraupez {words}", (status, tuple(found), max(map(len, rows.split("\n"))) < 80), (0, commands.NAMES, True)
     yield "virraupez --version", tool.run(COMMAND, "--version"), (0, f"virraupez {(tool.TOP / 'VERSION').read_text()}")
     for words, part in (((), "required: COMMAND"), (("explian",), "did you mean explain?"), (("--explain",), "error: "), (("run",), "required: DOCUMENT")):
         status, text = tool.run(COMMAND, *words)
@@ -84,7 +85,8 @@ def of_reference():
     yield "run --reference -", tool.run(COMMAND, "run", "--reference", "-", given=given)[1], (tool.TOP / "examples/timer.txt").read_text() + says
     yield "run --reference of a refused document", tool.run(COMMAND, "run", "--reference", MISTAKE), (1, f"refused 4\n{tool.run('explain', MISTAKE)[1]}")
     yield "run of no file", tool.run(COMMAND, "run", "nowhere.json"), (2, "virraupez run: nowhere.json: No such file or directory\n")
-    yield "run of much", tool.run(COMMAND, "run", "-", given=b" " * (2**24 + 1))[0], 2
+    much = tool.run(COMMAND, "run", "--reference", "-", given=b'{"version":1}'.ljust(2**24 + 1))
+    yield "run of much", much, (2, "virraupez run: standard input: more than 16777216 bytes; the program reads no longer document\n")
     begun = processor_seconds()
     tool.run(COMMAND, "run", "--reference", "examples/timer.json")
     seconds = processor_seconds() - begun
