@@ -1,5 +1,8 @@
 """What explain tells: of the mistakes beside this file, of every example and of every document of cases/."""
 import json
+import random
+
+from virraupez import json_text
 
 from . import tool
 
@@ -19,8 +22,28 @@ def answers(_program):
     yield "what explain tells of no mistake", told, ""
     should = "".join(EMPTY.get(it.name, "{0}: not refused: {1}, no warning\n").format(tool.text(it), rounds_of(it)) for it in examples)
     yield "explain of all examples", tool.run("explain", *map(tool.text, examples)), (0, should)
+    yield from of_lists()
     yield from as_json(mistakes)
     yield from of_words()
+
+
+ITEMS = ("0", "-0", "1", "-1", "12", "1.5", "null", '"a"', "[1, 2]", "9223372036854775807", "18446744073709551616", "-0.0", "{}", "-7", "5", "40", "33", "8")
+
+
+def of_lists():
+    """Lists, of which runs of integers are read at once, have the values of their items, at their places."""
+    for seed in range(300):
+        chance = random.Random(seed)
+        items = [chance.choice(ITEMS) for _ in range(chance.randrange(1, 30))]
+        text = f"[ {chance.choice((',', ', ', ' ,' + chr(10))).join(items)} ]"
+        places = json_text.places(text, [(at,) for at in range(len(items))])
+        found = json_text.read(text), [text[places[at,].begin : places[at,].end] for at in range(len(items))]
+        yield f"the list {text!r}", found, (list(map(json_text.read, items)), items)
+        try:
+            told = json_text.read(text.replace(" ]", ", ]"))
+        except json_text.NotJson as wrong:
+            told = wrong.hint
+        yield f"the list {text!r} with a comma at its end", told, "leave out the comma before ]"
 
 
 def rounds_of(document):

@@ -19,6 +19,8 @@ class Fault:
     form is that of the grammar's tables that is wanted. at says whether the value at the path is wrong, or its name; a missing
     field has the path of its object, and its name. kind is the name of a script's fault."""
 
+    __slots__ = ("code", "path", "wanted", "hint", "names", "form", "at", "missing", "kind")
+
     def __init__(self, code, path, wanted, hint="", names=(), form=None, at=VALUE, missing=None, kind=None):
         self.code, self.path, self.wanted, self.hint = code, path, wanted, hint
         self.names, self.form, self.at, self.missing, self.kind = names, form, at, missing, kind
@@ -155,8 +157,8 @@ def with_moment(fault, declared):
 
 def listed(fields, name, form):
     """The items of a list that are of a form, with their places."""
-    items = fields.get(name)
-    return [(at, item) for at, item in enumerate(items) if has(item, form)] if isinstance(items, list) else []
+    items, test = fields.get(name), g.SINGLE[form][0] if form in g.SINGLE else lambda item: isinstance(item, dict)
+    return [it for it in enumerate(items) if test(it[1])] if isinstance(items, list) else []
 
 
 class Entity:

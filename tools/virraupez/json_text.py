@@ -11,6 +11,8 @@ PLAIN = re.compile(r'"([^"\\\x00-\x1f]*)"').match
 CHUNK = re.compile(r'[^"\\\x00-\x1f]*').match
 INTEGER = re.compile(r"(-?(?:0|[1-9][0-9]*))(?![0-9.eE])").match
 DECIMAL = re.compile(r"-?(?:0|[1-9][0-9]*)(?:\.[0-9]+)?(?:[eE][+-]?[0-9]+)?(?![0-9.eE])").match
+# Integers of a list with their commas. Lists of millions are read by thousands.
+RUN = re.compile(r"(?:(?:0|-?[1-9][0-9]{0,17})[ \t\n\r]*,[ \t\n\r]*){1,4096}").match
 HEXADECIMAL = re.compile(r"[0-9A-Fa-f]{4}").match
 WORDS = {"t": ("true", True), "f": ("false", False), "n": ("null", None)}
 ESCAPES = {'"': '"', "\\": "\\", "/": "/", "b": "\b", "f": "\f", "n": "\n", "r": "\r", "t": "\t"}
@@ -81,7 +83,13 @@ class Reader:
         at = WHITE(text, at).end()
         if text[at] == "]":
             return items, at + 1
+        run = RUN(text, at)
         while True:
+            if run:
+                items += map(int, run.group().split(",")[:-1])
+                at = self.not_closed(run.end(), "]", "item")
+                run = RUN(text, at)
+                continue
             try:
                 item, at = self.value(at, depth)
             except NotJson as fault:
@@ -120,7 +128,10 @@ class Reader:
         """Where the next part of a list or an object begins, whose comma is wanted at a place."""
         if self.text[at] != ",":
             raise self.unended(at, close, begin)
-        at = WHITE(self.text, at + 1).end()
+        return self.not_closed(WHITE(self.text, at + 1).end(), close, part)
+
+    def not_closed(self, at, close, part):
+        """The place behind a comma, at which a list or an object doesn't end."""
         if self.text[at] == close:
             raise NotJson(at, f"another {part} behind the comma", f"leave out the comma before {close}")
         return at
@@ -330,6 +341,11 @@ def follow(text, at, tree, path, found):
         return skip(text, at)
     in_list, index, at = text[at] == "[", 0, WHITE(text, at + 1).end()
     while text[at] not in "]}":
+        run = RUN(text, at) if in_list else None
+        count = text.count(",", at, run.end()) if run else 0
+        if run and not any(index <= key < index + count for key in tree):
+            at, index = run.end(), index + count
+            continue
         name, key = at, index
         if not in_list:
             end = string_end(text, at)
