@@ -34,7 +34,8 @@ def fields_of(value, form, path=()):
     forms = g.OBJECTS[of]
     for name in value:
         if name in forms:
-            yield from fields_of(value[name], forms[name], path + (name,))
+            if isinstance(value[name], (dict, list)):  # most are numbers and texts, which have no fields
+                yield from fields_of(value[name], forms[name], path + (name,))
         else:
             yield unknown_field(name, of, path, value)
     for name in sorted(getattr(value, "twice", ())):

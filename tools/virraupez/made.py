@@ -1,11 +1,14 @@
 """The value of a document that a program described, with the call that said each part of it; and its text."""
 import bisect
+import functools
 import json
 
 from . import grammar, told
 
 WIDTH = 120
-FLAT = json.JSONEncoder(separators=(",", ":"), default=lambda _: None).encode
+ENCODE = json.JSONEncoder(separators=(",", ":"), default=lambda _: None).encode
+# Texts of a document are names, few and often.
+QUOTED = functools.lru_cache(maxsize=4096)(ENCODE)
 # The round of what is fed at a moment behind which there is none.
 NONE = object()
 
@@ -74,15 +77,26 @@ class Made:
 def layout(value, indent=0):
     """JSON that a person reads: what fits stands in one line."""
     if not isinstance(value, (list, dict)) or len(value) < WIDTH:
-        flat = FLAT(value)
+        flat = flat_text(value)
         if len(flat) + indent <= WIDTH or not isinstance(value, (list, dict)):
             return flat
     if isinstance(value, dict):
-        parts = [(f"{FLAT(name)}:{layout(part, indent + 1)}", isinstance(part, (list, dict))) for name, part in value.items()]
+        parts = [(f"{QUOTED(name)}:{layout(part, indent + 1)}", isinstance(part, (list, dict))) for name, part in value.items()]
         return "{" + joined(parts, indent) + "}"
     if all(type(part) is int for part in value):
         return "[" + joined([(str(part), False) for part in value], indent) + "]"
     return "[" + joined([(layout(part, indent + 1), True) for part in value], indent) + "]"
+
+
+def flat_text(value):
+    """A value in one line. An object of numbers and texts, as all that is fed, takes less than the encoder's time for it."""
+    if type(value) is int:
+        return str(value)
+    if type(value) is str:
+        return QUOTED(value)
+    if type(value) is dict:
+        return "{" + ",".join([f"{QUOTED(name)}:{flat_text(part)}" for name, part in value.items()]) + "}"
+    return ENCODE(value)
 
 
 def joined(parts, indent):
