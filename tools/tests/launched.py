@@ -18,6 +18,7 @@ COMPLETED = (
     (("virraupez", "ex"), ["explain"]),
     (("virraupez", "--v"), ["--version"]),
     (("virraupez", "run", "--w"), ["--workers"]),
+    (("virraupez", "search", "--jit"), ["--jitter"]),
     (("virraupez", "run", "examples/ti"), []),
     (("virraupez", "completion", ""), ["bash", "zsh"]),
     (("virraupez", "completion", "--he"), ["--help"]),

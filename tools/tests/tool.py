@@ -1,16 +1,23 @@
 """Runs of the tools, for the tests."""
 import contextlib
+import io
+import os
 import pathlib
 import re
+import signal
 import subprocess
 import sys
 import tempfile
+
+from virraupez import command, commands
 
 TOOLS = pathlib.Path(__file__).resolve().parent.parent
 TOP = TOOLS.parent
 TESTS = TOOLS / "tests"
 SECONDS = 60
 PLACED = re.compile("[^\\n]+:[0-9]+:[0-9]+: ")
+# What wasn't tested, since a program isn't installed here.
+UNDONE = []
 
 
 def run(tool, *words, given=None):
@@ -23,10 +30,28 @@ def run(tool, *words, given=None):
     return ran.returncode, ran.stdout.decode() + ran.stderr.decode()
 
 
+def within(name, *words):
+    """The same of a command of virraupez, run in this process: that takes a small part of the time. Its output goes through a file."""
+    before = os.getcwd()
+    os.chdir(TOP)
+    try:
+        with tempfile.TemporaryDirectory() as folder, contextlib.redirect_stderr(io.StringIO()) as told:
+            to = pathlib.Path(folder) / "to"
+            status = command.main(commands.tool(name), [*map(str, words), "-o", str(to)], f"virraupez {name}")
+            return status, (to.read_text() if to.exists() else "") + told.getvalue()
+    finally:
+        os.chdir(before)
+
+
 def unread(tool, *words, given=None):
     """What a tool must say that can't read what it is given: its status, whether it tells itself or a place, and how many lines it says."""
     status, told = run(tool, *words, given=given)
     return status, bool(PLACED.match(told)) or told.startswith(f"{tool}: "), told.count("\n")
+
+
+def heeding():
+    """Lets a program that is started heed Ctrl-C, also if what runs the tests does not, as in the background of a shell."""
+    signal.signal(signal.SIGINT, signal.default_int_handler)
 
 
 @contextlib.contextmanager

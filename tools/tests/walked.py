@@ -1,11 +1,11 @@
-"""That each command of docs/tour.md, docs/modelling.md and docs/command.md does what its page shows, run by a shell as it stands there, one after the
+"""That each command of docs/tour.md, docs/modelling.md, docs/search.md and docs/command.md does what its page shows, run by a shell as it stands there, one after the
 other in a copy of the repository; and that what the pages show of files is in them."""
 import re
 import subprocess
 
 from . import documented, sandbox, tool
 
-PAGES = ("tour.md", "modelling.md", "command.md")
+PAGES = ("tour.md", "modelling.md", "command.md", "search.md")
 # The files of which a page shows parts.
 SHOWN = {"modelling.md": {"py": "examples/navigation.py", "text": "examples/navigation.rules"}}
 

@@ -242,6 +242,8 @@ class Progress:
 
     def __init__(self):
         self.prog, self.source, self.visible = "", None, False
+        # What a tool says of its own work, if it counts something else than what it reads.
+        self.says = None
         self.lock, self.over = threading.Lock(), threading.Event()
 
     @contextlib.contextmanager
@@ -250,7 +252,7 @@ class Progress:
         if not is_terminal(2):
             yield
             return
-        self.prog, self.source = prog, None
+        self.prog, self.source, self.says = prog, None, None
         self.over.clear()
         watch = threading.Thread(target=self.watch, daemon=True)
         watch.start()
@@ -273,6 +275,8 @@ class Progress:
         read = f": {at.count // 1000000} of {at.size // 1000000} MB of {shown(at.given)}" if at and at.size else ""
         if at and not at.size:
             read = f": {at.count // 1000000} MB of {shown(at.given)}"
+        if self.says:
+            read = f": {self.says()}"
         with self.lock, contextlib.suppress(OSError, ValueError):
             sys.stderr.write(f"\r\x1b[K{self.prog}{read}, {seconds:.0f} s")
             sys.stderr.flush()

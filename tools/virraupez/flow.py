@@ -22,6 +22,14 @@ def read_document(name):
     return json.loads(text)
 
 
+def fed_text(entry):
+    """What is told of an entry of the feed."""
+    if "topic" in entry:
+        return f"fed: {entry['topic']} {entry['value']}"
+    kind = "goal" if "goal" in entry else "cancel"
+    return f"fed: {kind} {entry['action']} {entry[kind]}"
+
+
 class Wiring:
     """Where a document's items go."""
 
@@ -79,13 +87,12 @@ class Flow:
         self.filled = {key for key in self.filled if self.queues[key]}
 
     def feed(self, number, entry):
+        item = Origin(number, self.round, fed_text(entry), None, None)
         if "topic" in entry:
-            item = Origin(number, self.round, f"fed: {entry['topic']} {entry['value']}", None, None)
             for subscription in self.wiring.listeners[entry["topic"]]:
                 self.push(subscription, "message", item)
-            return
-        kind = "goal" if "goal" in entry else "cancel"
-        self.push(entry["action"], kind, Origin(number, self.round, f"fed: {kind} {entry['action']} {entry[kind]}", None, None))
+        else:
+            self.push(entry["action"], "goal" if "goal" in entry else "cancel", item)
 
     def on_run(self, number, words):
         entity, kind = words[1], words[2]

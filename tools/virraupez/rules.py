@@ -33,8 +33,13 @@ class Rule:
     """A rule with the first line that breaks it, if any did, or the line of which the end leaves open whether it does."""
 
     def __init__(self, patterns):
-        self.patterns, self.failure, self.open_end = patterns, None, None
+        self.patterns = patterns
         demand_variables(patterns)
+        self.begin()
+
+    def begin(self):
+        """Forgets all lines, so that another transcript may be taken."""
+        self.failure, self.open_end = None, None
 
     def fail(self, *finding):
         if self.failure is None:
@@ -76,7 +81,11 @@ class Order(Pair):
 
     def __init__(self, patterns, fails_after):
         super().__init__(patterns)
-        self.fails_after, self.seen = fails_after, set()
+        self.fails_after = fails_after
+
+    def begin(self):
+        super().begin()
+        self.seen = set()
 
     def line(self, number, line, words, now):
         first, second = (self.key(it, words) for it in self.patterns)
@@ -92,7 +101,11 @@ class Order(Pair):
 class Count(Rule):
     def __init__(self, patterns, least, most):
         super().__init__(patterns)
-        self.least, self.most, self.count = least, most, 0
+        self.least, self.most = least, most
+
+    def begin(self):
+        super().begin()
+        self.count = 0
 
     def line(self, number, line, words, now):
         if self.patterns[0].matches(words) and self.patterns[0].bound(words) is not None:
@@ -110,8 +123,11 @@ class Then(Pair):
 
     def __init__(self, patterns, within, unit):
         super().__init__(patterns)
-        self.within, self.unit, self.is_met = within, unit, False
-        self.open = collections.OrderedDict()
+        self.within, self.unit = within, unit
+
+    def begin(self):
+        super().begin()
+        self.is_met, self.open = False, collections.OrderedDict()
 
     def line(self, number, line, words, now):
         first, second = (self.key(it, words) for it in self.patterns)
@@ -320,6 +336,12 @@ class Check:
         self.timed = [rule for rule in rules if isinstance(rule, Then)]
         firsts = [word for word, concerned in self.by_first.items() if concerned or word == "round"]
         self.concerned = re.compile(f"\n(?:{'|'.join(firsts)}) .*").finditer
+
+    def begin(self):
+        """Forgets all lines, so that another transcript may be taken."""
+        self.now, self.number = (0, 0), 0
+        for rule in self.rules:
+            rule.begin()
 
     def block(self, block):
         """Takes a block of whole lines."""

@@ -9,8 +9,10 @@ class Option:
 
     def __init__(self, action):
         self.names, self.says, self.choices = list(action.option_strings), action.help, action.choices or ()
-        # Most take something, and a flag has a number of 0 for it.
-        self.takes = "" if action.nargs == 0 else action.metavar or action.dest
+        # Most take something, some take two things, and a flag has a number of 0 for it.
+        takes = action.metavar or action.dest
+        self.taken = () if action.nargs == 0 else takes if isinstance(takes, tuple) else (takes,)
+        self.takes = " ".join(self.taken)
         self.may_miss, self.often = bool(self.names) or action.nargs in ("*", "?"), action.nargs in ("*", "+")
 
     def synopsis(self):

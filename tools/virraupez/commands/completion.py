@@ -41,7 +41,7 @@ compdef _virraupez virraupez
 """
 SHELLS = ("bash", "zsh")
 # What options take that is the name of a file.
-NAMES_OF_FILES = ("FILE", "DOCUMENT")
+NAMES_OF_FILES = ("FILE", "DOCUMENT", "RULES", "DIR")
 
 
 def parser(prog=None):
@@ -75,7 +75,7 @@ def specs(it):
     """What _arguments of zsh takes for each option and place of a command."""
     for option in it.options:
         for name in option.names:
-            taken = f":{option.takes}:{'_files' if option.takes in NAMES_OF_FILES else ''}" if option.takes else ""
+            taken = "".join(f":{it}:{'_files' if it in NAMES_OF_FILES else ''}" for it in option.taken)
             yield f"*{name}[{bare(option.says)}]{taken}"
     for number, place in enumerate(it.places, 1):
         what = f"({' '.join(place.choices)})" if place.choices else "_files"

@@ -5,17 +5,12 @@ refused, the places of its faults are told, as explain tells them.
 The proved program is for Linux on x86-64. With --reference an executor in Python runs the document, on any machine. It is
 written apart from the program, by docs/rules.md alone. Nothing of it is proved; tests compare both byte by byte."""
 import argparse
-import pathlib
-import platform
 import subprocess
-import sys
 
-from .. import command, grammar
+from .. import command, grammar, runs
 
 STATUS = "The status is 0, 1 if the document is refused, and 2 if it can't be run."
-TOP = pathlib.Path(__file__).resolve().parent.parent.parent.parent
 CHUNK = 1 << 20
-REFUSED = 1
 
 
 def parser(prog=None):
@@ -63,11 +58,11 @@ def tell_faults(name, given):
 
 def by_program(asked, given, out):
     """Runs a document by ./exec_run; True if it was refused."""
-    demand_machine()
-    words = [str(TOP / "exec_run"), str(asked.workers), str(asked.quantum)]
+    runs.demand_machine()
+    words = [str(runs.TOP / "exec_run"), str(asked.workers), str(asked.quantum)]
     program = subprocess.Popen(words, stdin=subprocess.PIPE, stdout=subprocess.PIPE)
     try:
-        feed(program.stdin, given)
+        runs.feed(program.stdin, given)
         for chunk in iter(lambda: program.stdout.read1(CHUNK), b""):
             out.write(chunk.decode("ascii"))
         status = program.wait()
@@ -75,27 +70,9 @@ def by_program(asked, given, out):
         # If nobody takes the transcript, the program ends without a word of its own.
         program.kill()
         program.wait()
-    if status not in (0, REFUSED):
+    if status not in (0, runs.REFUSED):
         raise command.Trouble(f"./exec_run ended with the status {status}: there is no transcript")
-    return status == REFUSED
-
-
-def demand_machine():
-    system, machine = platform.system(), platform.machine()
-    if system != "Linux" or machine not in ("x86_64", "amd64"):
-        raise command.Trouble(
-            f"the proved program is for Linux on x86-64, and this is {system} on {machine}",
-            "--reference runs the document by an executor in Python, written apart from the program; nothing of it is proved",
-        )
-
-
-def feed(stream, given):
-    """Gives the program its document. One that ended before it had read all says by its status what was wrong."""
-    try:
-        stream.write(given)
-        stream.close()
-    except BrokenPipeError:
-        pass
+    return status == runs.REFUSED
 
 
 # ---- the executor in Python
@@ -103,15 +80,11 @@ def feed(stream, given):
 
 def by_reference(given, out):
     """Runs a document by cases/executor.py; True if it was refused."""
-    sys.path.insert(0, str(TOP / "cases"))
-    import codes
-    import executor
-
     try:
-        lines = executor.transcript(given)
-    except codes.Refused as refused:
-        command.note(f"refused {refused.args[0]}")
+        text = runs.Reference().transcript(given)
+    except runs.Refused as refused:
+        command.note(f"refused {refused}")
         return True
     command.note("run: this is the transcript of the executor in Python, and not of the proved program")
-    out.write("".join(f"{line}\n" for line in lines))
+    out.write(text)
     return False

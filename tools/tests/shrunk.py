@@ -1,0 +1,126 @@
+"""What shrink writes: documents that break the same rule in the same way, from which nothing more can be left out; and what it says if
+there is nothing to shrink or it is ended early."""
+import json
+import os
+import re
+import signal
+import subprocess
+import sys
+import time
+
+from virraupez import cuts, shrink
+
+from . import sandbox, searched, tool
+
+RULES = searched.NAVIGATION
+# Scripts, the places that go, and what is left: a skip passes over what is left of its part, and goes if nothing is.
+CUT = (
+    ([["skip", "r0", 2], ["log", 1], ["log", 2], ["log", 3]], {1}, [["skip", "r0", 1], ["log", 2], ["log", 3]]),
+    ([["skip", "r0", 2], ["log", 1], ["log", 2], ["log", 3]], {1, 2}, [["log", 3]]),
+    ([["skip", "r0", 2], ["log", 1], ["log", 2], ["log", 3]], {3}, [["skip", "r0", 2], ["log", 1], ["log", 2]]),
+    ([["skip", "r0", 1], ["skip", "r1", 1], ["log", 2]], {2}, []),
+    ([["skip", "r0", 2], ["skip", "r1", 2], ["log", 2], ["log", 3]], {2, 3}, []),
+    ([["skip", "r0", 2], ["skip", "r1", 2], ["log", 2], ["log", 3]], {0, 2}, [["skip", "r1", 1], ["log", 3]]),
+)
+WRONG = (
+    (("shrink", "late.json", "--rules", RULES), "late.json breaks no rule: there is nothing to shrink\n"),
+    (("shrink", "later.json", "--rules", RULES, "--rule", "2"), "later.json doesn't break the rule of line 2: there is nothing to shrink\n"),
+    (("shrink", "later.json", "--rules", RULES, "--rule", "99"), "has no rule in line 99\n"),
+    (("shrink", "later.json", "--rules", RULES, "--keep", "pub cmd_vel 77"), "the run has no line of --keep\n"),
+    (("shrink", "later.json", "--rules", RULES, "--keep", "pub cmd_val"), "--keep 'pub cmd_val', at its character 5: the document declares no 'cmd_val'; did you mean cmd_vel?\n"),
+    (("shrink", "later.json", "--rules", "nowhere"), "virraupez shrink: nowhere: No such file or directory\n"),
+    (("shrink", "nowhere", "--rules", RULES), "virraupez shrink: nowhere: No such file or directory\n"),
+    (("shrink", "later.json"), "required: --rules"),
+    (("shrink", "later.json", "--rules", RULES, "--unless", "later.json"), "later.json breaks the rule too: line 357"),
+    (("shrink", "later.json", "--rules", RULES, "--unless", "examples/robot.json"), "its nodes are others"),
+    (("shrink", "later.json", "--rules", RULES, "--unless", "nowhere"), "nowhere: No such file or directory"),
+)
+
+
+def answers(program):
+    for script, gone, left in CUT:
+        yield f"{script} without {gone}", cuts.cut(script, gone), left
+    with sandbox.with_program(program) as top:
+        searched.write(top)
+        held = json.loads((top / "late.json").read_text())
+        held["feed"][19]["round"] = 156
+        (top / "later.json").write_text(json.dumps(held))
+        yield from of_navigation(top)
+        yield from of_kept(top)
+        for words, part in WRONG:
+            status, told = searched.started(top, *words)
+            yield f"{words}: {told}", (status, part in told), (2, True)
+        yield from of_interrupt(top)
+
+
+def shrunk(top, *words):
+    """The status of a shrink, what it tells, and the document."""
+    status, told = searched.started(top, "shrink", *words, "-o", "small.json")
+    return status, told, json.loads((top / "small.json").read_text())
+
+
+def failing(top, document, *words):
+    """What holds tells of a document's run."""
+    (top / "tried.json").write_text(json.dumps(document))
+    ran = searched.started(top, "run", "tried.json", "-o", "tried.txt")
+    return searched.started(top, "holds", "--document", "tried.json", *words, "tried.txt")[1] if ran[0] == 0 else "refused"
+
+
+def of_navigation(top):
+    """The late stop: what is left breaks the rule, is late and not without an answer, and nothing can be left out."""
+    status, told, small = shrunk(top, "later.json", "--rules", RULES)
+    counts = shrink.sizes(small)
+    yield f"shrink of the navigation: {told}", (status, counts["entries"], counts["instructions"] <= 10, counts["rounds"] <= 8), (0, 1, True, True)
+    yield f"what it tells: {told}", bool(re.search("\nshrink: 4508 bytes became [0-9]{3}, in [0-9]+ runs: 4 nodes became 2", told)), True
+    (top / "late.rules").write_text((top / RULES).read_text().split("\n")[4] + "\n")
+    yield "the rule that it breaks", "late.rules:1:1: fails" in failing(top, small, "late.rules"), True
+    (top / "ever.rules").write_text("every state navigate ID CANCELING then state navigate ID CANCELED\n")
+    yield "an answer comes", failing(top, small, "ever.rules"), "1 hold, 0 fail, 0 undecided\n"
+    left_out = [cuts.without_rounds(small, {at}) for at in range(counts["rounds"])]
+    for path in cuts.scripts(small):
+        script = cuts.part(small, path)
+        left_out += [cuts.with_part(small, path, cuts.cut(script, {at})) for at in range(len(script))]
+    names = [*small["topics"], *(name for node in small["nodes"] for name in cuts.names_of_node(node))]
+    left_out += [cuts.without_names(small, {name}) for name in names]
+    for document in left_out:
+        late, ever = failing(top, document, "late.rules"), failing(top, document, "ever.rules")
+        yield f"what more could be left out: {document}", "late.rules:1:1: fails" in late and ever.startswith("1 hold"), False
+
+
+def of_kept(top):
+    status, told, small = shrunk(top, "later.json", "--rules", RULES, "--keep", "pub cmd_vel >0", "--keep", "state navigate ID CANCELED")
+    (top / "kept.rules").write_text("some pub cmd_vel >0\nsome state navigate ID CANCELED\n")
+    yield f"lines that are kept: {told}", (status, failing(top, small, "kept.rules")), (0, "2 hold, 0 fail, 0 undecided\n")
+    remarked = {**json.loads((top / "later.json").read_text()), "remark": "who reads this?"}
+    remarked["nodes"][0]["publishers"] = ["path"]
+    (top / "remarked.json").write_text(json.dumps(remarked))
+    again = shrunk(top, "remarked.json", "--rules", RULES, "--rule", "5")
+    yield "fields that the grammar doesn't have go", ("remark" in again[2], "publishers" in json.dumps(again[2])), (False, False)
+    timed = shrunk(top, "later.json", "--rules", RULES, "--unless", "late.json")
+    other = json.loads(json.dumps(timed[2]))
+    other["feed"][0]["round"] -= 1
+    yield f"with another timing: {timed[1]}", ("late.rules:1:1: fails" in failing(top, timed[2], "late.rules"), "fails" in failing(top, other, "late.rules")), (True, False)
+    reference = shrunk(top, "later.json", "--rules", RULES, "--reference")[2]
+    yield "by the executor in Python", reference, shrunk(top, "later.json", "--rules", RULES)[2]
+    most = searched.started(top, "shrink", "-", *searched.ruled(top, "some log t"), given=(top / "examples/robot.json").read_bytes())
+    yield f"a rule with an unknown name: {most}", (most[0], "did you mean" in most[1] or "declares no" in most[1]), (2, True)
+    empty = searched.started(top, "shrink", "examples/robot.json", *searched.ruled(top, "some log motor 99"))
+    yield f"what needs nothing at all: {empty}", (empty[0], empty[1].split("\n")[0]), (0, '{"version":1}')
+
+
+def of_interrupt(top):
+    """Ctrl-C: what is smallest so far is written."""
+    words = [sys.executable, top / "virraupez", "shrink", "later.json", "--rules", RULES, "-o", "ended.json"]
+    slow = top / "exec_run"
+    before = slow.read_text()
+    slow.write_text(before.replace("exec ", "sleep 0.05; exec "))
+    running = subprocess.Popen(words, stdout=subprocess.PIPE, stderr=subprocess.PIPE, cwd=top, start_new_session=True, preexec_fn=tool.heeding)
+    time.sleep(2)
+    os.killpg(running.pid, signal.SIGINT)
+    told = running.communicate(timeout=tool.SECONDS)[1].decode()
+    slow.write_text(before)
+    yield f"a shrink that is ended: {told}", (running.returncode, "Traceback" in told), (130, False)
+    if (top / "ended.json").exists():
+        yield "what it wrote", f"{RULES}:5:1: fails" in failing(top, json.loads((top / "ended.json").read_text()), RULES), True
+    else:
+        yield "what it wrote", "nothing", "a document"

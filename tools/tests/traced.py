@@ -1,0 +1,113 @@
+"""What lines and trace write of every example: an object for each line, from which the line can be written again; and events of which
+each callback is a slice, each item that is taken a flow between two slices, and each state of a goal a span."""
+import collections
+import json
+import re
+import shutil
+import subprocess
+
+from virraupez import fields, transcript
+
+from . import documented, drawn, tool
+
+COMMAND = "../virraupez"
+WRONG = (
+    (("lines", "nowhere"), "virraupez lines: nowhere: No such file or directory"),
+    (("lines", "README.md"), "README.md:1:1: "),
+    (("lines", "examples/robot.txt", "--document", "examples/timer.json"), "isn't the document of this transcript"),
+    (("trace", "examples/timer.json", "examples/robot.txt"), "isn't the document of this transcript"),
+    (("trace", "examples/timer.json", "nowhere"), "virraupez trace: nowhere: No such file or directory"),
+    (("trace", "examples/timer.json", "examples/timer.txt", "--tick", "10"), "a time as 10ms, 0.5s or 100us, and not '10'"),
+    (("trace", "examples/timer.json", "examples/timer.txt", "--tick", "0ms"), "and not '0ms'"),
+    (("trace", "examples/timer.json", "examples/timer.txt", "--tick", "0.1ns"), "and not '0.1ns'"),
+)
+
+
+def answers(_program):
+    for path in sorted((tool.TOP / "examples").glob("*.json")):
+        yield from of_lines(path.stem)
+        yield from of_trace(path.stem)
+    for words, part in WRONG:
+        status, told = tool.within(*words)
+        yield f"{words}: {told}", (status, part in told, told.startswith("{")), (2, True, False)
+    text = tool.run(COMMAND, "lines", "examples/timer.txt")[1]
+    yield "lines for grep", text.split("\n")[4:7], ["3\t35\tround 3 35", "3\t35\trun t timer 35 0", "3\t35\tlog t 35"]
+    yield "each form of a line has its names", sorted(fields.NAMES), sorted(transcript.FORMS)
+    for word, shapes in transcript.FORMS.items():
+        yield f"the names of {word}", len(fields.NAMES[word]), max(map(len, shapes))
+    cut = tool.run(COMMAND, "lines", "--json", "-", given=b"round 1 5\n")
+    yield f"lines of one that is cut off: {cut}", (cut[0], "the line `end` is missing" in cut[1]), (2, True)
+    yield from of_page()
+
+
+def again(made):
+    """The line of an object."""
+    return " ".join([made["word"], *(str(made[name]) for name in fields.NAMES[made["word"]] if name in made)])
+
+
+def of_lines(name):
+    lines = (tool.TOP / f"examples/{name}.txt").read_text().splitlines()
+    status, text = tool.within("lines", "--json", "--document", f"examples/{name}.json", f"examples/{name}.txt")
+    made = [json.loads(line) for line in text.splitlines()]
+    yield f"lines --json {name}", (status, list(map(again, made))), (0, lines)
+    plain = [json.loads(line) for line in tool.within("lines", "--json", f"examples/{name}.txt")[1].splitlines()]
+    more = ("node", "group", "took", "fed")
+    yield f"lines --json {name} without the document", plain, [{key: it for key, it in one.items() if key not in more} for one in made]
+    known = sum("took" in it or "fed" in it for it in made)
+    should = sum(line.startswith("run ") and line.split(" ")[2] not in ("timer", "poll") for line in lines)
+    polls = sum(it["word"] == "run" and it["kind"] == "poll" and "took" in it for it in made)
+    yield f"what callbacks of {name} took", known - polls, should
+    for at, it in enumerate(made, 1):
+        if "took" in it:
+            sent = made[it["took"] - 1]
+            yield f"line {at} of {name} took {sent}", (sent["line"] < at, "callback" in sent), (True, True)
+            if it["kind"] in ("message", "request", "feedback"):
+                yield f"line {at} of {name} took {sent}", sent["value"], it["in"]
+
+
+def of_trace(name):
+    status, text = tool.within("trace", f"examples/{name}.json", f"examples/{name}.txt", "--tick", "10ms")
+    events = json.loads(text)["traceEvents"]
+    lines = (tool.TOP / f"examples/{name}.txt").read_text().splitlines()
+    slices = [it for it in events if it["ph"] == "X" and it["cat"] != "fed"]
+    runs = [line for line in lines if line.startswith("run ")]
+    yield f"the slices of {name}", (status, [f"run {it['name']} {it['args']['in']} {it['args']['aux']}" for it in slices]), (0, [" ".join(line.split(" ")[:5]) for line in runs])
+    _, links, goals, dots = drawn.wanted(name)
+    drops = sum(it["ph"] == "i" for it in events)
+    begins = [it for it in events if it["ph"] == "s"]
+    yield f"the flows of {name}", (len(begins), sum(it["ph"] == "f" for it in events)), (links - drops, links - drops)
+    counts = collections.Counter(it["ph"] for it in events)
+    yield f"the states, feedback and values of {name}", (counts["b"], counts["e"], counts["n"], counts["C"]), tuple(
+        sum(line.startswith(word) for line in lines) for word in ("state ", "state ", "feedback ", "pub ")
+    )
+    yield f"the times of {name}", fault_of_times(slices, begins, [it for it in events if it["ph"] == "f"]), ""
+
+
+def fault_of_times(slices, begins, ends):
+    """What is wrong with the times of events: slices of a track overlap, or a flow begins or ends in no slice, or goes back."""
+    last = {}
+    for it in slices:
+        if it["ts"] + 0.01 < last.get((it["pid"], it["tid"]), 0):
+            return f"{it} begins before the one before it ends"
+        if not it["args"]["moment"] * 10000 <= it["ts"] <= (it["args"]["moment"] + 1) * 10000:
+            return f"{it} isn't in its tick"
+        last[it["pid"], it["tid"]] = it["ts"] + it["dur"]
+    tracks = {(it["ts"], it["pid"], it["tid"]) for it in slices}
+    for begin, end in zip(begins, ends):
+        if begin["id"] != end["id"] or end["ts"] < begin["ts"]:
+            return f"{begin} doesn't lead to {end}"
+        if (end["ts"], end["pid"], end["tid"]) not in tracks:
+            return f"{end} is in no slice"
+    return ""
+
+
+def of_page():
+    """The commands of docs/lines.md, those with jq if it is installed."""
+    for block in documented.blocks(tool.TOP / "docs/lines.md", "text"):
+        for part in re.split(r"^\$ ", block, flags=re.M)[1:]:
+            command, _, output = part.partition("\n")
+            if "jq" in command and not shutil.which("jq"):
+                tool.UNDONE.append(f"a command of lines.md wasn't run, since jq isn't installed: {command}")
+                continue
+            ran = subprocess.run(["bash", "-c", command], stdout=subprocess.PIPE, stderr=subprocess.STDOUT, cwd=tool.TOP)
+            yield f"lines.md: {command}", ran.stdout.decode(), output

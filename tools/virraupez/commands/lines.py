@@ -1,0 +1,36 @@
+"""lines: writes each line of a transcript with its round and its moment, for grep. With --json each line is an object with its fields,
+for jq and pandas, as
+
+  ./virraupez lines run.txt --json | jq 'select(.word == "pub" and .value > 20)'
+
+With --document an object has the node and the callback group too, and each callback the line that sent what it took. docs/lines.md
+has the fields."""
+import json
+
+from .. import command, fields, fit, flow
+
+STATUS = "The status is 0, and 2 if the transcript can't be read, is cut off, or isn't one of the document."
+
+
+def parser(prog=None):
+    made = command.parser(__doc__, STATUS, prog)
+    made.add_argument("transcript", metavar="TRANSCRIPT", help="a transcript; - is standard input")
+    made.add_argument("--json", action="store_true", help="write an object for each line")
+    made.add_argument("--document", metavar="DOCUMENT", help="the document of the transcript")
+    return made
+
+
+def run(asked, out):
+    document = flow.read_document(asked.document) if asked.document else None
+    own = fit.Own(asked.document, document) if asked.document else None
+    if asked.json:
+        encode = json.JSONEncoder(separators=(",", ":")).encode
+        for made in fields.objects(asked.transcript, own, document):
+            out.line(encode(made))
+        return command.FINE
+    moment = number = "0"
+    for line in fields.transcript.lines(asked.transcript, own):
+        if line.startswith("round "):
+            _, number, moment = line.split(" ")
+        out.line(f"{number}\t{moment}\t{line}")
+    return command.FINE

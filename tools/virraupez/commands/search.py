@@ -1,0 +1,157 @@
+"""search: looks for the timing of inputs that breaks a rule. It runs a document again and again with other moments, drops or
+periods, and holds each run to rules, as
+
+  ./virraupez search robot.json --rules robot.rules --move feed[3] 10..400 --all
+
+WHAT is an entry of the feed, as feed[3], counted from 0, or a topic or an action server, for all that is fed to it. RANGE is A..B,
+±N or one number, in ticks. If there are at most as many variations as runs, each is run once; if there are more, some are drawn
+by chance. The same words give the same answer on any machine. docs/search.md has more."""
+import argparse
+import time
+
+from .. import command, crew, flow, grammar, judge, saved, search, shards, space, table
+
+STATUS = """The status is 0 if no run breaks a rule, 1 if one does, and 2 if the document or the rules are wrong or a run fails. It is 130 after
+Ctrl-C, and what was found so far is reported."""
+RUNS, INTERRUPTED = 10000, 130
+# The options that say what may vary, with what each takes and what it does.
+VARIES = {
+    "move": (("WHAT", "A..B"), "let an entry come at each moment of a range"),
+    "jitter": (("WHAT", "RANGE"), "let each entry come earlier or later by a number of ticks"),
+    "drop": (("WHAT",), "let each entry come or not"),
+    "twice": (("WHAT",), "let each entry come once or twice"),
+    "swap": (("WHAT",), "let each entry and the next one change places"),
+    "period": (("TIMER", "A..B"), "let a timer have each period of a range"),
+    "shift": (("A..B", "RANGE"), "let each round from moment A to B come earlier or later by a number of ticks"),
+    "miss": (("A..B",), "let each round from moment A to B be or not"),
+}
+
+
+class Varies(argparse.Action):
+    """Keeps what may vary, in the order of the words."""
+
+    def __call__(self, _parser, asked, values, _option=None):
+        setattr(asked, "vary", [*(asked.vary or []), [self.dest, *values]])
+
+
+def parser(prog=None):
+    made = command.parser(__doc__, STATUS, prog)
+    made.add_argument("documents", metavar="DOCUMENT", nargs="+", help="a document, or with --merge what shards wrote; - is standard input")
+    made.add_argument("--rules", metavar="RULES", help="a file of rules, as holds has them")
+    made.add_argument("--robust", metavar="PATTERN", action="append", default=[], help="lines that must stay those of the document's own run, as 'result navigate'")
+    for name, (takes, says) in VARIES.items():
+        made.add_argument(f"--{name}", metavar=takes, nargs=len(takes), action=Varies, help=says)
+    made.add_argument("--runs", metavar="N", type=number, default=RUNS, help=f"how many runs there are at most; {RUNS} if it isn't given")
+    made.add_argument("--seed", metavar="N", type=number, default=1, help="a number that chooses what is drawn by chance; 1 if it isn't given")
+    made.add_argument("--all", action="store_true", help="count all runs that break a rule, and don't stop at the first")
+    made.add_argument("--save", metavar="DIR", help="save documents and transcripts of runs that break a rule in a folder")
+    made.add_argument("--shard", metavar="K/N", type=shard, help="do part K of N, and write JSON lines for --merge")
+    made.add_argument("--merge", action="store_true", help="join what all shards wrote, and report it as one search does")
+    made.add_argument("--processes", metavar="N", type=number, help="how many processes run side by side; as many as there are processors")
+    made.add_argument("--reference", action="store_true", help="run by the executor in Python, of which nothing is proved")
+    made.set_defaults(vary=[])
+    # A range may begin with a sign, and is no option then.
+    made._negative_number_matcher = space.RANGE
+    return made
+
+
+def number(text):
+    if not grammar.is_number(text) or int(text) < 1:
+        raise argparse.ArgumentTypeError(f"a number from 1, and not {text[:40]!r}")
+    return int(text)
+
+
+def shard(text):
+    part, between, of = text.partition("/")
+    if not between or not 1 <= number(part) <= number(of):
+        raise argparse.ArgumentTypeError(f"K/N with K from 1 to N, and not {text[:40]!r}")
+    return int(part), int(of)
+
+
+def run(asked, out):
+    if asked.merge:
+        return merged(asked, out)
+    if len(asked.documents) > 1:
+        raise command.Trouble("one document is searched at a time; --merge joins what shards wrote")
+    if not asked.rules and not asked.robust:
+        raise command.Trouble("nothing to hold runs to: --rules gives a file of rules, and --robust lines that must stay")
+    return searched(search.Search(plan(asked)), asked, out)
+
+
+def plan(asked):
+    """What decides the answer of a search."""
+    return {
+        "name": asked.documents[0],
+        "document": flow.read_document(asked.documents[0]),
+        "rules": asked.rules,
+        "text": command.text_of(asked.rules) if asked.rules else None,
+        "robust": asked.robust,
+        "vary": asked.vary,
+        "runs": asked.runs,
+        "seed": asked.seed,
+        "all": asked.all,
+    }
+
+
+def searched(made, asked, out):
+    """Searches, and reports what was found, also if Ctrl-C or a run that fails ends it."""
+    judging = judge.Judge(judge.executor(asked.reference), made.rules)
+    tally, folder = search.Tally(made), saved.Folder(asked.save, made, judging)
+    lines = shards.Lines(made, asked.shard, out) if asked.shard else None
+    progress = Progress(tally, asked.shard or (1, 1))
+    stopped = None
+    try:
+        for part in made.parts(judging, *(asked.shard or (1, 1)), asked.processes or crew.processors()):
+            for taker in filter(None, (tally, folder, lines)):
+                taker.add(part)
+            progress.count(tally)
+    except (KeyboardInterrupt, command.Trouble) as ended:
+        stopped = ended
+    if lines:
+        lines.end(stopped is None)
+    else:
+        tell(tally, out, stopped)
+    out.flush()
+    folder.end(tally)
+    return status(tally, stopped)
+
+
+def merged(asked, out):
+    """Joins shards, and reports what they found."""
+    joined = shards.join(asked.documents)
+    missing = list(joined.missing())
+    made, tally = joined.tally.search, joined.tally
+    tell(tally, out, missing)
+    if asked.save:
+        judging = judge.Judge(judge.executor(asked.reference), made.rules)
+        made.own(judging)
+        saved.Folder(asked.save, made, judging).end(tally)
+    return status(tally, command.Trouble(*missing) if missing else None)
+
+
+def tell(tally, out, stopped):
+    for line in table.lines(tally, out.paint, "; it ended early" if stopped else ""):
+        out.line(line)
+
+
+def status(tally, stopped):
+    if isinstance(stopped, command.Trouble):
+        raise stopped
+    return INTERRUPTED if stopped else command.FINE if tally.first is None else command.FOUND
+
+
+class Progress:
+    """How far a search is, for the line on a terminal."""
+
+    def __init__(self, tally, shard):
+        self.begun, self.all = time.monotonic(), len(range(shard[0], tally.search.runs + 1, shard[1]))
+        self.count(tally)
+        command.PROGRESS.says = self.says
+
+    def count(self, tally):
+        self.runs, self.broken = tally.runs, tally.broken
+
+    def says(self):
+        rate = self.runs / max(time.monotonic() - self.begun, 0.001)
+        left = f", {(self.all - self.runs) / rate:.0f} s left" if rate else ""
+        return f"{self.runs} of {self.all} runs, {rate:.0f} a second, {self.broken} break a rule{left}"

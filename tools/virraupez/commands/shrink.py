@@ -1,0 +1,95 @@
+"""shrink: writes the smallest document that still breaks a rule. It leaves out entries of the feed, rounds, nodes, entities,
+instructions and fields, and makes numbers smaller, as long as the rule breaks in the same way. Each step is a document that is
+accepted.
+
+The rule is the first of the file that the document breaks, or that of --rule. If an answer comes too late, it comes too late in
+the smallest document too. With --unless, another timing of the smallest document still keeps the rule. docs/search.md has more."""
+from .. import command, fit, flow, judge, made, pattern, rules, runs, shrink
+from . import search
+
+STATUS = """The status is 0, and 2 if the document breaks no rule or something is wrong. It is 130 after Ctrl-C, and what is smallest so far is
+written."""
+
+
+def parser(prog=None):
+    made = command.parser(__doc__, STATUS, prog)
+    made.add_argument("document", metavar="DOCUMENT", help="a document that breaks a rule; - is standard input")
+    made.add_argument("--rules", metavar="RULES", required=True, help="a file of rules, as holds has them")
+    made.add_argument("--rule", metavar="LINE", type=search.number, help="the line of the rule, if the document breaks several")
+    made.add_argument("--unless", metavar="DOCUMENT", help="a document with another timing that keeps the rule: it is cut in the same way, and must keep it")
+    made.add_argument("--keep", metavar="PATTERN", action="append", default=[], help="a line that the run must keep, as 'state navigate ID CANCELED'")
+    made.add_argument("--reference", action="store_true", help="run by the executor in Python, of which nothing is proved")
+    return made
+
+
+def run(asked, out):
+    document, program = flow.read_document(asked.document), judge.executor(asked.reference)
+    declared = fit.Own(asked.document, document).kinds
+    rule = broken(asked, document, judge.Judge(program, judge.read(asked.rules, command.text_of(asked.rules), [], declared)))
+    way = shrink.Way(rule, [kept(it, declared) for it in asked.keep])
+    good = other_timing(asked, document, judge.Judge(program, [rule])) if asked.unless else None
+    shrinker = shrink.Shrinker(program, document, way, good)
+    if shrinker.wanted is None:
+        raise command.Trouble("the run has no line of --keep")
+    command.PROGRESS.says = lambda: f"{shrinker.runs} runs, {', '.join(changed(document, shrinker.document)) or 'nothing is smaller yet'}"
+    status = command.FINE
+    try:
+        shrinker.shrink()
+    except KeyboardInterrupt:
+        status = search.INTERRUPTED
+    out.write(made.layout(shrinker.document) + "\n")
+    out.flush()
+    tell(rule, shrinker, document)
+    return status
+
+
+def broken(asked, document, judging):
+    """The rule that the document breaks."""
+    try:
+        judging.run(document)
+    except runs.Refused as refused:
+        raise command.Trouble(f"{command.shown(asked.document)}: refused {refused}") from None
+    if asked.rule and not any(rule.number == asked.rule for rule in judging.rules):
+        raise command.Trouble(f"{command.shown(asked.rules)} has no rule in line {asked.rule}")
+    found = [rule for rule in judging.rules if rule.failure and asked.rule in (None, rule.number)]
+    if not found:
+        which = f"doesn't break the rule of line {asked.rule}" if asked.rule else "breaks no rule"
+        raise command.Trouble(f"{command.shown(asked.document)} {which}: there is nothing to shrink")
+    return found[0]
+
+
+def other_timing(asked, document, judging):
+    """The document of --unless, which keeps the rule."""
+    good = flow.read_document(asked.unless)
+    if not shrink.differ_in_timing(document, good):
+        raise command.Trouble(f"{command.shown(asked.unless)}: its nodes are others: --unless is the same robot with another timing")
+    judging.run(good)
+    if judging.rules[0].failure:
+        raise command.Trouble(f"{command.shown(asked.unless)} breaks the rule too: {judge.said(judging.rules[0].failure)}")
+    return good
+
+
+def kept(text, declared):
+    """The rule that a line stays."""
+    try:
+        rule = rules.Count([pattern.Pattern(pattern.tokens(text), 1, declared)], 1, None)
+    except pattern.Wrong as wrong:
+        raise command.Trouble(f"--keep {text!r}, at its character {wrong.column}: {wrong}") from None
+    return rule
+
+
+def tell(rule, shrinker, document):
+    """Tells on standard error what became smaller, and how the document breaks its rule now."""
+    sizes = [len(made.layout(it)) + 1 for it in (document, shrinker.document)]
+    parts = changed(document, shrinker.document)
+    command.note(
+        f"{rule.place}breaks: {rule.text}",
+        f"  {shrinker.found}",
+        f"shrink: {sizes[0]} bytes became {sizes[1]}, in {shrinker.runs} runs" + f": {', '.join(parts)}" * bool(parts),
+    )
+
+
+def changed(before, after):
+    """What became less, of each kind of part."""
+    one, other = shrink.sizes(before), shrink.sizes(after)
+    return [f"{count} {name} became {other[name]}" for name, count in one.items() if other[name] != count]

@@ -1,0 +1,37 @@
+"""view: writes a page that shows a run in a browser, one HTML file that needs no network: callback groups in rows, rounds in columns,
+goals as bars, messages as lines, and the lines of a round next to them. One can search, zoom, and go from round to round by keys.
+
+A second transcript is shown below the first, and their first difference is marked. docs/view.md says what the keys do."""
+from .. import command, fit, flow, grammar, view
+from . import picture
+
+STATUS = "The status is 0, and 2 if a file is wrong, cut off or another run's, or hasn't these rounds."
+# Beyond this many lines a browser takes more than some seconds to open the page.
+MANY = 2000000
+
+
+def parser(prog=None):
+    made = command.parser(__doc__, STATUS, prog)
+    made.add_argument("document", metavar="DOCUMENT", help="a document; - is standard input")
+    made.add_argument("transcript", metavar="TRANSCRIPT", help="its transcript; - is standard input")
+    made.add_argument("other", metavar="OTHER", nargs="?", help="a second transcript, which is compared with the first")
+    made.add_argument("--document", metavar="DOCUMENT", dest="second", help="the document of OTHER, if it is another one")
+    made.add_argument("--rounds", metavar="A-B", type=picture.rounds_of, default=(1, grammar.MOMENTS), help="the rounds to show, as A-B, A- or A; all if none are given")
+    return made
+
+
+def run(asked, out):
+    document = flow.read_document(asked.document)
+    runs = [view.Run(asked.transcript, document, fit.Own(asked.document, document), *asked.rounds)]
+    if asked.other:
+        other = flow.read_document(asked.second) if asked.second else document
+        runs.append(view.Run(asked.other, other, fit.Own(asked.second or asked.document, other), *asked.rounds))
+    elif asked.second:
+        raise command.Trouble("--document is the document of a second transcript, and there is none")
+    if not any(it.scene.columns for it in runs):
+        raise command.Trouble(f"there are no rounds {asked.rounds[0]} to {asked.rounds[1]}: the transcript has {runs[0].scene.rounds}")
+    lines = sum(it.rest.count("\n") for run in runs for it in run.rounds)
+    if lines > MANY:
+        command.note(f"view: {lines} lines take a browser long to open; --rounds A-B shows a part of them")
+    out.write(view.page(runs, " and ".join(command.shown(it.name) for it in runs)))
+    return command.FINE

@@ -1,0 +1,42 @@
+"""The folder of --save: documents and transcripts of runs that break a rule."""
+import os
+
+from . import command, made
+
+# How many runs are saved, apart from the least of each rule.
+SAVED = 100
+
+
+class Folder:
+    """A folder in which a search saves runs: the first that break a rule, by their numbers, and the least of each rule."""
+
+    def __init__(self, name, search, judging):
+        self.name, self.search, self.judging, self.count = name, search, judging, 0
+        if name:
+            os.makedirs(name, exist_ok=True)
+
+    def add(self, part):
+        """Saves the runs of a part that break a rule."""
+        for broken in part.breaks if self.name else ():
+            if self.count < SAVED:
+                self.count += 1
+                self.write(f"run_{broken.number}", broken)
+
+    def end(self, tally):
+        """Saves the least change of each rule, and says what is in the folder."""
+        if not self.name:
+            return
+        for at, found in sorted(tally.found.items()):
+            self.write(self.search.rules[at].label, found.least)
+        if tally.found or self.count:
+            more = f", the first of {tally.broken}" if tally.broken > self.count else ""
+            names = ", ".join(f"{self.search.rules[at].label}.json" for at in sorted(tally.found))
+            command.note(f"search: {command.printable(self.name)} has {self.count} runs that break a rule{more}, and the least change of each rule: {names}")
+
+    def write(self, name, broken):
+        """Writes the document and the transcript of a run."""
+        document = self.search.space.value(broken.taken) if broken.taken else self.search.document
+        text = self.search.run(self.judging, broken.number, broken.taken)
+        for ending, held in (("json", made.layout(document) + "\n"), ("txt", text)):
+            with command.Output(os.path.join(self.name, f"{name}.{ending}")) as out:
+                out.write(held)

@@ -1,0 +1,130 @@
+"""A search for the variations of a document whose runs break a rule: which runs there are, and what came of them."""
+import collections
+
+from . import command, crew, fit, judge, runs, space
+
+# How many runs a process is given at a time.
+CHUNK = 16
+
+# What came of some runs: how many there were, in how many a rule was of nothing or undecided, in how many a choice had another
+# option than the document, and those that broke a rule.
+Part = collections.namedtuple("Part", "runs unmet undecided changed breaks")
+COUNTED = ("unmet", "undecided", "changed")
+# A run that broke rules: its number, what varies in it, and the places of the rules with the lines that decide them.
+Broken = collections.namedtuple("Broken", "number taken breaks")
+
+
+class Search:
+    """A search, as its plan says it. A plan is made of texts, numbers and lists, as JSON has them."""
+
+    def __init__(self, plan):
+        self.plan, self.document, self.is_all = plan, plan["document"], plan["all"]
+        self.space = space.Space(self.document, plan["vary"])
+        self.rules = judge.read(plan["rules"], plan["text"], plan["robust"], fit.Own(plan["name"], self.document).kinds)
+        self.is_whole = self.space.size <= plan["runs"]
+        self.runs = self.space.size if self.is_whole else plan["runs"]
+
+    def taken(self, number):
+        """What varies in a run, by its number from 1 on. The run 0 is the document's own."""
+        if not number:
+            return []
+        return self.space.numbered(number - 1) if self.is_whole else self.space.drawn(self.plan["seed"], number)
+
+    def own(self, judging):
+        """Runs the document without a change: a judge knows then which lines must stay the same."""
+        judging.keep(self.run(judging, 0, []))
+
+    def run(self, judging, number, taken):
+        """Runs a variation, and gives its transcript."""
+        try:
+            return judging.run(self.space.value(taken) if taken else self.document)
+        except runs.Refused as refused:
+            changes = "; ".join(self.space.changes(taken)) or "without a change"
+            raise command.Trouble(f"run {number} is refused with {refused}: {changes}") from None
+
+    def part(self, judging, numbers):
+        """Runs some variations, and gives what came of them. Unless all are asked for it ends with the first that breaks a rule."""
+        unmet, undecided, changed = (collections.Counter() for _ in COUNTED)
+        breaks, count = [], 0
+        for number in numbers:
+            taken = self.taken(number)
+            self.run(judging, number, taken)
+            count += 1
+            unmet.update(at for at, rule in enumerate(self.rules) if rule.unmet())
+            undecided.update(at for at, rule in enumerate(self.rules) if rule.open_end)
+            changed.update(at for at, _ in taken)
+            found = [(at, judge.said(rule.failure)) for at, rule in enumerate(self.rules) if rule.failure]
+            if found:
+                breaks.append(Broken(number, taken, found))
+                if not self.is_all:
+                    break
+        return Part(count, unmet, undecided, changed, breaks)
+
+    def parts(self, judging, shard, of, processes):
+        """What comes of the runs of a shard, chunk by chunk in their order, after that of the document's own run."""
+        self.own(judging)
+        first = self.part(judging, [0])._replace(runs=0, unmet={}, undecided={})
+        yield first
+        if first.breaks and not self.is_all:
+            return
+        numbers = range(shard, self.runs + 1, of)
+        chunks = (numbers[at : at + CHUNK] for at in range(0, len(numbers), CHUNK))
+        for part in crew.outcomes(lambda: lambda chunk: self.part(judging, chunk), chunks, processes):
+            yield part
+            if part.breaks and not self.is_all:
+                return
+
+
+class Found:
+    """What was found of a rule: how many runs broke it, the least change that did, and which options the changes had."""
+
+    def __init__(self):
+        self.count, self.least, self.says = 0, None, ""
+        self.options, self.counts = collections.defaultdict(set), collections.Counter()
+        self.cost = None
+
+    def take(self, broken, cost, says):
+        self.count += 1
+        if self.cost is None or cost < self.cost:
+            self.cost, self.least, self.says = cost, broken, says
+        for choice, option in broken.taken:
+            self.options[choice].add(option)
+            self.counts[choice] += 1
+
+
+class Tally:
+    """What came of the runs of a search. The order in which it is taken changes nothing."""
+
+    def __init__(self, search):
+        self.search, self.runs = search, 0
+        # Whether it is known how many runs there were: a shard that is cut off doesn't say.
+        self.is_counted = True
+        self.unmet, self.undecided, self.changed = (collections.Counter() for _ in COUNTED)
+        self.begin()
+
+    def begin(self):
+        self.broken, self.first, self.found, self.own = 0, None, {}, None
+
+    def add(self, part):
+        """Takes what came of some runs."""
+        self.runs += part.runs
+        for name in COUNTED:
+            getattr(self, name).update(getattr(part, name))
+        for broken in part.breaks:
+            self.take(broken)
+
+    def take(self, broken):
+        """Takes a run that broke rules. If not all are asked for the first of them counts alone."""
+        if not broken.number and self.own is not None:
+            return
+        if not self.search.is_all and self.first is not None:
+            if broken.number >= self.first:
+                return
+            self.begin()
+        self.own = self.own if broken.number else broken
+        self.broken += bool(broken.number)
+        self.first = broken.number if self.first is None else min(self.first, broken.number)
+        cost = (*self.search.space.cost(broken.taken), broken.number)
+        for at, says in broken.breaks:
+            if broken.number or not self.search.is_all:
+                self.found.setdefault(at, Found()).take(broken, cost, says)

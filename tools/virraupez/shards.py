@@ -1,0 +1,103 @@
+"""A search in parts: a shard runs every N-th variation and writes a line of JSON for each run that breaks a rule. Joined, shards
+give what one search gives."""
+import collections
+import json
+
+from . import command, search
+
+
+class Lines:
+    """Writes what a shard finds, a line of JSON for each run that breaks a rule, between a line that says what is searched and one
+    that says how much of it was run."""
+
+    def __init__(self, made, shard, out):
+        self.out, self.changes = out, made.space.changes
+        self.runs, self.counts = 0, {name: collections.Counter() for name in search.COUNTED}
+        self.line({"search": made.plan, "shard": shard[0], "of": shard[1]})
+
+    def line(self, value):
+        self.out.line(json.dumps(value, separators=(",", ":")))
+
+    def add(self, part):
+        self.runs += part.runs
+        for name, counts in self.counts.items():
+            counts.update(getattr(part, name))
+        for it in part.breaks:
+            self.line({"run": it.number, "taken": it.taken, "changes": self.changes(it.taken), "breaks": it.breaks})
+        if part.breaks:
+            self.out.flush()
+
+    def end(self, is_whole):
+        self.line({"runs": self.runs, **self.counts, "whole": is_whole})
+
+
+class Joined:
+    """What shards wrote, as one search."""
+
+    def __init__(self):
+        self.plan, self.tally, self.of, self.seen, self.open, self.cut = None, None, 0, {}, None, []
+
+    def take(self, name, number, line):
+        """Takes a line of a file."""
+        try:
+            self.value(json.loads(line))
+        except (ValueError, LookupError, TypeError, AttributeError):
+            raise command.Trouble(f"{command.place(name, number)}no line of a shard: {line[:60].rstrip()!r}") from None
+        except Wrong as wrong:
+            raise command.Trouble(f"{command.place(name, number)}{wrong}") from None
+
+    def value(self, value):
+        if "search" in value:
+            self.begin(value["search"], value["shard"], value["of"])
+        elif self.open is None:
+            raise Wrong("a line before the first line of its shard")
+        elif "run" in value:
+            taken = [tuple(it) for it in value["taken"]]
+            self.tally.take(search.Broken(value["run"], taken, [tuple(it) for it in value["breaks"]]))
+        else:
+            counted = [collections.Counter({int(at): count for at, count in value[it].items()}) for it in search.COUNTED]
+            self.tally.add(search.Part(value["runs"], *counted, ()))
+            self.seen[self.open], self.open = value["whole"], None
+
+    def begin(self, plan, shard, of):
+        if self.plan is None:
+            self.plan, self.of = plan, of
+            self.tally = search.Tally(search.Search(plan))
+        if plan != self.plan or of != self.of:
+            raise Wrong("a shard of another search: its document, rules, words or number of shards differ")
+        if shard in self.seen:
+            raise Wrong(f"the shard {shard} of {of} is there twice")
+        self.end()
+        self.seen[shard], self.open = False, shard
+
+    def end(self):
+        """Ends a shard. One without its last line doesn't say how much of it was run."""
+        if self.open is not None:
+            self.tally.is_counted, self.open = False, None
+
+    def missing(self):
+        """What isn't there of a search, a line each."""
+        absent = [it for it in range(1, self.of + 1) if it not in self.seen]
+        if absent:
+            names = ", ".join(map(str, absent[:20])) + (" .." if len(absent) > 20 else "")
+            yield f"{'this shard' if len(absent) == 1 else 'these shards'} of {self.of} {'is' if len(absent) == 1 else 'are'} missing: {names}"
+        cut = [it for it, is_whole in sorted(self.seen.items()) if not is_whole]
+        if cut:
+            yield f"the shard{'s' * (len(cut) > 1)} {', '.join(map(str, cut[:20]))} of {self.of} ended before all its runs were made"
+
+
+class Wrong(Exception):
+    """What is wrong with a line of a shard."""
+
+
+def join(names):
+    """Joins files of shards."""
+    joined = Joined()
+    for name in names:
+        with command.source(name) as stream:
+            for number, line in enumerate(stream, 1):
+                joined.take(name, number, line.decode("utf-8", "replace"))
+    joined.end()
+    if joined.plan is None:
+        raise command.Trouble("no shard in " + ", ".join(map(command.shown, names)))
+    return joined

@@ -1,0 +1,16 @@
+"""How long a tick is, as a person writes it: 20ms, 0.5s or 100us."""
+import argparse
+import decimal
+import re
+
+UNITS = {"ns": 1, "us": 1000, "ms": 1000000, "s": 1000000000}
+LENGTH = re.compile("([0-9]{1,12}(?:[.][0-9]{1,9})?)(ns|us|ms|s)")
+
+
+def nanoseconds(text):
+    """The nanoseconds of a tick, a whole number of them."""
+    found = LENGTH.fullmatch(text)
+    length = decimal.Decimal(found[1]) * UNITS[found[2]] if found else 0
+    if length <= 0 or length != int(length):
+        raise argparse.ArgumentTypeError(f"a time as 10ms, 0.5s or 100us, and not {text[:40]!r}")
+    return int(length)

@@ -1,0 +1,126 @@
+"""A page that shows a run in a browser: all that is drawn, as JSON in one HTML file, with the style and the program of page/. A
+second run is shown below the first; their rounds are matched by their moments as diff matches them."""
+import json
+import pathlib
+
+from . import alignment, picture, scene, transcript
+
+PAGE = pathlib.Path(__file__).resolve().parent / "page"
+# The program of the page, in parts that follow one another.
+SCRIPTS = ("run.js", "draw.js", "use.js")
+# In how many rounds that differ the lines that differ are marked.
+MARKED = 2000
+
+
+class Run:
+    """A run that is shown: its rows, rounds, lines, boxes, links and goals."""
+
+    def __init__(self, name, document, own, first, last):
+        self.name, self.first, self.last = name, first, last
+        text = "".join(transcript.blocks(name, own))
+        self.scene = scene.Scene(document, first, last)
+        self.scene.take(text.split("\n")[:-1])
+        self.rounds = [it for it in alignment.rounds([text]) if self.is_shown(it)]
+        self.columns = {}
+
+    def is_shown(self, taken):
+        return taken.number is None and self.scene.rounds <= self.last or taken.number is not None and self.first <= taken.number <= self.last
+
+    def place(self, column, taken):
+        """Places a round in a column. What comes after the last round has the number None."""
+        self.columns[taken.number] = column
+
+    def data(self):
+        """What the page draws of it."""
+        stand = [self.columns[number] for number in range(self.first, self.first + len(self.scene.columns))]
+        boxes = list(self.scene.boxes.values())
+        at = {box.number: place for place, box in enumerate(boxes)}
+        depth = {}
+        for box in boxes:
+            key = box.row, box.column
+            box.at = depth[key] = depth.get(key, -1) + 1
+        deepest = [0] * len(self.scene.rows)
+        for (row, _), count in depth.items():
+            deepest[row] = max(deepest[row], count + 1)
+        return {
+            "name": self.name,
+            "rows": [[*row, count] for row, count in zip(self.scene.rows, deepest)],
+            "rounds": [[self.columns[it.number], it.number, None if it.number is None else it.moment, it.at] for it in self.rounds],
+            "text": "".join(head(it) + it.rest for it in self.rounds),
+            "boxes": [number for box in boxes for number in (stand[box.column], box.row, box.at, box.number, int(box.is_drop))],
+            "links": [number for origin, box in self.scene.links for number in (at[box.number], sender(origin, at))],
+            "goals": [goal_data(goal, stand) for goal in lanes(self.scene.shown_goals(), len(stand))],
+        }
+
+
+def head(taken):
+    return "" if taken.number is None else f"round {taken.number} {taken.moment}\n"
+
+
+def sender(origin, at):
+    """The box that sent an item: its place, -1 for the feed, and -2 for one that isn't shown."""
+    if origin.text.startswith("fed: "):
+        return -1
+    return at.get(origin.sender.line, -2) if origin.sender else -2
+
+
+def lanes(goals, count):
+    """Goals, each with a lane of its server that no other goal has at the same time."""
+    ends = {}
+    for goal in goals:
+        own = ends.setdefault(goal.server, [])
+        begin, end = goal.changes[0][0], goal.expired if goal.expired is not None else count
+        goal.lane = next((at for at, last in enumerate(own) if last < begin), len(own))
+        own[goal.lane : goal.lane + 1] = [end]
+    return goals
+
+
+def goal_data(goal, stand):
+    """A goal: its server, lane, name and identifier, its states with their columns, its feedback, and the column of its expiry."""
+    column = lambda at: -1 if at < 0 else stand[at]
+    states = [[column(at), int(status)] for at, status in goal.changes]
+    return [goal.server, goal.lane, goal.name(), goal.identifier, states, [[column(at), int(it)] for at, it in goal.feedback], None if goal.expired is None else column(goal.expired)]
+
+
+# ---- one run, or two
+
+
+def matched(runs):
+    """Places the rounds of one run or of two in columns, and gives how many there are, and what differs: columns with the places of
+    lines that differ, as (begin, end) of each run."""
+    if len(runs) == 1:
+        for column, taken in enumerate(runs[0].rounds):
+            runs[0].place(column, taken)
+        return len(runs[0].rounds), []
+    differ, column = [], -1
+    for column, (one, other) in enumerate(alignment.pairs(*(iter(run.rounds) for run in runs))):
+        for run, taken in zip(runs, (one, other)):
+            if taken is not None:
+                run.place(column, taken)
+        if one is None or other is None:
+            differ.append([column, None])
+        elif not one == other:
+            differ.append([column, alignment.changes(one.lines(), other.lines()) if len(differ) < MARKED else None])
+    return column + 1, differ
+
+
+def page(runs, title):
+    """The HTML of one run, or of two."""
+    count, differ = matched(runs)
+    data = {
+        "title": title,
+        "columns": count,
+        "differ": differ,
+        "states": transcript.STATES,
+        "families": picture.FAMILIES,
+        "legend": picture.LEGEND,
+        "runs": [run.data() for run in runs],
+    }
+    # A closing tag in the text would end the script.
+    text = json.dumps(data, separators=(",", ":")).replace("<", "\\u003c")
+    parts = {"TITLE": picture.escape(title), "STYLE": (PAGE / "view.css").read_text(), "DATA": text, "PROGRAM": "".join((PAGE / name).read_text() for name in SCRIPTS)}
+    made = (PAGE / "view.html").read_text()
+    for name, part in parts.items():
+        before, after = made.split(f"<!--{name}-->")
+        made = before + part + after
+    return made
