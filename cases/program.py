@@ -1,25 +1,27 @@
 """Runs of the built program, for the scripts that compare what it answers.
 
 An answer is a status with standard output and standard error, or None where the program hadn't ended in time."""
+import os
 import re
 import signal
 import subprocess
 
 SECONDS = 60
-# Behind so many runs that hadn't ended no other is made: a program that hangs on every document would take days.
+# After so many runs that hadn't ended no other is made: a program that hangs on every document would take days.
 PATIENCE = 20
 END = re.compile(rb"end [0-9]+\n")
 REFUSED = re.compile(rb"refused ([1-9]|10)\n")
 hung = []
 
 
-def answer(program, words, given, output=subprocess.PIPE):
-    """What the program answers to its words and an input, which is bytes or what a subprocess may have as its stream."""
+def answer(program, words, given, output=subprocess.PIPE, around=None):
+    """What the program answers to its words and an input, which is bytes or what a subprocess may have as its stream, in an
+    environment that has more than this process's."""
     if len(hung) >= PATIENCE:
         return None
     source = {"input": given} if isinstance(given, bytes) else {"stdin": given}
     try:
-        ran = subprocess.run([program, *words], stdout=output, stderr=subprocess.PIPE, timeout=SECONDS, **source)
+        ran = subprocess.run([program, *words], stdout=output, stderr=subprocess.PIPE, timeout=SECONDS, env={**os.environ, **(around or {})}, **source)
     except subprocess.TimeoutExpired:
         hung.append(words)
         return None

@@ -1,5 +1,5 @@
 -- Visits, turns and sweeps.
-use Rattle.std.proofs.Common.{◌≡◌, ◌≢◌, ℕ, zero, suc, ◌+◌, ◌-◌, ◌<◌, ◌≤◌, Bool, true, false, true≢false, cond, eq-eqb, ne_eqb, ◌||◌, List, [], ◌∷◌, ◌++◌, append-nil, append_assoc, length, length-set, map, sym, refl, ap, subst, ◌∙◌, arith}
+use Rattle.std.proofs.Common.{◌≡◌, ◌≢◌, ℕ, zero, suc, ◌+◌, ◌-◌, ◌<◌, ◌≤◌, Bool, true, false, true≢false, cond, eq-eqb, ne_eqb, ◌||◌, ◌⊎◌, inl, inr, List, [], ◌∷◌, ◌++◌, append-nil, append_assoc, length, length-set, map, sym, refl, ap, subst, ◌∙◌, arith}
 use Rattle.std.specs.Prelude.{slice_index, slice_set, unwrap_or}
 use Rattle.std.specs.Result.{IsErr, OnErr}
 use Rattle.std.specs.declared.result.Result.{Result}
@@ -14,8 +14,8 @@ use Rattle.exec_msg.specs.declared.memory.Memory.{Memory}
 use Rattle.exec_board.specs.Board.{ClaimView, IsClaimOf, IsSized, MayRelease}
 use Rattle.exec_board.specs.Rule.{held, is_same, tally}
 use Rattle.exec_board.specs.Seats.{Hold, IsLast, Refusal, SeatView, Segment, holding, let_go, refused, seen_at, start_of}
-use Rattle.exec_board.specs.Sweeps.{FirstSeen, GotOn, HasSome, IsBusy, IsShort, IsSwept, numbers}
-use Rattle.exec_board.specs.inner.Visits.{HasGotOn, HasRunSome, HasWorked, Turning, Visited, WasRefused, left_for, left_in, worked}
+use Rattle.exec_board.specs.Sweeps.{FirstSeen, GotOn, HasSome, IsBusy, IsShort, IsSwept, LeavesSome, numbers}
+use Rattle.exec_board.specs.inner.Visits.{HasGotOn, HasRunSome, HasStopped, HasWorked, Turning, Visited, WasRefused, left_for, left_in, worked}
 use Rattle.exec_board.proofs.Holding.{start_here, without_here}
 use Rattle.exec_board.proofs.Moved.{index-set, index-set-else}
 
@@ -88,12 +88,21 @@ swept_refused lane quantum a b free was = subst (IsSwept quantum a) (sym was.is)
 
 -- ---- a visit
 
-let_go_held : (lane first end : ℕ) (view : SeatView) → let_go lane end (holding lane first view) ≡ worked lane first end view
+pub let_go_held : (lane first end : ℕ) (view : SeatView) → let_go lane end (holding lane first view) ≡ worked lane first end view
 let_go_held lane first end view =
     let hold : Hold = record { lane = lane; start = first } in λ i. record view {
       seen = slice_set view.seen lane end;
       holds = without_here hold view.holds lane refl i;
       segments = view.segments ++ record { lane = lane; first = unwrap_or (start_here hold view.holds lane refl i) 0; end = end } ∷ [];
+    }
+
+-- a claim may be released, however far its lane has got
+pub claim_released : (view : SeatView) (lane : ℕ) (claim : ClaimView) (work : Lane) → IsClaimOf view lane claim → IsLaneOf claim.work work → claim.work.done ≤ work.done → MayRelease (holding lane claim.start view) (record claim { work = work })
+claim_released view lane claim work claimed same since =
+    let start = claimed.start in record {
+      held = ap (λ (l : ℕ). start_of l (record { lane = lane; start = claim.start } ∷ view.holds)) claimed.lane ∙ start_here (record { lane = lane; start = claim.start }) view.holds lane refl;
+      work = subst (λ (l : ℕ). IsLaneOf (opened_lane view.opening l) work) (sym claimed.lane) (record { variables = same.variables ∙ claimed.work.same.variables; entries = same.entries ∙ claimed.work.same.entries });
+      count = omega (arith, since, start);
     }
 
 module _ (lane quantum : ℕ) (before held_ : SeatView) (claim : ClaimView) (after : Lane) (ended : _) (claimed : IsClaimOf before lane claim) (holds : held_ ≡ holding lane claim.start before)
@@ -103,14 +112,7 @@ module _ (lane quantum : ℕ) (before held_ : SeatView) (claim : ClaimView) (aft
 
   -- the lane may be released as it stands
   pub may_release : MayRelease held_ (record claim { work = after })
-  may_release =
-      let since = ran.since in
-      let start = claimed.start in
-      subst (λ (view : SeatView). MayRelease view (record claim { work = after })) (sym holds) (record {
-        held = ap (λ (l : ℕ). start_of l (record { lane = lane; start = claim.start } ∷ before.holds)) claimed.lane ∙ start_here (record { lane = lane; start = claim.start }) before.holds lane refl;
-        work = subst (λ (l : ℕ). IsLaneOf (opened_lane before.opening l) after) (sym claimed.lane) of_lane;
-        count = omega (arith, since, start);
-      })
+  may_release = subst (λ (view : SeatView). MayRelease view (record claim { work = after })) (sym holds) (claim_released before lane claim after claimed ran.same ran.since)
 
   pub has_worked : (released : SeatView) → released ≡ let_go claim.lane after.done held_ → HasWorked lane quantum before released
   has_worked released is =
@@ -169,6 +171,16 @@ refused_seen lane a b within long free last was seen = subst (FirstSeen (lane + 
       where
         less : (other : ℕ) → other < lane + 1 → other ≢ lane → other < lane
         less other under apart = dite (dec_le lane other) (λ ge. absurd (apart (omega (arith, under, ge)))) (λ few. omega (arith, few))
+
+pub last_refused : (view : SeatView) (lane word : ℕ) → lane < length view.opening → length view.seen ≡ length view.opening → view.holds ≡ [] → IsLast view → (word ≡ 1) ⊎ (word ≡ 2) → (word ≡ 1 → held lane view ≡ 1) →
+    FirstSeen lane view → FirstSeen (lane + 1) (refused lane word view)
+last_refused view lane word within long free last which mine seen =
+    refused_seen lane view (refused lane word view) within long free last (record {
+      word = word;
+      is = refl;
+      known = λ apart. elim which [ inl one ↦ absurd (apart one) | inr two ↦ two ];
+      held_so = λ one _. mine one;
+    }) seen
 
 worked_less : (lane quantum : ℕ) (a b : SeatView) → lane < length a.opening → length a.seen ≡ length a.opening → HasGotOn lane quantum a b → left_for b < left_for a
 worked_less lane quantum a b within long on =
@@ -265,9 +277,32 @@ module _ (lane quantum : ℕ) (before held_ released : SeatView) (claim : ClaimV
       let on : claim.start < after.done = omega (arith, start, some) in
       record { work = visit_worked is; some = on }
 
-pub visited_err : (lane quantum : ℕ) (a b : SeatView) (result : Result Bool Memory) → IsErr result → HasWorked lane quantum a b → Visited lane quantum a b result
-visited_err lane quantum a b (Ok did) err work = absurd (true≢false (sym err))
-visited_err lane quantum a b (Err memory) err work = work
+  pub visit_stopped : released ≡ let_go claim.lane after.done held_ → IsErr ended → HasStopped lane quantum before released
+  unfolding visit_worked has_worked
+  visit_stopped is err =
+      let left = (ran_so.failed err).1 in
+      let entries = ap length ran_so.same.entries in
+      let opened = ap length claimed.work.same.entries in
+      let short : after.done < length (opened_lane before.opening lane).entries = omega (arith, left, entries, opened) in
+      record { work = visit_worked is; short = short }
+
+pub visited_err : (lane quantum : ℕ) (a b : SeatView) (result : Result Bool Memory) → IsErr result → HasStopped lane quantum a b → Visited lane quantum a b result
+visited_err lane quantum a b (Ok did) err stopped = absurd (true≢false (sym err))
+visited_err lane quantum a b (Err memory) err stopped = stopped
+
+-- a pass that stopped in a lane has seen that callbacks of it are left
+pub leaves_some : (lane quantum : ℕ) (board : TableId) (a b : SeatView) → lane < board.words → IsSized board a → HasStopped lane quantum a b → LeavesSome b
+leaves_some lane quantum board a b within sized stopped = subst LeavesSome (sym stopped.work.is) (lane, is_lane, left)
+  where
+    is_lane : lane < length a.opening
+    is_lane = let opening = sized.opening in omega (arith, within, opening)
+
+    left : slice_index (slice_set a.seen lane stopped.work.end) lane < length (opened_lane a.opening lane).entries
+    left =
+        let seen = sized.seen in
+        let at = index-set a.seen lane stopped.work.end (omega (arith, within, seen)) in
+        let short = stopped.short in
+        omega (arith, at, short)
 
 pub on_err_any : {A B : Type 0} {P : Type 0} (result : Result A B) → P → OnErr result P
 on_err_any (Ok value) p = tt

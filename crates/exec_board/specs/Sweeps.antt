@@ -44,6 +44,10 @@ FirstSeen lanes view = (lane : ℕ) → lane < lanes → slice_index view.seen l
 abbrev pub AllSeen : SeatView → Type 0
 AllSeen view = FirstSeen (length view.opening) view
 
+-- a pass has seen a lane of which callbacks are left
+abbrev pub LeavesSome : SeatView → Type 0
+LeavesSome view = (lane : ℕ) × (lane < length view.opening) × (slice_index view.seen lane < length (opened_lane view.opening lane).entries)
+
 -- a pass added segments, each of which has a callback
 abbrev pub GotOn : SeatView → SeatView → Type 0
 GotOn before after = (segments : List Segment) × (after.segments ≡ before.segments ++ segments) × All HasSome segments

@@ -1,7 +1,11 @@
 //! What the numbers mean by which the rule of a board counts. Each law is a function that does nothing.
-ghost use Rattle.std.specs.Prelude.{◌≡◌, ◌≢◌, ℕ, ◌+◌, ◌<◌, ◌≤◌};
-ghost use Rattle.exec_board.specs.Rule.{covered, has_number, in_segment, is_same, in_range};
-ghost use Rattle.exec_board.specs.Seats.{SeatView, Segment, back_half, front_half, together};
+ghost use Rattle.std.specs.Prelude.{◌≡◌, ◌≢◌, ◌⊎◌, ℕ, ◌+◌, ◌<◌, ◌≤◌, [], ◌∷◌, ◌++◌, length, slice_set};
+ghost use Rattle.exec_lane.specs.Lane.{Lane};
+ghost use Rattle.exec_lane.specs.Opening.{IsLaneOf};
+ghost use Rattle.exec_board.specs.Board.{ClaimView, IsClaimOf, MayRelease};
+ghost use Rattle.exec_board.specs.Rule.{covered, has_number, held, in_segment, is_same, in_range};
+ghost use Rattle.exec_board.specs.Seats.{IsLast, SeatView, Segment, back_half, front_half, holding, let_go, refused, together};
+ghost use Rattle.exec_board.specs.Sweeps.{FirstSeen};
 
 /// A number is counted once where it is at least the first and less than the end, and not at all elsewhere.
 pub fn a_number_is_within_from_the_first_to_the_end()
@@ -32,4 +36,20 @@ pub fn a_split_keeps_what_there_was()
 pub fn a_join_keeps_what_there_was()
     ensures ran { (lane place : ℕ) (front back : SeatView) → covered lane place (together front back) ≡ covered lane place front + covered lane place back }
     ensures share { (number : ℕ) (front back : SeatView) → front.start < front.stop → back.start < back.stop → back.start ≡ front.stop → has_number number (together front back) ≡ has_number number front + has_number number back }
+{}
+
+/// A claim may be released, however far its lane has got meanwhile. The pass then has one segment more, and holds what it held
+/// before the claim.
+pub fn a_claim_may_be_released()
+    ensures may { (view : SeatView) (lane : ℕ) (claim : ClaimView) (work : Lane) → IsClaimOf view lane claim → IsLaneOf claim.work work → claim.work.done ≤ work.done →
+        MayRelease (holding lane claim.start view) (record claim { work = work }) }
+    ensures released { (view : SeatView) (lane first end : ℕ) → let_go lane end (holding lane first view)
+        ≡ record view { seen = slice_set view.seen lane end; segments = view.segments ++ record { lane = lane; first = first; end = end } ∷ [] } }
+{}
+
+/// The last pass, while it holds nothing, is refused finished lanes alone. So when it is refused one lane after another, it has
+/// seen all their callbacks to have run.
+pub fn the_last_pass_is_refused_finished_lanes()
+    ensures { (view : SeatView) (lane word : ℕ) → lane < length view.opening → length view.seen ≡ length view.opening → view.holds ≡ [] → IsLast view →
+        (word ≡ 1) ⊎ (word ≡ 2) → (word ≡ 1 → held lane view ≡ 1) → FirstSeen lane view → FirstSeen (lane + 1) (refused lane word view) }
 {}

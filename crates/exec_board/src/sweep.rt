@@ -1,7 +1,7 @@
 //! The loop of a worker at a board.
 ghost use Rattle.std.specs.Prelude.{◌≡◌, ◌<◌, [], length, IfOk, IsOk, OnErr};
 ghost use Rattle.exec_board.specs.Board.{IsSized};
-ghost use Rattle.exec_board.specs.Sweeps.{EndsSweep, IsSwept};
+ghost use Rattle.exec_board.specs.Sweeps.{EndsSweep, IsSwept, LeavesSome};
 ghost use Rattle.exec_board.specs.inner.Visits.{HasRunSome, Turning, Visited};
 
 use crate::board::Board;
@@ -14,7 +14,8 @@ impl Board {
     /// it and releases it. It ends once it has come round without a claim, each lane in turn being held or finished.
     ///
     /// # Errors
-    /// [`Memory`] where a callback was refused a growth, or had been before. Its lane is released as it stands.
+    /// [`Memory`] where a callback was refused a growth, or had been before. Its lane is released as it stands, with callbacks
+    /// left.
     pub fn sweep<G: Gate>(&self, pass: &mut Pass, quantum: usize, gate: &G) -> Result<(), Memory>
         requires board { pass.old.board ≡ self.now }
         requires holds_none { pass.old.view.holds ≡ [] }
@@ -22,6 +23,7 @@ impl Board {
         ensures board { pass.new.board ≡ pass.old.board }
         ensures swept { IsSwept quantum pass.old.view pass.new.view }
         ensures ends { IsOk result → EndsSweep self.now.words pass.old.view pass.new.view }
+        ensures memory { OnErr result (LeavesSome pass.new.view) }
     {
         while self.turn(pass, quantum, gate)? {}
         Ok(())
@@ -35,6 +37,7 @@ impl Board {
         ensures board { pass.new.board ≡ pass.old.board }
         ensures turned { IfOk result (λ claimed. Turning self.now.words quantum claimed pass.old.view pass.new.view) }
         ensures swept { OnErr result (IsSwept quantum pass.old.view pass.new.view) }
+        ensures memory { OnErr result (LeavesSome pass.new.view) }
         ensures sized { IsSized self.now pass.old.view }
     {
         let mut claimed = false;

@@ -24,7 +24,7 @@ impl Model for ActionClient {
 }
 
 impl ActionClient {
-    ghost use Rattle.std.specs.Prelude.{◌≡◌, ◌+◌, OnOk, OnErr, IfOk};
+    ghost use Rattle.std.specs.Prelude.{◌≡◌, ◌+◌, ◌^◌, ◌≤◌, OnOk, OnErr, IfOk};
     ghost use Rattle.exec_rules.specs.Item.{goal_id};
 
     /// A client that hasn't sent a goal yet.
@@ -61,10 +61,11 @@ impl ActionClient {
         GoalId::new((self.place as u128 + 1) * (1 << 64) + number as u128)
     }
 
-    // Counts its next goal, and gives the goal's number, from 1. Where memory is refused, the client stays as it was.
+    // Counts its next goal, and gives the goal's number, from 1. Where that doesn't fit, the client stays as it was.
     pub(crate) fn send_goal(&mut self) -> Result<u64, Memory>
         ensures number { IfOk result (λ number. number ≡ self.old.goals + 1) }
         ensures sent { OnOk result (self.new ≡ record self.old { goals = self.old.goals + 1 }) }
+        ensures memory { OnErr result (2 ^ 64 ≤ self.old.goals + 1) }
         ensures unchanged { OnErr result (self.new ≡ self.old) }
     {
         // No run of a lawful plan comes to a number that doesn't fit (law `numbers_stay_below_their_limit`).
@@ -82,7 +83,7 @@ impl Numbered for ActionClient {
 }
 
 impl ByNumber<ActionClient> {
-    ghost use Rattle.std.specs.Prelude.{◌≡◌, ◌+◌, find, None, OnOk, IfOk};
+    ghost use Rattle.std.specs.Prelude.{◌≡◌, ◌+◌, ◌^◌, ◌≤◌, find, None, OnErr, OnOk, IfOk, IsSomeAnd};
     ghost use Rattle.std.specs.Option.{option_map};
     ghost use Rattle.exec_msg.specs.Lists.{change_first};
     ghost use Rattle.exec_rules.specs.Item.{goal_id};
@@ -92,11 +93,12 @@ impl ByNumber<ActionClient> {
     /// client.
     ///
     /// # Errors
-    /// [`Memory`] where a growth was refused. The client stays as it was.
+    /// [`Memory`] where the goal's number doesn't fit. The client stays as it was.
     pub fn send_goal(&mut self, client: EntityNo) -> Result<Option<(EntityNo, GoalId)>, Memory>
         ensures made { IfOk result (λ made. made ≡ option_map (λ entry. (entry.server, goal_id entry.place (entry.goals + 1))) (find (is_action_client_at client) self.old)) }
         ensures sent { OnOk result (self.new ≡ change_first (is_action_client_at client) (λ entry. record entry { goals = entry.goals + 1 }) self.old) }
         ensures absent { IfOk result (λ made. made ≡ None → self.new ≡ self.old) }
+        ensures memory { OnErr result (IsSomeAnd (find (is_action_client_at client) self.old) (λ entry. 2 ^ 64 ≤ entry.goals + 1)) }
     {
         let place = self.place(client);
         let Some(entry) = self.entries.get_mut(place) else {

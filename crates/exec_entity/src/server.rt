@@ -86,7 +86,7 @@ impl Server {
     ghost use Rattle.exec_goal.specs.Cancel.{candidates, code_of, moved, table_after};
     ghost use Rattle.exec_goal.specs.Info.{answer_of, info_of};
     ghost use Rattle.exec_goal.specs.State.{is_accepted};
-    ghost use Rattle.exec_goal.specs.Table.{after_end, asked_for, has_id};
+    ghost use Rattle.exec_goal.specs.Table.{after_end, asked_for, has_id, later};
     ghost use Rattle.exec_msg.specs.Lists.{change_first};
     ghost use Rattle.exec_task.specs.Task.{new_task};
     ghost use Rattle.exec_rules.specs.Close.{server_accepting};
@@ -224,6 +224,7 @@ impl Server {
     pub(crate) fn ask(&mut self, id: GoalId, client: EntityNo) -> Result<Asked, Memory>
         ensures told { IfOk result (λ told. told ≡ answer_of (asked_for id self.old.goals)) }
         ensures noted { OnOk result (self.new ≡ record self.old { goals = after_asking id client self.old.goals }) }
+        ensures memory { OnErr result (asked_for id self.old.goals ≡ later) }
         ensures unchanged { OnErr result (self.new ≡ self.old) }
     {
         let told = self.goals.ask_result(id, client)?;

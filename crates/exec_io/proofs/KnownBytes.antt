@@ -38,16 +38,6 @@ Appends-front a b c before piece behind text n is within p q =
 pub Appends-piece : (a b c : Option (List ℕ)) (before piece : List ℕ) → Appends a b before → Appends b c piece → Appends a c (before ++ piece)
 Appends-piece a b c before piece p q = Appends-then a b c before piece p q
 
-Appends-still : (a b c : Option (List ℕ)) (xs : List ℕ) → Appends a b xs → Keeps b c → Appends a c xs
-Appends-still None b c xs p kept = tt
-Appends-still (Some u) None c xs p kept = absurd p
-Appends-still (Some u) (Some v) None xs p kept = absurd kept
-Appends-still (Some u) (Some v) (Some w) xs p kept = kept ∙ p
-
--- a writer that took the front of a text, and keeps it
-pub Appends-kept : (a b c : Option (List ℕ)) (written rest text : List ℕ) → written ++ rest ≡ text → Appends a b written → Keeps b c → Appends a c (take (length written) text)
-Appends-kept a b c written rest text is p kept = subst (Appends a c) (sym (ap (take (length written)) (sym is) ∙ take-append_seam written rest)) (Appends-still a b c written p kept)
-
 -- the front of what stood before a text was written, and what is left of it stands before the rest
 pub front_written : (written front behind all rest before lines text : List ℕ) → front ++ behind ≡ all → before ++ lines ≡ all ++ rest → written ++ (before ++ lines) ≡ text → (written ++ front) ++ (behind ++ rest) ≡ text
 front_written written front behind all rest before lines text parts same whole =

@@ -6,9 +6,12 @@ pub record Source : Type 0 where
   pub remaining : Option (List ℕ)
   pub failed : Bool
 
--- a writer: what it was given so far, where it tells that, whether a write or a flush has failed, or a write took nothing,
--- and whether a flush stands behind the last write
+-- where a text goes: what it was given so far, where it tells that, and whether giving it more has failed
 pub record Sink : Type 0 where
   pub contents : Option (List ℕ)
   pub failed : Bool
+
+-- a writer: the same, and whether a flush stands behind the last write
+pub record Stream : Type 0 where
+  pub sink : Sink
   pub flushed : Bool

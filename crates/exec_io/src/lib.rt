@@ -1,10 +1,12 @@
 //! The program's edges: the streams that it reads and writes, and the words that it is started with.
 #![tactic(auto)]
 
-mod streams;
+mod input;
+mod out;
 mod words;
+mod writing;
 
-pub use streams::{
-    InputStream, OutputStream, ReadFault, WriteFault, read_document, write_pieces, write_text,
-};
+pub use input::{InputStream, ReadFault, read_document};
+pub use out::{Out, OutFailed, Through};
 pub use words::{Settings, WordsFault, read_words, words_behind_the_name};
+pub use writing::{put_pieces, write_text};

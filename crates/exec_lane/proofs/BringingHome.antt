@@ -3,7 +3,7 @@ use Rattle.std.proofs.Common.{◌≡◌, ℕ, zero, suc, ◌-◌, ◌≤◌, Lis
 use Rattle.std.specs.List.{flat_map}
 use Rattle.std.proofs.Math.Seq.{take-nil}
 use Rattle.std.proofs.lemmas.List.{append-nil}
-use Rattle.exec_lane.proofs.Stepping.{left_so_many}
+use Rattle.exec_lane.proofs.Stepping.{as_many, left_so_many}
 use Rattle.exec_lane.specs.Gather.{ran_each}
 use Rattle.exec_lane.specs.Lane.{Done, LaneState, lane_at, task_home, tasks_home, variables_home}
 use Rattle.exec_lane.specs.declared.gathering.Ran.{Ran}
@@ -46,7 +46,8 @@ pub ran_is : (first : Variables) (opened slots : List SlotState) (n : ℕ) → n
     ran_first n slots ≡ ran_each (entries_of opened) (lane_at first (entries_of opened) n).done
 ran_is first opened slots n within is =
     let done : List Done = (lane_at first (entries_of opened) n).done in
-    let counted = left_so_many (record { variables = first; done = [] }) n opened within in
+    let many = as_many opened in
+    let counted = left_so_many (record { variables = first; done = [] }) n (entries_of opened) (omega (arith, within, many)) in
     let long : length done ≡ n = omega (arith, counted) in
     ap (λ (some : List SlotState). ran_first n some) is
     ∙ ap (λ (count : ℕ). ran_first count (slots_at done opened)) (sym long)

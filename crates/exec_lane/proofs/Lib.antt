@@ -5,6 +5,7 @@ pub mod Crossing
 pub mod Cutting
 pub mod Groups
 pub mod Joining
+pub mod Outcomes
 pub mod Putting
 pub mod Stepping
 pub mod Taken

@@ -8,6 +8,7 @@ use Rattle.std.proofs.lemmas.List.{length_push, take_more}
 use Rattle.std.proofs.lemmas.List.Sums.{fold-append}
 use Rattle.exec_lane.specs.Lane.{Done, Entry, LaneState, done_by, lane_at, run_entry}
 use Rattle.exec_lane.specs.inner.Slots.{SlotState, did_in, entries_of, entry_of, slot_after, slots_at}
+use Rattle.exec_rules.specs.Run.{apart_with}
 use Rattle.exec_script.specs.Script.{Variables}
 
 -- as many entries as slots
@@ -36,12 +37,12 @@ lane_next variables slots n slot within =
     ∙ ap (λ (entry : Entry). run_entry (lane_at variables (entries_of slots) n) entry) (entry_there slots n slot within)
 
 -- as many callbacks left something as ran
-pub left_so_many : (state : LaneState) (n : ℕ) (slots : List SlotState) → n ≤ length slots → length (fold run_entry state (take n (entries_of slots))).done ≡ length state.done + n
-left_so_many state zero slots within = omega arith
+pub left_so_many : (state : LaneState) (n : ℕ) (entries : List Entry) → n ≤ length entries → length (fold run_entry state (take n entries)).done ≡ length state.done + n
+left_so_many state zero entries within = omega arith
 left_so_many state (suc n) [] within = absurd (omega (arith, within))
-left_so_many state (suc n) (slot ∷ slots) within =
-    let rest = left_so_many (run_entry state (entry_of slot)) n slots (omega (arith, within)) in
-    let one = length_push state.done (done_by slot.work (did_in state.variables slot)) in
+left_so_many state (suc n) (entry ∷ entries) within =
+    let rest = left_so_many (run_entry state entry) n entries (omega (arith, within)) in
+    let one = length_push state.done (done_by entry.work (apart_with entry.ready entry.work state.variables)) in
     omega (arith, rest, one)
 
 -- the next callback's slot is as it was
@@ -66,7 +67,8 @@ pub stepped : (first : Variables) (opened slots : List SlotState) (variables : V
     × (slice_set slots n (slot_after variables here) ≡ slots_at (lane_at first (entries_of opened) (n + 1)).done opened)
 stepped first opened slots variables n here group rest within is =
     let state : LaneState = lane_at first (entries_of opened) n in
-    let counted = left_so_many (record { variables = first; done = [] }) n opened (omega (arith, within)) in
+    let many = as_many opened in
+    let counted = left_so_many (record { variables = first; done = [] }) n (entries_of opened) (omega (arith, within, many)) in
     let long : length state.done ≡ n = omega (arith, counted) in
     let before : length state.done < length opened = omega (arith, within, long) in
     let same : here ≡ slice_index_or opened n here =

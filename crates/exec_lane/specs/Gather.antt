@@ -1,8 +1,9 @@
 -- What lanes bring home.
-use Rattle.std.specs.Prelude.{List, [], ◌∷◌, IsPermutation, IsSortedByKey}
+use Rattle.std.specs.Prelude.{List, [], ◌∷◌, map, IsPermutation, IsSortedByKey}
 use Rattle.std.specs.Ordering.{nat_cmp}
 use Rattle.exec_lane.specs.Lane.{Done, Entry, Lane, state_of}
 use Rattle.exec_lane.specs.declared.gathering.Ran.{Ran}
+use Rattle.exec_lane.specs.declared.outcome.Outcome.{Outcome}
 use Rattle.exec_script.specs.declared.effects.Effects.{Effects}
 use Rattle.exec_rules.specs.declared.ready.Ready.{Ready}
 
@@ -14,6 +15,13 @@ ran_each _ _ = []
 -- the callbacks of a lane that ran
 abbrev pub ran_in : Lane → List Ran
 ran_in lane = ran_each lane.entries (state_of lane).done
+
+-- what a callback that ran did, and what those of a lane that ran did, in their order
+abbrev pub outcome_of : Ran → Outcome
+outcome_of ran = record { position = ran.ready.position; effects = ran.effects }
+
+abbrev pub outcomes_in : Lane → List Outcome
+outcomes_in lane = map outcome_of (ran_in lane)
 
 -- callbacks each of which did this
 abbrev pub all_ran : List Ready → List Effects → List Ran

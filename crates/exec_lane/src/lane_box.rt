@@ -1,13 +1,14 @@
 //! A lane that may be moved from thread to thread.
-ghost use Rattle.std.specs.Prelude.{◌≡◌, ◌<◌, ◌≤◌, ◌+◌, ◌==◌, true, false, length, IfOk, IsErr, OnErr, OnOk};
+ghost use Rattle.std.specs.Prelude.{◌≡◌, ◌<◌, ◌≤◌, ◌+◌, ◌==◌, true, false, length, slice_get, Some, IfOk, IsErr, OnErr, OnOk};
 ghost use Rattle.std.specs.Option.{option_map};
-ghost use Rattle.exec_lane.specs.Gather.{ran_in};
+ghost use Rattle.exec_lane.specs.Gather.{outcomes_in, ran_in};
 ghost use Rattle.exec_lane.specs.Lane.{Lane, lane_home, variables_home};
 ghost use Rattle.exec_lane.specs.inner.Homing.{ran_first, slots_home};
 ghost use Rattle.exec_lane.specs.inner.Slots.{SlotState, did_in, entries_of, slot_after, slots_at};
 ghost use Rattle.exec_rules.specs.World.{work_of};
 
-use crate::gate::Gate;
+use crate::gate::{Gate, Passed};
+use crate::outcome::Outcome;
 use exec_msg::Memory;
 use exec_script::{Bank, Effects};
 use exec_task::{GoalTask, Poller};
@@ -35,8 +36,16 @@ impl Model for Slot {
 }
 
 impl Slot {
-    // Runs the callback apart from the world, with its group's variables. Where memory is refused, all stays as it was.
-    fn run(&mut self, alloc: Global, bank: &mut Bank, poller: &Poller) -> Result<(), Memory>
+    // Runs the callback, of which a gate was told, apart from the world, with its group's variables. Where memory is refused, all
+    // stays as it was.
+    fn run(
+        &mut self,
+        _passed: Passed,
+        alloc: Global,
+        bank: &mut Bank,
+        poller: &Poller,
+    ) -> Result<(), Memory>
+        requires { _passed.position ≡ self.old.ready.position }
         ensures slot { OnOk result (self.new ≡ slot_after bank.old self.old) }
         ensures variables { OnOk result (bank.new ≡ (did_in bank.old self.old).variables) }
         ensures unchanged { OnErr result (self.new ≡ self.old) }
@@ -128,6 +137,22 @@ impl LaneBox {
         self.done == self.slots.as_slice().len()
     }
 
+    /// A copy of what a callback did that ran, by its place in the lane, from 0.
+    ///
+    /// # Errors
+    /// [`Memory`] where a growth was refused.
+    pub fn outcome(&self, index: usize) -> Result<Outcome, Memory>
+        requires { index < self.now.done }
+        ensures { IfOk result (λ outcome. slice_get (outcomes_in self.now) index ≡ Some outcome) }
+    {
+        let slot = &self.slots[index];
+        let Some(did) = &slot.did else { unreachable!() };
+        Ok(Outcome {
+            position: slot.ready.position,
+            effects: Effects::copy_of(self.alloc, did)?,
+        })
+    }
+
     /// Tells the gate the position of the lane's next callback, and runs that.
     ///
     /// # Errors
@@ -143,8 +168,8 @@ impl LaneBox {
             return Err(Memory);
         }
         let slot = &mut self.slots[self.done];
-        gate.pass(slot.ready.position);
-        let ran = slot.run(self.alloc, &mut self.bank, &self.poller);
+        let passed = Passed::tell(gate, slot.ready.position);
+        let ran = slot.run(passed, self.alloc, &mut self.bank, &self.poller);
         if ran.is_err() {
             self.failed = true;
             return Err(Memory);

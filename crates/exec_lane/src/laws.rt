@@ -1,9 +1,10 @@
 //! Laws of lanes: each function's contract says one, and its body is empty or calls the law that it rests on.
-ghost use Rattle.std.specs.Prelude.{◌≡◌, ◌≢◌, ◌≤◌, ℕ, List, [], ◌∷◌, length, map, Bool, not, IsPermutation};
+ghost use Rattle.std.specs.Prelude.{◌≡◌, ◌≢◌, ◌≤◌, ℕ, List, [], ◌∷◌, length, map, slice_get, Some, Bool, not, IsPermutation};
 ghost use Rattle.std.specs.List.{filter, flat_map, list_any};
 ghost use Rattle.exec_plan.specs.Plan.{PlanData};
-ghost use Rattle.exec_lane.specs.Gather.{all_ran, ran_in};
+ghost use Rattle.exec_lane.specs.Gather.{all_ran, outcomes_in, ran_in};
 ghost use Rattle.exec_lane.specs.Lane.{AreFinished, Lane, as_lane, has_exclusive, is_of_exclusive, lanes_home, lanes_of, opened_lanes, tasks_out};
+ghost use Rattle.exec_lane.specs.declared.outcome.Outcome.{Outcome};
 ghost use Rattle.exec_msg.specs.declared.kind.Kind.{Kind};
 ghost use Rattle.exec_msg.specs.declared.kind.Kind.TheVariants as kind;
 ghost use Rattle.exec_rules.specs.Calls.{AreHome, HaveVariables};
@@ -41,6 +42,13 @@ pub fn lanes_share_no_queue()
 {
     exec_rules::laws::an_entity_has_one_callback_of_a_kind();
 }
+
+/// What a callback of a lane did stays so, however many callbacks of the lane run after it; and each of them did something.
+pub fn outcomes_stay_as_a_lane_goes_on()
+    ensures stay { (lane : Lane) (count index : ℕ) (outcome : Outcome) → lane.done ≤ count → slice_get (outcomes_in lane) index ≡ Some outcome →
+        slice_get (outcomes_in (record lane { done = count })) index ≡ Some outcome }
+    ensures each { (lane : Lane) → lane.done ≤ length lane.entries → length (outcomes_in lane) ≡ lane.done }
+{}
 
 /// Lanes that ran, in whatever threads and in whatever order, come home as their callbacks do that run one after another, and
 /// these did the same.

@@ -7,9 +7,11 @@ mod gate;
 mod gathering;
 mod lane_box;
 pub mod laws;
+mod outcome;
 mod splitting;
 
 pub use gate::{Gate, Open};
 pub use gathering::{Gathered, Ran, gather};
 pub use lane_box::LaneBox;
+pub use outcome::Outcome;
 pub use splitting::split;

@@ -47,7 +47,7 @@ as_many [] state = refl
 as_many (one ∷ list) state = ap suc (as_many list (brought_home one (apart one state) state))
 
 -- each of them stands at its place
-places_kept : (list : List Ready) (state : WorldState) → map (λ one. one.ready.position) (all_ran list (all_apart list state)) ≡ map (λ one. one.position) list
+pub places_kept : (list : List Ready) (state : WorldState) → map (λ one. one.ready.position) (all_ran list (all_apart list state)) ≡ map (λ one. one.position) list
 places_kept [] state = refl
 places_kept (one ∷ list) state = ap (λ places. one.position ∷ places) (places_kept list (brought_home one (apart one state) state))
 
@@ -55,11 +55,11 @@ places_rise : (first : ℕ) (list : List Ready) → RiseFrom first (map (λ one.
 places_rise first [] = tt
 places_rise first (one ∷ list) = (refl, places_rise (suc first) list)
 
-ready_rise : (number : ℕ) (world : WorldData) → RiseFrom 1 (map (λ one. one.position) (ready_in number world))
+pub ready_rise : (number : ℕ) (world : WorldData) → RiseFrom 1 (map (λ one. one.position) (ready_in number world))
 ready_rise number world = places_rise 1 _
 
 -- what is gathered of lanes is what the callbacks did
-gathered_is : (number : ℕ) (world : WorldData) (list : List Ready) (state : WorldState) (ran all : List Ran) → list ≡ ready_in number world → AreGathered ran all →
+pub gathered_is : (number : ℕ) (world : WorldData) (list : List Ready) (state : WorldState) (ran all : List Ran) → list ≡ ready_in number world → AreGathered ran all →
     IsPermutation ran (all_ran list (all_apart list state)) → all ≡ all_ran list (all_apart list state)
 gathered_is number world list state ran all is gathered did =
     sorted_is (λ one. one.ready.position) 1 all (all_ran list (all_apart list state))

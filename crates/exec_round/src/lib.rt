@@ -2,12 +2,18 @@
 #![tactic(auto)]
 
 mod claiming;
+mod collecting;
+pub mod laws;
+mod outcomes;
 mod rounds;
 mod running;
+mod sending;
+mod streaming;
 #[cfg(test)]
 mod tests;
 mod weighing;
 mod workers;
 
-pub use rounds::{round_claimed, round_forked};
-pub use running::{PlanTranscript, run, transcribe};
+pub use exec_io::{Out, OutFailed, Through};
+pub use rounds::{round_claimed, round_forked, round_streamed};
+pub use running::{RunFault, run, run_into};

@@ -1,17 +1,19 @@
 //! Rounds by workers.
 ghost use Rattle.std.specs.Prelude.{◌≡◌, ◌<◌, ◌≤◌, false, vec_len, IfOk, OnOk};
 ghost use Rattle.exec_lane.specs.Lane.{AreFinished};
-ghost use Rattle.exec_round.specs.inner.Commits.{after_commits};
+ghost use Rattle.exec_round.specs.inner.Commits.{after_commits, with_effects, with_effects_of};
 ghost use Rattle.exec_round.specs.inner.Sharing.{TakesSome};
 ghost use Rattle.exec_rules.specs.Calls.{IsNext, after_commit, after_round};
 
 use crate::claiming::claim_lanes;
+use crate::streaming::stream_lanes;
 use crate::weighing::workers_for;
 use crate::workers::run_lanes;
-use exec_lane::{Gate, Gathered, LaneBox, Ran, gather, laws, split};
+use exec_lane::{Gate, Gathered, LaneBox, Outcome, Ran, gather, laws, split};
 use exec_msg::{Lines, Memory};
 use exec_world::World;
 use std::alloc::Global;
+use std::sync::Wait;
 use std::thread::Threads;
 
 // How the lanes of a round are shared among workers.
@@ -81,6 +83,34 @@ pub fn round_claimed<L: Lines, R: Threads + Sync, G: Gate>(
     Ok(world)
 }
 
+/// Runs a whole round as [`round_claimed`] does, but that each worker puts what a callback did into a queue as soon as the callback
+/// has run. The calling thread takes it from there, and tells the gate. A worker keeps what comes back from a full queue. What is
+/// committed is what was taken and kept, in ready order.
+///
+/// # Errors
+/// [`Memory`] where a growth or a copy was refused. All threads have ended then.
+pub fn round_streamed<L: Lines, R: Threads + Wait + Sync, G: Gate>(
+    rt: &R,
+    alloc: Global,
+    world: World<L>,
+    round: usize,
+    workers: usize,
+    quantum: usize,
+    gate: &G,
+) -> Result<World<L>, Memory>
+    requires unfailed { world.failed ≡ false }
+    requires next { IsNext round world }
+    requires workers { 0 < workers }
+    requires quantum { 0 < quantum }
+    ensures { IfOk result (λ after. after ≡ after_round round world) }
+{
+    let mut world = world;
+    if stream_round(rt, alloc, &mut world, round, workers, quantum, gate).is_err() {
+        return Err(world.give_up());
+    }
+    Ok(world)
+}
+
 // Runs a round. Where nobody watches, callbacks that take less time than workers to start run where they stand.
 pub(crate) fn run_round<L: Lines, R: Threads + Sync, G: Gate>(
     rt: &R,
@@ -110,6 +140,37 @@ pub(crate) fn run_round<L: Lines, R: Threads + Sync, G: Gate>(
     let all = gather(alloc, ran, world)?;
     commit_each(all, world)?;
     Ok(())
+}
+
+// Runs a round whose workers send on what callbacks did, and commits that. Where nobody watches, callbacks that take less time
+// than workers to start run where they stand.
+pub(crate) fn stream_round<L: Lines, R: Threads + Wait + Sync, G: Gate>(
+    rt: &R,
+    alloc: Global,
+    world: &mut World<L>,
+    round: usize,
+    workers: usize,
+    quantum: usize,
+    gate: &G,
+) -> Result<(), Memory>
+    requires next { IsNext round world.old }
+    requires workers { 0 < workers }
+    requires quantum { 0 < quantum }
+    ensures { OnOk result (world.new ≡ after_round round world.old) }
+{
+    laws::lanes_come_home_as_one_thread_leaves_them();
+    exec_rules::laws::callbacks_may_be_committed_behind();
+    let list = world.snapshot(round)?;
+    if list.as_slice().is_empty() {
+        return Ok(());
+    }
+    let Some(count) = workers_for(rt, list.as_slice(), workers, gate) else {
+        return Ok(world.run_ready(list.as_slice())?);
+    };
+    let lanes = split(alloc, list, world)?;
+    let (ran, sent) = stream_lanes(rt, alloc, lanes, count, quantum, gate)?;
+    let all = gather(alloc, ran, world)?;
+    commit_sent(all, sent, world)
 }
 
 // Runs all callbacks of lanes.
@@ -142,6 +203,39 @@ fn commit_each<L: Lines>(all: Gathered, world: &mut World<L>) -> Result<(), Memo
         commit(one, world)?;
     }
     Ok(())
+}
+
+// Commits callbacks that ran, one after another, each with the effects that were sent on of it.
+fn commit_sent<L: Lines>(
+    all: Gathered,
+    sent: Vec<Outcome>,
+    world: &mut World<L>,
+) -> Result<(), Memory>
+    requires left { vec_len all ≤ world.old.left }
+    requires one_each { vec_len sent ≡ vec_len all }
+    ensures { OnOk result (world.new ≡ after_commits (with_effects_of all.items sent.items) world.old) }
+{
+    let mut ran = all;
+    let mut outcomes = sent;
+    ran.reverse();
+    outcomes.reverse();
+    while let Some(one) = ran.pop() {
+        let Some(outcome) = outcomes.pop() else {
+            unreachable!()
+        };
+        commit(with_effects(one, outcome), world)?;
+    }
+    Ok(())
+}
+
+// A callback with the effects of an outcome.
+fn with_effects(one: Ran, outcome: Outcome) -> Ran
+    ensures { result ≡ with_effects outcome one }
+{
+    Ran {
+        ready: one.ready,
+        effects: outcome.effects,
+    }
 }
 
 fn commit<L: Lines>(one: Ran, world: &mut World<L>) -> Result<(), Memory>

@@ -1,25 +1,30 @@
-ghost use Rattle.std.specs.Prelude.{◌≡◌, ◌<◌, ◌≤◌, [], false, length, Some, IfOk, IfErr, OnOk};
+ghost use Rattle.std.specs.Prelude.{◌≡◌, ◌<◌, ◌≤◌, ℕ, [], false, true, length, take, Err, Some, IfOk, IfErr, OnOk};
+ghost use Rattle.std.specs.Io.KnownBytes.{Appends};
 ghost use Rattle.std.specs.Arc.{arc_value};
 ghost use Rattle.exec_doc.specs.Document.{document_of};
+ghost use Rattle.exec_doc.specs.declared.refused.Refused.TheVariants as refused;
 ghost use Rattle.exec_plan.specs.Plan.{PlanData};
 ghost use Rattle.exec_round.specs.Run.{IsRefusalOf};
+ghost use Rattle.exec_round.specs.declared.running.RunFault.TheVariants as fault;
 ghost use Rattle.exec_rules.specs.Calls.{new_world};
 ghost use Rattle.exec_rules.specs.Transcript.{lines_of, text_of};
 
-use crate::rounds::{Sharing, run_round};
+use crate::rounds::{Sharing, run_round, stream_round};
 use exec_doc::{Refused, read_document};
+use exec_io::{Out, OutFailed, put_pieces};
 use exec_lane::Gate;
 use exec_msg::{Lines, Memory, TextReader, Transcript};
 use exec_plan::Plan;
 use exec_world::{World, run_plan};
 use std::alloc::Global;
 use std::marker::Model;
-use std::sync::Arc;
+use std::sync::{Arc, Wait};
 use std::thread::Threads;
+use thiserror::Error;
 
-/// The transcript of a plan that was run.
+// The transcript of a plan that was run. Its text may be read piece by piece: its lines take less memory than their text.
 #[derive(Drop)]
-pub struct PlanTranscript {
+struct PlanTranscript {
     plan: Arc<Plan>,
     lines: Transcript,
 }
@@ -38,21 +43,15 @@ impl PlanTranscript {
     ghost use Rattle.exec_msg.specs.Line.{transcript_text};
     ghost use Rattle.exec_plan.specs.Graph.{names_of};
 
-    /// A reader of its text, which takes little memory beside it.
-    ///
-    /// # Errors
-    /// [`Memory`] where a growth was refused.
-    pub fn reader(&self, alloc: Global) -> Result<TextReader<'_>, Memory>
+    // A reader of its text, which takes little memory beside it.
+    fn reader(&self, alloc: Global) -> Result<TextReader<'_>, Memory>
         ensures { IfOk result (λ reader. reader ≡ record { names = names_of self.now.plan.graph; lines = self.now.lines }) }
     {
         self.lines.reader(alloc, self.plan.graph().names())
     }
 
-    /// Its text.
-    ///
-    /// # Errors
-    /// [`Memory`] where a growth was refused.
-    pub fn text(&self, alloc: Global) -> Result<Vec<u8>, Memory>
+    // Its text.
+    fn text(&self, alloc: Global) -> Result<Vec<u8>, Memory>
         ensures { IfOk result (λ text. text.items ≡ transcript_text (names_of self.now.plan.graph) self.now.lines) }
     {
         self.lines.text(alloc, self.plan.graph().names())
@@ -82,12 +81,73 @@ pub fn run<R: Threads + Sync, G: Gate>(
     Ok(transcript.text(alloc)?)
 }
 
-/// Runs a document as [`run`] does, and gives its transcript, of which the text may be read piece by piece: its lines take
-/// less memory than their text.
+/// Why a document's transcript isn't written whole.
+#[derive(Clone, Copy, Debug, PartialEq, Eq, Error)]
+pub enum RunFault {
+    /// The document is refused, or a growth was. Nothing is written.
+    #[error("refused: {0}")]
+    Refused(Refused),
+    /// The writer failed. What was written is a front of the transcript's text.
+    #[error("the writer failed")]
+    Write,
+}
+
+impl From<Refused> for RunFault {
+    ghost from_gives = { λ code given. given ≡ fault.Refused code };
+
+    fn from(code: Refused) -> RunFault {
+        RunFault::Refused(code)
+    }
+}
+
+impl From<Memory> for RunFault {
+    ghost from_gives = { λ _ given. given ≡ fault.Refused refused.Memory };
+
+    fn from(_fault: Memory) -> RunFault {
+        RunFault::Refused(Refused::Memory)
+    }
+}
+
+impl From<OutFailed> for RunFault {
+    ghost from_gives = { λ _ given. given ≡ fault.Write };
+
+    fn from(_fault: OutFailed) -> RunFault {
+        RunFault::Write
+    }
+}
+
+/// Runs a document as [`run`] does, with rounds as of [`round_streamed`](crate::round_streamed), and writes the text of its
+/// transcript. The transcript is whole, and all memory that the writing takes is had, before the first byte is written.
 ///
 /// # Errors
-/// As of [`run`].
-pub fn transcribe<R: Threads + Sync, G: Gate>(
+/// [`RunFault::Refused`] where [`run`] refuses, and [`RunFault::Write`] where the writer failed.
+pub fn run_into<R: Threads + Wait + Sync, G: Gate, O: Out>(
+    rt: &R,
+    alloc: Global,
+    document: &[u8],
+    workers: usize,
+    quantum: usize,
+    gate: &G,
+    out: &mut O,
+) -> Result<(), RunFault>
+    requires workers { (0 < workers) × (workers ≤ 64) }
+    requires quantum { (0 < quantum) × (quantum ≤ 1024) }
+    requires unfailed { (O.sink out.old).failed ≡ false }
+    ensures text { OnOk result ((plan : PlanData) × (document_of document.now ≡ Some plan) × Appends (O.sink out.old).contents (O.sink out.new).contents (text_of plan)) }
+    ensures unfailed { OnOk result ((O.sink out.new).failed ≡ false) }
+    ensures refused { (code : _) → result ≡ Err (fault.Refused code) → IsRefusalOf document.now code × (O.sink out.new ≡ O.sink out.old) }
+    ensures failed { result ≡ Err fault.Write → (O.sink out.new).failed ≡ true }
+    ensures front { result ≡ Err fault.Write → (plan : PlanData) × (document_of document.now ≡ Some plan) × ((count : ℕ) × Appends (O.sink out.old).contents (O.sink out.new).contents (take count (text_of plan))) }
+{
+    let transcript = transcribe_streamed(rt, alloc, document, workers, quantum, gate)?;
+    let mut reader = transcript.reader(alloc)?;
+    let mut buffer = reader.buffer(alloc)?;
+    put_pieces(out, &mut reader, buffer.as_mut_slice())?;
+    Ok(())
+}
+
+// Runs a document, and gives its transcript.
+fn transcribe<R: Threads + Sync, G: Gate>(
     rt: &R,
     alloc: Global,
     document: &[u8],
@@ -95,22 +155,15 @@ pub fn transcribe<R: Threads + Sync, G: Gate>(
     quantum: usize,
     gate: &G,
 ) -> Result<PlanTranscript, Refused>
-    requires workers { (0 < workers) × (workers ≤ 64) }
-    requires quantum { (0 < quantum) × (quantum ≤ 1024) }
+    requires workers { 0 < workers }
+    requires quantum { 0 < quantum }
     ensures plan { IfOk result (λ transcript. document_of document.now ≡ Some transcript.plan) }
     ensures lines { IfOk result (λ transcript. transcript.lines ≡ lines_of transcript.plan) }
     ensures refused { IfErr result (λ code. IsRefusalOf document.now code) }
 {
     let plan = Arc::new(alloc, read_document(alloc, document)?)?;
-    let lines = run_by(
-        rt,
-        alloc,
-        plan.clone()?,
-        Transcript::new(alloc),
-        workers,
-        quantum,
-        gate,
-    )?;
+    let lines = Transcript::new(alloc);
+    let lines = run_by(rt, alloc, plan.clone()?, lines, workers, quantum, gate)?;
     Ok(PlanTranscript { plan, lines })
 }
 
@@ -179,6 +232,96 @@ fn run_each<L: Lines, R: Threads + Sync, G: Gate>(
     let sharing = Sharing::Claimed(quantum);
     for done in 0..rounds {
         run_round(rt, alloc, world, done + 1, workers, sharing, gate)?;
+    }
+    world.finish()?;
+    Ok(())
+}
+
+// Runs a document by workers that send on what callbacks did, and gives its transcript.
+fn transcribe_streamed<R: Threads + Wait + Sync, G: Gate>(
+    rt: &R,
+    alloc: Global,
+    document: &[u8],
+    workers: usize,
+    quantum: usize,
+    gate: &G,
+) -> Result<PlanTranscript, Refused>
+    requires workers { 0 < workers }
+    requires quantum { 0 < quantum }
+    ensures plan { IfOk result (λ transcript. document_of document.now ≡ Some transcript.plan) }
+    ensures lines { IfOk result (λ transcript. transcript.lines ≡ lines_of transcript.plan) }
+    ensures refused { IfErr result (λ code. IsRefusalOf document.now code) }
+{
+    let plan = Arc::new(alloc, read_document(alloc, document)?)?;
+    let lines = Transcript::new(alloc);
+    let lines = stream_by(rt, alloc, plan.clone()?, lines, workers, quantum, gate)?;
+    Ok(PlanTranscript { plan, lines })
+}
+
+// Runs all rounds of a plan by so many workers that send on what callbacks did. One alone that nobody watches runs them where they stand.
+fn stream_by<L: Lines, R: Threads + Wait + Sync, G: Gate>(
+    rt: &R,
+    alloc: Global,
+    plan: Arc<Plan>,
+    lines: L,
+    workers: usize,
+    quantum: usize,
+    gate: &G,
+) -> Result<L, Memory>
+    requires lines { L.lines lines ≡ [] }
+    requires workers { 0 < workers }
+    requires quantum { 0 < quantum }
+    ensures { IfOk result (λ lines. L.lines lines ≡ lines_of (arc_value plan)) }
+{
+    if workers == 1 && gate.is_open() {
+        return run_plan(alloc, plan, lines);
+    }
+    stream_rounds(rt, alloc, plan, lines, workers, quantum, gate)
+}
+
+// Runs the rounds of a plan one after another, each by workers that send on what callbacks did.
+fn stream_rounds<L: Lines, R: Threads + Wait + Sync, G: Gate>(
+    rt: &R,
+    alloc: Global,
+    plan: Arc<Plan>,
+    lines: L,
+    workers: usize,
+    quantum: usize,
+    gate: &G,
+) -> Result<L, Memory>
+    requires lines { L.lines lines ≡ [] }
+    requires workers { 0 < workers }
+    requires quantum { 0 < quantum }
+    ensures { IfOk result (λ lines. L.lines lines ≡ lines_of (arc_value plan)) }
+{
+    let rounds = plan.moments().len();
+    let mut world = World::with_lines(alloc, plan, lines)?;
+    if stream_each(rt, alloc, &mut world, rounds, workers, quantum, gate).is_err() {
+        return Err(world.give_up());
+    }
+    Ok(world.into_lines())
+}
+
+// Runs so many such rounds, all that the plan of a new world has, and closes its transcript.
+fn stream_each<L: Lines, R: Threads + Wait + Sync, G: Gate>(
+    rt: &R,
+    alloc: Global,
+    world: &mut World<L>,
+    rounds: usize,
+    workers: usize,
+    quantum: usize,
+    gate: &G,
+) -> Result<(), Memory>
+    requires new { world.old ≡ new_world world.old.plan }
+    requires all { rounds ≡ length world.old.plan.moments }
+    requires workers { 0 < workers }
+    requires quantum { 0 < quantum }
+    ensures unfailed { OnOk result (world.new.failed ≡ false) }
+    ensures lines { OnOk result (world.new.state.lines ≡ lines_of world.old.plan) }
+{
+    exec_rules::laws::rounds_follow_one_another();
+    for done in 0..rounds {
+        stream_round(rt, alloc, world, done + 1, workers, quantum, gate)?;
     }
     world.finish()?;
     Ok(())

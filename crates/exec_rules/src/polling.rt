@@ -1,6 +1,7 @@
 //! A poll of a goal's task, apart from where that is kept.
-ghost use Rattle.std.specs.Prelude.{◌≡◌, Some, IfOk, OnErr, OnOk};
+ghost use Rattle.std.specs.Prelude.{◌≡◌, true, Some, IfOk, IsSomeAnd, OnErr, OnOk};
 ghost use Rattle.std.specs.Option.{option_map};
+ghost use Rattle.exec_task.specs.Task.{is_awake};
 ghost use Rattle.exec_rules.specs.Callback.{close_of_answer, poll_listed};
 ghost use Rattle.exec_rules.specs.Run.{work_after};
 ghost use Rattle.exec_rules.specs.World.{work_of};
@@ -24,7 +25,7 @@ fn close_of(answer: Answer) -> Close
 /// made, and answers what closes the poll. The list then has its effects, and these alone.
 ///
 /// # Errors
-/// [`Memory`] where a growth was refused. The task and the variables stay as they were.
+/// [`Memory`] where a growth was refused, which only a task that is awake asks for. The task and the variables stay as they were.
 #[inline(always)]
 pub fn poll_any(
     task: &mut Option<GoalTask>,
@@ -37,6 +38,7 @@ pub fn poll_any(
     ensures close { IfOk result (λ close. close ≡ (poll_listed turn.now (option_map work_of task.old) bank.old).close) }
     ensures variables { OnOk result (bank.new ≡ (poll_listed turn.now (option_map work_of task.old) bank.old).variables) }
     ensures task { OnOk result (option_map work_of task.new ≡ option_map (work_after (poll_listed turn.now (option_map work_of task.old) bank.old).task) (option_map work_of task.old)) }
+    ensures memory { OnErr result (IsSomeAnd (option_map work_of task.old) (λ work. is_awake work.task turn.now ≡ true)) }
     ensures unchanged { OnErr result (option_map work_of task.new ≡ option_map work_of task.old) }
     ensures unchanged_variables { OnErr result (bank.new ≡ bank.old) }
 {
@@ -61,6 +63,7 @@ fn poll_task(
     ensures close { IfOk result (λ close. close ≡ (poll_listed turn.now (Some (work_of task.old)) bank.old).close) }
     ensures variables { OnOk result (bank.new ≡ (poll_listed turn.now (Some (work_of task.old)) bank.old).variables) }
     ensures task { OnOk result (work_of task.new ≡ work_after (poll_listed turn.now (Some (work_of task.old)) bank.old).task (work_of task.old)) }
+    ensures memory { OnErr result (is_awake (work_of task.old).task turn.now ≡ true) }
     ensures unchanged { OnErr result (work_of task.new ≡ work_of task.old) }
     ensures unchanged_variables { OnErr result (bank.new ≡ bank.old) }
 {

@@ -256,6 +256,33 @@ fn closes_by_the_role(rt: HostRuntime) -> Result<(), Fail> {
     Ok(())
 }
 
+// Whether a copy of what a call did has its effects and is closed as it is.
+fn is_call_copied(alloc: Global, role: Role, script: &str) -> Result<bool, Fail> {
+    let effects = called(alloc, script, role, &mut Bank::new(), &input(5, 6, 7))?;
+    let copy = Effects::copy_of(alloc, &effects)?;
+    let close = format!(in alloc; "{:?}", effects.close)?;
+    let copied = format!(in alloc; "{:?}", copy.close)?;
+    Ok(copy.list.as_slice() == effects.list.as_slice() && copied.as_str() == close.as_str())
+}
+
+#[test]
+fn copies_what_a_call_did(rt: HostRuntime) -> Result<(), Fail> {
+    for (role, script, _) in CLOSES {
+        same_at(
+            &rt,
+            script,
+            is_call_copied(rt.alloc(), *role, script)?,
+            true,
+        );
+    }
+    same(
+        &rt,
+        is_call_copied(rt.alloc(), Role::Callback, EVERY_EFFECT)?,
+        true,
+    );
+    Ok(())
+}
+
 /// What a goal's script goes on from.
 #[derive(Drop)]
 struct Work {

@@ -1,5 +1,5 @@
 -- One visit to a lane, and one turn over the lanes.
-use Rattle.std.specs.Prelude.{◌≡◌, ℕ, ◌+◌, ◌-◌, ◌<◌, ◌≤◌, Bool, true, false, List, [], ◌∷◌, ◌++◌, length, map, slice_index, slice_set}
+use Rattle.std.specs.Prelude.{◌≡◌, ℕ, ◌+◌, ◌-◌, ◌<◌, ◌≤◌, Bool, true, false, List, [], ◌∷◌, ◌++◌, length, map, slice_index, slice_set, IsErr}
 use Rattle.std.specs.declared.result.Result.{Result}
 use Rattle.std.specs.declared.result.Result.TheVariants.{Ok, Err}
 use Rattle.exec_lane.specs.Lane.{Lane}
@@ -9,13 +9,15 @@ use Rattle.exec_board.specs.Rule.{held}
 use Rattle.exec_board.specs.Seats.{IsLast, Refusal, SeatView, refused}
 use Rattle.exec_board.specs.Sweeps.{FirstSeen, GotOn, IsSwept, numbers}
 
--- callbacks of a lane ran: at most so many, and at least one where none was refused memory
+-- callbacks of a lane ran: at most so many, and at least one where none was refused memory; where one was, the lane has failed
+-- with callbacks left
 pub record HasRunSome (quantum : ℕ) (before after : Lane) (ended : Result Unit Memory) : Type 0 where
   pub same : IsLaneOf before after
   pub since : before.done ≤ after.done
   pub few : after.done ≤ before.done + quantum
   pub within : after.done ≤ length after.entries
   pub some : ended ≡ Ok tt → before.done < after.done
+  pub failed : IsErr ended → (after.failed ≡ true) × (after.done < length after.entries)
 
 -- the view after a lane was claimed at one count and released at another
 abbrev pub worked : ℕ → ℕ → ℕ → SeatView → SeatView
@@ -36,6 +38,11 @@ pub record HasGotOn (lane quantum : ℕ) (before after : SeatView) : Type 0 wher
   pub work : HasWorked lane quantum before after
   pub some : work.first < work.end
 
+-- or one was refused memory, and callbacks are left
+pub record HasStopped (lane quantum : ℕ) (before after : SeatView) : Type 0 where
+  pub work : HasWorked lane quantum before after
+  pub short : work.end < length (opened_lane before.opening lane).entries
+
 -- or the claim was refused
 pub record WasRefused (lane : ℕ) (before after : SeatView) : Type 0 where
   pub word : ℕ
@@ -47,7 +54,7 @@ pub record WasRefused (lane : ℕ) (before after : SeatView) : Type 0 where
 abbrev pub Visited : ℕ → ℕ → SeatView → SeatView → Result Bool Memory → Type 0
 Visited lane quantum before after (Ok true) = HasGotOn lane quantum before after
 Visited lane quantum before after (Ok false) = WasRefused lane before after
-Visited lane quantum before after (Err memory) = HasWorked lane quantum before after
+Visited lane quantum before after (Err memory) = HasStopped lane quantum before after
 
 -- how many callbacks of lanes weren't seen to have run
 abbrev pub left_in : List Lane → List ℕ → ℕ

@@ -18,15 +18,16 @@ impl Numbered for Server {
 }
 
 impl ByNumber<Server> {
-    ghost use Rattle.std.specs.Prelude.{◌≡◌, ◌⊎◌, true, None, Some, map, find, slice_get, IfNone, IfOk, IfSome, OnErr, OnOk};
+    ghost use Rattle.std.specs.Prelude.{◌≡◌, ◌⊎◌, true, None, Some, map, find, slice_get, IfNone, IfOk, IfSome, IsSomeAnd, OnErr, OnOk};
     ghost use Rattle.std.specs.List.{flat_map};
     ghost use Rattle.std.specs.Option.{option_map, option_map_or};
     ghost use Rattle.exec_goal.specs.Calls.{askers_in, end_state};
     ghost use Rattle.exec_goal.specs.Cancel.{code_of, moved, table_after};
     ghost use Rattle.exec_goal.specs.Info.{answer_of};
     ghost use Rattle.exec_goal.specs.State.{is_accepted};
-    ghost use Rattle.exec_goal.specs.Table.{after_end, asked_for, has_id};
+    ghost use Rattle.exec_goal.specs.Table.{after_end, asked_for, has_id, later};
     ghost use Rattle.exec_msg.specs.Lists.{change_first};
+    ghost use Rattle.exec_task.specs.Task.{is_awake};
     ghost use Rattle.exec_rules.specs.Close.{server_accepting};
     ghost use Rattle.exec_rules.specs.Ready.{poll_ready};
     ghost use Rattle.exec_rules.specs.World.{has_room_for, is_server_at, is_for, work_of, goals_in, held_in, work_in};
@@ -112,10 +113,11 @@ impl ByNumber<Server> {
     /// What an action client is told that asks a server for a goal's result; where it comes later, the client is noted.
     ///
     /// # Errors
-    /// [`Memory`] where a growth was refused.
+    /// [`Memory`] where a growth was refused, for which a result that comes later alone asks.
     pub fn ask(&mut self, server: EntityNo, id: GoalId, client: EntityNo) -> Result<Asked, Memory>
         ensures told { IfOk result (λ told. told ≡ answer_of (asked_for id (goals_in server self.old))) }
         ensures noted { OnOk result (self.new ≡ asked_in (asked_for id (goals_in server self.old)) server id client self.old) }
+        ensures memory { OnErr result (asked_for id (goals_in server self.old) ≡ later) }
     {
         let place = self.place(server);
         let Some(entry) = self.entries.get_mut(place) else {
@@ -175,6 +177,7 @@ impl ByNumber<Server> {
         ensures close { IfOk result (λ close. close ≡ (poll_listed turn.now (work_in server id self.old) bank.old).close) }
         ensures variables { OnOk result (bank.new ≡ (poll_listed turn.now (work_in server id self.old) bank.old).variables) }
         ensures task { OnOk result (self.new ≡ change_first (is_server_at server) (server_polled id (poll_listed turn.now (work_in server id self.old) bank.old).task) self.old) }
+        ensures memory { OnErr result (IsSomeAnd (work_in server id self.old) (λ work. is_awake work.task turn.now ≡ true)) }
         ensures unchanged { OnErr result (bank.new ≡ bank.old) }
     {
         let place = self.place(server);

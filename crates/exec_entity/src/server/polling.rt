@@ -1,5 +1,5 @@
 //! Polls of a server's goals.
-ghost use Rattle.std.specs.Prelude.{◌≡◌, [], true, false, Some, IfOk, OnErr, OnOk};
+ghost use Rattle.std.specs.Prelude.{◌≡◌, [], true, false, Some, IfOk, IsSomeAnd, OnErr, OnOk};
 ghost use Rattle.std.specs.Option.{option_map, option_map_or};
 ghost use Rattle.exec_script.specs.declared.effects.Close.TheVariants as close;
 ghost use Rattle.exec_task.specs.Task.{is_awake};
@@ -193,6 +193,7 @@ impl Server {
         ensures close { IfOk result (λ close. close ≡ (goal_polled turn.now id self.old bank.old).close) }
         ensures variables { OnOk result (bank.new ≡ (goal_polled turn.now id self.old bank.old).variables) }
         ensures task { OnOk result (self.new ≡ server_polled id (goal_polled turn.now id self.old bank.old).task self.old) }
+        ensures memory { OnErr result (IsSomeAnd (option_and_then (λ held. held.work) (find (is_for id) self.old.held)) (λ work. is_awake work.task turn.now ≡ true)) }
         ensures unchanged { OnErr result (self.new ≡ self.old) }
         ensures unchanged_variables { OnErr result (bank.new ≡ bank.old) }
     {

@@ -1,5 +1,5 @@
 // Many threads that claim, run and release the lanes of one board.
-ghost use Rattle.std.specs.Prelude.{◌≡◌, ◌<◌, ◌≤◌, []};
+ghost use Rattle.std.specs.Prelude.{◌≡◌, ◌<◌, []};
 ghost use Rattle.exec_board.specs.Seats.{IsLast};
 ghost use Rattle.exec_round.specs.inner.Sharing.{IsSweptPass};
 ghost use denote.Param.Send.{IsSync};
@@ -92,16 +92,21 @@ fn call_by<R: Threads + Sync>(rt: &R, board: &Board, pass: Pass, count: usize) -
     (board.join(front, back), tally)
 }
 
-// Whether a board is closed with boxes of the forty lengths, in their order, all of which are finished.
-fn closes_in_order(alloc: Global, board: Board, pass: Pass) -> Result<bool, Memory>
+// Whether a board is closed with boxes of these lengths, in their order, all of which are finished.
+fn closes_in_order(
+    alloc: Global,
+    board: Board,
+    pass: Pass,
+    lengths: &[usize],
+) -> Result<bool, Memory>
     requires board { pass.board ≡ board }
     requires last { IsLast pass.view }
     requires holds_none { pass.view.holds ≡ [] }
 {
     let boxes = board.close(alloc, pass)?;
     Ok(
-        boxes.len() == LENGTHS.len()
-            && boxes.iter().zip(LENGTHS.iter()).all(|(lane, length)| lane.is_finished()
+        boxes.len() == lengths.len()
+            && boxes.iter().zip(lengths.iter()).all(|(lane, length)| lane.is_finished()
                 && lane.len() == *length),
     )
 }
@@ -112,7 +117,23 @@ fn eight_threads_run_forty_lanes(rt: HostRuntime) -> Result<(), Fail> {
         let (board, pass) = open(rt.alloc(), &LENGTHS, 8)?;
         let (pass, tally) = call_by(&rt, &board, pass, count);
         assert!(rt; tally.finished && tally.ran == CALLBACKS);
-        assert!(rt; closes_in_order(rt.alloc(), board, pass)?);
+        assert!(rt; closes_in_order(rt.alloc(), board, pass, &LENGTHS)?);
     }
+    Ok(())
+}
+
+// Sixty-four lanes of one callback and eight of fifty: 464 callbacks.
+const MANY: [usize; 72] = [
+    1, 1, 1, 1, 1, 1, 1, 1, 1, 1, 1, 1, 1, 1, 1, 1, 1, 1, 1, 1, 1, 1, 1, 1, 1, 1, 1, 1, 1, 1, 1, 1,
+    1, 1, 1, 1, 1, 1, 1, 1, 1, 1, 1, 1, 1, 1, 1, 1, 1, 1, 1, 1, 1, 1, 1, 1, 1, 1, 1, 1, 1, 1, 1, 1,
+    50, 50, 50, 50, 50, 50, 50, 50,
+];
+
+#[test]
+fn two_threads_run_one_callback_a_claim(rt: HostRuntime) -> Result<(), Fail> {
+    let (board, pass) = open(rt.alloc(), &MANY, 2)?;
+    let (pass, tally) = call_by(&rt, &board, pass, 1);
+    assert!(rt; tally.finished && tally.ran == 464);
+    assert!(rt; closes_in_order(rt.alloc(), board, pass, &MANY)?);
     Ok(())
 }

@@ -10,27 +10,31 @@ use exec_msg::Memory;
 use exec_world::World;
 use std::alloc::{AllocError, Global};
 
-// A document in whose first round there is a lane of each length, in their order: one mutually exclusive group with as many
-// timers.
+// A document in whose first round there is a lane of each length, in their order: a timer of one reentrant group where it is 1,
+// and else a mutually exclusive group with as many timers.
 fn document_of(alloc: Global, lengths: &[usize]) -> Result<String, AllocError> {
-    let mut text = String::from_str(alloc, r#"{"version":1,"nodes":[{"name":"n","groups":["#)?;
-    push_groups(&mut text, lengths.len())?;
+    let mut text = String::from_str(
+        alloc,
+        r#"{"version":1,"nodes":[{"name":"n","groups":[{"name":"r","kind":"reentrant"}"#,
+    )?;
+    push_groups(&mut text, lengths)?;
     text.push_str(r#"],"timers":["#)?;
     push_timers(&mut text, lengths)?;
     text.push_str(r#"]}],"moments":[1]}"#)?;
     Ok(text)
 }
 
-fn push_groups(text: &mut String, count: usize) -> Result<(), AllocError> {
-    for group in 0..count {
-        separate(text, group == 0)?;
-        push_group(text, group)?;
+fn push_groups(text: &mut String, lengths: &[usize]) -> Result<(), AllocError> {
+    for group in 0..lengths.len() {
+        if lengths[group] != 1 {
+            push_group(text, group)?;
+        }
     }
     Ok(())
 }
 
 fn push_group(text: &mut String, group: usize) -> Result<(), AllocError> {
-    write!(text, r#"{{"name":"g{group}","kind":"exclusive"}}"#)
+    write!(text, r#",{{"name":"g{group}","kind":"exclusive"}}"#)
 }
 
 fn push_timers(text: &mut String, lengths: &[usize]) -> Result<(), AllocError> {
@@ -43,16 +47,23 @@ fn push_timers(text: &mut String, lengths: &[usize]) -> Result<(), AllocError> {
 fn push_timers_of(text: &mut String, group: usize, count: usize) -> Result<(), AllocError> {
     for timer in 0..count {
         separate(text, group == 0 && timer == 0)?;
-        push_timer(text, group, timer)?;
+        push_timer(text, group, timer, count == 1)?;
     }
     Ok(())
 }
 
-fn push_timer(text: &mut String, group: usize, timer: usize) -> Result<(), AllocError> {
-    write!(
-        text,
-        r#"{{"name":"t{group}_{timer}","period":1,"group":"g{group}"}}"#
-    )
+fn push_timer(
+    text: &mut String,
+    group: usize,
+    timer: usize,
+    is_alone: bool,
+) -> Result<(), AllocError> {
+    write!(text, r#"{{"name":"t{group}_{timer}","period":1,"group":""#)?;
+    if is_alone {
+        text.push_str(r#"r"}"#)
+    } else {
+        write!(text, r#"g{group}"}}"#)
+    }
 }
 
 fn separate(text: &mut String, is_first: bool) -> Result<(), AllocError> {

@@ -11,7 +11,7 @@ use std::sync::atomic::Ordering::SeqCst;
 use std::test::Fail;
 
 // Two timers of one mutually exclusive group, the second of which goes on with the variable that the first one left.
-const EXCLUSIVE: &[u8] =
+pub(super) const EXCLUSIVE: &[u8] =
     br#"{"version":1,"nodes":[{"name":"n","timers":[{"name":"s","period":1,"script":[["set","g0","mul","g0",2],["log","g0"]]},{"name":"t","period":1,"script":[["set","g0","add","g0",1],["log","g0"]]}]}],"moments":[1]}"#;
 
 // Two timers of one reentrant group.
@@ -20,15 +20,19 @@ const REENTRANT: &[u8] =
 
 // The positions that it was told, one after another, each as a decimal digit.
 #[derive(Drop)]
-struct Told {
+pub(super) struct Told {
     digits: AtomicU64,
 }
 
 impl Told {
-    fn new() -> Told {
+    pub(super) fn new() -> Told {
         Told {
             digits: AtomicU64::new(0),
         }
+    }
+
+    pub(super) fn digits(&self) -> u64 {
+        self.digits.load(SeqCst)
     }
 }
 
@@ -102,7 +106,7 @@ fn run_each(lanes: &mut Vec<LaneBox>, numbers: &[usize]) -> Result<u64, Memory> 
     for number in numbers {
         run_next(lanes, *number, &gate)?;
     }
-    Ok(gate.digits.load(SeqCst))
+    Ok(gate.digits())
 }
 
 // Brings lanes home and commits what ran. Tells whether both callbacks came home in ready order.

@@ -1,5 +1,5 @@
 use Rattle.std.proofs.Common.{◌∙◌, arith}
-use Rattle.exec_board.proofs.Sweeping.{on_err_any, sized_before, swept_on, swept_worked, turning_next}
+use Rattle.exec_board.proofs.Sweeping.{on_err_any, leaves_some, sized_before, swept_on, swept_worked, turning_next}
 use Rattle.exec_board.proofs.board.Board.turn.Goals as goal
 
 pub returns-in_err-claimed-clause-swept : goal.returns-in_err-claimed-clause-swept
@@ -7,7 +7,14 @@ returns-in_err-claimed-clause-swept g c =
     let so = c.loop-lane.invariant.0 in
     on_err_any c.from_residual.result
     (swept_on c.args.quantum c.args.pass.now.view c.loop-lane.pass.view c.visit.new.pass.view so.swept
-    (swept_worked c.loop-lane.lane c.args.quantum c.loop-lane.pass.view c.visit.new.pass.view so.swept.holds c.in_err-claimed.ensures.visited))
+    (swept_worked c.loop-lane.lane c.args.quantum c.loop-lane.pass.view c.visit.new.pass.view so.swept.holds c.in_err-claimed.ensures.visited.work))
+
+pub returns-in_err-claimed-clause-memory : goal.returns-in_err-claimed-clause-memory
+returns-in_err-claimed-clause-memory g c =
+    let under = c.loop-lane-test.true in
+    let lanes = c.lanes.ensures.value in
+    on_err_any c.from_residual.result
+    (leaves_some c.loop-lane.lane c.args.quantum c.args.self.now c.loop-lane.pass.view c.visit.new.pass.view (omega (arith, under, lanes)) c.in_err-claimed.ensures.sized c.in_err-claimed.ensures.visited)
 
 pub loop-lane-preserved : goal.loop-lane-preserved
 loop-lane-preserved g c =

@@ -1,4 +1,5 @@
-use Rattle.std.proofs.Common.{ap, sym, Some, ◌+◌, ◌∙◌}
+use Rattle.std.proofs.Common.{◌≤◌, Option, IsSomeAnd, ap, subst, sym, Some, ◌+◌, ◌^◌, ◌∙◌}
+use Rattle.exec_goal.proofs.Entries.{on_err}
 use Rattle.std.specs.Option.{option_map}
 use Rattle.exec_entity.proofs.FoundByNumber.{unfound, unchanged, found_at, changed_at, finds_set}
 use Rattle.exec_rules.specs.Item.{goal_id}
@@ -34,3 +35,8 @@ returns-clause-sent c =
     changed_at (is_action_client_at c.args.client) c.self.inside.entries.items c.args.self.now c.place-place.result c.self.view_is c.place-place.ensures
     (λ (entry : ActionClientEntry). record entry { goals = entry.goals + 1 }) c.in-Some.entry.now c.send_goal.new.self c.in-Some.ensures.item.0 c.in-Some.ensures.value
     c.in_ok-number.ensures.sent
+
+pub returns-in_err-number-clause-memory : goal.returns-in_err-number-clause-memory
+returns-in_err-number-clause-memory c =
+    let found = found_at (is_action_client_at c.args.client) c.self.inside.entries.items c.args.self.now c.place-place.result c.self.view_is c.place-place.ensures c.in-Some.entry.now c.in-Some.ensures.item.0 c.in-Some.ensures.value in
+    on_err c.from_residual.result (subst (λ (one : Option ActionClientEntry). IsSomeAnd one (λ entry. 2 ^ 64 ≤ entry.goals + 1)) (sym found) c.in_err-number.ensures.memory)

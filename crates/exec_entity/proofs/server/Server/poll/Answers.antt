@@ -1,12 +1,12 @@
-use Rattle.std.proofs.Common.{◌≡◌, ℕ, List, Option, Some, slice_get, slice_set, ap, sym, subst, ◌∙◌, refl, rules}
+use Rattle.std.proofs.Common.{◌≡◌, ℕ, List, Option, IsSomeAnd, Some, true, slice_get, slice_set, ap, sym, subst, ◌∙◌, refl, rules}
 use Rattle.std.specs.List.{find}
 use Rattle.std.specs.Map.{values_of}
-use Rattle.std.specs.Option.{option_map}
+use Rattle.std.specs.Option.{option_and_then, option_map}
 use Rattle.indexmap.specs.IndexMap.{set_value_at}
 use Rattle.exec_goal.proofs.Entries.{on_err}
 use Rattle.exec_msg.specs.Lists.{change_first}
 use Rattle.exec_script.specs.declared.effects.Effect.{Effect}
-use Rattle.exec_task.specs.Task.{TaskState}
+use Rattle.exec_task.specs.Task.{TaskState, is_awake}
 use Rattle.exec_entity.proofs.Awake.{polled-in, unchanged_first, after_poll_of, server-polled}
 use Rattle.exec_entity.proofs.Placed.{kept-at, found-at, changed-at}
 use Rattle.exec_entity.proofs.Serving.{kept-same, changed-ids, held_ids}
@@ -99,3 +99,13 @@ returns-clause-task c =
     let moved : held_goals_of (set_value_at c.self.inside.held.entries c.in-Some.place after) ≡ change_first (is_for c.args.id) (after_poll_of task) (held_goals_of c.self.inside.held.entries) = changed-at at after (after_poll_of task) changes in
     (λ i. record (c.self.view_is i) { held = (moved ∙ ap (change_first (is_for c.args.id) (after_poll_of task)) is) i }) ∙ server-polled c.args.id task c.args.self.now
     ∙ sym (ap (λ (done : Outcome (List Effect)). server_polled c.args.id done.task c.args.self.now) polled)
+
+pub returns-in_err-close-clause-memory : goal.returns-in_err-close-clause-memory
+returns-in_err-close-clause-memory c =
+    let is : held_goals_of c.self.inside.held.entries ≡ c.args.self.now.held = ap (λ (server : ServerEntry). server.held) c.self.view_is in
+    let kept : Some c.unwrap-held.result.now ≡ slice_get (values_of c.self.inside.held.entries) c.in-Some.place = search rules in
+    let at = kept-at c.args.id c.unwrap-held.result.now c.self.inside.goals c.self.inside.held.entries c.args.self.now.held c.in-Some.place is c.self.invariant.0 c.in-Some.ensures.at kept in
+    let found : find (is_for c.args.id) c.args.self.now.held ≡ Some (held_goal_of (c.args.id, c.unwrap-held.result.now)) =
+    subst (λ (helds : List HeldGoal). find (is_for c.args.id) helds ≡ Some (held_goal_of (c.args.id, c.unwrap-held.result.now))) is (found-at c.args.id c.unwrap-held.result.now c.self.inside.held.entries c.in-Some.place at) in
+    on_err c.from_residual.result
+    (subst (λ (one : Option HeldGoal). IsSomeAnd (option_and_then (λ held. held.work) one) (λ work. is_awake work.task c.args.turn.now ≡ true)) (sym found) c.in_err-close.ensures.memory)

@@ -1,4 +1,5 @@
 use Rattle.std.proofs.Common.{List, ap, sym, ◌∙◌}
+use Rattle.exec_goal.proofs.Entries.{on_err}
 use Rattle.exec_goal.specs.Info.{answer_of}
 use Rattle.exec_goal.specs.Table.{GoalRecord, asked_for}
 use Rattle.exec_entity.proofs.FoundByNumber.{finds_set}
@@ -26,3 +27,9 @@ pub returns-clause-noted : goal.returns-clause-noted
 returns-clause-noted c =
     asks c.args.server c.self.inside.entries.items c.args.self.now c.place-place.result c.self.view_is c.place-place.ensures c.in-Some.entry.now c.in-Some.ensures.item.0 c.in-Some.ensures.value
     (asked_for c.args.id) c.args.id c.args.client c.ask.new.self c.in_ok-told.ensures.noted
+
+pub returns-in_err-told-clause-memory : goal.returns-in_err-told-clause-memory
+returns-in_err-told-clause-memory c =
+    on_err c.from_residual.result
+    (ap (asked_for c.args.id) (goals_found c.args.server c.self.inside.entries.items c.args.self.now c.place-place.result c.self.view_is c.place-place.ensures c.in-Some.entry.now c.in-Some.ensures.item.0 c.in-Some.ensures.value)
+    ∙ c.in_err-told.ensures.memory)

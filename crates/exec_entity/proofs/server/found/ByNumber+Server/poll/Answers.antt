@@ -1,4 +1,6 @@
-use Rattle.std.proofs.Common.{Option, ap, sym, ◌∙◌}
+use Rattle.std.proofs.Common.{◌≡◌, Option, IsSomeAnd, ap, subst, sym, true, ◌∙◌}
+use Rattle.exec_goal.proofs.Entries.{on_err}
+use Rattle.exec_task.specs.Task.{is_awake}
 use Rattle.exec_entity.proofs.FoundByNumber.{unchanged, finds_set}
 use Rattle.exec_entity.proofs.FoundServers.{number_of, number_polled, work_absent, work_found, polls}
 use Rattle.exec_rules.specs.World.{GoalWork, is_server_at, work_in}
@@ -48,3 +50,8 @@ pub returns-clause-task : goal.returns-clause-task
 returns-clause-task c =
     polls c.args.server c.self.inside.entries.items c.args.self.now c.place-place.result c.self.view_is c.place-place.ensures c.in-Some.entry.now c.in-Some.ensures.item.0 c.in-Some.ensures.value
     c.args.id (λ (work : Option GoalWork). (poll_listed c.args.turn.now work c.args.bank.now).task) c.poll.new.self c.in_ok-close.ensures.task
+
+pub returns-in_err-close-clause-memory : goal.returns-in_err-close-clause-memory
+returns-in_err-close-clause-memory c =
+    let found = work_found c.args.server c.self.inside.entries.items c.args.self.now c.place-place.result c.self.view_is c.place-place.ensures c.in-Some.entry.now c.in-Some.ensures.item.0 c.in-Some.ensures.value c.args.id in
+    on_err c.from_residual.result (subst (λ (one : Option GoalWork). IsSomeAnd one (λ work. is_awake work.task c.args.turn.now ≡ true)) (sym found) c.in_err-close.ensures.memory)

@@ -1,0 +1,32 @@
+//! How a program is started.
+use crate::program::execute;
+use exec_io::{InputStream, read_words};
+use exec_lane::Gate;
+use exec_round::Through;
+use std::env::Env;
+use std::io::{Read, Write};
+use std::process::ExitCode;
+use std::sync::Wait;
+use std::thread::Threads;
+
+/// The whole program by the words that it was started with, over standard input, standard output and standard error. No clause
+/// can say what these words are; what comes of them is [`execute`]'s.
+pub fn start<
+    H: Threads + Wait + Sync + Env + AllocGlobal,
+    G: Gate,
+    R: Read + Drop,
+    O: Write + Drop,
+    E: Write + Drop,
+>(rt: &H, gate: &G, input: R, output: O, errors: E) -> ExitCode {
+    let words = read_words(rt);
+    let status = execute(
+        rt,
+        rt.alloc(),
+        words,
+        gate,
+        &mut InputStream::new(input),
+        &mut Through::new(output),
+        &mut Through::new(errors),
+    );
+    ExitCode::from(status.number())
+}
