@@ -1,6 +1,6 @@
 """A library that is loaded before the C library's own functions: it counts what a program asks for, allocations and starts of
-threads, and can refuse one of either. It also can have standard input give, and standard output take, a few bytes at a time, and
-have one call of either fail. `cc` compiles it.
+threads, and can refuse one of either. It also can have standard input give, and standard output take, a few bytes at a time, have
+one call of either fail, and interrupt each call of either some times before it does anything. `cc` compiles it.
 
 It ends a program with the status 99 if a thread that began wasn't joined, or hadn't ended when it was."""
 import subprocess
@@ -29,7 +29,7 @@ struct start { void *(*run)(void *); void *given; };
 
 static int (*create)(pthread_t *, const pthread_attr_t *, void *(*)(void *), void *);
 static int (*wait_for)(pthread_t, void **);
-static atomic_long allocations, starts, begun, ended, joined, reads, writes;
+static atomic_long allocations, starts, begun, ended, joined, reads, writes, interruptions;
 
 __attribute__((constructor)) static void find(void) {
   create = dlsym(RTLD_NEXT, "pthread_create");
@@ -88,8 +88,17 @@ static size_t some(size_t count) {
   return most && most < count ? most : count;
 }
 
+// Whether a signal interrupts a call, as often as the environment says before each that isn't interrupted.
+static int interrupts(void) {
+  long times = number("INTERRUPTIONS");
+  if (atomic_fetch_add(&interruptions, 1) % (times + 1) == times) return 0;
+  errno = EINTR;
+  return 1;
+}
+
 ssize_t read(int file, void *bytes, size_t count) {
   if (file != STDIN_FILENO) return syscall(SYS_read, file, bytes, count);
+  if (interrupts()) return -1;
   if (!refuses(&reads, "REFUSED_READ")) return syscall(SYS_read, file, bytes, some(count));
   errno = EIO;
   return -1;
@@ -97,6 +106,7 @@ ssize_t read(int file, void *bytes, size_t count) {
 
 ssize_t write(int file, const void *bytes, size_t count) {
   if (file != STDOUT_FILENO) return syscall(SYS_write, file, bytes, count);
+  if (interrupts()) return -1;
   if (refuses(&writes, "EMPTY_WRITE")) return 0;
   if (atomic_load(&writes) != number("REFUSED_WRITE")) return syscall(SYS_write, file, bytes, some(count));
   errno = ENOSPC;
@@ -142,7 +152,8 @@ def refused(library, program, words, given, **numbers):
 
 def changed(library, program, words, given, **numbers):
     """What is answered in an environment with these numbers: `step`, how many bytes a stream gives or takes at a time,
-    `empty_write`, which write takes nothing, and those of `refused`."""
+    `empty_write`, which write takes nothing, `interruptions`, how often each read and write is interrupted before, and those of
+    `refused`."""
     around = {name.upper(): str(number) for name, number in numbers.items()}
     return answer(program, words, given, around={"LD_PRELOAD": library, **around})
 

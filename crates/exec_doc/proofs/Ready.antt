@@ -17,6 +17,7 @@ use Rattle.exec_plan.specs.Schedule.{schedule_fits, numbers_fit, greatest, great
 use Rattle.exec_graph.specs.Refusals.{fault_in}
 use Rattle.exec_graph.specs.declared.fault.GraphFault.{GraphFault}
 use Rattle.exec_graph.specs.declared.fault.GraphFault.TheVariants as graph_fault
+use Rattle.exec_plan.specs.declared.order.Order.TheVariants as order
 use Rattle.exec_plan.specs.declared.fault.PlanFault.{PlanFault}
 use Rattle.exec_msg.specs.declared.limits.TheConstants.{TICKS}
 use Rattle.exec_plan.proofs.Scheduled.{scheduled as scheduled_plan}
@@ -99,12 +100,12 @@ ready_scheduled document graph moments entries feed ready read none =
     record { fits = sym fed.within ∙ scheduled.fits; ordered = sym fed.clocked ∙ scheduled.ordered }
 
 plan_is : (document : DocumentDraft) (graph : GraphData) (moments : List ℕ) (feed : List Feed) → graph_in document.graph ≡ Some graph → each (resolved_entry document.graph) document.feed ≡ Some feed → document.moments ≡ moments
-    → plan_of document ≡ Some (record { graph = graph; moments = moments; feed = feed })
-plan_is document graph moments feed made said ticks = rw (made, said) (ap (λ (ms : List ℕ). Some (record { graph = graph; moments = ms; feed = feed })) ticks)
+    → plan_of document ≡ Some (record { graph = graph; order = order.Kind; moments = moments; feed = feed })
+plan_is document graph moments feed made said ticks = rw (made, said) (ap (λ (ms : List ℕ). Some (record { graph = graph; order = order.Kind; moments = ms; feed = feed })) ticks)
 
 -- without a fault it is a plan, where its identifiers are ones
 pub ready_plan : (document : DocumentDraft) (graph : GraphData) (moments : List ℕ) (entries : List EntryDraft) (feed : List Feed) (plan : PlanData) → IsReady document graph moments entries → each (entry_by graph) entries ≡ Some feed
-    → plan_fault_in moments feed ≡ None → plan ≡ record { graph = graph; moments = moments; feed = feed } → list_all (λ entry. has_identifier entry.fed) entries ≡ true
+    → plan_fault_in moments feed ≡ None → plan ≡ record { graph = graph; order = order.Kind; moments = moments; feed = feed } → list_all (λ entry. has_identifier entry.fed) entries ≡ true
     → (draft_refusal document ≡ None) × (plan_of document ≡ Some plan)
 ready_plan document graph moments entries feed plan ready read none is ids =
     let fed = fed_ready document graph moments entries feed ready read in

@@ -2,6 +2,7 @@
 use Rattle.std.specs.Prelude.{ℕ, pos, List, [], ◌∷◌, codes, true, None}
 use Rattle.exec_plan.specs.Graph.{EntityData}
 use Rattle.exec_plan.specs.Plan.{PlanData, Feed}
+use Rattle.exec_plan.specs.declared.order.Order.TheVariants as order
 use Rattle.exec_script.specs.declared.instr.Operand.{Operand}
 use Rattle.exec_script.specs.declared.instr.Operand.TheVariants as operand
 
@@ -13,6 +14,7 @@ one_node entities moments feed = record {
     groups = record { node = 0; name = None; exclusive = true } ∷ [];
     entities = entities;
   };
+  order = order.Kind;
   moments = moments;
   feed = feed;
 }

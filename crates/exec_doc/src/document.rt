@@ -12,7 +12,7 @@ use crate::fed::{are_cancels_identified, are_declared, feed_of};
 use crate::forms::draft_of;
 use crate::refused::Refused;
 use crate::schedule::moments_of;
-use exec_graph::{Graph, GraphFault, NamedGraph, Plan, greatest_stamp, schedule_fits};
+use exec_graph::{Graph, GraphFault, NamedGraph, Order, Plan, greatest_stamp, schedule_fits};
 use serde_json::Value;
 use std::alloc::Global;
 
@@ -106,7 +106,7 @@ fn plan_on(
     let Some(moments) = moments_of(alloc, moments)? else {
         return Err(Refused::Limit);
     };
-    let plan = Plan::new(graph, moments, feed)?;
+    let plan = Plan::new(graph, Order::Kind, moments, feed)?;
     if are_cancels_identified(entries) {
         Ok(plan)
     } else {

@@ -19,20 +19,23 @@ pub struct Client {
 impl Model for Client {
     ghost use Rattle.std.specs.List.{All};
     ghost use Rattle.std.specs.Map.{keys_of};
-    ghost use Rattle.std.specs.Prelude.{◌≤◌};
+    ghost use Rattle.std.specs.Prelude.{◌≡◌, ◌≤◌};
     ghost use Rattle.exec_rules.specs.World.{ClientEntry};
+    ghost use Rattle.exec_task.specs.Call.{new_call};
 
     ghost Value = { ClientEntry };
 
     ghost view = { λ client. record { entity = client.entity; service = client.service; calls = client.calls; pending = keys_of client.pending.entries } };
 
-    ghost invariant = { λ client. All (λ number. number ≤ client.calls) (keys_of client.pending.entries) };
+    ghost invariant = { λ client. All (λ number. number ≤ client.calls) (keys_of client.pending.entries)
+        × All (λ pending. pending.1.call ≡ new_call pending.0) client.pending.entries };
 }
 
 impl Client {
-    ghost use Rattle.std.specs.Prelude.{◌≡◌, ◌+◌, [], length, OnOk, OnErr, IfOk};
+    ghost use Rattle.std.specs.Prelude.{◌≡◌, ◌+◌, [], length, OnOk, OnErr, IfOk, IfSome};
     ghost use Rattle.exec_rules.specs.Ready.{call_answered};
     ghost use Rattle.exec_rules.specs.World.{client_called};
+    ghost use Rattle.exec_task.specs.Call.{new_call, completed};
 
     /// A client of a service that hasn't called yet. It takes no memory.
     pub fn new(alloc: Global, entity: EntityNo, service: EntityNo) -> Client
@@ -66,14 +69,15 @@ impl Client {
         Ok(number)
     }
 
-    // Gives a call its reply, after which it pends no more. A call that doesn't pend stays answered.
-    pub(crate) fn complete(&mut self, number: u64, value: i64)
-        ensures { self.new ≡ call_answered number self.old }
+    // Gives a call its reply, after which it pends no more, and hands it out. A call that doesn't pend stays answered.
+    pub(crate) fn complete(&mut self, number: u64, value: i64) -> Option<PendingCall>
+        ensures answered { self.new ≡ call_answered number self.old }
+        ensures call { IfSome result (λ pending. pending.call ≡ completed value (new_call number)) }
     {
-        if let Some(mut call) = self.pending.shift_remove(&number) {
-            // The call is new to a reply: it pends.
-            let _ = call.complete(value);
-        }
+        let mut call = self.pending.shift_remove(&number)?;
+        // It pended, so this is its first reply.
+        let _ = call.complete(value);
+        Some(call)
     }
 
     /// How many calls pend.
@@ -93,11 +97,12 @@ impl Numbered for Client {
 }
 
 impl ByNumber<Client> {
-    ghost use Rattle.std.specs.Prelude.{◌≡◌, ◌+◌, find, None, OnOk, IfOk};
+    ghost use Rattle.std.specs.Prelude.{◌≡◌, ◌+◌, find, None, OnOk, IfOk, IfSome};
     ghost use Rattle.std.specs.Option.{option_map};
     ghost use Rattle.exec_msg.specs.Lists.{change_first};
     ghost use Rattle.exec_rules.specs.Ready.{call_answered};
     ghost use Rattle.exec_rules.specs.World.{client_called, is_client_at};
+    ghost use Rattle.exec_task.specs.Call.{new_call, completed};
 
     /// A client makes its next call, which pends. Answers its service and the call's number, from 1, or `None` where there
     /// is no such client.
@@ -117,15 +122,17 @@ impl ByNumber<Client> {
         Ok(Some((entry.service(), number)))
     }
 
-    /// A client's call is given its reply, after which it pends no more.
-    pub fn complete(&mut self, client: EntityNo, number: u64, value: i64)
-        ensures { self.new ≡ change_first (is_client_at client) (call_answered number) self.old }
+    /// A client's call is given its reply, after which it pends no more. Answers the call with its reply, or `None` if no such
+    /// call pended.
+    pub fn complete(&mut self, client: EntityNo, number: u64, value: i64) -> Option<PendingCall>
+        ensures answered { self.new ≡ change_first (is_client_at client) (call_answered number) self.old }
+        ensures call { IfSome result (λ pending. pending.call ≡ completed value (new_call number)) }
     {
         let place = self.place(client);
         let Some(entry) = self.entries.get_mut(place) else {
-            return;
+            return None;
         };
-        entry.complete(number, value);
+        entry.complete(number, value)
     }
 }
 

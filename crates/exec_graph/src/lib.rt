@@ -11,8 +11,8 @@ pub use draft::named::NamedGraph;
 pub use draft::{Drafted, EntityDraft, GraphDraft, GroupDraft, NodeDraft};
 pub use exec_plan::{
     ActionClientEntity, CallbackGroup, ClientEntity, Declared, EntityKind, EntityOf, Fed, FedOf,
-    Feed, FeedByRound, FeedOf, Graph, GraphEntity, GroupNo, Plan, PlanFault, Script, ServerEntity,
-    ServiceEntity, SubscriptionEntity, TimerEntity, greatest_stamp, schedule_fits,
+    Feed, FeedByRound, FeedOf, Graph, GraphEntity, GroupNo, Order, Plan, PlanFault, Script,
+    ServerEntity, ServiceEntity, SubscriptionEntity, TimerEntity, greatest_stamp, schedule_fits,
 };
 pub use fault::GraphFault;
 pub use spelled::Spelled;

@@ -3,6 +3,7 @@ use Rattle.std.specs.Prelude.{ℤ, pos, List, [], ◌∷◌, codes, map, true, N
 use Rattle.exec_lane.specs.Lane.{Entry, Done, LaneState}
 use Rattle.exec_plan.specs.Graph.{in_group}
 use Rattle.exec_plan.specs.Plan.{PlanData}
+use Rattle.exec_plan.specs.declared.order.Order.TheVariants as order
 use Rattle.exec_plan.specs.declared.entity.EntityOf.TheVariants.{Timer}
 use Rattle.exec_rules.specs.Calls.{new_world, ready_in}
 use Rattle.exec_rules.specs.declared.ready.Ready.{Ready}
@@ -37,6 +38,7 @@ shared = record {
         }
         ∷ [];
   };
+  order = order.Kind;
   moments = 1 ∷ [];
   feed = [];
 }

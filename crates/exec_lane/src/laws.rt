@@ -38,7 +38,7 @@ pub fn a_reentrant_callback_is_a_lane()
 /// from one queue.
 pub fn lanes_share_no_queue()
     ensures { (plan : PlanData) (number : ℕ) (moments : List ℕ) (next moment entity : ℕ) (of : Kind) → of ≢ kind.Poll →
-        length (filter (is_callback_of entity of) (flat_map (λ lane. lane) (lanes_of (ready_list moment (at_snapshot plan next moment (rounds plan number moments (first_world plan.graph))))))) ≤ 1 }
+        length (filter (is_callback_of entity of) (flat_map (λ lane. lane) (lanes_of (ready_list moment (at_snapshot plan next moment (rounds plan number moments (first_world plan))))))) ≤ 1 }
 {
     exec_rules::laws::an_entity_has_one_callback_of_a_kind();
 }

@@ -3,7 +3,7 @@
 use Rattle.std.proofs.Common.{◌≡◌, ℕ, ◌+◌, ◌≤◌, Bool, true, false, not, ◌&&◌, ◌==◌, if◌then◌else◌, List, [], ◌∷◌, ◌++◌, length, length-append, map, Option, None, Some, refl, sym, ap, ◌∙◌, arith}
 use Rattle.std.specs.List.{AllByRecursion, flat_map, list_any}
 use Rattle.exec_msg.specs.Numbers.{EntityNo, GoalId}
-use Rattle.exec_plan.specs.Graph.{GraphData}
+use Rattle.exec_plan.specs.Plan.{PlanData}
 use Rattle.exec_msg.specs.declared.kind.Kind.TheVariants as kind
 use Rattle.exec_msg.specs.declared.line.Line.{Line}
 use Rattle.exec_laws.proofs.Asked.{many, many_more, many_none, one_line, HasNone}
@@ -31,7 +31,7 @@ both_sides false n = omega arith
 many_cons : (test : Line → Bool) (one : Line) (lines : List Line) → many test (one ∷ lines) ≡ weigh (test one) 1 + many test lines
 many_cons test one lines = let a = many_more test (one ∷ []) lines in let b = one_line test one in omega (arith, a, b)
 
-module _ (graph : GraphData) (client : EntityNo) where
+module _ (plan : PlanData) (client : EntityNo) where
   -- ---- what is on its way
 
   -- whether an item is an ask of the client for a goal's result, or that result for the client
@@ -53,8 +53,8 @@ module _ (graph : GraphData) (client : EntityNo) where
 
   -- the server that the client asks has a queue for asks, and the client one for results
   pub record HasQueues : Type 0 where
-    pub asks : list_any (is_queue (server_in (entity_at graph client).is) kind.Ask) (first_world graph).queues ≡ true
-    pub results : list_any (is_queue client kind.Result) (first_world graph).queues ≡ true
+    pub asks : list_any (is_queue (server_in (entity_at plan.graph client).is) kind.Ask) (first_world plan).queues ≡ true
+    pub results : list_any (is_queue client kind.Result) (first_world plan).queues ≡ true
 
   -- ---- a world
 
@@ -68,10 +68,10 @@ module _ (graph : GraphData) (client : EntityNo) where
     pub sound : HasQueues → (id : GoalId) → astray id ≤ many is_loss lines
 
   abbrev pub IsFair : (GoalId → ℕ) → WorldState → Type 0
-  IsFair owed world = (shape_of world ≡ shape_of (first_world graph)) × Accounts owed world.queues world.servers world.lines
+  IsFair owed world = (shape_of world ≡ shape_of (first_world plan)) × Accounts owed world.queues world.servers world.lines
 
-  pub shapes : KeptByRounds (λ world. shape_of world ≡ shape_of (first_world graph))
-  shapes = shape_kept (shape_of (first_world graph))
+  pub shapes : KeptByRounds (λ world. shape_of world ≡ shape_of (first_world plan))
+  shapes = shape_kept (shape_of (first_world plan))
 
   -- another way of saying what is owed, and another count of notes
   pub renoted : (owed less : GoalId → ℕ) (queues : List Queue) (before after : List ServerEntry) (lines : List Line) → ((id : GoalId) → noted_by client id after + less id ≡ noted_by client id before + owed id) → Accounts owed queues before lines → Accounts less queues after lines

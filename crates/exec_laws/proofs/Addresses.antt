@@ -5,6 +5,7 @@ use Rattle.std.specs.Option.{unwrap_or}
 use Rattle.std.proofs.lemmas.Bool.{eqb-true, eq-eqb, and_parts}
 use Rattle.exec_msg.specs.Numbers.{EntityNo}
 use Rattle.exec_plan.specs.Graph.{GraphData, Waitable, entities_where, is_client, is_action_client}
+use Rattle.exec_plan.specs.Plan.{PlanData}
 use Rattle.exec_msg.specs.Kind.{ready_number}
 use Rattle.exec_msg.specs.Lists.{change_first}
 use Rattle.exec_rules.proofs.Keeping.{Routes, is_sent_well}
@@ -50,16 +51,16 @@ new_action_clients_know : (graph : GraphData) (place : ℕ) (numbers : List Enti
 new_action_clients_know graph place [] = tt
 new_action_clients_know graph place (number ∷ numbers) = (eq-eqb (server_in (entity_at graph number).is) (server_in (entity_at graph number).is) refl, new_action_clients_know graph (suc place) numbers)
 
-module _ (graph : GraphData) (world : WorldState) (same : shape_of world ≡ shape_of (first_world graph)) where
-  pub client_knows : (number : EntityNo) (client : ClientEntry) → client_at number world ≡ Some client → (routes_of graph).service client.entity client.service ≡ true
+module _ (plan : PlanData) (world : WorldState) (same : shape_of world ≡ shape_of (first_world plan)) where
+  pub client_knows : (number : EntityNo) (client : ClientEntry) → client_at number world ≡ Some client → (routes_of plan.graph).service client.entity client.service ≡ true
   client_knows number client found =
-      all_found (ClientKnows graph) (is_client_at number) world.clients client
-      (all_unmapped (ClientKnows graph) client_shape world.clients (subst (λ (clients : List ClientEntry). AllByRecursion (ClientKnows graph) clients) (sym (ap (λ (shape : WorldState). shape.clients) same)) (new_clients_know graph (entities_where is_client graph)))) found
+      all_found (ClientKnows plan.graph) (is_client_at number) world.clients client
+      (all_unmapped (ClientKnows plan.graph) client_shape world.clients (subst (λ (clients : List ClientEntry). AllByRecursion (ClientKnows plan.graph) clients) (sym (ap (λ (shape : WorldState). shape.clients) same)) (new_clients_know plan.graph (entities_where is_client plan.graph)))) found
 
-  pub action_client_knows : (number : EntityNo) (client : ActionClientEntry) → action_client_at number world ≡ Some client → (routes_of graph).server client.entity client.server ≡ true
+  pub action_client_knows : (number : EntityNo) (client : ActionClientEntry) → action_client_at number world ≡ Some client → (routes_of plan.graph).server client.entity client.server ≡ true
   action_client_knows number client found =
-      all_found (ActionClientKnows graph) (is_action_client_at number) world.action_clients client
-      (all_unmapped (ActionClientKnows graph) action_client_shape world.action_clients (subst (λ (clients : List ActionClientEntry). AllByRecursion (ActionClientKnows graph) clients) (sym (ap (λ (shape : WorldState). shape.action_clients) same)) (new_action_clients_know graph 0 (entities_where is_action_client graph)))) found
+      all_found (ActionClientKnows plan.graph) (is_action_client_at number) world.action_clients client
+      (all_unmapped (ActionClientKnows plan.graph) action_client_shape world.action_clients (subst (λ (clients : List ActionClientEntry). AllByRecursion (ActionClientKnows plan.graph) clients) (sym (ap (λ (shape : WorldState). shape.action_clients) same)) (new_action_clients_know plan.graph 0 (entities_where is_action_client plan.graph)))) found
 
 -- ---- queues
 

@@ -10,7 +10,7 @@ use Rattle.exec_goal.specs.State.{is_terminal}
 use Rattle.exec_goal.specs.Table.{GoalRecord}
 use Rattle.exec_msg.specs.Numbers.{EntityNo, GoalId}
 use Rattle.exec_plan.specs.Entity.{Resolved, refers}
-use Rattle.exec_plan.specs.Graph.{GraphData, EntityData, declared_at, entities_where, has_kind, in_group, is_action_client, is_server, wait_set}
+use Rattle.exec_plan.specs.Graph.{EntityData, declared_at, entities_where, has_kind, in_group, is_action_client, is_server, wait_set}
 use Rattle.exec_plan.specs.Lawful.{IsLawful, IsLawfulDeclared, is_at, is_declared}
 use Rattle.exec_plan.specs.Plan.{PlanData}
 use Rattle.exec_plan.specs.declared.entity.Declared.{Declared}
@@ -107,12 +107,12 @@ flying_both one other (queue ∷ queues) = let first = by queue.items in let res
 
 -- ---- what is on its way
 
-module _ (graph : GraphData) (client : EntityNo) (id : GoalId) where
+module _ (plan : PlanData) (client : EntityNo) (id : GoalId) where
   abbrev server : EntityNo
-  server = server_in (entity_at graph client).is
+  server = server_in (entity_at plan.graph client).is
 
   -- results for the client stand in its queue for results
-  no_result : (entity : EntityNo) (one : Item) (of : Kind) → taker_of one ≡ of → (entity == client) && (ready_number of == ready_number kind.Result) ≡ false → of_result graph client id entity one ≡ 0
+  no_result : (entity : EntityNo) (one : Item) (of : Kind) → taker_of one ≡ of → (entity == client) && (ready_number of == ready_number kind.Result) ≡ false → of_result plan client id entity one ≡ 0
   no_result entity (item.Message value) of e f = refl
   no_result entity (item.Request from number value) of e f = refl
   no_result entity (item.Reply number value) of e f = refl
@@ -131,14 +131,14 @@ module _ (graph : GraphData) (client : EntityNo) (id : GoalId) where
       by true g = absurd (true≢false (sym (ap (λ (b : Bool). b && true) g) ∙ other))
       by false g = rw g refl
 
-  no_results : (entity : EntityNo) (of : Kind) (items : List Item) → AllByRecursion (λ one. taker_of one ≡ of) items → (entity == client) && (ready_number of == ready_number kind.Result) ≡ false → in_items (of_result graph client id) entity items ≡ 0
+  no_results : (entity : EntityNo) (of : Kind) (items : List Item) → AllByRecursion (λ one. taker_of one ≡ of) items → (entity == client) && (ready_number of == ready_number kind.Result) ≡ false → in_items (of_result plan client id) entity items ≡ 0
   no_results entity of [] p e = refl
   no_results entity of (one ∷ items) p e = let first = no_result entity one of p.0 e in let rest = no_results entity of items p.1 e in omega (arith, first, rest)
 
-  results_there : (queues : List Queue) → AllByRecursion IsOfItsKind queues → AllByRecursion (WeighsThere (of_result graph client id) client kind.Result) queues
-  results_there queues p = all_weaker IsOfItsKind (WeighsThere (of_result graph client id) client kind.Result) (λ queue its e. no_results queue.handler.entity queue.kind queue.items (recursion_from_All (λ one. taker_of one ≡ queue.kind) queue.items its) e) queues p
+  results_there : (queues : List Queue) → AllByRecursion IsOfItsKind queues → AllByRecursion (WeighsThere (of_result plan client id) client kind.Result) queues
+  results_there queues p = all_weaker IsOfItsKind (WeighsThere (of_result plan client id) client kind.Result) (λ queue its e. no_results queue.handler.entity queue.kind queue.items (recursion_from_All (λ one. taker_of one ≡ queue.kind) queue.items its) e) queues p
 
-  result_counts : (one : Item) → of_result graph client id client one ≡ among id (result_in one)
+  result_counts : (one : Item) → of_result plan client id client one ≡ among id (result_in one)
   result_counts (item.Message value) = refl
   result_counts (item.Request from number value) = refl
   result_counts (item.Reply number value) = refl
@@ -150,7 +150,7 @@ module _ (graph : GraphData) (client : EntityNo) (id : GoalId) where
   result_counts (item.Feedback goal value) = refl
   result_counts (item.Result goal status value) = rw (eq-eqb client client refl) (omega arith)
 
-  results_count : (items : List Item) → in_items (of_result graph client id) client items ≡ among id (flat_map result_in items)
+  results_count : (items : List Item) → in_items (of_result plan client id) client items ≡ among id (flat_map result_in items)
   results_count [] = refl
   results_count (one ∷ items) =
       let first = result_counts one in
@@ -158,17 +158,17 @@ module _ (graph : GraphData) (client : EntityNo) (id : GoalId) where
       let rest = results_count items in
       omega (arith, first, all, rest)
 
-  results_held : (world : WorldState) → Pairs QueuesApart world.queues → AreOfTheirKinds world → flying (of_result graph client id) world.queues ≡ among id (flat_map result_in (items_of client kind.Result world))
-  results_held world apart kinds = flying_one (of_result graph client id) client kind.Result world.queues apart (results_there world.queues kinds) ∙ by (find (is_queue client kind.Result) world.queues) refl
+  results_held : (world : WorldState) → Pairs QueuesApart world.queues → AreOfTheirKinds world → flying (of_result plan client id) world.queues ≡ among id (flat_map result_in (items_of client kind.Result world))
+  results_held world apart kinds = flying_one (of_result plan client id) client kind.Result world.queues apart (results_there world.queues kinds) ∙ by (find (is_queue client kind.Result) world.queues) refl
     where
-      by : (found : Option Queue) → find (is_queue client kind.Result) world.queues ≡ found → option_map_or (weighs (of_result graph client id) client kind.Result) found 0 ≡ among id (flat_map result_in (option_map_or (λ (queue : Queue). queue.items) found []))
+      by : (found : Option Queue) → find (is_queue client kind.Result) world.queues ≡ found → option_map_or (weighs (of_result plan client id) client kind.Result) found 0 ≡ among id (flat_map result_in (option_map_or (λ (queue : Queue). queue.items) found []))
       by None e = refl
       by (Some queue) e =
           let here = eqb-true queue.handler.entity client (and_parts (queue.handler.entity == client) (ready_number queue.kind == ready_number kind.Result) (found_test (is_queue client kind.Result) world.queues queue e)).0 in
-          ap (λ (n : EntityNo). in_items (of_result graph client id) n queue.items) here ∙ results_count queue.items
+          ap (λ (n : EntityNo). in_items (of_result plan client id) n queue.items) here ∙ results_count queue.items
 
   -- its asks stand in its server's queue for asks
-  no_ask : (entity : EntityNo) (one : Item) (of : Kind) → taker_of one ≡ of → IsAtItsServer graph entity one → (entity == server) && (ready_number of == ready_number kind.Ask) ≡ false → of_ask graph client id entity one ≡ 0
+  no_ask : (entity : EntityNo) (one : Item) (of : Kind) → taker_of one ≡ of → IsAtItsServer plan entity one → (entity == server) && (ready_number of == ready_number kind.Ask) ≡ false → of_ask plan client id entity one ≡ 0
   no_ask entity (item.Message value) of e its f = refl
   no_ask entity (item.Request from number value) of e its f = refl
   no_ask entity (item.Reply number value) of e its f = refl
@@ -181,7 +181,7 @@ module _ (graph : GraphData) (client : EntityNo) (id : GoalId) where
 
       by : (b : Bool) → from == client ≡ b → weigh ((from == client) && (goal == id)) 1 ≡ 0
       by true g =
-          let there : server ≡ entity = ap (λ (n : EntityNo). server_in (entity_at graph n).is) (sym (eqb-true from client g)) ∙ its in
+          let there : server ≡ entity = ap (λ (n : EntityNo). server_in (entity_at plan.graph n).is) (sym (eqb-true from client g)) ∙ its in
           absurd (true≢false (sym (ap (λ (b : Bool). b && true) (eq-eqb entity server (sym there))) ∙ other))
       by false g = rw g refl
   no_ask entity (item.Response goal accepted) of e its f = refl
@@ -189,15 +189,15 @@ module _ (graph : GraphData) (client : EntityNo) (id : GoalId) where
   no_ask entity (item.Feedback goal value) of e its f = refl
   no_ask entity (item.Result goal status value) of e its f = refl
 
-  no_asks : (entity : EntityNo) (of : Kind) (items : List Item) → AllByRecursion (λ one. taker_of one ≡ of) items → AllByRecursion (IsAtItsServer graph entity) items → (entity == server) && (ready_number of == ready_number kind.Ask) ≡ false → in_items (of_ask graph client id) entity items ≡ 0
+  no_asks : (entity : EntityNo) (of : Kind) (items : List Item) → AllByRecursion (λ one. taker_of one ≡ of) items → AllByRecursion (IsAtItsServer plan entity) items → (entity == server) && (ready_number of == ready_number kind.Ask) ≡ false → in_items (of_ask plan client id) entity items ≡ 0
   no_asks entity of [] p q e = refl
   no_asks entity of (one ∷ items) p q e = let first = no_ask entity one of p.0 q.0 e in let rest = no_asks entity of items p.1 q.1 e in omega (arith, first, rest)
 
-  asks_there : (queues : List Queue) → AllByRecursion IsOfItsKind queues → AllByRecursion (Holds (IsAtItsServer graph)) queues → AllByRecursion (WeighsThere (of_ask graph client id) server kind.Ask) queues
+  asks_there : (queues : List Queue) → AllByRecursion IsOfItsKind queues → AllByRecursion (Holds (IsAtItsServer plan)) queues → AllByRecursion (WeighsThere (of_ask plan client id) server kind.Ask) queues
   asks_there [] p q = tt
   asks_there (queue ∷ queues) p q = ((λ e. no_asks queue.handler.entity queue.kind queue.items (recursion_from_All (λ one. taker_of one ≡ queue.kind) queue.items p.0) q.0 e), asks_there queues p.1 q.1)
 
-  ask_counts : (entity : EntityNo) (one : Item) → of_ask graph client id entity one ≡ among id (ask_in client one)
+  ask_counts : (entity : EntityNo) (one : Item) → of_ask plan client id entity one ≡ among id (ask_in client one)
   ask_counts entity (item.Message value) = refl
   ask_counts entity (item.Request from number value) = refl
   ask_counts entity (item.Reply number value) = refl
@@ -213,7 +213,7 @@ module _ (graph : GraphData) (client : EntityNo) (id : GoalId) where
   ask_counts entity (item.Feedback goal value) = refl
   ask_counts entity (item.Result goal status value) = refl
 
-  asks_count : (entity : EntityNo) (items : List Item) → in_items (of_ask graph client id) entity items ≡ among id (flat_map (ask_in client) items)
+  asks_count : (entity : EntityNo) (items : List Item) → in_items (of_ask plan client id) entity items ≡ among id (flat_map (ask_in client) items)
   asks_count entity [] = refl
   asks_count entity (one ∷ items) =
       let first = ask_counts entity one in
@@ -221,10 +221,10 @@ module _ (graph : GraphData) (client : EntityNo) (id : GoalId) where
       let rest = asks_count entity items in
       omega (arith, first, all, rest)
 
-  asks_held : (world : WorldState) → Pairs QueuesApart world.queues → AreOfTheirKinds world → AllByRecursion (Holds (IsAtItsServer graph)) world.queues → flying (of_ask graph client id) world.queues ≡ among id (flat_map (ask_in client) (items_of server kind.Ask world))
-  asks_held world apart kinds own = flying_one (of_ask graph client id) server kind.Ask world.queues apart (asks_there world.queues kinds own) ∙ by (find (is_queue server kind.Ask) world.queues)
+  asks_held : (world : WorldState) → Pairs QueuesApart world.queues → AreOfTheirKinds world → AllByRecursion (Holds (IsAtItsServer plan)) world.queues → flying (of_ask plan client id) world.queues ≡ among id (flat_map (ask_in client) (items_of server kind.Ask world))
+  asks_held world apart kinds own = flying_one (of_ask plan client id) server kind.Ask world.queues apart (asks_there world.queues kinds own) ∙ by (find (is_queue server kind.Ask) world.queues)
     where
-      by : (found : Option Queue) → option_map_or (weighs (of_ask graph client id) server kind.Ask) found 0 ≡ among id (flat_map (ask_in client) (option_map_or (λ (queue : Queue). queue.items) found []))
+      by : (found : Option Queue) → option_map_or (weighs (of_ask plan client id) server kind.Ask) found 0 ≡ among id (flat_map (ask_in client) (option_map_or (λ (queue : Queue). queue.items) found []))
       by None = refl
       by (Some queue) = asks_count queue.handler.entity queue.items
 
@@ -251,33 +251,33 @@ module _ (graph : GraphData) (client : EntityNo) (id : GoalId) where
       by true e rest = let none = notes_none goals goal.id (eqb-true goal.id id e) p.0 in rw e (omega (arith, none))
       by false e rest = rw e (omega (arith, rest))
 
-  unnoted : (at : EntityNo) → (at ≡ server → ⊥) → (goals : List GoalRecord) → AllByRecursion (AreItsClients graph at) goals → notes client id goals ≡ 0
+  unnoted : (at : EntityNo) → (at ≡ server → ⊥) → (goals : List GoalRecord) → AllByRecursion (AreItsClients plan at) goals → notes client id goals ≡ 0
   unnoted at differs [] p = refl
   unnoted at differs (goal ∷ goals) p =
       let rest = unnoted at differs goals p.1 in
       let first : weigh (goal.id == id) (among client (waiting_for (Some goal))) ≡ 0 = ap (λ (n : ℕ). weigh (goal.id == id) n) (waits (is_terminal goal.state) refl) ∙ weighs_nothing (goal.id == id) in
       omega (arith, first, rest)
     where
-      others : (askers : List EntityNo) → AllByRecursion (IsItsServer graph at) askers → among client askers ≡ 0
+      others : (askers : List EntityNo) → AllByRecursion (IsItsServer plan at) askers → among client askers ≡ 0
       others [] q = refl
       others (asker ∷ askers) q = by (asker == client) refl (others askers q.1)
         where
           by : (b : Bool) → asker == client ≡ b → among client askers ≡ 0 → among client (asker ∷ askers) ≡ 0
-          by true e more = absurd (differs (sym (ap (λ (n : EntityNo). server_in (entity_at graph n).is) (sym (eqb-true asker client e)) ∙ q.0)))
+          by true e more = absurd (differs (sym (ap (λ (n : EntityNo). server_in (entity_at plan.graph n).is) (sym (eqb-true asker client e)) ∙ q.0)))
           by false e more = rw e (omega (arith, more))
 
       waits : (b : Bool) → is_terminal goal.state ≡ b → among client (waiting_for (Some goal)) ≡ 0
       waits true e = rw e refl
       waits false e = rw e (others goal.askers p.0)
 
-  noted_none : (servers : List ServerEntry) → AllByRecursion (λ n. n ≡ server → ⊥) (map (λ entry. entry.handler.entity) servers) → AllByRecursion (NotesItsClients graph) servers → noted_by client id servers ≡ 0
+  noted_none : (servers : List ServerEntry) → AllByRecursion (λ n. n ≡ server → ⊥) (map (λ entry. entry.handler.entity) servers) → AllByRecursion (NotesItsClients plan) servers → noted_by client id servers ≡ 0
   noted_none [] p q = refl
   noted_none (entry ∷ servers) p q =
       let first = unnoted entry.handler.entity p.0 entry.goals q.0 in
       let rest = noted_none servers p.1 q.1 in
       omega (arith, first, rest)
 
-  noted_here : (servers : List ServerEntry) → Pairs NumbersApart (map (λ entry. entry.handler.entity) servers) → AllByRecursion (NotesItsClients graph) servers → Distinct (ids (goals_in server servers)) → noted_by client id servers ≡ among client (waiting_in id (goals_in server servers))
+  noted_here : (servers : List ServerEntry) → Pairs NumbersApart (map (λ entry. entry.handler.entity) servers) → AllByRecursion (NotesItsClients plan) servers → Distinct (ids (goals_in server servers)) → noted_by client id servers ≡ among client (waiting_in id (goals_in server servers))
   noted_here [] p q d = refl
   noted_here (entry ∷ servers) p q d = by (is_server_at server entry) refl (noted_here servers p.1 q.1)
     where
@@ -321,20 +321,20 @@ takes_asks (declared.Entity entity) e = by entity.group entity.is e
     by group (Server what) f = refl
     by group (ActionClient what) f = absurd (true≢false (sym f))
 
-module _ (graph : GraphData) (lawful : IsLawful graph) where
-  at_number : (test : Declared → Bool) (number : EntityNo) → is_at test graph number ≡ true → test (declared_at graph number) ≡ true
-  at_number test number e = by (slice_get graph.entities number) refl e
+module _ (plan : PlanData) (lawful : IsLawful plan.graph) where
+  at_number : (test : Declared → Bool) (number : EntityNo) → is_at test plan.graph number ≡ true → test (declared_at plan.graph number) ≡ true
+  at_number test number e = by (slice_get plan.graph.entities number) refl e
     where
-      by : (found : Option EntityData) → slice_get graph.entities number ≡ found → option_map_or (λ (entity : EntityData). test entity.is) found false ≡ true → test (declared_at graph number) ≡ true
+      by : (found : Option EntityData) → slice_get plan.graph.entities number ≡ found → option_map_or (λ (entity : EntityData). test entity.is) found false ≡ true → test (declared_at plan.graph number) ≡ true
       by None f g = absurd (true≢false (sym g))
-      by (Some entity) f g = ap (λ (one : EntityData). test one.is) (get_or_from_slice_get graph.entities number entity (record { name = []; is = declared.Topic }) f) ∙ g
+      by (Some entity) f g = ap (λ (one : EntityData). test one.is) (get_or_from_slice_get plan.graph.entities number entity (record { name = []; is = declared.Topic }) f) ∙ g
 
   -- an action client's server is one
-  server_stands : (what : Declared) → is_action_client what ≡ true → IsLawfulDeclared graph what → is_server (declared_at graph (server_in (as_entity what).is)) ≡ true
+  server_stands : (what : Declared) → is_action_client what ≡ true → IsLawfulDeclared plan.graph what → is_server (declared_at plan.graph (server_in (as_entity what).is)) ≡ true
   server_stands declared.Topic e law = absurd (true≢false (sym e))
   server_stands (declared.Entity entity) e law = by entity.group entity.is e law.referring
     where
-      by : (group : ℕ) (is : Resolved) → is_action_client (in_group group is) ≡ true → refers (is_declared graph) is ≡ true → is_server (declared_at graph (server_in (as_entity (in_group group is)).is)) ≡ true
+      by : (group : ℕ) (is : Resolved) → is_action_client (in_group group is) ≡ true → refers (is_declared plan.graph) is ≡ true → is_server (declared_at plan.graph (server_in (as_entity (in_group group is)).is)) ≡ true
       by group (Timer what) f r = absurd (true≢false (sym f))
       by group (Subscription what) f r = absurd (true≢false (sym f))
       by group (Service what) f r = absurd (true≢false (sym f))
@@ -343,27 +343,27 @@ module _ (graph : GraphData) (lawful : IsLawful graph) where
       by group (ActionClient what) f r = at_number is_server what.server r
 
   abbrev IsThere : EntityNo → Type 0
-  IsThere number = (is_action_client (declared_at graph number) ≡ true) × IsLawfulDeclared graph (declared_at graph number)
+  IsThere number = (is_action_client (declared_at plan.graph number) ≡ true) × IsLawfulDeclared plan.graph (declared_at plan.graph number)
 
-  clients_stand : AllByRecursion IsThere (entities_where is_action_client graph)
+  clients_stand : AllByRecursion IsThere (entities_where is_action_client plan.graph)
   clients_stand =
-      stands (declared_at graph) is_action_client (IsLawfulDeclared graph) (record { name = []; is = declared.Topic }) 0 graph.entities (λ k within. let same : 0 + k ≡ k = omega arith in ap (λ (n : ℕ). declared_at graph n) same)
-      (recursion_from_All (λ entity. IsLawfulDeclared graph entity.is) graph.entities lawful.entities)
+      stands (declared_at plan.graph) is_action_client (IsLawfulDeclared plan.graph) (record { name = []; is = declared.Topic }) 0 plan.graph.entities (λ k within. let same : 0 + k ≡ k = omega arith in ap (λ (n : ℕ). declared_at plan.graph n) same)
+      (recursion_from_All (λ entity. IsLawfulDeclared plan.graph entity.is) plan.graph.entities lawful.entities)
 
-  new_clients_stand : (place : ℕ) (numbers : List EntityNo) → AllByRecursion IsThere numbers → AllByRecursion (λ entry. IsThere entry.entity) (map action_client_shape (new_action_clients graph place numbers))
+  new_clients_stand : (place : ℕ) (numbers : List EntityNo) → AllByRecursion IsThere numbers → AllByRecursion (λ entry. IsThere entry.entity) (map action_client_shape (new_action_clients plan.graph place numbers))
   new_clients_stand place [] p = tt
   new_clients_stand place (number ∷ numbers) p = (p.0, new_clients_stand (suc place) numbers p.1)
 
-  client_stands : (world : WorldState) → shape_of world ≡ shape_of (first_world graph) → (number : EntityNo) (client : ActionClientEntry) → action_client_at number world ≡ Some client → IsThere client.entity
+  client_stands : (world : WorldState) → shape_of world ≡ shape_of (first_world plan) → (number : EntityNo) (client : ActionClientEntry) → action_client_at number world ≡ Some client → IsThere client.entity
   client_stands world same number client found =
       all_found (λ entry. IsThere entry.entity) (is_action_client_at number) world.action_clients client
       (all_unmapped (λ entry. IsThere entry.entity) action_client_shape world.action_clients
-      (subst (λ (clients : List ActionClientEntry). AllByRecursion (λ entry. IsThere entry.entity) clients) (sym (ap (λ (shape : WorldState). shape.action_clients) same)) (new_clients_stand 0 (entities_where is_action_client graph) clients_stand))) found
+      (subst (λ (clients : List ActionClientEntry). AllByRecursion (λ entry. IsThere entry.entity) clients) (sym (ap (λ (shape : WorldState). shape.action_clients) same)) (new_clients_stand 0 (entities_where is_action_client plan.graph) clients_stand))) found
 
-  has_queues : (client : EntityNo) → IsThere client → HasQueues graph client
+  has_queues : (client : EntityNo) → IsThere client → HasQueues plan client
   has_queues client p = record {
-    asks = queue_stands graph kind.Ask refl (server_in (entity_at graph client).is) (takes_asks (declared_at graph (server_in (entity_at graph client).is)) (server_stands (declared_at graph client) p.0 p.1));
-    results = queue_stands graph kind.Result refl client (takes_results (declared_at graph client) p.0);
+    asks = queue_stands plan kind.Ask refl (server_in (entity_at plan.graph client).is) (takes_asks (declared_at plan.graph (server_in (entity_at plan.graph client).is)) (server_stands (declared_at plan.graph client) p.0 p.1));
+    results = queue_stands plan kind.Result refl client (takes_results (declared_at plan.graph client) p.0);
   }
 
 -- ---- the law
@@ -375,36 +375,33 @@ told_once plan lawful number client found = record {
   each = told_each;
 }
   where
-    graph : GraphData
-    graph = plan.graph
-
     world : WorldState
     world = last_world plan
 
-    shape : shape_of world ≡ shape_of (first_world graph)
+    shape : shape_of world ≡ shape_of (first_world plan)
     shape = (all_fair plan client.entity).0
 
-    accounts : Accounts graph client.entity (λ id. 0) world.queues world.servers world.lines
+    accounts : Accounts plan client.entity (λ id. 0) world.queues world.servers world.lines
     accounts = (all_fair plan client.entity).1
 
     kinds : AreOfTheirKinds world
-    kinds = rounds_keep kinds_kept plan 1 plan.moments (first_world graph) (kinds_first graph (filter (λ waitable. takes_from_queue waitable.kind) (wait_set graph)))
+    kinds = rounds_keep kinds_kept plan 1 plan.moments (first_world plan) (kinds_first plan.graph (filter (λ waitable. takes_from_queue waitable.kind) (wait_set plan.graph)))
 
-    its : server_in (entity_at graph client.entity).is ≡ client.server
-    its = eqb-true _ client.server (action_client_knows graph world shape number client found)
+    its : server_in (entity_at plan.graph client.entity).is ≡ client.server
+    its = eqb-true _ client.server (action_client_knows plan world shape number client found)
 
     told_each : (id : GoalId) → many (is_asked client.entity id) world.lines ≡ many (is_result_taken client.entity id) world.lines + times id accounts.lost + times id (flat_map result_in (items_of client.entity kind.Result world))
         + times client.entity (waiting_in id (goals_of client.server world)) + times id (flat_map (ask_in client.entity) (items_of client.server kind.Ask world))
     told_each id =
         let all = accounts.each id in
-        let most = accounts.sound (has_queues graph lawful client.entity (client_stands graph lawful world shape number client found)) id in
-        let none = none_many is_loss world.lines (none_displaced plan (deep_first graph lawful)) in
-        let both = flying_both (of_ask graph client.entity id) (of_result graph client.entity id) world.queues in
-        let results = results_held graph client.entity id world (wired graph world shape).queues kinds in
-        let asks = subst (λ (n : EntityNo). flying (of_ask graph client.entity id) world.queues ≡ among id (flat_map (ask_in client.entity) (items_of n kind.Ask world))) its (asks_held graph client.entity id world (wired graph world shape).queues kinds (all_owned plan).asks) in
+        let most = accounts.sound (has_queues plan lawful client.entity (client_stands plan lawful world shape number client found)) id in
+        let none = none_many is_loss world.lines (none_displaced plan (deep_first plan lawful)) in
+        let both = flying_both (of_ask plan client.entity id) (of_result plan client.entity id) world.queues in
+        let results = results_held plan client.entity id world (wired plan world shape).queues kinds in
+        let asks = subst (λ (n : EntityNo). flying (of_ask plan client.entity id) world.queues ≡ among id (flat_map (ask_in client.entity) (items_of n kind.Ask world))) its (asks_held plan client.entity id world (wired plan world shape).queues kinds (all_owned plan).asks) in
         let waits = subst (λ (n : EntityNo). noted_by client.entity id world.servers ≡ among client.entity (waiting_in id (goals_of n world))) its
-        (noted_here graph client.entity id world.servers (subst (λ (numbers : List EntityNo). Pairs NumbersApart numbers) (sym (wired graph world shape).listed) (numbers_apart is_server 0 graph.entities)) (all_owned plan).notes
-        (distinct_ids plan 1 plan.moments (server_in (entity_at graph client.entity).is))) in
+        (noted_here plan client.entity id world.servers (subst (λ (numbers : List EntityNo). Pairs NumbersApart numbers) (sym (wired plan world shape).listed) (numbers_apart is_server 0 plan.graph.entities)) (all_owned plan).notes
+        (distinct_ids plan 1 plan.moments (server_in (entity_at plan.graph client.entity).is))) in
         let a = times_among id accounts.lost in
         let b = times_among id (flat_map result_in (items_of client.entity kind.Result world)) in
         let c = times_among client.entity (waiting_in id (goals_of client.server world)) in

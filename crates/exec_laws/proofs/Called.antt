@@ -1,24 +1,23 @@
 -- What a snapshot makes of a client's calls: the replies that it takes, and the calls that stay pending.
-use Rattle.std.proofs.Common.{◌≡◌, ℕ, suc, ◌+◌, ◌≤◌, Bool, true, false, not, ◌==◌, if◌then◌else◌, List, [], ◌∷◌, ◌++◌, Option, None, Some, refl, sym, ap, subst, ◌∙◌, true≢false, append_assoc, arith, ◌&&◌}
-use Rattle.std.specs.List.{AllByRecursion, find, flat_map, fold, filter}
+use Rattle.std.proofs.Common.{◌≡◌, ℕ, ◌+◌, ◌≤◌, Bool, true, false, ◌==◌, if◌then◌else◌, List, [], ◌∷◌, ◌++◌, Option, None, Some, refl, sym, ap, subst, ◌∙◌, true≢false, append_assoc, arith, ◌&&◌}
+use Rattle.std.specs.List.{find, flat_map, fold}
 use Rattle.std.specs.List.Sorted.{IsPermutation}
 use Rattle.std.specs.Option.{option_map, option_map_or}
-use Rattle.std.proofs.lemmas.Bool.{eqb-true, eq-eqb, not-true}
-use Rattle.std.proofs.lemmas.Grind.{flat_map-append}
+use Rattle.std.proofs.lemmas.Bool.{eqb-true, eq-eqb}
 use Rattle.std.proofs.lemmas.List.{append-nil}
-use Rattle.std.proofs.lemmas.List.Elements.{recursion_from_All}
 use Rattle.std.proofs.lemmas.List.Sorted.{IsPermutation-append_right, IsPermutation-refl, IsPermutation-cons, IsPermutation-middle, IsPermutation-trans}
 use Rattle.exec_msg.specs.Numbers.{EntityNo, Moment}
 use Rattle.exec_msg.specs.Lists.{change_first, drop_first}
-use Rattle.exec_msg.specs.Timer.{is_due}
+use Rattle.exec_msg.specs.Kind.{ready_number}
+use Rattle.exec_msg.specs.declared.kind.Kind.TheVariants as kind
+use Rattle.exec_plan.specs.Graph.{GraphData}
 use Rattle.exec_laws.proofs.Channels.{weigh}
 use Rattle.exec_laws.proofs.Flying.{first_weight, firsts}
-use Rattle.exec_laws.proofs.Handed.{flat_none, flat_twice}
-use Rattle.exec_rules.proofs.OfKinds.{IsOfItsKind}
-use Rattle.exec_rules.proofs.Pairs.{all_both, all_filter, all_flat, all_map, all_passed}
-use Rattle.exec_rules.specs.Item.{taker_of}
-use Rattle.exec_rules.specs.Ready.{call_answered, answered_by_first, reply_taken, due_ready, is_before_polls, item_ready, placed_from, poll_ready, queue_ready, queues_before_polls, queues_behind_polls, ready_list}
-use Rattle.exec_rules.specs.World.{WorldState, Queue, TimerEntry, ClientEntry, is_client_at, goals_of}
+use Rattle.exec_laws.proofs.Gathered.{IsAlone, list_gathered}
+use Rattle.exec_rules.proofs.OfKinds.{AreOfTheirKinds}
+use Rattle.exec_rules.proofs.Wiring.{IsWired}
+use Rattle.exec_rules.specs.Ready.{answered_by_first, call_answered, item_ready, kind_of, queue_ready, ready_list, reply_taken}
+use Rattle.exec_rules.specs.World.{WorldState, Queue, ClientEntry, is_client_at, goals_of}
 use Rattle.exec_rules.specs.declared.item.Item.{Item}
 use Rattle.exec_rules.specs.declared.item.Item.TheVariants as item
 use Rattle.exec_rules.specs.declared.ready.Cause.{Cause}
@@ -215,55 +214,38 @@ module _ (client : EntityNo) where
     all_queue_numbers [] = refl
     all_queue_numbers (queue ∷ queues) = ap (λ (first : List ℕ). first ++ flat_map by_queue queues) (queue_numbers queue) ∙ ap (λ (rest : List ℕ). number_first queue.handler.entity queue.items ++ rest) (all_queue_numbers queues)
 
-    late_number : (taken : Item) → is_before_polls (taker_of taken) ≡ false → (entity : EntityNo) → number_of entity taken ≡ []
-    late_number (item.Message value) e entity = refl
-    late_number (item.Request other number value) e entity = refl
-    late_number (item.Reply number value) e entity = absurd cc
-    late_number (item.Goal id other value) e entity = refl
-    late_number (item.Cancel request other) e entity = refl
-    late_number (item.Ask id other) e entity = refl
-    late_number (item.Response id accepted) e entity = refl
-    late_number (item.Code returned moved) e entity = refl
-    late_number (item.Feedback id value) e entity = refl
-    late_number (item.Result id status value) e entity = refl
-
-    late_numbers : (queue : Queue) → not (is_before_polls queue.kind) ≡ true → IsOfItsKind queue → by_queue queue ≡ []
-    late_numbers queue late p = queue_numbers queue ∙ by queue.items (recursion_from_All (λ one. taker_of one ≡ queue.kind) queue.items p)
+    -- another hands on none
+    quiet : (entity : EntityNo) (why : Cause) → (entity == client) && (ready_number (kind_of why) == ready_number kind.Reply) ≡ false → number_by entity why ≡ []
+    quiet entity cause.Due e = refl
+    quiet entity (cause.Took (item.Message value)) e = refl
+    quiet entity (cause.Took (item.Request other number value)) e = refl
+    quiet entity (cause.Took (item.Reply number value)) e = by (entity == client) refl e
       where
-        by : (items : List Item) → AllByRecursion (λ one. taker_of one ≡ queue.kind) items → number_first queue.handler.entity items ≡ []
-        by [] q = refl
-        by (first ∷ items) q = late_number first (ap (λ of. is_before_polls of) q.0 ∙ not-true (is_before_polls queue.kind) late) queue.handler.entity
+        by : (b : Bool) → entity == client ≡ b → b && true ≡ false → number_by entity (cause.Took (item.Reply number value)) ≡ []
+        by true f g = absurd (true≢false g)
+        by false f g = rw f refl
+    quiet entity (cause.Took (item.Goal id other value)) e = refl
+    quiet entity (cause.Took (item.Cancel request other)) e = refl
+    quiet entity (cause.Took (item.Ask id other)) e = refl
+    quiet entity (cause.Took (item.Response id accepted)) e = refl
+    quiet entity (cause.Took (item.Code returned moved)) e = refl
+    quiet entity (cause.Took (item.Feedback id value)) e = refl
+    quiet entity (cause.Took (item.Result id status value)) e = refl
+    quiet entity (cause.Woke id value canceling) e = refl
 
-    numbers_placed : (position : ℕ) (list : List Ready) → flat_map number_in (placed_from position list) ≡ flat_map number_in list
-    numbers_placed position [] = refl
-    numbers_placed position (one ∷ list) = ap (λ (rest : List ℕ). number_in one ++ rest) (numbers_placed (suc position) list)
+    -- the client's callback alone is handed its replies
+    alone : IsAlone number_in client kind.Reply
+    alone = record {
+      placed = λ position one. refl;
+      others = λ one e. quiet one.entity one.cause e;
+      no_timer = λ e. absurd cc;
+      no_poll = λ e. absurd cc;
+    }
 
-    due_numbers : (entry : TimerEntry) → AllByRecursion (λ one. number_in one ≡ []) (due_ready moment entry)
-    due_numbers entry = by (is_due entry.timer moment) refl
-      where
-        by : (b : Bool) → is_due entry.timer moment ≡ b → AllByRecursion (λ one. number_in one ≡ []) (due_ready moment entry)
-        by true e = rw e (refl, tt)
-        by false e = rw e tt
-
-    -- a ready list has the replies that are handed on before polls
-    pub list_numbers : AllByRecursion IsOfItsKind world.queues → flat_map number_in (ready_list moment world) ≡ numbers_first (queues_before_polls world)
-    list_numbers kinds =
-        let timers : List Ready = flat_map (due_ready moment) world.timers in
-        let before : List Ready = flat_map (queue_ready moment world) (queues_before_polls world) in
-        let polls : List Ready = flat_map (poll_ready moment) world.servers in
-        let behind : List Ready = flat_map (queue_ready moment world) (queues_behind_polls world) in
-        let no_timers : flat_map number_in timers ≡ [] = flat_none number_in timers (all_flat (λ one. number_in one ≡ []) (due_ready moment) due_numbers world.timers) in
-        let no_polls : flat_map number_in polls ≡ [] = flat_none number_in polls (all_flat (λ one. number_in one ≡ []) (poll_ready moment) (λ entry. all_map (λ one. number_in one ≡ []) _ (λ goal. refl) _) world.servers) in
-        let first : flat_map number_in before ≡ numbers_first (queues_before_polls world) = flat_twice number_in (queue_ready moment world) (queues_before_polls world) ∙ all_queue_numbers (queues_before_polls world) in
-        let last : flat_map number_in behind ≡ [] =
-        flat_twice number_in (queue_ready moment world) (queues_behind_polls world)
-        ∙ flat_none by_queue (queues_behind_polls world)
-        (all_both (λ queue. not (is_before_polls queue.kind) ≡ true) IsOfItsKind (λ queue. by_queue queue ≡ []) late_numbers (queues_behind_polls world)
-        (all_passed (λ queue. not (is_before_polls queue.kind)) world.queues) (all_filter IsOfItsKind (λ queue. not (is_before_polls queue.kind)) world.queues kinds)) in
-        numbers_placed 1 (timers ++ before ++ polls ++ behind)
-        ∙ flat_map-append number_in (timers ++ before ++ polls) behind ∙ ap (λ (more : List ℕ). flat_map number_in (timers ++ before ++ polls) ++ more) last ∙ append-nil _
-        ∙ flat_map-append number_in (timers ++ before) polls ∙ ap (λ (more : List ℕ). flat_map number_in (timers ++ before) ++ more) no_polls ∙ append-nil _
-        ∙ flat_map-append number_in timers before ∙ ap (λ (more : List ℕ). more ++ flat_map number_in before) no_timers ∙ first
+    -- a ready list has the replies to the client that queues hand on, under any order, since of one client it has one at most: that
+    -- the replies to all clients stand as queues do is true of the order of kinds alone
+    pub list_numbers : (graph : GraphData) → IsWired graph world → AreOfTheirKinds world → flat_map number_in (ready_list moment world) ≡ numbers_first world.queues
+    list_numbers graph wires kinds = list_gathered number_in client kind.Reply alone graph moment world wires kinds ∙ all_queue_numbers world.queues
 
 -- ---- a call on its way
 
@@ -296,17 +278,14 @@ module _ (client n : ℕ) where
   number_counts entity (item.Feedback id value) = refl
   number_counts entity (item.Result id status value) = refl
 
-  pub numbers_few : (test : Queue → Bool) (queues : List Queue) → among n (numbers_first client (filter test queues)) ≤ firsts of_reply queues
-  numbers_few test [] = omega arith
-  numbers_few test (queue ∷ queues) = by (test queue) refl (numbers_few test queues)
+  pub numbers_few : (queues : List Queue) → among n (numbers_first client queues) ≤ firsts of_reply queues
+  numbers_few [] = omega arith
+  numbers_few (queue ∷ queues) =
+      let split = among_append n (number_first client queue.handler.entity queue.items) (numbers_first client queues) in
+      let here = first queue.items in
+      let rest = numbers_few queues in
+      omega (arith, split, here, rest)
     where
       first : (items : List Item) → among n (number_first client queue.handler.entity items) ≡ first_weight of_reply queue.handler.entity items
       first [] = refl
       first (one ∷ items) = number_counts queue.handler.entity one
-
-      by : (b : Bool) → test queue ≡ b → among n (numbers_first client (filter test queues)) ≤ firsts of_reply queues → among n (numbers_first client (filter test (queue ∷ queues))) ≤ firsts of_reply (queue ∷ queues)
-      by true e rest =
-          let split = among_append n (number_first client queue.handler.entity queue.items) (numbers_first client (filter test queues)) in
-          let here = first queue.items in
-          rw e (omega (arith, split, here, rest))
-      by false e rest = rw e (omega (arith, rest))

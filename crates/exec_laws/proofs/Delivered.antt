@@ -14,7 +14,8 @@ use Rattle.exec_msg.specs.declared.kind.Kind.{Kind}
 use Rattle.exec_msg.specs.declared.kind.Kind.TheVariants as kind
 use Rattle.exec_msg.specs.declared.line.Line.{Line}
 use Rattle.exec_msg.specs.declared.line.Line.TheVariants as line
-use Rattle.exec_laws.proofs.Handed.{flat_more, held_in}
+use Rattle.exec_laws.proofs.Gathered.{flat_more}
+use Rattle.exec_laws.proofs.Handed.{held_in}
 use Rattle.exec_rules.proofs.Keeping.{is_message}
 use Rattle.exec_rules.proofs.OfKinds.{AreOfTheirKinds, lost_of_kind, same_kind}
 use Rattle.exec_rules.proofs.Pairs.{all_weaker}

@@ -17,7 +17,8 @@ use Rattle.exec_msg.specs.declared.kind.Kind.TheVariants as kind
 use Rattle.exec_msg.specs.declared.line.Line.{Line}
 use Rattle.exec_msg.specs.declared.line.Line.TheVariants as line
 use Rattle.exec_laws.proofs.Delivered.{Flow, IsMute, flow_lines, flow_begun, flow_taken, flow_other, flow_message}
-use Rattle.exec_laws.proofs.Handed.{flat_more, handed, held_in, held_taken, list_hands}
+use Rattle.exec_laws.proofs.Gathered.{flat_more}
+use Rattle.exec_laws.proofs.Handed.{handed, held_in, held_taken, list_hands}
 use Rattle.exec_rules.proofs.Keeping.{ids_changed, Kept, Moves, Tells, moves_kept, tells_kept, push_kept, state_said, anywhere, is_message, is_plain}
 use Rattle.exec_rules.proofs.OfKinds.{AreOfTheirKinds, kinds_kept, kinds_first}
 use Rattle.exec_rules.proofs.Pairs.{all_append, all_flat, all_map, all_weaker}
@@ -39,7 +40,7 @@ use Rattle.exec_rules.specs.declared.item.Item.{Item}
 use Rattle.exec_rules.specs.declared.item.Item.TheVariants as item
 use Rattle.exec_rules.specs.declared.ready.Ready.{Ready}
 
-module _ (plan : PlanData) (topic subscription : EntityNo) (among : Contains (subscribers_of topic (first_world plan.graph)) subscription) where
+module _ (plan : PlanData) (topic subscription : EntityNo) (among : Contains (subscribers_of topic (first_world plan)) subscription) where
   -- ---- lines
 
   abbrev published : List Line → List ℤ
@@ -84,10 +85,10 @@ module _ (plan : PlanData) (topic subscription : EntityNo) (among : Contains (su
 
   -- queues hold items of their kinds, and the shape is that of the first world
   abbrev Base : WorldState → Type 0
-  Base world = AreOfTheirKinds world × (shape_of world ≡ shape_of (first_world plan.graph))
+  Base world = AreOfTheirKinds world × (shape_of world ≡ shape_of (first_world plan))
 
-  shapes : KeptByRounds (λ world. shape_of world ≡ shape_of (first_world plan.graph))
-  shapes = shape_kept (shape_of (first_world plan.graph))
+  shapes : KeptByRounds (λ world. shape_of world ≡ shape_of (first_world plan))
+  shapes = shape_kept (shape_of (first_world plan))
 
   base_kept : Kept Base
   base_kept = record {
@@ -101,7 +102,7 @@ module _ (plan : PlanData) (topic subscription : EntityNo) (among : Contains (su
   }
 
   there : (world : WorldState) → Base world → list_any (is_queue subscription kind.Message) world.queues ≡ true
-  there world p = has_queue subscription kind.Message world (first_world plan.graph) p.1 ∙ queue_there plan.graph topic subscription among
+  there world p = has_queue subscription kind.Message world (first_world plan) p.1 ∙ queue_there plan topic subscription among
 
   -- messages on their way: so much was sent to the subscription, where lines say that so much was published
   record IsSending (sent hand said : List ℤ) (world : WorldState) : Type 0 where
@@ -160,7 +161,7 @@ module _ (plan : PlanData) (topic subscription : EntityNo) (among : Contains (su
   published_sent : (sent hand said : List ℤ) (other : EntityNo) (value : ℤ) (world : WorldState) → IsSending sent hand said world → IsSending (sent ++ only_if (other == topic) value) hand said (publish other value world)
   published_sent sent hand said other value world d =
       subst (λ (some : List ℤ). IsSending (sent ++ some) hand said (publish other value world))
-      (ap (λ (all : List EntityNo). flat_map (brought subscription value) all) (ap (λ (shape : WorldState). subscribers_of other shape) d.base.1) ∙ messages_brought plan.graph topic subscription among other value)
+      (ap (λ (all : List EntityNo). flat_map (brought subscription value) all) (ap (λ (shape : WorldState). subscribers_of other shape) d.base.1) ∙ messages_brought plan topic subscription among other value)
       (messages_sent sent hand said value (subscribers_of other world) world d)
 
   -- with its line
@@ -289,7 +290,7 @@ module _ (plan : PlanData) (topic subscription : EntityNo) (among : Contains (su
 
   taken_delivers : (moment : Moment) (world : WorldState) → Delivers [] world → Delivers (flat_map (handed subscription) (ready_list moment world)) (take_inputs moment world)
   taken_delivers moment world d =
-      subst (λ (some : List ℤ). Delivers some (take_inputs moment world)) (sym (list_hands subscription moment world (wired plan.graph world d.base.1).queues d.base.0))
+      subst (λ (some : List ℤ). Delivers some (take_inputs moment world)) (sym (list_hands subscription moment world plan.graph (wired plan world d.base.1) d.base.0))
       (record {
         base = (kinds_kept.snapshot_kept moment world d.base.0, shapes.snapshot_kept moment world d.base.1);
         flow = flow_taken subscription (published world.lines) world.queues (take_inputs moment world).queues world.lines (held_taken subscription world.queues) d.flow;
@@ -310,10 +311,10 @@ module _ (plan : PlanData) (topic subscription : EntityNo) (among : Contains (su
       by true e rest = rw (e, p.0) refl
       by false e rest = rw e rest
 
-  first_delivers : Delivers [] (first_world plan.graph)
+  first_delivers : Delivers [] (first_world plan)
   first_delivers = record {
     base = (kinds_first plan.graph _, refl);
-    flow = record { left = []; in_order = sym (none_held (first_world plan.graph).queues (all_map (λ queue. queue.items ≡ []) _ (λ waitable. refl) _)); takings = refl; losses = refl };
+    flow = record { left = []; in_order = sym (none_held (first_world plan).queues (all_map (λ queue. queue.items ≡ []) _ (λ waitable. refl) _)); takings = refl; losses = refl };
     says = refl;
   }
 
@@ -323,8 +324,8 @@ module _ (plan : PlanData) (topic subscription : EntityNo) (among : Contains (su
 
   pub all_delivered : IsDelivered plan topic subscription (last_world plan)
   all_delivered =
-      let last : WorldState = rounds plan 1 plan.moments (first_world plan.graph) in
-      let done : Delivers [] last = rounds_deliver 1 plan.moments (first_world plan.graph) first_delivers in
+      let last : WorldState = rounds plan 1 plan.moments (first_world plan) in
+      let done : Delivers [] last = rounds_deliver 1 plan.moments (first_world plan) first_delivers in
       let closed : Delivers [] (last_world plan) =
       kept [] last (last_world plan) (closing_lines (length plan.moments) last) done.base refl refl
       (all_append IsSilent (flat_map (λ entry. pending_by entry.entity (length entry.pending)) last.clients) (line.End (length plan.moments) ∷ [])

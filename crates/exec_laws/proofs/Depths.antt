@@ -6,6 +6,7 @@ use Rattle.std.proofs.lemmas.List.Elements.{recursion_from_All}
 use Rattle.exec_plan.specs.Entity.{Resolved, queue_depth, is_from_1, is_within}
 use Rattle.exec_plan.specs.Graph.{GraphData, EntityData, Waitable, in_group, wait_set, kinds, cons_if, numbers_where, entities_where, has_kind, declared_at}
 use Rattle.exec_plan.specs.Lawful.{IsLawful, IsLawfulDeclared}
+use Rattle.exec_plan.specs.Plan.{PlanData}
 use Rattle.exec_plan.specs.declared.entity.Declared.{Declared}
 use Rattle.exec_plan.specs.declared.entity.Declared.TheVariants as declared
 use Rattle.exec_plan.specs.declared.entity.EntityOf.TheVariants.{Timer, Subscription, Service, Client, Server, ActionClient}
@@ -66,26 +67,26 @@ deep_declared graph of (declared.Entity entity) queued has lawful = deep_resolve
 
 -- ---- queues
 
-module _ (graph : GraphData) (lawful : IsLawful graph) where
+module _ (plan : PlanData) (lawful : IsLawful plan.graph) where
   abbrev IsDeep : Waitable → Type 0
-  IsDeep waitable = takes_from_queue waitable.kind ≡ true → 1 ≤ queue_depth (entity_at graph waitable.entity).is
+  IsDeep waitable = takes_from_queue waitable.kind ≡ true → 1 ≤ queue_depth (entity_at plan.graph waitable.entity).is
 
-  waits_deep : (of : Kind) → AllByRecursion IsDeep (map (λ entity. record { kind = of; entity = entity }) (entities_where (has_kind of) graph))
+  waits_deep : (of : Kind) → AllByRecursion IsDeep (map (λ entity. record { kind = of; entity = entity }) (entities_where (has_kind of) plan.graph))
   waits_deep of =
-      all_mapped (λ n. (has_kind of (declared_at graph n) ≡ true) × IsLawfulDeclared graph (declared_at graph n)) IsDeep (λ entity. record { kind = of; entity = entity })
-      (λ n p queued. deep_declared graph of (declared_at graph n) queued p.0 p.1) (entities_where (has_kind of) graph)
-      (stands (declared_at graph) (has_kind of) (IsLawfulDeclared graph) (record { name = []; is = declared.Topic }) 0 graph.entities (λ k within. let same : 0 + k ≡ k = omega arith in ap (λ (n : ℕ). declared_at graph n) same)
-      (recursion_from_All (λ entity. IsLawfulDeclared graph entity.is) graph.entities lawful.entities))
+      all_mapped (λ n. (has_kind of (declared_at plan.graph n) ≡ true) × IsLawfulDeclared plan.graph (declared_at plan.graph n)) IsDeep (λ entity. record { kind = of; entity = entity })
+      (λ n p queued. deep_declared plan.graph of (declared_at plan.graph n) queued p.0 p.1) (entities_where (has_kind of) plan.graph)
+      (stands (declared_at plan.graph) (has_kind of) (IsLawfulDeclared plan.graph) (record { name = []; is = declared.Topic }) 0 plan.graph.entities (λ k within. let same : 0 + k ≡ k = omega arith in ap (λ (n : ℕ). declared_at plan.graph n) same)
+      (recursion_from_All (λ entity. IsLawfulDeclared plan.graph entity.is) plan.graph.entities lawful.entities))
 
-  queued_deep : (waitables : List Waitable) → AllByRecursion IsDeep waitables → AllByRecursion (λ waitable. 1 ≤ queue_depth (entity_at graph waitable.entity).is) (filter (λ waitable. takes_from_queue waitable.kind) waitables)
+  queued_deep : (waitables : List Waitable) → AllByRecursion IsDeep waitables → AllByRecursion (λ waitable. 1 ≤ queue_depth (entity_at plan.graph waitable.entity).is) (filter (λ waitable. takes_from_queue waitable.kind) waitables)
   queued_deep [] p = tt
   queued_deep (waitable ∷ waitables) p = by (takes_from_queue waitable.kind) refl (queued_deep waitables p.1)
     where
-      by : (b : Bool) → takes_from_queue waitable.kind ≡ b → AllByRecursion (λ one. 1 ≤ queue_depth (entity_at graph one.entity).is) (filter (λ one. takes_from_queue one.kind) waitables) → AllByRecursion (λ one. 1 ≤ queue_depth (entity_at graph one.entity).is) (filter (λ one. takes_from_queue one.kind) (waitable ∷ waitables))
+      by : (b : Bool) → takes_from_queue waitable.kind ≡ b → AllByRecursion (λ one. 1 ≤ queue_depth (entity_at plan.graph one.entity).is) (filter (λ one. takes_from_queue one.kind) waitables) → AllByRecursion (λ one. 1 ≤ queue_depth (entity_at plan.graph one.entity).is) (filter (λ one. takes_from_queue one.kind) (waitable ∷ waitables))
       by true e rest = rw e (p.0 e, rest)
       by false e rest = rw e rest
 
-  pub deep_first : AllByRecursion (λ queue. 1 ≤ queue.depth) (first_world graph).queues
+  pub deep_first : AllByRecursion (λ queue. 1 ≤ queue.depth) (first_world plan).queues
   deep_first =
-      all_mapped (λ waitable. 1 ≤ queue_depth (entity_at graph waitable.entity).is) (λ queue. 1 ≤ queue.depth) (new_queue graph) (λ waitable p. p) _
-      (queued_deep (wait_set graph) (all_flat IsDeep (λ of. map (λ entity. record { kind = of; entity = entity }) (entities_where (has_kind of) graph)) waits_deep kinds))
+      all_mapped (λ waitable. 1 ≤ queue_depth (entity_at plan.graph waitable.entity).is) (λ queue. 1 ≤ queue.depth) (new_queue plan.graph) (λ waitable p. p) _
+      (queued_deep (wait_set plan.graph) (all_flat IsDeep (λ of. map (λ entity. record { kind = of; entity = entity }) (entities_where (has_kind of) plan.graph)) waits_deep kinds))

@@ -1,5 +1,5 @@
 -- Through rounds, no answer is displaced.
-use Rattle.std.proofs.Common.{◌≡◌, ℕ, zero, suc, ◌+◌, ◌≤◌, Bool, true, false, not, ◌&&◌, ◌==◌, List, [], ◌∷◌, ◌++◌, length, map, Option, None, Some, refl, sym, ap, subst, ◌∙◌, arith}
+use Rattle.std.proofs.Common.{◌≡◌, ℕ, zero, suc, ◌+◌, ◌≤◌, Bool, true, false, ◌&&◌, ◌==◌, List, [], ◌∷◌, ◌++◌, length, map, Option, None, Some, refl, sym, ap, subst, ◌∙◌, arith}
 use Rattle.std.specs.List.{AllByRecursion, filter, find, flat_map, list_any}
 use Rattle.std.specs.Option.{option_map_or}
 use Rattle.std.proofs.lemmas.List.Elements.{recursion_from_All}
@@ -23,8 +23,9 @@ use Rattle.exec_laws.proofs.Addresses.{routes_of, client_knows, action_client_kn
 use Rattle.exec_laws.proofs.Channels.{Channel, replies, responses, codes, asks, takes, sends_to, weigh, total, count, none_taken, total_after, total_taken, none_lost, channel_of, its_channel, cause_sent, answers_send}
 use Rattle.exec_rules.proofs.Keeping.{Moves, Tells, publish_kept, moves_kept, push_kept, feed_keeps, ids_changed, state_said, is_sent_well, Routes, canceled}
 use Rattle.exec_rules.proofs.OfKinds.{IsOfItsKind, AreOfTheirKinds, kinds_kept, kinds_first, lost_of_kind}
-use Rattle.exec_rules.proofs.Pairs.{all_filter, all_flat, all_flat_where, all_map, all_mapped, all_unmapped, all_weaker}
-use Rattle.exec_rules.proofs.ReadyLists.{IsOf, due_of, poll_of, list_apart, one_at_most, all_ready}
+use Rattle.exec_rules.proofs.Pairs.{all_flat, all_flat_where, all_map, all_mapped, all_unmapped, all_weaker}
+use Rattle.exec_rules.proofs.ReadyLists.{IsOf, due_of, poll_of, list_apart, one_at_most, all_listed}
+use Rattle.exec_rules.proofs.Sorting.{sum_sorted}
 use Rattle.exec_rules.proofs.Running.{Answers, ends_told, asks_told, run_keeps, KeptByRounds}
 use Rattle.exec_rules.proofs.Shapes.{shape_kept}
 use Rattle.exec_rules.proofs.Wiring.{wired}
@@ -33,7 +34,8 @@ use Rattle.exec_rules.specs.Item.{taker_of}
 use Rattle.exec_rules.specs.Shape.{queue_shape, shape_of}
 use Rattle.exec_rules.specs.Ready.{is_callback_of}
 use Rattle.exec_rules.specs.Lines.{is_answer, is_loss}
-use Rattle.exec_rules.specs.Ready.{due_ready, item_ready, queue_ready, poll_ready, is_before_polls, placed_from, ready_list, run_line, take_inputs}
+use Rattle.exec_rules.specs.Ready.{all_ready, due_ready, item_ready, placed_from, poll_ready, queue_ready, rank_under, ready_list, run_line, take_inputs}
+use Rattle.exec_rules.specs.Sorting.{sorted_by}
 use Rattle.exec_rules.specs.Run.{run}
 use Rattle.exec_rules.specs.Transcript.{takes_from_queue, first_world, expire_lines, expire, at_snapshot, run_all, round, rounds, pending_by, closing_lines, lines_of, new_queue}
 use Rattle.exec_rules.specs.World.{WorldState, Queue, TimerEntry, ServerEntry, ClientEntry, add_line, is_queue, drop_line, lost_by, push, goals_of, change_goals, add_lines, with_task, with_call, with_goal_sent, with_variables}
@@ -103,61 +105,61 @@ answers_kind graph one entity (item.Result id status value) a = absurd a
 
 -- ---- a world in a round, with these callbacks left
 
-module _ (graph : GraphData) (deep_first : AllByRecursion (λ queue. 1 ≤ queue.depth) (first_world graph).queues) where
+module _ (plan : PlanData) (deep_first : AllByRecursion (λ queue. 1 ≤ queue.depth) (first_world plan).queues) where
   record IsLight (rest : List Ready) (world : WorldState) : Type 0 where
-    shape : shape_of world ≡ shape_of (first_world graph)
+    shape : shape_of world ≡ shape_of (first_world plan)
     kinds : AreOfTheirKinds world
-    addressed : AllByRecursion (IsAddressed (routes_of graph)) world.queues
-    light : (channel : Channel) → total (routes_of graph) channel world.queues + count (sends_to (routes_of graph) channel) rest ≤ 1
+    addressed : AllByRecursion (IsAddressed (routes_of plan.graph)) world.queues
+    light : (channel : Channel) → total (routes_of plan.graph) channel world.queues + count (sends_to (routes_of plan.graph) channel) rest ≤ 1
     lossless : IsLossless world.lines
 
-  deep : (world : WorldState) → shape_of world ≡ shape_of (first_world graph) → AllByRecursion (λ queue. 1 ≤ queue.depth) world.queues
+  deep : (world : WorldState) → shape_of world ≡ shape_of (first_world plan) → AllByRecursion (λ queue. 1 ≤ queue.depth) world.queues
   deep world same =
       all_unmapped (λ queue. 1 ≤ queue.depth) queue_shape world.queues
       (subst (λ (queues : List Queue). AllByRecursion (λ queue. 1 ≤ queue.depth) queues) (sym (ap (λ (shape : WorldState). shape.queues) same))
-      (all_mapped (λ queue. 1 ≤ queue.depth) (λ queue. 1 ≤ queue.depth) queue_shape (λ queue p. p) (first_world graph).queues deep_first))
+      (all_mapped (λ queue. 1 ≤ queue.depth) (λ queue. 1 ≤ queue.depth) queue_shape (λ queue p. p) (first_world plan).queues deep_first))
 
   -- a change of neither queues nor lines but for some that lose nothing
-  kept : (rest : List Ready) (world after : WorldState) (lines : List Line) → IsLight rest world → shape_of after ≡ shape_of (first_world graph) → after.queues ≡ world.queues → after.lines ≡ world.lines ++ lines → IsLossless lines → IsLight rest after
+  kept : (rest : List Ready) (world after : WorldState) (lines : List Line) → IsLight rest world → shape_of after ≡ shape_of (first_world plan) → after.queues ≡ world.queues → after.lines ≡ world.lines ++ lines → IsLossless lines → IsLight rest after
   kept rest world after lines s shape queues said quiet = record {
     shape = shape;
     kinds = subst (λ (some : List Queue). AllByRecursion IsOfItsKind some) (sym queues) s.kinds;
-    addressed = subst (λ (some : List Queue). AllByRecursion (IsAddressed (routes_of graph)) some) (sym queues) s.addressed;
-    light = λ channel. subst (λ (some : List Queue). total (routes_of graph) channel some + count (sends_to (routes_of graph) channel) rest ≤ 1) (sym queues) (s.light channel);
+    addressed = subst (λ (some : List Queue). AllByRecursion (IsAddressed (routes_of plan.graph)) some) (sym queues) s.addressed;
+    light = λ channel. subst (λ (some : List Queue). total (routes_of plan.graph) channel some + count (sends_to (routes_of plan.graph) channel) rest ≤ 1) (sym queues) (s.light channel);
     lossless = subst (λ (some : List Line). IsLossless some) (sym said) (lossless_more world.lines lines s.lossless quiet);
   }
 
-  same_lines : (rest : List Ready) (world after : WorldState) → IsLight rest world → shape_of after ≡ shape_of (first_world graph) → after.queues ≡ world.queues → after.lines ≡ world.lines → IsLight rest after
+  same_lines : (rest : List Ready) (world after : WorldState) → IsLight rest world → shape_of after ≡ shape_of (first_world plan) → after.queues ≡ world.queues → after.lines ≡ world.lines → IsLight rest after
   same_lines rest world after s shape queues said = record {
     shape = shape;
     kinds = subst (λ (some : List Queue). AllByRecursion IsOfItsKind some) (sym queues) s.kinds;
-    addressed = subst (λ (some : List Queue). AllByRecursion (IsAddressed (routes_of graph)) some) (sym queues) s.addressed;
-    light = λ channel. subst (λ (some : List Queue). total (routes_of graph) channel some + count (sends_to (routes_of graph) channel) rest ≤ 1) (sym queues) (s.light channel);
+    addressed = subst (λ (some : List Queue). AllByRecursion (IsAddressed (routes_of plan.graph)) some) (sym queues) s.addressed;
+    light = λ channel. subst (λ (some : List Queue). total (routes_of plan.graph) channel some + count (sends_to (routes_of plan.graph) channel) rest ≤ 1) (sym queues) (s.light channel);
     lossless = subst (λ (some : List Line). IsLossless some) (sym said) s.lossless;
   }
 
   -- an item that is sent
-  pushed : (before rest : List Ready) (entity : EntityNo) (new : Item) (world : WorldState) → is_sent_well (routes_of graph) entity new ≡ true → IsLight before world → ((channel : Channel) → weigh (takes (routes_of graph) channel entity (taker_of new)) 1 + count (sends_to (routes_of graph) channel) rest ≤ count (sends_to (routes_of graph) channel) before) →
+  pushed : (before rest : List Ready) (entity : EntityNo) (new : Item) (world : WorldState) → is_sent_well (routes_of plan.graph) entity new ≡ true → IsLight before world → ((channel : Channel) → weigh (takes (routes_of plan.graph) channel entity (taker_of new)) 1 + count (sends_to (routes_of plan.graph) channel) rest ≤ count (sends_to (routes_of plan.graph) channel) before) →
       IsLossless (map (drop_line entity) (lost_by entity new world)) → IsLight rest (push entity new world)
   pushed before rest entity new world well s lighter none = record {
-    shape = push_kept (shape_kept (shape_of (first_world graph))).basic entity new world s.shape;
+    shape = push_kept (shape_kept (shape_of (first_world plan))).basic entity new world s.shape;
     kinds = push_kept kinds_kept.basic entity new world s.kinds;
-    addressed = addressed_after (routes_of graph) entity new world.queues well s.addressed;
+    addressed = addressed_after (routes_of plan.graph) entity new world.queues well s.addressed;
     light = λ channel.
-        let after = total_after (routes_of graph) channel entity new world.queues in
+        let after = total_after (routes_of plan.graph) channel entity new world.queues in
         let less = lighter channel in
         let was = s.light channel in
         omega (arith, after, less, was);
     lossless = lossless_more world.lines (map (drop_line entity) (lost_by entity new world)) s.lossless none;
   }
 
-  freely : (rest : List Ready) (entity : EntityNo) (new : Item) (world : WorldState) → is_sent_well (routes_of graph) entity new ≡ true → is_answer (taker_of new) ≡ false → IsLight rest world → IsLight rest (push entity new world)
+  freely : (rest : List Ready) (entity : EntityNo) (new : Item) (world : WorldState) → is_sent_well (routes_of plan.graph) entity new ≡ true → is_answer (taker_of new) ≡ false → IsLight rest world → IsLight rest (push entity new world)
   freely rest entity new world well free s =
       pushed rest rest entity new world well s
-      (λ channel. let none : weigh (takes (routes_of graph) channel entity (taker_of new)) 1 ≡ 0 = ap (λ (b : Bool). weigh b 1) (none_taken (routes_of graph) channel entity (taker_of new) free) in omega (arith, none))
+      (λ channel. let none : weigh (takes (routes_of plan.graph) channel entity (taker_of new)) 1 ≡ 0 = ap (λ (b : Bool). weigh b 1) (none_taken (routes_of plan.graph) channel entity (taker_of new) free) in omega (arith, none))
       (drops_lossless entity (lost_by entity new world) (lost_free entity new world.queues free s.kinds))
 
-  well_answered : (one : Ready) (entity : EntityNo) (new : Item) → Answers (routes_of graph) one entity new → is_sent_well (routes_of graph) entity new ≡ true
+  well_answered : (one : Ready) (entity : EntityNo) (new : Item) → Answers (routes_of plan.graph) one entity new → is_sent_well (routes_of plan.graph) entity new ≡ true
   well_answered one entity (item.Message value) a = absurd a
   well_answered one entity (item.Request client number value) a = absurd a
   well_answered one entity (item.Reply number value) a = refl
@@ -170,47 +172,47 @@ module _ (graph : GraphData) (deep_first : AllByRecursion (λ queue. 1 ≤ queue
   well_answered one entity (item.Result id status value) a = absurd a
 
   module _ (one : Ready) (rest : List Ready) where
-    answered : cause_sent (routes_of graph) one.entity one.cause ≡ true → (entity : EntityNo) (new : Item) (world : WorldState) → Answers (routes_of graph) one entity new → IsLight (one ∷ rest) world → IsLight rest (push entity new world)
+    answered : cause_sent (routes_of plan.graph) one.entity one.cause ≡ true → (entity : EntityNo) (new : Item) (world : WorldState) → Answers (routes_of plan.graph) one entity new → IsLight (one ∷ rest) world → IsLight rest (push entity new world)
     answered well entity new world a s =
         pushed (one ∷ rest) rest entity new world (well_answered one entity new a) s
-        (λ channel. lighter channel (takes (routes_of graph) channel entity (taker_of new)) refl)
+        (λ channel. lighter channel (takes (routes_of plan.graph) channel entity (taker_of new)) refl)
         (ap (λ (lost : List Item). list_any is_loss (map (drop_line entity) lost)) nothing)
       where
-        lighter : (channel : Channel) (b : Bool) → takes (routes_of graph) channel entity (taker_of new) ≡ b → weigh (takes (routes_of graph) channel entity (taker_of new)) 1 + count (sends_to (routes_of graph) channel) rest ≤ count (sends_to (routes_of graph) channel) (one ∷ rest)
+        lighter : (channel : Channel) (b : Bool) → takes (routes_of plan.graph) channel entity (taker_of new) ≡ b → weigh (takes (routes_of plan.graph) channel entity (taker_of new)) 1 + count (sends_to (routes_of plan.graph) channel) rest ≤ count (sends_to (routes_of plan.graph) channel) (one ∷ rest)
         lighter channel true e =
-            let ones : weigh (takes (routes_of graph) channel entity (taker_of new)) 1 ≡ 1 = ap (λ (t : Bool). weigh t 1) e in
-            let sends : weigh (sends_to (routes_of graph) channel one) 1 ≡ 1 = ap (λ (t : Bool). weigh t 1) (answers_send graph one well channel entity new a e) in
+            let ones : weigh (takes (routes_of plan.graph) channel entity (taker_of new)) 1 ≡ 1 = ap (λ (t : Bool). weigh t 1) e in
+            let sends : weigh (sends_to (routes_of plan.graph) channel one) 1 ≡ 1 = ap (λ (t : Bool). weigh t 1) (answers_send plan.graph one well channel entity new a e) in
             omega (arith, ones, sends)
-        lighter channel false e = let none : weigh (takes (routes_of graph) channel entity (taker_of new)) 1 ≡ 0 = ap (λ (t : Bool). weigh t 1) e in omega (arith, none)
+        lighter channel false e = let none : weigh (takes (routes_of plan.graph) channel entity (taker_of new)) 1 ≡ 0 = ap (λ (t : Bool). weigh t 1) e in omega (arith, none)
 
-        empty : (channel : Channel) → takes (routes_of graph) channel entity (taker_of new) ≡ true → total (routes_of graph) channel world.queues ≡ 0
+        empty : (channel : Channel) → takes (routes_of plan.graph) channel entity (taker_of new) ≡ true → total (routes_of plan.graph) channel world.queues ≡ 0
         empty channel e =
-            let sends : weigh (sends_to (routes_of graph) channel one) 1 ≡ 1 = ap (λ (t : Bool). weigh t 1) (answers_send graph one well channel entity new a e) in
+            let sends : weigh (sends_to (routes_of plan.graph) channel one) 1 ≡ 1 = ap (λ (t : Bool). weigh t 1) (answers_send plan.graph one well channel entity new a e) in
             let was = s.light channel in
             omega (arith, sends, was)
 
         nothing : lost_by entity new world ≡ []
         nothing =
-            let its = its_channel graph entity (taker_of new) (answers_kind graph one entity new a) in
-            none_lost (routes_of graph) (channel_of graph entity (taker_of new)) entity new world.queues its (empty (channel_of graph entity (taker_of new)) its) (deep world s.shape)
+            let its = its_channel plan.graph entity (taker_of new) (answers_kind plan.graph one entity new a) in
+            none_lost (routes_of plan.graph) (channel_of plan.graph entity (taker_of new)) entity new world.queues its (empty (channel_of plan.graph entity (taker_of new)) its) (deep world s.shape)
 
-  shapes : KeptByRounds (λ world. shape_of world ≡ shape_of (first_world graph))
-  shapes = shape_kept (shape_of (first_world graph))
+  shapes : KeptByRounds (λ world. shape_of world ≡ shape_of (first_world plan))
+  shapes = shape_kept (shape_of (first_world plan))
 
   -- a line that loses nothing
   quietly : (rest : List Ready) (one : Line) (world : WorldState) → IsLossless (one ∷ []) → IsLight rest world → IsLight rest (add_line one world)
   quietly rest one world none s = kept rest world (add_line one world) (one ∷ []) s s.shape refl refl none
 
-  moves : (rest : List Ready) → Moves (routes_of graph) (IsLight rest)
+  moves : (rest : List Ready) → Moves (routes_of plan.graph) (IsLight rest)
   moves rest = record {
     lines_kept = λ lines world quiet s. kept rest world (add_lines lines world) lines s s.shape refl refl quiet.1.0;
     pushes_kept = λ entity new world well free message request result s. freely rest entity new world well free s;
     publications_kept = λ topic value world s. publish_kept {P = IsLight rest} (λ entity sent before q. freely rest entity (item.Message sent) before refl refl q) topic value (add_line (line.Pub topic value) world) (quietly rest (line.Pub topic value) world refl s);
     calls_kept = λ number client value world found s.
-        freely rest client.service (item.Request client.entity (client.calls + 1) value) (add_line (line.Call client.entity (client.calls + 1) value) (with_call client.entity world)) (client_knows graph world s.shape number client found) refl
+        freely rest client.service (item.Request client.entity (client.calls + 1) value) (add_line (line.Call client.entity (client.calls + 1) value) (with_call client.entity world)) (client_knows plan world s.shape number client found) refl
         (quietly rest (line.Call client.entity (client.calls + 1) value) (with_call client.entity world) refl
         (same_lines rest world (with_call client.entity world) s (shapes.basic.calls_kept client.entity world s.shape) refl refl));
-    action_clients_known = λ number client world found s. action_client_knows graph world s.shape number client found;
+    action_clients_known = λ number client world found s. action_client_knows plan world s.shape number client found;
     execution_kept = λ server goal world found s.
         kept rest world (execute_goal server (Some goal) world) (line.State server goal.id (status_of (after_event event.Execute goal).state) ∷ []) s ((moves_kept shapes.basic).execution_kept server goal world found s.shape) refl refl refl;
     answer_kept = λ server decisions returned many world s.
@@ -232,7 +234,7 @@ module _ (graph : GraphData) (deep_first : AllByRecursion (λ queue. 1 ≤ queue
   said rest server (Some goal) world s = kept rest world (add_line (line.State server goal.id (status_of goal.state)) world) (line.State server goal.id (status_of goal.state) ∷ []) s s.shape refl refl refl
 
   -- a callback that runs isn't left
-  run_light : (one : Ready) (rest : List Ready) (world : WorldState) → cause_sent (routes_of graph) one.entity one.cause ≡ true → IsLight (one ∷ rest) world → IsLight rest (run one world)
+  run_light : (one : Ready) (rest : List Ready) (world : WorldState) → cause_sent (routes_of plan.graph) one.entity one.cause ≡ true → IsLight (one ∷ rest) world → IsLight rest (run one world)
   run_light one rest world well s =
       run_keeps {P = IsLight (one ∷ rest)} {Q = IsLight rest} (moves (one ∷ rest)) one (λ before none q. lighter before q)
       (λ request decision before same room q.
@@ -246,7 +248,7 @@ module _ (graph : GraphData) (deep_first : AllByRecursion (λ queue. 1 ≤ queue
       lighter : (before : WorldState) → IsLight (one ∷ rest) before → IsLight rest before
       lighter before q = record { shape = q.shape; kinds = q.kinds; addressed = q.addressed; light = λ channel. let was = q.light channel in omega (arith, was); lossless = q.lossless }
 
-  run_all_light : (list : List Ready) (world : WorldState) → AllByRecursion (λ one. cause_sent (routes_of graph) one.entity one.cause ≡ true) list → IsLight list world → IsLight [] (run_all list world)
+  run_all_light : (list : List Ready) (world : WorldState) → AllByRecursion (λ one. cause_sent (routes_of plan.graph) one.entity one.cause ≡ true) list → IsLight list world → IsLight [] (run_all list world)
   run_all_light [] world p s = s
   run_all_light (one ∷ list) world p s = run_all_light list (run one world) p.1 (run_light one list world p.0 s)
 
@@ -311,31 +313,20 @@ module _ (routes : Routes) (server : EntityNo) where
       let rest = queues_weigh moment world queues p.1 in
       omega (arith, joined, first, rest)
 
-  total_halves : (test : Queue → Bool) (queues : List Queue) → total routes (responses server) (filter test queues) + total routes (responses server) (filter (λ queue. not (test queue)) queues) ≡ total routes (responses server) queues
-  total_halves test [] = refl
-  total_halves test (queue ∷ queues) = by (test queue) refl (total_halves test queues)
-    where
-      by : (b : Bool) → test queue ≡ b → total routes (responses server) (filter test queues) + total routes (responses server) (filter (λ one. not (test one)) queues) ≡ total routes (responses server) queues → total routes (responses server) (filter test (queue ∷ queues)) + total routes (responses server) (filter (λ one. not (test one)) (queue ∷ queues)) ≡ total routes (responses server) (queue ∷ queues)
-      by true e rest = rw e (omega (arith, rest))
-      by false e rest = rw e (omega (arith, rest))
-
   list_weighs : (moment : Moment) (world : WorldState) → AreOfTheirKinds world → count (sends_to routes (asks server)) (ready_list moment world) ≤ total routes (responses server) world.queues
   list_weighs moment world p =
       let test : Ready → Bool = sends_to routes (asks server) in
       let timers : List Ready = flat_map (due_ready moment) world.timers in
-      let before : List Ready = flat_map (queue_ready moment world) (filter (λ queue. is_before_polls queue.kind) world.queues) in
+      let took : List Ready = flat_map (queue_ready moment world) world.queues in
       let polls : List Ready = flat_map (poll_ready moment) world.servers in
-      let behind : List Ready = flat_map (queue_ready moment world) (filter (λ queue. not (is_before_polls queue.kind)) world.queues) in
-      let placed = count_placed 1 (timers ++ before ++ polls ++ behind) in
-      let a = count_append test (timers ++ before ++ polls) behind in
-      let b = count_append test (timers ++ before) polls in
-      let c = count_append test timers before in
+      let placed = count_placed 1 (sorted_by (rank_under world.order) (all_ready moment world)) in
+      let sorted = sum_sorted (λ one. weigh (test one) 1) (count test) (λ one list. refl) (rank_under world.order) (all_ready moment world) in
+      let a = count_append test (timers ++ took) polls in
+      let b = count_append test timers took in
       let none_due = count_none test timers (all_flat (λ one. test one ≡ false) (due_ready moment) (λ entry. others entry.handler.entity kind.Timer refl (due_ready moment entry) (due_of moment entry)) world.timers) in
       let none_polled = count_none test polls (all_flat (λ one. test one ≡ false) (poll_ready moment) (λ entry. others entry.handler.entity kind.Poll refl (poll_ready moment entry) (poll_of moment entry)) world.servers) in
-      let first = queues_weigh moment world (filter (λ queue. is_before_polls queue.kind) world.queues) (all_filter IsOfItsKind (λ queue. is_before_polls queue.kind) world.queues p) in
-      let second = queues_weigh moment world (filter (λ queue. not (is_before_polls queue.kind)) world.queues) (all_filter IsOfItsKind (λ queue. not (is_before_polls queue.kind)) world.queues p) in
-      let halves = total_halves (λ queue. is_before_polls queue.kind) world.queues in
-      omega (arith, placed, a, b, c, none_due, none_polled, first, second, halves)
+      let all = queues_weigh moment world world.queues p in
+      omega (arith, placed, sorted, a, b, none_due, none_polled, all)
 
 -- what takes an item takes one that may be sent to its entity
 module _ (routes : Routes) (moment : Moment) (world : WorldState) where
@@ -358,30 +349,30 @@ module _ (routes : Routes) (moment : Moment) (world : WorldState) where
 
   list_well : AllByRecursion (IsAddressed routes) world.queues → AllByRecursion Well (ready_list moment world)
   list_well p =
-      all_ready Well (λ position one q. q) moment world
+      all_listed Well (λ position one q. q) moment world
       (all_flat Well (due_ready moment) well_due world.timers)
-      (λ test. all_flat_where (IsAddressed routes) Well (queue_ready moment world) well_taken (filter test world.queues) (all_filter (IsAddressed routes) test world.queues p))
+      (all_flat_where (IsAddressed routes) Well (queue_ready moment world) well_taken world.queues p)
       (all_flat Well (poll_ready moment) (λ entry. all_map Well _ (λ goal. refl) _) world.servers)
 
 -- ---- rounds
 
-module _ (plan : PlanData) (deep_first : AllByRecursion (λ queue. 1 ≤ queue.depth) (first_world plan.graph).queues) where
+module _ (plan : PlanData) (deep_first : AllByRecursion (λ queue. 1 ≤ queue.depth) (first_world plan).queues) where
   abbrev Light : List Ready → WorldState → Type 0
-  Light rest world = IsLight plan.graph deep_first rest world
+  Light rest world = IsLight plan deep_first rest world
 
   -- one callback at most sends to a channel in a round
   one_sends : (moment : Moment) (world : WorldState) → Light [] world → (channel : Channel) → count (sends_to (routes_of plan.graph) channel) (ready_list moment world) ≤ 1
   one_sends moment world s (replies service) =
       let same = count_filter (is_callback_of service kind.Request) (ready_list moment world) in
-      let few = one_at_most service kind.Request (ready_list moment world) (list_apart kind.Request (λ e. absurd cc) plan.graph moment world (wired plan.graph world s.shape) s.kinds) in
+      let few = one_at_most service kind.Request (ready_list moment world) (list_apart kind.Request (λ e. absurd cc) plan.graph moment world (wired plan world s.shape) s.kinds) in
       omega (arith, same, few)
   one_sends moment world s (responses server) =
       let same = count_filter (is_callback_of server kind.Goal) (ready_list moment world) in
-      let few = one_at_most server kind.Goal (ready_list moment world) (list_apart kind.Goal (λ e. absurd cc) plan.graph moment world (wired plan.graph world s.shape) s.kinds) in
+      let few = one_at_most server kind.Goal (ready_list moment world) (list_apart kind.Goal (λ e. absurd cc) plan.graph moment world (wired plan world s.shape) s.kinds) in
       omega (arith, same, few)
   one_sends moment world s (codes server) =
       let same = count_filter (is_callback_of server kind.Cancel) (ready_list moment world) in
-      let few = one_at_most server kind.Cancel (ready_list moment world) (list_apart kind.Cancel (λ e. absurd cc) plan.graph moment world (wired plan.graph world s.shape) s.kinds) in
+      let few = one_at_most server kind.Cancel (ready_list moment world) (list_apart kind.Cancel (λ e. absurd cc) plan.graph moment world (wired plan world s.shape) s.kinds) in
       omega (arith, same, few)
   one_sends moment world s (asks server) =
       let few = list_weighs (routes_of plan.graph) server moment world s.kinds in
@@ -390,7 +381,7 @@ module _ (plan : PlanData) (deep_first : AllByRecursion (λ queue. 1 ≤ queue.d
 
   taken_light : (moment : Moment) (world : WorldState) → Light [] world → Light (ready_list moment world) (take_inputs moment world)
   taken_light moment world s = record {
-    shape = (shape_kept (shape_of (first_world plan.graph))).snapshot_kept moment world s.shape;
+    shape = (shape_kept (shape_of (first_world plan))).snapshot_kept moment world s.shape;
     kinds = kinds_kept.snapshot_kept moment world s.kinds;
     addressed = addressed_taken (routes_of plan.graph) world.queues s.addressed;
     light = λ channel.
@@ -404,9 +395,9 @@ module _ (plan : PlanData) (deep_first : AllByRecursion (λ queue. 1 ≤ queue.d
   snapshot_light : (number : ℕ) (moment : Moment) (world : WorldState) → Light [] world → Light [] (at_snapshot plan number moment world)
   snapshot_light number moment world s =
       let begun : WorldState = add_line (line.Round number moment) world in
-      let first : Light [] begun = kept plan.graph deep_first [] world begun (line.Round number moment ∷ []) s s.shape refl refl refl in
-      feed_keeps (moves plan.graph deep_first []) (publish_kept {P = Light []} (λ entity value before q. freely plan.graph deep_first [] entity (item.Message value) before refl refl q)) (fed_in number plan.feed) (expire moment begun)
-      (kept plan.graph deep_first [] begun (expire moment begun) (flat_map (expire_lines moment) begun.servers) first ((shape_kept (shape_of (first_world plan.graph))).expiry_kept moment begun first.shape) refl refl (expiry_lossless moment begun.servers))
+      let first : Light [] begun = kept plan deep_first [] world begun (line.Round number moment ∷ []) s s.shape refl refl refl in
+      feed_keeps (moves plan deep_first []) (publish_kept {P = Light []} (λ entity value before q. freely plan deep_first [] entity (item.Message value) before refl refl q)) (fed_in number plan.feed) (expire moment begun)
+      (kept plan deep_first [] begun (expire moment begun) (flat_map (expire_lines moment) begun.servers) first ((shape_kept (shape_of (first_world plan))).expiry_kept moment begun first.shape) refl refl (expiry_lossless moment begun.servers))
 
   rounds_light : (number : ℕ) (moments : List Moment) (world : WorldState) → Light [] world → Light [] (rounds plan number moments world)
   rounds_light number [] world s = s
@@ -414,7 +405,7 @@ module _ (plan : PlanData) (deep_first : AllByRecursion (λ queue. 1 ≤ queue.d
       let before : WorldState = at_snapshot plan number moment world in
       let taken : Light [] before = snapshot_light number moment world s in
       rounds_light (suc number) moments (round plan number moment world)
-      (run_all_light plan.graph deep_first (ready_list moment before) (take_inputs moment before) (list_well (routes_of plan.graph) moment before taken.addressed) (taken_light moment before taken))
+      (run_all_light plan deep_first (ready_list moment before) (take_inputs moment before) (list_well (routes_of plan.graph) moment before taken.addressed) (taken_light moment before taken))
 
   total_first : (channel : Channel) (waitables : List Waitable) → total (routes_of plan.graph) channel (map (new_queue plan.graph) waitables) ≡ 0
   total_first channel [] = refl
@@ -424,7 +415,7 @@ module _ (plan : PlanData) (deep_first : AllByRecursion (λ queue. 1 ≤ queue.d
       by true rest = omega (arith, rest)
       by false rest = omega (arith, rest)
 
-  first_light : Light [] (first_world plan.graph)
+  first_light : Light [] (first_world plan)
   first_light = record {
     shape = refl;
     kinds = kinds_first plan.graph (filter (λ waitable. takes_from_queue waitable.kind) (wait_set plan.graph));
@@ -435,6 +426,6 @@ module _ (plan : PlanData) (deep_first : AllByRecursion (λ queue. 1 ≤ queue.d
 
   pub none_displaced : list_any is_loss (lines_of plan) ≡ false
   none_displaced =
-      let last : WorldState = rounds plan 1 plan.moments (first_world plan.graph) in
-      lossless_more last.lines (closing_lines (length plan.moments) last) (rounds_light 1 plan.moments (first_world plan.graph) first_light).lossless
+      let last : WorldState = rounds plan 1 plan.moments (first_world plan) in
+      lossless_more last.lines (closing_lines (length plan.moments) last) (rounds_light 1 plan.moments (first_world plan) first_light).lossless
       (lossless_more (flat_map (λ entry. pending_by entry.entity (length entry.pending)) last.clients) (line.End (length plan.moments) ∷ []) (clients_lossless last.clients) refl)

@@ -140,13 +140,13 @@ all_at : (P : Ready → Type 0) (before behind : List Ready) (one : Ready) → A
 all_at P [] behind one p = p.0
 all_at P (first ∷ before) behind one p = all_at P before behind one p.1
 
-module _ (plan : PlanData) (number : ℕ) (moments : List Moment) (next : ℕ) (moment : Moment) (one : Ready) (here : WorldState) (turn : IsTurn plan next moment (rounds plan number moments (first_world plan.graph)) one here) (id : GoalId) (value : ℤ) (canceling : Bool) (polls : one.cause ≡ cause.Woke id value canceling) where
-  snapshot_distinct : HasDistinct (at_snapshot plan next moment (rounds plan number moments (first_world plan.graph)))
-  snapshot_distinct = snapshot_keeps distinct_kept plan next moment _ (rounds_keep distinct_kept plan number moments (first_world plan.graph) (first_distinct plan.graph))
+module _ (plan : PlanData) (number : ℕ) (moments : List Moment) (next : ℕ) (moment : Moment) (one : Ready) (here : WorldState) (turn : IsTurn plan next moment (rounds plan number moments (first_world plan)) one here) (id : GoalId) (value : ℤ) (canceling : Bool) (polls : one.cause ≡ cause.Woke id value canceling) where
+  snapshot_distinct : HasDistinct (at_snapshot plan next moment (rounds plan number moments (first_world plan)))
+  snapshot_distinct = snapshot_keeps distinct_kept plan next moment _ (rounds_keep distinct_kept plan number moments (first_world plan) (first_distinct plan))
 
   at_turn : StaysAtWork one.entity id canceling here
   at_turn =
-      let before : WorldState = at_snapshot plan next moment (rounds plan number moments (first_world plan.graph)) in
+      let before : WorldState = at_snapshot plan next moment (rounds plan number moments (first_world plan)) in
       let wires = snapshot_wired plan number moments next moment in
       subst (λ (world : WorldState). StaysAtWork one.entity id canceling world) (sym turn.came)
       (all_others_run one.entity id canceling turn.before (take_inputs moment before)

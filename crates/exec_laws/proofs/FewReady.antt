@@ -10,15 +10,18 @@ use Rattle.exec_goal.specs.Table.{GoalRecord}
 use Rattle.exec_msg.specs.Numbers.{EntityNo, Moment}
 use Rattle.exec_plan.specs.Graph.{EntityData, GraphData, Waitable, cons_if, entities_where, has_kind, is_server, is_timer, is_topic, kinds, numbers_where, wait_set}
 use Rattle.exec_plan.specs.Lawful.{IsLawful}
+use Rattle.exec_plan.specs.Plan.{PlanData}
 use Rattle.exec_plan.specs.declared.entity.Declared.{Declared}
 use Rattle.exec_msg.specs.Timer.{is_due}
-use Rattle.exec_rules.proofs.Pairs.{all_flat_where, all_filter, all_map}
-use Rattle.exec_rules.proofs.ReadyLists.{all_ready}
+use Rattle.exec_rules.proofs.Pairs.{all_flat_where, all_map}
+use Rattle.exec_rules.proofs.ReadyLists.{all_listed}
+use Rattle.exec_rules.proofs.Sorting.{length_sorted}
 use Rattle.exec_laws.proofs.Short.{IsShort, IsSmall, IsSmallServer, filter_less}
 use Rattle.exec_rules.proofs.Wiring.{waits_of}
 use Rattle.exec_rules.specs.Callback.{instructions_of}
 use Rattle.exec_rules.specs.Shape.{queue_shape, server_shape, shape_of, timer_shape}
-use Rattle.exec_rules.specs.Ready.{candidates_for, due_ready, is_before_polls, is_goal_awake, item_ready, placed_from, poll_ready, queue_ready, queues_before_polls, queues_behind_polls, ready_for, ready_list, script_to_take, woken}
+use Rattle.exec_rules.specs.Ready.{all_ready, candidates_for, due_ready, is_goal_awake, item_ready, placed_from, poll_ready, queue_ready, rank_under, ready_for, ready_list, script_to_take, woken}
+use Rattle.exec_rules.specs.Sorting.{sorted_by}
 use Rattle.exec_rules.specs.Transcript.{first_world, new_queue, new_server, new_timer, takes_from_queue}
 use Rattle.exec_rules.specs.World.{Queue, ServerEntry, TimerEntry, WorldState, goals_of, has_room_for, is_server_at, goals_in}
 use Rattle.exec_rules.specs.declared.item.Item.{Item}
@@ -90,9 +93,9 @@ taken_small moment world queue servers p = by queue.items
 pub list_small : (moment : Moment) (world : WorldState) → IsSmall world → AllByRecursion IsSmallReady (ready_list moment world)
 list_small moment world p =
     let short_queue : Queue → Type 0 = λ queue. IsShort queue.handler.script in
-    all_ready IsSmallReady (λ position one q. record { script = q.script; candidates = q.candidates }) moment world
+    all_listed IsSmallReady (λ position one q. record { script = q.script; candidates = q.candidates }) moment world
     (all_flat_where (λ entry. IsShort entry.handler.script) IsSmallReady (due_ready moment) (due_small moment) world.timers p.timers)
-    (λ test. all_flat_where short_queue IsSmallReady (queue_ready moment world) (λ queue q. taken_small moment world queue p.servers q) (filter test world.queues) (all_filter short_queue test world.queues p.queues))
+    (all_flat_where short_queue IsSmallReady (queue_ready moment world) (λ queue q. taken_small moment world queue p.servers q) world.queues p.queues)
     (all_flat_where IsSmallServer IsSmallReady (poll_ready moment) (λ entry q. all_map IsSmallReady _ (λ goal. record { script = q.script; candidates = omega arith }) (filter (is_goal_awake moment entry.held) entry.goals)) world.servers p.servers)
 
 -- ---- how many
@@ -133,16 +136,12 @@ each (one ∷ all) = (tt, each all)
 list_few : (moment : Moment) (world : WorldState) → IsSmall world → length (ready_list moment world) ≤ length world.timers + length world.queues + length world.servers * 64
 list_few moment world p =
     let timers : List Ready = flat_map (due_ready moment) world.timers in
-    let before : List Ready = flat_map (queue_ready moment world) (queues_before_polls world) in
+    let took : List Ready = flat_map (queue_ready moment world) world.queues in
     let polls : List Ready = flat_map (poll_ready moment) world.servers in
-    let behind : List Ready = flat_map (queue_ready moment world) (queues_behind_polls world) in
     let few_timers : length timers ≤ length world.timers * 1 = flat_few (λ entry. Unit {0}) (due_ready moment) 1 (λ entry q. few_due moment entry) world.timers (each world.timers) in
-    let few_before : length before ≤ length (queues_before_polls world) * 1 = flat_few (λ queue. Unit {0}) (queue_ready moment world) 1 (λ queue q. few_taken moment world queue) (queues_before_polls world) (each (queues_before_polls world)) in
-    let few_behind : length behind ≤ length (queues_behind_polls world) * 1 = flat_few (λ queue. Unit {0}) (queue_ready moment world) 1 (λ queue q. few_taken moment world queue) (queues_behind_polls world) (each (queues_behind_polls world)) in
+    let few_took : length took ≤ length world.queues * 1 = flat_few (λ queue. Unit {0}) (queue_ready moment world) 1 (λ queue q. few_taken moment world queue) world.queues (each world.queues) in
     let few : length polls ≤ length world.servers * 64 = flat_few IsSmallServer (poll_ready moment) 64 (λ entry q. few_polls moment entry q.goals) world.servers p.servers in
-    let both : length (queues_before_polls world) + length (queues_behind_polls world) ≡ length world.queues =
-    length-filter_both (λ queue. is_before_polls queue.kind) (λ queue. not (is_before_polls queue.kind)) (λ queue. refl) world.queues in
-    omega (arith, placed_long 1 (timers ++ before ++ polls ++ behind), length-append (timers ++ before ++ polls) behind, length-append (timers ++ before) polls, length-append timers before, few_timers, few_before, few_behind, few, both)
+    omega (arith, placed_long 1 (sorted_by (rank_under world.order) (all_ready moment world)), length_sorted (rank_under world.order) (all_ready moment world), length-append (timers ++ took) polls, length-append timers took, few_timers, few_took, few)
 
 -- ---- a graph's entities
 
@@ -166,14 +165,14 @@ few_waits graph lawful =
     (λ of q. omega (arith, few_entities graph lawful, numbers_few (has_kind of) 0 graph.entities, length-map {B = Waitable} (entities_where (has_kind of) graph) (λ entity. record { kind = of; entity = entity })))
     kinds (each kinds)
 
--- a ready list of a world that has the shape of its graph is so short
-pub few_ready : (graph : GraphData) (moment : Moment) (world : WorldState) → IsLawful graph → shape_of world ≡ shape_of (first_world graph) → IsSmall world → length (ready_list moment world) ≤ 65536
-few_ready graph moment world lawful same p =
-    let timers : length world.timers ≡ length (entities_where is_timer graph) =
-    sym (length-map world.timers timer_shape) ∙ ap (λ (shape : WorldState). length shape.timers) same ∙ length-map (first_world graph).timers timer_shape ∙ length-map (entities_where is_timer graph) (new_timer graph) in
-    let waits : List Waitable = filter (λ (waitable : Waitable). takes_from_queue waitable.kind) (wait_set graph) in
+-- a ready list of a world that has the shape of its plan is so short
+pub few_ready : (plan : PlanData) (moment : Moment) (world : WorldState) → IsLawful plan.graph → shape_of world ≡ shape_of (first_world plan) → IsSmall world → length (ready_list moment world) ≤ 65536
+few_ready plan moment world lawful same p =
+    let timers : length world.timers ≡ length (entities_where is_timer plan.graph) =
+    sym (length-map world.timers timer_shape) ∙ ap (λ (shape : WorldState). length shape.timers) same ∙ length-map (first_world plan).timers timer_shape ∙ length-map (entities_where is_timer plan.graph) (new_timer plan.graph) in
+    let waits : List Waitable = filter (λ (waitable : Waitable). takes_from_queue waitable.kind) (wait_set plan.graph) in
     let queues : length world.queues ≡ length waits =
-    sym (length-map world.queues queue_shape) ∙ ap (λ (shape : WorldState). length shape.queues) same ∙ length-map (first_world graph).queues queue_shape ∙ length-map waits (new_queue graph) in
-    let servers : length world.servers ≡ length (entities_where is_server graph) =
-    sym (length-map world.servers server_shape) ∙ ap (λ (shape : WorldState). length shape.servers) same ∙ length-map (first_world graph).servers server_shape ∙ length-map (entities_where is_server graph) (new_server graph) in
-    omega (arith, list_few moment world p, timers, queues, servers, few_entities graph lawful, numbers_few is_timer 0 graph.entities, numbers_few is_server 0 graph.entities, filter_less (λ (waitable : Waitable). takes_from_queue waitable.kind) (wait_set graph), few_waits graph lawful)
+    sym (length-map world.queues queue_shape) ∙ ap (λ (shape : WorldState). length shape.queues) same ∙ length-map (first_world plan).queues queue_shape ∙ length-map waits (new_queue plan.graph) in
+    let servers : length world.servers ≡ length (entities_where is_server plan.graph) =
+    sym (length-map world.servers server_shape) ∙ ap (λ (shape : WorldState). length shape.servers) same ∙ length-map (first_world plan).servers server_shape ∙ length-map (entities_where is_server plan.graph) (new_server plan.graph) in
+    omega (arith, list_few moment world p, timers, queues, servers, few_entities plan.graph lawful, numbers_few is_timer 0 plan.graph.entities, numbers_few is_server 0 plan.graph.entities, filter_less (λ (waitable : Waitable). takes_from_queue waitable.kind) (wait_set plan.graph), few_waits plan.graph lawful)

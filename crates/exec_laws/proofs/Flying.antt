@@ -1,6 +1,6 @@
 -- What is on its way: what the items weigh that stand in queues, and those that callbacks took.
-use Rattle.std.proofs.Common.{◌≡◌, ℕ, zero, suc, ◌+◌, ◌-◌, ◌≤◌, Bool, true, false, not, ◌==◌, List, [], ◌∷◌, ◌++◌, length, map, take, drop, refl, ap, arith}
-use Rattle.std.specs.List.{AllByRecursion, filter, flat_map, list_any}
+use Rattle.std.proofs.Common.{◌≡◌, ℕ, zero, suc, ◌+◌, ◌-◌, ◌≤◌, Bool, true, false, ◌==◌, List, [], ◌∷◌, ◌++◌, length, map, take, drop, refl, ap, arith}
+use Rattle.std.specs.List.{AllByRecursion, flat_map, list_any}
 use Rattle.std.proofs.lemmas.Bool.{eqb-true, and_parts}
 use Rattle.exec_msg.specs.Numbers.{EntityNo, Moment}
 use Rattle.exec_msg.specs.KeepLast.{sent}
@@ -9,8 +9,10 @@ use Rattle.exec_msg.specs.Lists.{change_first}
 use Rattle.exec_msg.specs.Timer.{is_due}
 use Rattle.exec_laws.proofs.Channels.{weigh}
 use Rattle.exec_rules.proofs.Pairs.{all_flat, all_map}
+use Rattle.exec_rules.proofs.Sorting.{sum_sorted}
 use Rattle.exec_rules.specs.Item.{taker_of}
-use Rattle.exec_rules.specs.Ready.{due_ready, is_before_polls, item_ready, placed_from, poll_ready, queue_ready, queue_taken, queues_before_polls, queues_behind_polls, ready_list}
+use Rattle.exec_rules.specs.Ready.{all_ready, due_ready, item_ready, placed_from, poll_ready, queue_ready, queue_taken, rank_under, ready_list}
+use Rattle.exec_rules.specs.Sorting.{sorted_by}
 use Rattle.exec_rules.specs.World.{WorldState, Queue, TimerEntry, is_queue, lost_from, queue_after, goals_of}
 use Rattle.exec_rules.specs.declared.item.Item.{Item}
 use Rattle.exec_rules.specs.declared.ready.Cause.{Cause}
@@ -126,14 +128,6 @@ module _ (weight : EntityNo → Item → ℕ) where
         let rest = queues_hand queues in
         omega (arith, joined, first, rest)
 
-    halves : (test : Queue → Bool) (queues : List Queue) → firsts (filter test queues) + firsts (filter (λ queue. not (test queue)) queues) ≡ firsts queues
-    halves test [] = refl
-    halves test (queue ∷ queues) = by (test queue) refl (halves test queues)
-      where
-        by : (b : Bool) → test queue ≡ b → firsts (filter test queues) + firsts (filter (λ one. not (test one)) queues) ≡ firsts queues → firsts (filter test (queue ∷ queues)) + firsts (filter (λ one. not (test one)) (queue ∷ queues)) ≡ firsts (queue ∷ queues)
-        by true e rest = rw e (omega (arith, rest))
-        by false e rest = rw e (omega (arith, rest))
-
     due_hands : (entry : TimerEntry) → AllByRecursion (λ one. hand_by one.entity one.cause ≡ 0) (due_ready moment entry)
     due_hands entry = by (is_due entry.timer moment) refl
       where
@@ -145,19 +139,16 @@ module _ (weight : EntityNo → Item → ℕ) where
     pub list_hands : hands (ready_list moment world) ≡ firsts world.queues
     list_hands =
         let timers : List Ready = flat_map (due_ready moment) world.timers in
-        let before : List Ready = flat_map (queue_ready moment world) (queues_before_polls world) in
+        let took : List Ready = flat_map (queue_ready moment world) world.queues in
         let polls : List Ready = flat_map (poll_ready moment) world.servers in
-        let behind : List Ready = flat_map (queue_ready moment world) (queues_behind_polls world) in
-        let placed = hands_placed 1 (timers ++ before ++ polls ++ behind) in
-        let a = hands_append (timers ++ before ++ polls) behind in
-        let b = hands_append (timers ++ before) polls in
-        let c = hands_append timers before in
+        let placed = hands_placed 1 (sorted_by (rank_under world.order) (all_ready moment world)) in
+        let sorted = sum_sorted (λ one. hand_by one.entity one.cause) hands (λ one list. refl) (rank_under world.order) (all_ready moment world) in
+        let a = hands_append (timers ++ took) polls in
+        let b = hands_append timers took in
         let none_due = hands_none timers (all_flat (λ one. hand_by one.entity one.cause ≡ 0) (due_ready moment) due_hands world.timers) in
         let none_polled = hands_none polls (all_flat (λ one. hand_by one.entity one.cause ≡ 0) (poll_ready moment) (λ entry. all_map (λ one. hand_by one.entity one.cause ≡ 0) _ (λ goal. refl) _) world.servers) in
-        let first = queues_hand (queues_before_polls world) in
-        let second = queues_hand (queues_behind_polls world) in
-        let both = halves (λ queue. is_before_polls queue.kind) world.queues in
-        omega (arith, placed, a, b, c, none_due, none_polled, first, second, both)
+        let all = queues_hand world.queues in
+        omega (arith, placed, sorted, a, b, none_due, none_polled, all)
 
 -- two weights
 pub firsts_both : (one other : EntityNo → Item → ℕ) (queues : List Queue) → firsts (λ entity taken. one entity taken + other entity taken) queues ≡ firsts one queues + firsts other queues

@@ -1,38 +1,26 @@
 -- What a snapshot hands a subscription's callback: the first message of its queue.
-use Rattle.std.proofs.Common.{◌≡◌, ℕ, suc, ℤ, Bool, true, false, not, ◌&&◌, ◌==◌, if◌then◌else◌, List, [], ◌∷◌, ◌++◌, map, take, drop, Option, refl, sym, ap, ◌∙◌, true≢false}
-use Rattle.std.specs.List.{AllByRecursion, filter, find, flat_map}
+use Rattle.std.proofs.Common.{◌≡◌, ℤ, Bool, true, false, ◌&&◌, ◌==◌, if◌then◌else◌, List, [], ◌∷◌, ◌++◌, map, take, drop, Option, refl, sym, ap, ◌∙◌}
+use Rattle.std.specs.List.{AllByRecursion, find, flat_map}
 use Rattle.std.specs.Option.{option_map_or}
-use Rattle.std.proofs.lemmas.Bool.{eqb-true, and_parts, not-true}
-use Rattle.std.proofs.lemmas.Grind.{flat_map-append}
+use Rattle.std.proofs.lemmas.Bool.{eqb-true, and_parts}
 use Rattle.std.proofs.lemmas.List.{append-nil}
 use Rattle.std.proofs.lemmas.List.Elements.{recursion_from_All}
 use Rattle.exec_msg.specs.Numbers.{EntityNo, GoalId, Moment}
 use Rattle.exec_msg.specs.Kind.{ready_number}
-use Rattle.exec_msg.specs.Timer.{is_due}
 use Rattle.exec_msg.specs.declared.kind.Kind.{Kind}
 use Rattle.exec_msg.specs.declared.kind.Kind.TheVariants as kind
 use Rattle.exec_msg.specs.declared.line.Line.TheVariants as line
-use Rattle.exec_rules.proofs.OfKinds.{IsOfItsKind, same_kind}
-use Rattle.exec_rules.proofs.Pairs.{Pairs, all_both, all_filter, all_flat, all_map, all_passed}
-use Rattle.exec_rules.proofs.Wiring.{QueuesApart}
+use Rattle.exec_plan.specs.Graph.{GraphData}
+use Rattle.exec_laws.proofs.Gathered.{IsAlone, flat_none, list_gathered}
+use Rattle.exec_rules.proofs.OfKinds.{AreOfTheirKinds, IsOfItsKind, same_kind}
+use Rattle.exec_rules.proofs.Pairs.{Pairs, all_both}
+use Rattle.exec_rules.proofs.Wiring.{IsWired, QueuesApart}
 use Rattle.exec_laws.specs.Exchanges.{taken_at}
 use Rattle.exec_rules.specs.Item.{taker_of, first_of}
-use Rattle.exec_rules.specs.Ready.{due_ready, is_before_polls, item_ready, placed_from, poll_ready, queue_ready, queue_taken, queues_before_polls, queues_behind_polls, ready_list, run_line}
-use Rattle.exec_rules.specs.World.{WorldState, Queue, TimerEntry, goals_of, is_queue}
+use Rattle.exec_rules.specs.Ready.{item_ready, kind_of, queue_ready, queue_taken, ready_list, run_line}
+use Rattle.exec_rules.specs.World.{WorldState, Queue, goals_of, is_queue}
 use Rattle.exec_rules.specs.declared.item.Item.{Item}
 use Rattle.exec_rules.specs.declared.ready.Ready.{Ready}
-
-pub flat_none : {A B : Type 0} (f : A → List B) (all : List A) → AllByRecursion (λ one. f one ≡ []) all → flat_map f all ≡ []
-flat_none f [] p = refl
-flat_none f (one ∷ all) p = rw p.0 (flat_none f all p.1)
-
--- what gives nothing adds nothing
-pub flat_more : {A B : Type 0} (f : A → List B) (all more : List A) → AllByRecursion (λ one. f one ≡ []) more → flat_map f (all ++ more) ≡ flat_map f all
-flat_more {A} {B} f all more none = flat_map-append f all more ∙ ap (λ (rest : List B). flat_map f all ++ rest) (flat_none f more none) ∙ append-nil (flat_map f all)
-
-pub flat_twice : {A B C : Type 0} (g : B → List C) (f : A → List B) (all : List A) → flat_map g (flat_map f all) ≡ flat_map (λ one. flat_map g (f one)) all
-flat_twice g f [] = refl
-flat_twice {A} {B} {C} g f (one ∷ all) = flat_map-append g (f one) (flat_map f all) ∙ ap (λ (rest : List C). flat_map g (f one) ++ rest) (flat_twice g f all)
 
 module _ (subscription : EntityNo) where
   -- what a callback's line will say that it takes
@@ -95,8 +83,8 @@ module _ (subscription : EntityNo) where
     none_hands : (queue : Queue) → IsOfItsKind queue → is_queue subscription kind.Message queue ≡ false → by_queue queue ≡ []
     none_hands queue p apart = queue_hands queue p ∙ rw apart refl
 
-    early : (queue : Queue) → is_queue subscription kind.Message queue ≡ true → queue.kind ≡ kind.Message
-    early queue is = same_kind queue.kind kind.Message (eqb-true (ready_number queue.kind) (ready_number kind.Message) (and_parts (queue.handler.entity == subscription) (ready_number queue.kind == ready_number kind.Message) is).1)
+    its_kind : (queue : Queue) → is_queue subscription kind.Message queue ≡ true → queue.kind ≡ kind.Message
+    its_kind queue is = same_kind queue.kind kind.Message (eqb-true (ready_number queue.kind) (ready_number kind.Message) (and_parts (queue.handler.entity == subscription) (ready_number queue.kind == ready_number kind.Message) is).1)
 
     here : (queue : Queue) → is_queue subscription kind.Message queue ≡ true → queue.handler.entity ≡ subscription
     here queue is = eqb-true queue.handler.entity subscription (and_parts (queue.handler.entity == subscription) (ready_number queue.kind == ready_number kind.Message) is).0
@@ -106,65 +94,34 @@ module _ (subscription : EntityNo) where
         all_both (QueuesApart queue) IsOfItsKind (λ one. by_queue one ≡ []) (λ one differs its. none_hands one its (no one differs (is_queue subscription kind.Message one) refl)) queues apart kinds
       where
         no : (one : Queue) → QueuesApart queue one → (b : Bool) → is_queue subscription kind.Message one ≡ b → is_queue subscription kind.Message one ≡ false
-        no one differs true e = absurd (differs (early one e ∙ sym (early queue is)) (here one e ∙ sym (here queue is)))
+        no one differs true e = absurd (differs (its_kind one e ∙ sym (its_kind queue is)) (here one e ∙ sym (here queue is)))
         no one differs false e = e
 
-    queues_hand : (queues : List Queue) → Pairs QueuesApart queues → AllByRecursion IsOfItsKind queues → flat_map by_queue (filter (λ queue. is_before_polls queue.kind) queues) ≡ take 1 (held_in queues)
+    queues_hand : (queues : List Queue) → Pairs QueuesApart queues → AllByRecursion IsOfItsKind queues → flat_map by_queue queues ≡ take 1 (held_in queues)
     queues_hand [] apart kinds = refl
     queues_hand (queue ∷ queues) apart kinds = by (is_queue subscription kind.Message queue) refl (queues_hand queues apart.1 kinds.1)
       where
-        passed : (b : Bool) → is_before_polls queue.kind ≡ b → by_queue queue ≡ [] → flat_map by_queue (filter (λ one. is_before_polls one.kind) (queue ∷ queues)) ≡ flat_map by_queue (filter (λ one. is_before_polls one.kind) queues)
-        passed true e none = rw (e, none) refl
-        passed false e none = rw e refl
-
-        by : (b : Bool) → is_queue subscription kind.Message queue ≡ b → flat_map by_queue (filter (λ one. is_before_polls one.kind) queues) ≡ take 1 (held_in queues) →
-            flat_map by_queue (filter (λ one. is_before_polls one.kind) (queue ∷ queues)) ≡ take 1 (held_in (queue ∷ queues))
+        by : (b : Bool) → is_queue subscription kind.Message queue ≡ b → flat_map by_queue queues ≡ take 1 (held_in queues) → flat_map by_queue (queue ∷ queues) ≡ take 1 (held_in (queue ∷ queues))
         by true e rest =
-            let before : is_before_polls queue.kind ≡ true = ap (λ (of : Kind). is_before_polls of) (early queue e) in
             let first : by_queue queue ≡ take 1 (map first_of queue.items) = queue_hands queue kinds.0 ∙ rw e refl in
-            let none : flat_map by_queue (filter (λ one. is_before_polls one.kind) queues) ≡ [] = flat_none by_queue _ (all_filter (λ one. by_queue one ≡ []) (λ one. is_before_polls one.kind) queues (others queue e queues apart.0 kinds.1)) in
-            rw (before, e) (ap (λ (more : List ℤ). by_queue queue ++ more) none ∙ append-nil (by_queue queue) ∙ first)
-        by false e rest = passed (is_before_polls queue.kind) refl (none_hands queue kinds.0 e) ∙ rest ∙ rw e refl
+            let none : flat_map by_queue queues ≡ [] = flat_none by_queue queues (others queue e queues apart.0 kinds.1) in
+            rw e (ap (λ (more : List ℤ). by_queue queue ++ more) none ∙ append-nil (by_queue queue) ∙ first)
+        by false e rest = ap (λ (first : List ℤ). first ++ flat_map by_queue queues) (none_hands queue kinds.0 e) ∙ rest ∙ rw e refl
 
     -- ---- the ready list
 
-    hands_placed : (position : ℕ) (list : List Ready) → flat_map handed (placed_from position list) ≡ flat_map handed list
-    hands_placed position [] = refl
-    hands_placed position (one ∷ list) = ap (λ (more : List ℤ). handed one ++ more) (hands_placed (suc position) list)
-
-    due_hands : (entry : TimerEntry) → AllByRecursion (λ one. handed one ≡ []) (due_ready moment entry)
-    due_hands entry = by (is_due entry.timer moment) refl
-      where
-        by : (b : Bool) → is_due entry.timer moment ≡ b → AllByRecursion (λ one. handed one ≡ []) (due_ready moment entry)
-        by true e = rw e (refl, tt)
-        by false e = rw e tt
-
-    late_hands : (queue : Queue) → (not (is_before_polls queue.kind) ≡ true) × IsOfItsKind queue → by_queue queue ≡ []
-    late_hands queue p = none_hands queue p.1 (no (is_queue subscription kind.Message queue) refl)
-      where
-        no : (b : Bool) → is_queue subscription kind.Message queue ≡ b → is_queue subscription kind.Message queue ≡ false
-        no true e = absurd (true≢false (sym (ap (λ (of : Kind). is_before_polls of) (early queue e)) ∙ not-true (is_before_polls queue.kind) p.0))
-        no false e = e
+    -- the subscription's callback alone is handed its messages
+    alone : IsAlone handed subscription kind.Message
+    alone = record {
+      placed = λ position one. refl;
+      others = λ one e. taken_said (kind_of one.cause) one.entity _ _ _ ∙ rw e refl;
+      no_timer = λ e. absurd cc;
+      no_poll = λ e. absurd cc;
+    }
 
     -- all of it together hands on the first message
-    pub list_hands : Pairs QueuesApart world.queues → AllByRecursion IsOfItsKind world.queues → flat_map handed (ready_list moment world) ≡ take 1 (held_in world.queues)
-    list_hands apart kinds =
-        let timers : List Ready = flat_map (due_ready moment) world.timers in
-        let before : List Ready = flat_map (queue_ready moment world) (queues_before_polls world) in
-        let polls : List Ready = flat_map (poll_ready moment) world.servers in
-        let behind : List Ready = flat_map (queue_ready moment world) (queues_behind_polls world) in
-        let no_timers : flat_map handed timers ≡ [] = flat_none handed timers (all_flat (λ one. handed one ≡ []) (due_ready moment) due_hands world.timers) in
-        let no_polls : flat_map handed polls ≡ [] = flat_none handed polls (all_flat (λ one. handed one ≡ []) (poll_ready moment) (λ entry. all_map (λ one. handed one ≡ []) _ (λ goal. refl) _) world.servers) in
-        let first : flat_map handed before ≡ take 1 (held_in world.queues) = flat_twice handed (queue_ready moment world) (queues_before_polls world) ∙ queues_hand world.queues apart kinds in
-        let last : flat_map handed behind ≡ [] =
-        flat_twice handed (queue_ready moment world) (queues_behind_polls world)
-        ∙ flat_none by_queue (queues_behind_polls world)
-        (all_both (λ queue. not (is_before_polls queue.kind) ≡ true) IsOfItsKind (λ queue. by_queue queue ≡ []) (λ queue late its. late_hands queue (late, its)) (queues_behind_polls world)
-        (all_passed (λ queue. not (is_before_polls queue.kind)) world.queues) (all_filter IsOfItsKind (λ queue. not (is_before_polls queue.kind)) world.queues kinds)) in
-        hands_placed 1 (timers ++ before ++ polls ++ behind)
-        ∙ flat_map-append handed (timers ++ before ++ polls) behind ∙ ap (λ (more : List ℤ). flat_map handed (timers ++ before ++ polls) ++ more) last ∙ append-nil _
-        ∙ flat_map-append handed (timers ++ before) polls ∙ ap (λ (more : List ℤ). flat_map handed (timers ++ before) ++ more) no_polls ∙ append-nil _
-        ∙ flat_map-append handed timers before ∙ ap (λ (more : List ℤ). more ++ flat_map handed before) no_timers ∙ first
+    pub list_hands : (graph : GraphData) → IsWired graph world → AreOfTheirKinds world → flat_map handed (ready_list moment world) ≡ take 1 (held_in world.queues)
+    list_hands graph wires kinds = list_gathered handed subscription kind.Message alone graph moment world wires kinds ∙ queues_hand world.queues wires.queues kinds
 
   -- what the snapshot leaves of it
   pub held_taken : (queues : List Queue) → held_in (map queue_taken queues) ≡ drop 1 (held_in queues)

@@ -13,6 +13,7 @@ pub mod Ended
 pub mod Endings
 pub mod FewReady
 pub mod Flying
+pub mod Gathered
 pub mod Growing
 pub mod Handed
 pub mod Handling

@@ -212,7 +212,7 @@ module _ (moves : (before : State) (by : Event) (reached : State) → after befo
   -- a world of a run, between rounds
   record IsOfRun (world : WorldState) : Type 0 where
     kinds : AreOfTheirKinds world
-    shape : shape_of world ≡ shape_of (first_world plan.graph)
+    shape : shape_of world ≡ shape_of (first_world plan)
     view : PlanView world
 
   round_view : (number : ℕ) (moment : Moment) (world : WorldState) → IsOfRun world → IsOfRun (round plan number moment world)
@@ -220,9 +220,9 @@ module _ (moves : (before : State) (by : Event) (reached : State) → after befo
       let before : WorldState = at_snapshot plan number moment world in
       record {
         kinds = round_keeps kinds_kept plan number moment world w.kinds;
-        shape = round_keeps (shape_kept (shape_of (first_world plan.graph))) plan number moment world w.shape;
+        shape = round_keeps (shape_kept (shape_of (first_world plan))) plan number moment world w.shape;
         view = run_all_view (ready_list moment before) (take_inputs moment before)
-            (list_listed plan.graph moment before (wired plan.graph before (snapshot_keeps (shape_kept (shape_of (first_world plan.graph))) plan number moment world w.shape)) (snapshot_keeps kinds_kept plan number moment world w.kinds))
+            (list_listed plan.graph moment before (wired plan before (snapshot_keeps (shape_kept (shape_of (first_world plan))) plan number moment world w.shape)) (snapshot_keeps kinds_kept plan number moment world w.kinds))
             (snapshot_view number moment world w.view);
       }
 
@@ -230,14 +230,14 @@ module _ (moves : (before : State) (by : Event) (reached : State) → after befo
   rounds_view number [] world w = w
   rounds_view number (moment ∷ moments) world w = rounds_view (suc number) moments (round plan number moment world) (round_view number moment world w)
 
-  first_view : IsOfRun (first_world plan.graph)
+  first_view : IsOfRun (first_world plan)
   unfolding IsDistinct
   first_view = record {
     kinds = kinds_first plan.graph (filter (λ waitable. takes_from_queue waitable.kind) (wait_set plan.graph));
     shape = refl;
     view = (
       subst (λ (some : List GoalRecord). Fits server id [] some) (sym (first_goals plan.graph server (entities_where is_server plan.graph))) (record { told = (tt, tt); distinct = tt }),
-      (wired plan.graph (first_world plan.graph) refl).listed,
+      (wired plan (first_world plan) refl).listed,
     );
   }
 
@@ -262,5 +262,5 @@ module _ (moves : (before : State) (by : Event) (reached : State) → after befo
 
   pub statuses_lawful : AreLawful None (statuses_of server id (lines_of plan))
   statuses_lawful =
-      let last : WorldState = rounds plan 1 plan.moments (first_world plan.graph) in
-      (view_lines server id (entities_where is_server plan.graph) (closing_lines (length plan.moments) last) last (closing_quiet (length plan.moments) last) (rounds_view 1 plan.moments (first_world plan.graph) first_view).view).0.told.0
+      let last : WorldState = rounds plan 1 plan.moments (first_world plan) in
+      (view_lines server id (entities_where is_server plan.graph) (closing_lines (length plan.moments) last) last (closing_quiet (length plan.moments) last) (rounds_view 1 plan.moments (first_world plan) first_view).view).0.told.0

@@ -10,7 +10,7 @@ use Rattle.exec_goal.specs.Table.{Asked, GoalRecord, asked_for, later, told, unk
 use Rattle.exec_goal.specs.declared.info.GoalInfo.{GoalInfo}
 use Rattle.exec_goal.specs.declared.state.State.{State}
 use Rattle.exec_msg.specs.Numbers.{EntityNo, GoalId, Moment}
-use Rattle.exec_plan.specs.Graph.{GraphData, entities_where, is_action_client, is_client}
+use Rattle.exec_plan.specs.Graph.{entities_where, is_action_client, is_client}
 use Rattle.exec_plan.specs.Feeding.{fed_in}
 use Rattle.exec_plan.specs.Lawful.{IsLawfulPlan}
 use Rattle.exec_plan.specs.Plan.{PlanData, Fed, Feed}
@@ -43,7 +43,7 @@ use Rattle.exec_rules.specs.Close.{answer_ask, ask_where, accept_where, close_ca
 use Rattle.exec_rules.specs.Give.{call_by, cancel_all_by, cancel_goal_by, client_of, execute_goal, give, give_feedback, oldest_accepted, publish, send_goal_by}
 use Rattle.exec_rules.specs.Shape.{shape_of}
 use Rattle.exec_rules.specs.Run.{unclosed}
-use Rattle.exec_rules.specs.Ready.{answered_by_first, call_answered, input_of, queues_before_polls, ready_list, reply_taken, run_line, take_inputs, turn_at}
+use Rattle.exec_rules.specs.Ready.{answered_by_first, call_answered, input_of, ready_list, reply_taken, run_line, take_inputs, turn_at}
 use Rattle.exec_rules.specs.Run.{run, variables_for, with_polled, with_variables_for, work_for, outcome_in}
 use Rattle.exec_rules.specs.Transcript.{at_snapshot, expire, feed, feed_one, first_world, new_action_clients, new_client, round, rounds, run_all}
 use Rattle.exec_rules.specs.World.{ActionClientEntry, ClientEntry, GoalWork, HeldGoal, ServerEntry, WorldState, action_client_at, add_line, client_at, goals_of, is_client_at, is_for, is_server_at, push, push_any, subscribers_of, with_variables}
@@ -320,43 +320,43 @@ reply_answered most entity (item.Result id status value ∷ items) clients p = p
 
 inputs_taken : (most : ℕ) (moment : Moment) (world : WorldState) → HaveMade most world → HaveMade most (take_inputs moment world)
 inputs_taken most moment world p =
-    (fold_keeps (λ (clients : List ClientEntry). AllByRecursion (λ entry. entry.calls ≤ most) clients) reply_taken (λ clients queue q. reply_answered most queue.handler.entity queue.items clients q) (queues_before_polls world) world.clients p.0, p.1)
+    (fold_keeps (λ (clients : List ClientEntry). AllByRecursion (λ entry. entry.calls ≤ most) clients) reply_taken (λ clients queue q. reply_answered most queue.handler.entity queue.items clients q) world.queues world.clients p.0, p.1)
 
 -- the callbacks of a round make 65,536 times 4,096 more at most
-round_made : (plan : PlanData) (number : ℕ) (moment : Moment) (most : ℕ) (world : WorldState) → IsLawfulPlan plan → shape_of world ≡ shape_of (first_world plan.graph) → IsSmall world → HaveMade most world → HaveMade (most + 268435456) (round plan number moment world)
+round_made : (plan : PlanData) (number : ℕ) (moment : Moment) (most : ℕ) (world : WorldState) → IsLawfulPlan plan → shape_of world ≡ shape_of (first_world plan) → IsSmall world → HaveMade most world → HaveMade (most + 268435456) (round plan number moment world)
 round_made plan number moment most world lawful same worlds p =
     let before : WorldState = at_snapshot plan number moment world in
     let small : IsSmall before = snapshot_keeps small_kept plan number moment world (small_kept.basic.lines_kept _ world worlds) in
-    let shape : shape_of before ≡ shape_of (first_world plan.graph) = snapshot_keeps (shape_kept (shape_of (first_world plan.graph))) plan number moment world same in
-    let few : length (ready_list moment before) ≤ 65536 = few_ready plan.graph moment before lawful.graph shape small in
+    let shape : shape_of before ≡ shape_of (first_world plan) = snapshot_keeps (shape_kept (shape_of (first_world plan))) plan number moment world same in
+    let few : length (ready_list moment before) ≤ 65536 = few_ready plan moment before lawful.graph shape small in
     all_run most (most + 268435456) (ready_list moment before) (take_inputs moment before) (list_small moment before small) (small_kept.snapshot_kept moment before small) (omega (arith, few))
     (inputs_taken most moment before (fed most (fed_in number plan.feed) (expire moment (add_line (line.Round number moment) world)) p))
 
-rounds_made : (plan : PlanData) (number : ℕ) (moments : List Moment) (most more : ℕ) (world : WorldState) → IsLawfulPlan plan → shape_of world ≡ shape_of (first_world plan.graph) → IsSmall world → most + length moments * 268435456 ≤ more → HaveMade most world → HaveMade more (rounds plan number moments world)
+rounds_made : (plan : PlanData) (number : ℕ) (moments : List Moment) (most more : ℕ) (world : WorldState) → IsLawfulPlan plan → shape_of world ≡ shape_of (first_world plan) → IsSmall world → most + length moments * 268435456 ≤ more → HaveMade most world → HaveMade more (rounds plan number moments world)
 rounds_made plan number [] most more world lawful same worlds grows p = more_made most more world (omega (arith, grows)) p
 rounds_made plan number (moment ∷ moments) most more world lawful same worlds grows p =
     rounds_made plan (suc number) moments (most + 268435456) more (round plan number moment world) lawful
-    (round_keeps (shape_kept (shape_of (first_world plan.graph))) plan number moment world same)
+    (round_keeps (shape_kept (shape_of (first_world plan))) plan number moment world same)
     (round_keeps small_kept plan number moment world (small_kept.basic.lines_kept _ world worlds)) (omega (arith, grows))
     (round_made plan number moment most world lawful same worlds p)
 
 -- ---- a run
 
-first_made : (graph : GraphData) → HaveMade 0 (first_world graph)
-first_made graph = (all_map (λ entry. entry.calls ≤ 0) (new_client graph) (λ number. omega arith) (entities_where is_client graph), unsent 0 (entities_where is_action_client graph))
+first_made : (plan : PlanData) → HaveMade 0 (first_world plan)
+first_made plan = (all_map (λ entry. entry.calls ≤ 0) (new_client plan.graph) (λ number. omega arith) (entities_where is_client plan.graph), unsent 0 (entities_where is_action_client plan.graph))
   where
-    unsent : (place : ℕ) (numbers : List EntityNo) → AllByRecursion (λ entry. entry.goals ≤ 0) (new_action_clients graph place numbers)
+    unsent : (place : ℕ) (numbers : List EntityNo) → AllByRecursion (λ entry. entry.goals ≤ 0) (new_action_clients plan.graph place numbers)
     unsent place [] = tt
     unsent place (number ∷ numbers) = (omega arith, unsent (suc place) numbers)
 
-few_made : (plan : PlanData) (number : ℕ) (moments : List Moment) → IsLawfulPlan plan → length moments ≤ 65536 → HaveMade 17592186044416 (rounds plan number moments (first_world plan.graph))
+few_made : (plan : PlanData) (number : ℕ) (moments : List Moment) → IsLawfulPlan plan → length moments ≤ 65536 → HaveMade 17592186044416 (rounds plan number moments (first_world plan))
 few_made plan number moments lawful few =
-    rounds_made plan number moments 0 17592186044416 (first_world plan.graph) lawful refl (first_small plan.graph lawful.graph) (omega (arith, few)) (first_made plan.graph)
+    rounds_made plan number moments 0 17592186044416 (first_world plan) lawful refl (first_small plan lawful.graph) (omega (arith, few)) (first_made plan)
 
-pub few_calls : (plan : PlanData) (number : ℕ) (moments : List Moment) → IsLawfulPlan plan → length moments ≤ 65536 → All (λ entry. entry.calls < 2 ^ 60) (rounds plan number moments (first_world plan.graph)).clients
+pub few_calls : (plan : PlanData) (number : ℕ) (moments : List Moment) → IsLawfulPlan plan → length moments ≤ 65536 → All (λ entry. entry.calls < 2 ^ 60) (rounds plan number moments (first_world plan)).clients
 few_calls plan number moments lawful few =
     All-from_recursion (λ (entry : ClientEntry). entry.calls < 2 ^ 60) _ (all_weaker (λ (entry : ClientEntry). entry.calls ≤ 17592186044416) (λ entry. entry.calls < 2 ^ 60) (λ entry q. omega (arith, q)) _ (few_made plan number moments lawful few).0)
 
-pub few_goals_sent : (plan : PlanData) (number : ℕ) (moments : List Moment) → IsLawfulPlan plan → length moments ≤ 65536 → All (λ entry. entry.goals < 2 ^ 60) (rounds plan number moments (first_world plan.graph)).action_clients
+pub few_goals_sent : (plan : PlanData) (number : ℕ) (moments : List Moment) → IsLawfulPlan plan → length moments ≤ 65536 → All (λ entry. entry.goals < 2 ^ 60) (rounds plan number moments (first_world plan)).action_clients
 few_goals_sent plan number moments lawful few =
     All-from_recursion (λ (entry : ActionClientEntry). entry.goals < 2 ^ 60) _ (all_weaker (λ (entry : ActionClientEntry). entry.goals ≤ 17592186044416) (λ entry. entry.goals < 2 ^ 60) (λ entry q. omega (arith, q)) _ (few_made plan number moments lawful few).1)

@@ -366,8 +366,8 @@ module _ (client : EntityNo) (id : GoalId) where
   none_flying graph [] = refl
   none_flying graph (waitable ∷ waitables) = let rest = none_flying graph waitables in omega (arith, rest)
 
-  first_once : (graph : GraphData) → IsOnce 0 (first_world graph)
-  first_once graph = let none = none_flying graph (filter (λ waitable. takes_from_queue waitable.kind) (wait_set graph)) in omega (arith, none)
+  first_once : (plan : PlanData) → IsOnce 0 (first_world plan)
+  first_once plan = let none = none_flying plan.graph (filter (λ waitable. takes_from_queue waitable.kind) (wait_set plan.graph)) in omega (arith, none)
 
   pending_none : (other count : ℕ) → HasNone (is_asked client id) (pending_by other count)
   pending_none other zero = tt
@@ -383,11 +383,11 @@ module _ (client : EntityNo) (id : GoalId) where
 
   pub asked_once : (plan : PlanData) → length (filter (is_asked client id) (lines_of plan)) ≤ 1
   asked_once plan =
-      let last : WorldState = rounds plan 1 plan.moments (first_world plan.graph) in
+      let last : WorldState = rounds plan 1 plan.moments (first_world plan) in
       let closed : AreFew 0 last.queues last.action_clients (lines_of plan) =
       more_lines 0 last.queues last.action_clients last.lines (closing_lines (length plan.moments) last)
       (all_append (λ one. is_asked client id one ≡ false) (flat_map (λ entry. pending_by entry.entity (length entry.pending)) last.clients) (line.End (length plan.moments) ∷ [])
       (all_flat (λ one. is_asked client id one ≡ false) (λ entry. pending_by entry.entity (length entry.pending)) (λ entry. pending_none entry.entity (length entry.pending)) last.clients) (refl, tt))
-      (rounds_once plan 1 plan.moments (first_world plan.graph) (first_once plan.graph)) in
+      (rounds_once plan 1 plan.moments (first_world plan) (first_once plan)) in
       let few = one_at_most (find (is_action_client_at client) last.action_clients) in
       omega (arith, closed, few)

@@ -7,7 +7,7 @@ use Rattle.exec_goal.specs.State.{status_of}
 use Rattle.exec_goal.specs.Table.{GoalRecord, Asked, told, later, unknown, has_id, after_event, after_end, asked_by, asked_for, is_expired, new_goal}
 use Rattle.exec_msg.specs.Numbers.{EntityNo, GoalId, Moment}
 use Rattle.exec_plan.specs.Feeding.{fed_in}
-use Rattle.exec_plan.specs.Graph.{GraphData, entities_where, is_server, wait_set}
+use Rattle.exec_plan.specs.Graph.{entities_where, is_server, wait_set}
 use Rattle.exec_plan.specs.Plan.{PlanData}
 use Rattle.exec_msg.specs.Lists.{change_first}
 use Rattle.exec_msg.specs.Timer.{is_due}
@@ -20,7 +20,7 @@ use Rattle.exec_laws.proofs.Addresses.{Holds, action_client_knows, held_after, h
 use Rattle.exec_rules.proofs.Identifiers.{Makes, changing, tasking, accepting}
 use Rattle.exec_rules.proofs.Keeping.{Moves, anywhere, feed_keeps, fold_keeps, ids_answered, ids_changed, publish_kept, push_kept}
 use Rattle.exec_rules.proofs.Pairs.{all_append, all_filter, all_flat, all_flat_where, all_map}
-use Rattle.exec_rules.proofs.ReadyLists.{all_ready}
+use Rattle.exec_rules.proofs.ReadyLists.{all_listed}
 use Rattle.exec_rules.proofs.Running.{KeptByRounds, is_ask, run_told}
 use Rattle.exec_rules.proofs.Shapes.{shape_kept}
 use Rattle.exec_rules.specs.Close.{answer_ask, goal_at, tell, tell_end, with_ended}
@@ -37,10 +37,10 @@ use Rattle.exec_rules.specs.declared.ready.Cause.{Cause}
 use Rattle.exec_rules.specs.declared.ready.Cause.TheVariants as cause
 use Rattle.exec_rules.specs.declared.ready.Ready.{Ready}
 
-module _ (graph : GraphData) where
+module _ (plan : PlanData) where
   -- a server is the one that an action client asks
   abbrev pub IsItsServer : EntityNo → EntityNo → Type 0
-  IsItsServer server client = server_in (entity_at graph client).is ≡ server
+  IsItsServer server client = server_in (entity_at plan.graph client).is ≡ server
 
   -- an ask stands at its client's server
   abbrev pub IsAtItsServer : EntityNo → Item → Type 0
@@ -60,12 +60,12 @@ module _ (graph : GraphData) where
 
   -- of a world
   pub record AreOwned (world : WorldState) : Type 0 where
-    pub shape : shape_of world ≡ shape_of (first_world graph)
+    pub shape : shape_of world ≡ shape_of (first_world plan)
     pub asks : AllByRecursion (Holds IsAtItsServer) world.queues
     pub notes : AllByRecursion NotesItsClients world.servers
 
-  shapes : KeptByRounds (λ world. shape_of world ≡ shape_of (first_world graph))
-  shapes = shape_kept (shape_of (first_world graph))
+  shapes : KeptByRounds (λ world. shape_of world ≡ shape_of (first_world plan))
+  shapes = shape_kept (shape_of (first_world plan))
 
   -- ---- goals
 
@@ -192,7 +192,7 @@ module _ (graph : GraphData) where
       (λ goal value canceling by result reached before same leads q. own_end one.entity (goal_at one.entity goal (with_ended one.entity goal by result one.moment before)) _ (own_ended one.entity goal by result one.moment before q))
       (λ goal from before same q. own_answered one.entity goal from (asked_for goal (goals_of one.entity before)) before (subst (λ (why : Cause). IsTakenThere one.entity why) same its) q)
       (λ from goal accepted before same found q.
-      own_sent from.server (item.Ask goal from.entity) _ (eqb-true _ from.server (action_client_knows graph before q.shape one.entity from found)) (record { shape = q.shape; asks = q.asks; notes = q.notes }))
+      own_sent from.server (item.Ask goal from.entity) _ (eqb-true _ from.server (action_client_knows plan before q.shape one.entity from found)) (record { shape = q.shape; asks = q.asks; notes = q.notes }))
       (λ entity new before a other q. own_sent entity new before (no_ask_back entity new other) q)
       world (record { shape = p.shape; asks = p.asks; notes = p.notes })
 
@@ -207,9 +207,9 @@ module _ (graph : GraphData) where
 
   list_there : (moment : Moment) (world : WorldState) → AllByRecursion (Holds IsAtItsServer) world.queues → AllByRecursion TakesThere (ready_list moment world)
   list_there moment world p =
-      all_ready TakesThere (λ position one q. q) moment world
+      all_listed TakesThere (λ position one q. q) moment world
       (all_flat TakesThere (due_ready moment) due world.timers)
-      (λ test. all_flat_where (Holds IsAtItsServer) TakesThere (queue_ready moment world) taken (filter test world.queues) (all_filter (Holds IsAtItsServer) test world.queues p))
+      (all_flat_where (Holds IsAtItsServer) TakesThere (queue_ready moment world) taken world.queues p)
       (all_flat TakesThere (poll_ready moment) (λ entry. all_map TakesThere _ (λ goal. tt) _) world.servers)
     where
       due : (entry : TimerEntry) → AllByRecursion TakesThere (due_ready moment entry)
@@ -226,27 +226,27 @@ module _ (graph : GraphData) where
           by [] r = tt
           by (first ∷ items) r = (r.0, tt)
 
-  snapshot_owned : (plan : PlanData) (number : ℕ) (moment : Moment) (world : WorldState) → AreOwned world → AreOwned (at_snapshot plan number moment world)
-  snapshot_owned plan number moment world p =
+  snapshot_owned : (number : ℕ) (moment : Moment) (world : WorldState) → AreOwned world → AreOwned (at_snapshot plan number moment world)
+  snapshot_owned number moment world p =
       feed_keeps moves (publish_kept {P = AreOwned} (λ entity value before q. own_sent entity (item.Message value) before tt q)) (fed_in number plan.feed) _
       (record { shape = shapes.expiry_kept moment (add_line (line.Round number moment) world) p.shape; asks = p.asks; notes = expired_notes moment world.servers p.notes })
 
-  rounds_owned : (plan : PlanData) (number : ℕ) (moments : List Moment) (world : WorldState) → AreOwned world → AreOwned (rounds plan number moments world)
-  rounds_owned plan number [] world p = p
-  rounds_owned plan number (moment ∷ moments) world p =
+  rounds_owned : (number : ℕ) (moments : List Moment) (world : WorldState) → AreOwned world → AreOwned (rounds plan number moments world)
+  rounds_owned number [] world p = p
+  rounds_owned number (moment ∷ moments) world p =
       let before : WorldState = at_snapshot plan number moment world in
-      let q : AreOwned before = snapshot_owned plan number moment world p in
-      rounds_owned plan (suc number) moments (round plan number moment world)
+      let q : AreOwned before = snapshot_owned number moment world p in
+      rounds_owned (suc number) moments (round plan number moment world)
       (all_run (ready_list moment before) (take_inputs moment before) (list_there moment before q.asks)
       (record { shape = shapes.snapshot_kept moment before q.shape; asks = held_taken IsAtItsServer before.queues q.asks; notes = q.notes }))
 
-  first_notes : (numbers : List EntityNo) → AllByRecursion NotesItsClients (map (new_server graph) numbers)
+  first_notes : (numbers : List EntityNo) → AllByRecursion NotesItsClients (map (new_server plan.graph) numbers)
   first_notes [] = tt
   first_notes (number ∷ numbers) = (tt, first_notes numbers)
 
-  first_owned : AreOwned (first_world graph)
-  first_owned = record { shape = refl; asks = held_first IsAtItsServer graph (filter (λ waitable. takes_from_queue waitable.kind) (wait_set graph)); notes = first_notes (entities_where is_server graph) }
+  first_owned : AreOwned (first_world plan)
+  first_owned = record { shape = refl; asks = held_first IsAtItsServer plan.graph (filter (λ waitable. takes_from_queue waitable.kind) (wait_set plan.graph)); notes = first_notes (entities_where is_server plan.graph) }
 
 -- at a plan's end
-pub all_owned : (plan : PlanData) → AreOwned plan.graph (last_world plan)
-all_owned plan = let p = rounds_owned plan.graph plan 1 plan.moments (first_world plan.graph) (first_owned plan.graph) in record { shape = p.shape; asks = p.asks; notes = p.notes }
+pub all_owned : (plan : PlanData) → AreOwned plan (last_world plan)
+all_owned plan = let p = rounds_owned plan 1 plan.moments (first_world plan) (first_owned plan) in record { shape = p.shape; asks = p.asks; notes = p.notes }

@@ -12,7 +12,7 @@ use Rattle.exec_msg.specs.declared.line.Line.TheVariants as line
 use Rattle.exec_laws.proofs.Called.{among, among_append, calls_in, pending_in, client_changed, client_apart, weight}
 use Rattle.exec_laws.proofs.Channels.{weigh}
 use Rattle.exec_laws.proofs.Flying.{flying, flying_after}
-use Rattle.exec_laws.proofs.Handed.{flat_more}
+use Rattle.exec_laws.proofs.Gathered.{flat_more}
 use Rattle.exec_rules.proofs.Keeping.{is_plain, is_request}
 use Rattle.exec_rules.proofs.OfKinds.{IsOfItsKind, kinds_kept}
 use Rattle.exec_rules.proofs.Pairs.{all_weaker}

@@ -1,5 +1,5 @@
 -- The polls of a ready list: each of a goal that may be polled so, and no two of one goal.
-use Rattle.std.proofs.Common.{◌≡◌, ℕ, suc, ℤ, Bool, true, false, ◌==◌, List, [], ◌∷◌, ◌++◌, Some, refl, sym, ap, subst, ◌∙◌}
+use Rattle.std.proofs.Common.{◌≡◌, ℕ, suc, ℤ, Bool, true, false, ◌==◌, List, [], ◌∷◌, ◌++◌, Some, refl, sym, ap, subst, ◌∙◌, true≢false}
 use Rattle.std.specs.List.{AllByRecursion, IsDistinct, filter, flat_map}
 use Rattle.std.proofs.lemmas.Bool.{eqb-true, eq-eqb, and_parts}
 use Rattle.exec_goal.specs.Calls.{state_in}
@@ -15,10 +15,12 @@ use Rattle.exec_laws.proofs.AtWork.{AtWork}
 use Rattle.exec_rules.proofs.Identifiers.{Distinct, HasDistinct}
 use Rattle.exec_rules.proofs.Keeping.{ids}
 use Rattle.exec_rules.proofs.Pairs.{Pairs, all_append, all_both, all_filter, all_flat, all_flat_where, all_mapped, all_passed, all_weaker, pairs_all, pairs_append, pairs_filter, pairs_map, pairs_unmapped}
-use Rattle.exec_rules.proofs.ReadyLists.{IsOf, poll_of, all_placed, all_ready}
+use Rattle.exec_rules.proofs.ReadyLists.{IsOf, poll_of, all_placed, all_listed}
+use Rattle.exec_rules.proofs.Sorting.{pairs_sorted}
 use Rattle.exec_rules.proofs.Wiring.{NumbersApart, IsWired, numbers_apart}
 use Rattle.exec_laws.specs.Goals.{may_be_polled}
-use Rattle.exec_rules.specs.Ready.{due_ready, is_goal_awake, item_ready, placed_from, poll_ready, queue_ready, queues_before_polls, queues_behind_polls, ready_list}
+use Rattle.exec_rules.specs.Ready.{all_ready, due_ready, is_goal_awake, item_ready, placed_from, poll_ready, queue_ready, rank_under, ready_list}
+use Rattle.exec_rules.specs.Sorting.{sorted_by}
 use Rattle.exec_rules.specs.World.{WorldState, Queue, TimerEntry, ServerEntry, goals_of, goals_in}
 use Rattle.exec_rules.specs.declared.item.Item.{Item}
 use Rattle.exec_rules.specs.declared.ready.Cause.TheVariants as cause
@@ -56,10 +58,13 @@ apart_before some more p = all_weaker NoPoll (λ one. AllByRecursion (PollApart 
     each one none [] = tt
     each one none (other ∷ all) = ((λ id value canceling goal sent asked same also at. absurd (none id value canceling same)), each one none all)
 
-apart_behind : (some more : List Ready) → AllByRecursion NoPoll more → AllByRecursion (λ one. AllByRecursion (PollApart one) more) some
-apart_behind [] more p = tt
-apart_behind (one ∷ some) more p =
-    (all_weaker NoPoll (PollApart one) (λ other none id value canceling goal sent asked same also at. absurd (none goal sent asked also)) more p, apart_behind some more p)
+-- one is as far apart from the other as the other from it
+turned : (one other : Ready) → PollApart one other → PollApart other one
+turned one other apart id value canceling goal sent asked same also at = by (id == goal) refl
+  where
+    by : (b : Bool) → id == goal ≡ b → id == goal ≡ false
+    by true e = absurd (true≢false (sym (eq-eqb goal id (sym (eqb-true id goal e))) ∙ apart goal sent asked id value canceling also same (sym at)))
+    by false e = e
 
 apart_all : (some : List Ready) → AllByRecursion NoPoll some → Pairs PollApart some
 apart_all some p = pairs_all NoPoll PollApart (λ one other none also id value canceling goal sent asked same. absurd (none id value canceling same)) some p
@@ -195,21 +200,18 @@ module _ (graph : GraphData) (moment : Moment) (world : WorldState) (wires : IsW
   pub list_polls_apart : Pairs PollApart (ready_list moment world)
   list_polls_apart =
       let timers : List Ready = flat_map (due_ready moment) world.timers in
-      let before : List Ready = flat_map (queue_ready moment world) (queues_before_polls world) in
+      let took : List Ready = flat_map (queue_ready moment world) world.queues in
       let polls : List Ready = flat_map (poll_ready moment) world.servers in
-      let behind : List Ready = flat_map (queue_ready moment world) (queues_behind_polls world) in
       let no_timers : AllByRecursion NoPoll timers = all_flat NoPoll (due_ready moment) (none_due moment) world.timers in
-      let none_before : AllByRecursion NoPoll before = all_flat NoPoll (queue_ready moment world) (none_taken moment world) (queues_before_polls world) in
-      let none_behind : AllByRecursion NoPoll behind = all_flat NoPoll (queue_ready moment world) (none_taken moment world) (queues_behind_polls world) in
-      let none_first : AllByRecursion NoPoll (timers ++ before) = all_append NoPoll timers before no_timers none_before in
-      pairs_placed 1 (timers ++ before ++ polls ++ behind)
-      (pairs_append PollApart (timers ++ before ++ polls) behind
-      (pairs_append PollApart (timers ++ before) polls (apart_all (timers ++ before) none_first) (polls_apart world.servers all_own servers_apart) (apart_before (timers ++ before) polls none_first))
-      (apart_all behind none_behind) (apart_behind (timers ++ before ++ polls) behind none_behind))
+      let none_took : AllByRecursion NoPoll took = all_flat NoPoll (queue_ready moment world) (none_taken moment world) world.queues in
+      let none_first : AllByRecursion NoPoll (timers ++ took) = all_append NoPoll timers took no_timers none_took in
+      pairs_placed 1 (sorted_by (rank_under world.order) (all_ready moment world))
+      (pairs_sorted PollApart (rank_under world.order) (all_ready moment world) turned
+      (pairs_append PollApart (timers ++ took) polls (apart_all (timers ++ took) none_first) (polls_apart world.servers all_own servers_apart) (apart_before (timers ++ took) polls none_first)))
 
   pub list_at_work : AllByRecursion PollsAtWork (ready_list moment world)
   list_at_work =
-      all_ready PollsAtWork (λ place one q. q) moment world
+      all_listed PollsAtWork (λ place one q. q) moment world
       (idle_at_work (flat_map (due_ready moment) world.timers) (all_flat NoPoll (due_ready moment) (none_due moment) world.timers))
-      (λ test. idle_at_work (flat_map (queue_ready moment world) (filter test world.queues)) (all_flat NoPoll (queue_ready moment world) (none_taken moment world) (filter test world.queues)))
+      (idle_at_work (flat_map (queue_ready moment world) world.queues) (all_flat NoPoll (queue_ready moment world) (none_taken moment world) world.queues))
       (all_flat_where IsOwn PollsAtWork (poll_ready moment) entry_at_work world.servers all_own)

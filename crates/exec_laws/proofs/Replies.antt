@@ -20,16 +20,19 @@ use Rattle.exec_msg.specs.declared.line.Line.TheVariants as line
 use Rattle.exec_laws.proofs.Called.{among, calls_in, pending_in, numbers_first, number_by, number_in, IsReplied, all_replied, list_numbers, of_request, of_reply, weight, numbers_few}
 use Rattle.exec_laws.proofs.Channels.{weigh}
 use Rattle.exec_laws.proofs.Flying.{flying, flying_taken, firsts, firsts_both, hand_by, hands, list_hands}
-use Rattle.exec_laws.proofs.Handed.{flat_more}
+use Rattle.exec_laws.proofs.Gathered.{flat_more}
 use Rattle.exec_rules.proofs.Keeping.{Moves, Tells, publish_kept, feed_keeps, state_said, anywhere}
 use Rattle.exec_rules.proofs.OfKinds.{kinds_kept, kinds_first}
 use Rattle.exec_rules.proofs.Pairs.{all_append, all_flat, all_map}
 use Rattle.exec_laws.proofs.Pends.{IsMute, KeepsIn, all_plain, more_lines, sent, sent_freely, called}
-use Rattle.exec_rules.proofs.Running.{Answers, ends_told, asks_told, found_test, run_keeps}
+use Rattle.exec_rules.proofs.Running.{Answers, ends_told, asks_told, found_test, round_keeps, run_keeps, snapshot_keeps}
+use Rattle.exec_rules.proofs.Shapes.{shape_kept}
+use Rattle.exec_rules.proofs.Wiring.{IsWired, wired}
 use Rattle.exec_rules.specs.Close.{accepted_lines, moved_lines, with_ended, goal_at}
 use Rattle.exec_laws.specs.Exchanges.{AreAnswered, call_at, reply_at, numbers_to}
 use Rattle.exec_rules.specs.Item.{as_value}
-use Rattle.exec_rules.specs.Ready.{is_before_polls, queues_before_polls, ready_list, run_line, line_of, input_of, take_inputs}
+use Rattle.exec_rules.specs.Ready.{ready_list, run_line, line_of, input_of, take_inputs}
+use Rattle.exec_rules.specs.Shape.{shape_of}
 use Rattle.exec_rules.specs.Run.{run}
 use Rattle.exec_rules.specs.Transcript.{takes_from_queue, first_world, new_client, new_queue, expire_lines, expire, at_snapshot, run_all, round, rounds, pending_by, closing_lines, last_world, lines_of}
 use Rattle.exec_rules.specs.World.{WorldState, ClientEntry, add_line, client_at, is_client_at, goals_of}
@@ -161,13 +164,13 @@ module _ (client : EntityNo) where
       (all_flat (IsMute client) (expire_lines moment) (λ entry. all_map (IsMute client) _ (λ goal. (refl, refl)) (expired moment entry.timeout entry.goals)) started.servers)
       (more_lines client [] (λ n. 0) world.queues world.clients world.lines (line.Round number moment ∷ []) ((refl, refl), tt) k))
 
-  taken_keeps : (moment : Moment) (world : WorldState) → KeepsIn client [] (λ n. 0) world → KeepsIn client (flat_map (number_in client) (ready_list moment world)) (λ n. hands (of_request client n) (ready_list moment world)) (take_inputs moment world)
-  taken_keeps moment world k =
-      let numbers : List ℕ = numbers_first client (queues_before_polls world) in
-      let few : (n : ℕ) → among n (numbers_first client (queues_before_polls world)) ≤ firsts (of_reply client n) world.queues = λ n. numbers_few client n (λ queue. is_before_polls queue.kind) world.queues in
-      let replied : IsReplied client (numbers_first client (queues_before_polls world)) world.clients (take_inputs moment world).clients =
-      all_replied client (queues_before_polls world) world.clients (λ n. let a = few n in let b = flying_taken (weight client n) world.queues in let c = k.flies n in let d = firsts_both (of_request client n) (of_reply client n) world.queues in omega (arith, a, b, c, d)) in
-      subst (λ (some : List ℕ). KeepsIn client some (λ n. hands (of_request client n) (ready_list moment world)) (take_inputs moment world)) (sym (list_numbers client moment world k.kinds))
+  taken_keeps : (graph : GraphData) (moment : Moment) (world : WorldState) → IsWired graph world → KeepsIn client [] (λ n. 0) world → KeepsIn client (flat_map (number_in client) (ready_list moment world)) (λ n. hands (of_request client n) (ready_list moment world)) (take_inputs moment world)
+  taken_keeps graph moment world wires k =
+      let numbers : List ℕ = numbers_first client world.queues in
+      let few : (n : ℕ) → among n (numbers_first client world.queues) ≤ firsts (of_reply client n) world.queues = λ n. numbers_few client n world.queues in
+      let replied : IsReplied client (numbers_first client world.queues) world.clients (take_inputs moment world).clients =
+      all_replied client world.queues world.clients (λ n. let a = few n in let b = flying_taken (weight client n) world.queues in let c = k.flies n in let d = firsts_both (of_request client n) (of_reply client n) world.queues in omega (arith, a, b, c, d)) in
+      subst (λ (some : List ℕ). KeepsIn client some (λ n. hands (of_request client n) (ready_list moment world)) (take_inputs moment world)) (sym (list_numbers client moment world graph wires k.kinds))
       (record {
         kinds = kinds_kept.snapshot_kept moment world k.kinds;
         answered = k.answered ++ numbers;
@@ -188,46 +191,48 @@ module _ (client : EntityNo) where
             omega (arith, a, b, c, d, e, f);
       })
 
-  rounds_keep_calls : (plan : PlanData) (number : ℕ) (moments : List Moment) (world : WorldState) → KeepsIn client [] (λ n. 0) world → KeepsIn client [] (λ n. 0) (rounds plan number moments world)
-  rounds_keep_calls plan number [] world k = k
-  rounds_keep_calls plan number (moment ∷ moments) world k =
+  rounds_keep_calls : (plan : PlanData) (number : ℕ) (moments : List Moment) (world : WorldState) → shape_of world ≡ shape_of (first_world plan) → KeepsIn client [] (λ n. 0) world → KeepsIn client [] (λ n. 0) (rounds plan number moments world)
+  rounds_keep_calls plan number [] world same k = k
+  rounds_keep_calls plan number (moment ∷ moments) world same k =
       let before : WorldState = at_snapshot plan number moment world in
-      rounds_keep_calls plan (suc number) moments (round plan number moment world) (all_run (ready_list moment before) (take_inputs moment before) (taken_keeps moment before (snapshot_keeps_calls plan number moment world k)))
+      let wires : IsWired plan.graph before = wired plan before (snapshot_keeps (shape_kept (shape_of (first_world plan))) plan number moment world same) in
+      rounds_keep_calls plan (suc number) moments (round plan number moment world) (round_keeps (shape_kept (shape_of (first_world plan))) plan number moment world same)
+      (all_run (ready_list moment before) (take_inputs moment before) (taken_keeps plan.graph moment before wires (snapshot_keeps_calls plan number moment world k)))
 
   -- ---- the first world, and the last
 
-  module _ (graph : GraphData) where
-    no_calls : (numbers : List EntityNo) → calls_in client (map (new_client graph) numbers) ≡ 0
+  module _ (plan : PlanData) where
+    no_calls : (numbers : List EntityNo) → calls_in client (map (new_client plan.graph) numbers) ≡ 0
     no_calls [] = refl
     no_calls (number ∷ numbers) = by (number == client) refl (no_calls numbers)
       where
-        by : (b : Bool) → number == client ≡ b → calls_in client (map (new_client graph) numbers) ≡ 0 → calls_in client (map (new_client graph) (number ∷ numbers)) ≡ 0
+        by : (b : Bool) → number == client ≡ b → calls_in client (map (new_client plan.graph) numbers) ≡ 0 → calls_in client (map (new_client plan.graph) (number ∷ numbers)) ≡ 0
         by true e rest = rw e refl
         by false e rest = rw e rest
 
-    none_pending : (numbers : List EntityNo) → pending_in client (map (new_client graph) numbers) ≡ []
+    none_pending : (numbers : List EntityNo) → pending_in client (map (new_client plan.graph) numbers) ≡ []
     none_pending [] = refl
     none_pending (number ∷ numbers) = by (number == client) refl (none_pending numbers)
       where
-        by : (b : Bool) → number == client ≡ b → pending_in client (map (new_client graph) numbers) ≡ [] → pending_in client (map (new_client graph) (number ∷ numbers)) ≡ []
+        by : (b : Bool) → number == client ≡ b → pending_in client (map (new_client plan.graph) numbers) ≡ [] → pending_in client (map (new_client plan.graph) (number ∷ numbers)) ≡ []
         by true e rest = rw e refl
         by false e rest = rw e rest
 
-    none_flying : (n : ℕ) (waitables : List Waitable) → flying (weight client n) (map (new_queue graph) waitables) ≡ 0
+    none_flying : (n : ℕ) (waitables : List Waitable) → flying (weight client n) (map (new_queue plan.graph) waitables) ≡ 0
     none_flying n [] = refl
     none_flying n (waitable ∷ waitables) = let rest = none_flying n waitables in omega (arith, rest)
 
-    first_keeps : KeepsIn client [] (λ n. 0) (first_world graph)
+    first_keeps : KeepsIn client [] (λ n. 0) (first_world plan)
     first_keeps =
-        let calls = no_calls (entities_where is_client graph) in
-        let pends = none_pending (entities_where is_client graph) in
+        let calls = no_calls (entities_where is_client plan.graph) in
+        let pends = none_pending (entities_where is_client plan.graph) in
         record {
-          kinds = kinds_first graph _;
+          kinds = kinds_first plan.graph _;
           answered = [];
           made = ap (λ (m : ℕ). numbers_to m) (sym calls);
           replies = refl;
-          each = subst (λ (m : ℕ). IsPermutation (numbers_to m) (pending_in client (first_world graph).clients)) (sym calls) (subst (λ (some : List ℕ). IsPermutation [] some) (sym pends) (IsPermutation-refl []));
-          flies = λ n. let none = none_flying n (filter (λ waitable. takes_from_queue waitable.kind) (wait_set graph)) in omega (arith, none);
+          each = subst (λ (m : ℕ). IsPermutation (numbers_to m) (pending_in client (first_world plan).clients)) (sym calls) (subst (λ (some : List ℕ). IsPermutation [] some) (sym pends) (IsPermutation-refl []));
+          flies = λ n. let none = none_flying n (filter (λ waitable. takes_from_queue waitable.kind) (wait_set plan.graph)) in omega (arith, none);
         }
 
   pending_mute : (other count : ℕ) → AllByRecursion (IsMute client) (pending_by other count)
@@ -236,11 +241,11 @@ module _ (client : EntityNo) where
 
   last_keeps : (plan : PlanData) → KeepsIn client [] (λ n. 0) (last_world plan)
   last_keeps plan =
-      let last : WorldState = rounds plan 1 plan.moments (first_world plan.graph) in
+      let last : WorldState = rounds plan 1 plan.moments (first_world plan) in
       more_lines client [] (λ n. 0) last.queues last.clients last.lines (closing_lines (length plan.moments) last)
       (all_append (IsMute client) (flat_map (λ entry. pending_by entry.entity (length entry.pending)) last.clients) (line.End (length plan.moments) ∷ [])
       (all_flat (IsMute client) (λ entry. pending_by entry.entity (length entry.pending)) (λ entry. pending_mute entry.entity (length entry.pending)) last.clients) ((refl, refl), tt))
-      (rounds_keep_calls plan 1 plan.moments (first_world plan.graph) (first_keeps plan.graph))
+      (rounds_keep_calls plan 1 plan.moments (first_world plan) refl (first_keeps plan))
 
 pub all_answered : (plan : PlanData) (number : EntityNo) (client : ClientEntry) → client_at number (last_world plan) ≡ Some client → AreAnswered client (lines_of plan)
 all_answered plan number client found =

@@ -257,13 +257,13 @@ module _ (server : EntityNo) (id : GoalId) where
   -- each ask is answered once, or waits
   pub asks_answered : (plan : PlanData) → length (filter (is_ask_taken server id) (lines_of plan)) ≡ length (filter (is_result_told server id) (lines_of plan)) + length (waiting_in id (goals_of server (last_world plan)))
   asks_answered plan =
-      let first : WorldState = first_world plan.graph in
+      let first : WorldState = first_world plan in
       let last : WorldState = rounds plan 1 plan.moments first in
       let none : length (waiting_in id (goals_of server first)) ≡ 0 = ap (λ (goals : List GoalRecord). length (waiting_in id goals)) (first_goals plan.graph server (entities_where is_server plan.graph)) in
       let begun : Balanced server id 0 [] (goals_of server first) = omega (arith, none) in
       let closed = lines_owe server id 0 (closing_lines (length plan.moments) last) last
       (all_append (IsOther server id) (flat_map (λ entry. pending_by entry.entity (length entry.pending)) last.clients) (line.End (length plan.moments) ∷ [])
       (all_flat (IsOther server id) (λ entry. pending_by entry.entity (length entry.pending)) (λ entry. pending_other entry.entity (length entry.pending)) last.clients) ((refl, refl), tt))
-      (rounds_owe plan 1 plan.moments first (first_distinct plan.graph, begun)) in
+      (rounds_owe plan 1 plan.moments first (first_distinct plan, begun)) in
       let balance = closed.1 in
       omega (arith, balance)

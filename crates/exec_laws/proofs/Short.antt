@@ -12,6 +12,7 @@ use Rattle.exec_script.specs.Instruction.{Script}
 use Rattle.exec_plan.specs.Entity.{Resolved, scripts_of, result_scripts}
 use Rattle.exec_plan.specs.Graph.{EntityData, GraphData, Waitable, callback_script, declared_at, entities_where, is_server, is_timer, wait_set}
 use Rattle.exec_plan.specs.Lawful.{IsLawful, IsLawfulDeclared, IsLawfulScript}
+use Rattle.exec_plan.specs.Plan.{PlanData}
 use Rattle.exec_plan.specs.declared.entity.Declared.{Declared}
 use Rattle.exec_plan.specs.declared.entity.Declared.TheVariants as declared
 use Rattle.exec_plan.specs.declared.entity.EntityOf.TheVariants.{Timer, Subscription, Service, Client, Server, ActionClient}
@@ -243,11 +244,11 @@ lawful_at graph [] number p = tt
 lawful_at graph (entity ∷ entities) zero p = p.0
 lawful_at graph (entity ∷ entities) (suc number) p = lawful_at graph entities number p.1
 
-pub first_small : (graph : GraphData) → IsLawful graph → IsSmall (first_world graph)
-first_small graph lawful =
-    let short : (of : Kind) (number : EntityNo) → IsShort (handler_for graph of number (entity_at graph number)).script = λ of number. declared_short graph of (declared_at graph number) (lawful_at graph graph.entities number (recursion_from_All (λ entity. IsLawfulDeclared graph entity.is) graph.entities lawful.entities)) in
+pub first_small : (plan : PlanData) → IsLawful plan.graph → IsSmall (first_world plan)
+first_small plan lawful =
+    let short : (of : Kind) (number : EntityNo) → IsShort (handler_for plan.graph of number (entity_at plan.graph number)).script = λ of number. declared_short plan.graph of (declared_at plan.graph number) (lawful_at plan.graph plan.graph.entities number (recursion_from_All (λ entity. IsLawfulDeclared plan.graph entity.is) plan.graph.entities lawful.entities)) in
     record {
-      timers = all_map (λ entry. IsShort entry.handler.script) (new_timer graph) (λ number. short kind.Timer number) (entities_where is_timer graph);
-      queues = all_map (λ queue. IsShort queue.handler.script) (new_queue graph) (λ waitable. short waitable.kind waitable.entity) (filter (λ (waitable : Waitable). takes_from_queue waitable.kind) (wait_set graph));
-      servers = all_map IsSmallServer (new_server graph) (λ number. record { script = short kind.Poll number; goals = omega arith; works = tt }) (entities_where is_server graph);
+      timers = all_map (λ entry. IsShort entry.handler.script) (new_timer plan.graph) (λ number. short kind.Timer number) (entities_where is_timer plan.graph);
+      queues = all_map (λ queue. IsShort queue.handler.script) (new_queue plan.graph) (λ waitable. short waitable.kind waitable.entity) (filter (λ (waitable : Waitable). takes_from_queue waitable.kind) (wait_set plan.graph));
+      servers = all_map IsSmallServer (new_server plan.graph) (λ number. record { script = short kind.Poll number; goals = omega arith; works = tt }) (entities_where is_server plan.graph);
     }

@@ -1,10 +1,11 @@
--- Which queues the first world of a graph has: one for each kind of an entity's callbacks that takes from one.
+-- Which queues the first world of a plan has: one for each kind of an entity's callbacks that takes from one.
 use Rattle.std.proofs.Common.{◌≡◌, ℕ, zero, suc, ◌+◌, ◌≤◌, Bool, true, false, ◌&&◌, ◌||◌, ◌==◌, List, [], ◌∷◌, map, slice_index_or, refl, sym, ap, subst, ◌∙◌, true≢false, arith}
 use Rattle.std.specs.List.{AllByRecursion, filter, flat_map, list_any}
 use Rattle.std.proofs.lemmas.Bool.{eqb-true, eq-eqb}
 use Rattle.std.proofs.lemmas.List.Folds.{list_any-append}
 use Rattle.exec_msg.specs.Numbers.{EntityNo}
 use Rattle.exec_plan.specs.Graph.{GraphData, EntityData, Waitable, declared_at, wait_set, kinds, cons_if, numbers_where, entities_where, has_kind}
+use Rattle.exec_plan.specs.Plan.{PlanData}
 use Rattle.exec_plan.specs.declared.entity.Declared.{Declared}
 use Rattle.exec_plan.specs.declared.entity.Declared.TheVariants as declared
 use Rattle.exec_msg.specs.Kind.{ready_number}
@@ -87,16 +88,16 @@ any_kind of test passes (one ∷ some) e = by (ready_number one == ready_number 
     by true f rest = ap (λ (b : Bool). b || list_any test some) (ap (λ (k : Kind). test k) (same_kind one of (eqb-true (ready_number one) (ready_number of) f)) ∙ passes)
     by false f rest = let there : list_any (λ other. ready_number other == ready_number of) some ≡ true = rw f at e in ap (λ (b : Bool). test one || b) (rest there) ∙ or_more (test one)
 
-module _ (graph : GraphData) (of : Kind) (queued : takes_from_queue of ≡ true) (entity : EntityNo) (has : has_kind of (declared_at graph entity) ≡ true) where
+module _ (plan : PlanData) (of : Kind) (queued : takes_from_queue of ≡ true) (entity : EntityNo) (has : has_kind of (declared_at plan.graph entity) ≡ true) where
   abbrev waits_here : Waitable → Bool
   waits_here waitable = (waitable.entity == entity) && (ready_number waitable.kind == ready_number of)
 
-  queues_there : (waitables : List Waitable) → list_any waits_here waitables ≡ true → list_any (is_queue entity of) (map (new_queue graph) (filter (λ waitable. takes_from_queue waitable.kind) waitables)) ≡ true
+  queues_there : (waitables : List Waitable) → list_any waits_here waitables ≡ true → list_any (is_queue entity of) (map (new_queue plan.graph) (filter (λ waitable. takes_from_queue waitable.kind) waitables)) ≡ true
   queues_there [] e = e
   queues_there (waitable ∷ waitables) e = by (takes_from_queue waitable.kind) (waits_here waitable) refl refl (queues_there waitables)
     where
       by : (b c : Bool) → takes_from_queue waitable.kind ≡ b → waits_here waitable ≡ c →
-          (list_any waits_here waitables ≡ true → list_any (is_queue entity of) (map (new_queue graph) (filter (λ one. takes_from_queue one.kind) waitables)) ≡ true) → list_any (is_queue entity of) (map (new_queue graph) (filter (λ one. takes_from_queue one.kind) (waitable ∷ waitables))) ≡ true
+          (list_any waits_here waitables ≡ true → list_any (is_queue entity of) (map (new_queue plan.graph) (filter (λ one. takes_from_queue one.kind) waitables)) ≡ true) → list_any (is_queue entity of) (map (new_queue plan.graph) (filter (λ one. takes_from_queue one.kind) (waitable ∷ waitables))) ≡ true
       by true true f g rest = rw (f, g) refl
       by true false f g rest = let there : list_any waits_here waitables ≡ true = rw g at e in rw (f, g) (rest there)
       by false c f g rest = let there : list_any waits_here waitables ≡ true = rw (nothing (ready_number waitable.kind == ready_number of) refl) at e in rw f (rest there)
@@ -121,11 +122,11 @@ module _ (graph : GraphData) (of : Kind) (queued : takes_from_queue of ≡ true)
       by true e rest = rw (e, same) refl
       by false e rest = rw e rest
 
-  pub queue_stands : list_any (is_queue entity of) (first_world graph).queues ≡ true
+  pub queue_stands : list_any (is_queue entity of) (first_world plan).queues ≡ true
   queue_stands =
-      queues_there (wait_set graph)
-      (any_flat waits_here (waits_of graph) kinds
-      ∙ any_kind of (λ one. list_any waits_here (waits_of graph one)) (here_waits (entities_where (has_kind of) graph) ∙ is_declared graph (has_kind of) refl entity ∙ has) kinds (among_kinds of))
+      queues_there (wait_set plan.graph)
+      (any_flat waits_here (waits_of plan.graph) kinds
+      ∙ any_kind of (λ one. list_any waits_here (waits_of plan.graph one)) (here_waits (entities_where (has_kind of) plan.graph) ∙ is_declared plan.graph (has_kind of) refl entity ∙ has) kinds (among_kinds of))
 
 -- ---- worlds
 

@@ -6,6 +6,7 @@ use Rattle.std.proofs.lemmas.Bool.{eqb-true, eq-eqb}
 use Rattle.exec_msg.specs.Numbers.{EntityNo}
 use Rattle.exec_plan.specs.Entity.{Resolved}
 use Rattle.exec_plan.specs.Graph.{GraphData, of_entity, is_topic, declared_at, entities_where, has_kind}
+use Rattle.exec_plan.specs.Plan.{PlanData}
 use Rattle.exec_plan.specs.declared.entity.Declared.{Declared}
 use Rattle.exec_plan.specs.declared.entity.Declared.TheVariants as declared
 use Rattle.exec_plan.specs.declared.entity.EntityOf.TheVariants.{Timer, Subscription, Service, Client, Server, ActionClient}
@@ -86,31 +87,31 @@ contained all one held = at all held.0 held.1 held.2
     at (first ∷ some) zero within is = rw (eq-eqb first one is) refl
     at (first ∷ some) (suc k) within is = rw (at some k (omega (arith, within)) is) (or_more (first == one))
 
-module _ (graph : GraphData) (topic subscription : EntityNo) (among : Contains (subscribers_of topic (first_world graph)) subscription) where
-  both : (is_listed (entities_where is_topic graph) topic ≡ true) × (of_entity false (subscribes_to topic) (declared_at graph subscription) ≡ true)
-  both = by (is_listed (entities_where is_topic graph) topic) refl
+module _ (plan : PlanData) (topic subscription : EntityNo) (among : Contains (subscribers_of topic (first_world plan)) subscription) where
+  both : (is_listed (entities_where is_topic plan.graph) topic ≡ true) × (of_entity false (subscribes_to topic) (declared_at plan.graph subscription) ≡ true)
+  both = by (is_listed (entities_where is_topic plan.graph) topic) refl
     where
-      there : is_listed (if is_listed (entities_where is_topic graph) topic then entities_where (of_entity false (subscribes_to topic)) graph else []) subscription ≡ true
-      there = ap (λ (all : List EntityNo). is_listed all subscription) (sym (new_subscribers graph topic (entities_where is_topic graph))) ∙ contained (subscribers_of topic (first_world graph)) subscription among
+      there : is_listed (if is_listed (entities_where is_topic plan.graph) topic then entities_where (of_entity false (subscribes_to topic)) plan.graph else []) subscription ≡ true
+      there = ap (λ (all : List EntityNo). is_listed all subscription) (sym (new_subscribers plan.graph topic (entities_where is_topic plan.graph))) ∙ contained (subscribers_of topic (first_world plan)) subscription among
 
-      by : (b : Bool) → is_listed (entities_where is_topic graph) topic ≡ b → (is_listed (entities_where is_topic graph) topic ≡ true) × (of_entity false (subscribes_to topic) (declared_at graph subscription) ≡ true)
-      by true e = let here : is_listed (entities_where (of_entity false (subscribes_to topic)) graph) subscription ≡ true = rw e at there in (e, sym (is_declared graph (of_entity false (subscribes_to topic)) refl subscription) ∙ here)
+      by : (b : Bool) → is_listed (entities_where is_topic plan.graph) topic ≡ b → (is_listed (entities_where is_topic plan.graph) topic ≡ true) × (of_entity false (subscribes_to topic) (declared_at plan.graph subscription) ≡ true)
+      by true e = let here : is_listed (entities_where (of_entity false (subscribes_to topic)) plan.graph) subscription ≡ true = rw e at there in (e, sym (is_declared plan.graph (of_entity false (subscribes_to topic)) refl subscription) ∙ here)
       by false e = let none : false ≡ true = rw e at there in absurd (true≢false (sym none))
 
   -- a message to the subscription's topic is brought to it once, and one to another topic never
-  pub messages_brought : (other : EntityNo) (value : ℤ) → flat_map (brought subscription value) (subscribers_of other (first_world graph)) ≡ only_if (other == topic) value
+  pub messages_brought : (other : EntityNo) (value : ℤ) → flat_map (brought subscription value) (subscribers_of other (first_world plan)) ≡ only_if (other == topic) value
   messages_brought other value =
-      ap (λ (all : List EntityNo). flat_map (brought subscription value) all) (new_subscribers graph other (entities_where is_topic graph)) ∙ by (other == topic) (is_listed (entities_where is_topic graph) other) refl refl
+      ap (λ (all : List EntityNo). flat_map (brought subscription value) all) (new_subscribers plan.graph other (entities_where is_topic plan.graph)) ∙ by (other == topic) (is_listed (entities_where is_topic plan.graph) other) refl refl
     where
-      each : flat_map (brought subscription value) (entities_where (of_entity false (subscribes_to other)) graph) ≡ only_if (topic == other) value
+      each : flat_map (brought subscription value) (entities_where (of_entity false (subscribes_to other)) plan.graph) ≡ only_if (topic == other) value
       each =
-          brought_once subscription value (entities_where (of_entity false (subscribes_to other)) graph) (numbers_apart (of_entity false (subscribes_to other)) 0 graph.entities)
-          ∙ ap (λ (b : Bool). only_if b value) (is_declared graph (of_entity false (subscribes_to other)) refl subscription ∙ topic_only topic (declared_at graph subscription) both.1 other)
+          brought_once subscription value (entities_where (of_entity false (subscribes_to other)) plan.graph) (numbers_apart (of_entity false (subscribes_to other)) 0 plan.graph.entities)
+          ∙ ap (λ (b : Bool). only_if b value) (is_declared plan.graph (of_entity false (subscribes_to other)) refl subscription ∙ topic_only topic (declared_at plan.graph subscription) both.1 other)
 
-      by : (b c : Bool) → other == topic ≡ b → is_listed (entities_where is_topic graph) other ≡ c →
-          flat_map (brought subscription value) (if is_listed (entities_where is_topic graph) other then entities_where (of_entity false (subscribes_to other)) graph else []) ≡ only_if (other == topic) value
+      by : (b c : Bool) → other == topic ≡ b → is_listed (entities_where is_topic plan.graph) other ≡ c →
+          flat_map (brought subscription value) (if is_listed (entities_where is_topic plan.graph) other then entities_where (of_entity false (subscribes_to other)) plan.graph else []) ≡ only_if (other == topic) value
       by true true e f = rw f (each ∙ ap (λ (b : Bool). only_if b value) (eq-eqb topic other (sym (eqb-true other topic e)) ∙ sym e))
-      by true false e f = absurd (true≢false (sym (ap (λ (n : EntityNo). is_listed (entities_where is_topic graph) n) (eqb-true other topic e) ∙ both.0) ∙ f))
+      by true false e f = absurd (true≢false (sym (ap (λ (n : EntityNo). is_listed (entities_where is_topic plan.graph) n) (eqb-true other topic e) ∙ both.0) ∙ f))
       by false true e f = rw f (each ∙ ap (λ (b : Bool). only_if b value) (apart (topic == other) refl))
         where
           apart : (b : Bool) → topic == other ≡ b → (topic == other) ≡ (other == topic)
@@ -119,5 +120,5 @@ module _ (graph : GraphData) (topic subscription : EntityNo) (among : Contains (
       by false false e f = rw (f, e) refl
 
   -- its queue
-  pub queue_there : list_any (is_queue subscription kind.Message) (first_world graph).queues ≡ true
-  queue_there = queue_stands graph kind.Message refl subscription (takes_messages topic (declared_at graph subscription) both.1)
+  pub queue_there : list_any (is_queue subscription kind.Message) (first_world plan).queues ≡ true
+  queue_there = queue_stands plan kind.Message refl subscription (takes_messages topic (declared_at plan.graph subscription) both.1)

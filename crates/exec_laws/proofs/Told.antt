@@ -10,7 +10,7 @@ use Rattle.exec_goal.specs.Table.{GoalRecord, Asked, told, later, unknown, has_i
 use Rattle.exec_goal.specs.declared.state.State.{State}
 use Rattle.exec_msg.specs.Numbers.{EntityNo, GoalId, Moment}
 use Rattle.exec_plan.specs.Feeding.{fed_in}
-use Rattle.exec_plan.specs.Graph.{GraphData, Waitable, entities_where, is_server, wait_set}
+use Rattle.exec_plan.specs.Graph.{Waitable, entities_where, is_server, wait_set}
 use Rattle.exec_plan.specs.Plan.{PlanData, Fed, Feed}
 use Rattle.exec_plan.specs.declared.plan.FedOf.TheVariants as feeding
 use Rattle.exec_msg.specs.Lists.{change_first}
@@ -61,90 +61,90 @@ use Rattle.exec_rules.specs.declared.ready.Ready.{Ready}
 zero_more : (n : ℕ) → 0 + n ≡ n
 zero_more n = omega arith
 
-module _ (graph : GraphData) (client : EntityNo) where
+module _ (plan : PlanData) (client : EntityNo) where
   -- ---- effects
 
   -- goals are changed that nobody waits for anew, with lines
-  goals_fair : (owed : GoalId → ℕ) (server : EntityNo) (change : List GoalRecord → List GoalRecord) (world : WorldState) → shape_of (change_goals server change world) ≡ shape_of (first_world graph) →
-      change [] ≡ [] → ((id : GoalId) (goals : List GoalRecord) → notes client id (change goals) ≡ notes client id goals) → IsFair graph client owed world → IsFair graph client owed (change_goals server change world)
+  goals_fair : (owed : GoalId → ℕ) (server : EntityNo) (change : List GoalRecord → List GoalRecord) (world : WorldState) → shape_of (change_goals server change world) ≡ shape_of (first_world plan) →
+      change [] ≡ [] → ((id : GoalId) (goals : List GoalRecord) → notes client id (change goals) ≡ notes client id goals) → IsFair plan client owed world → IsFair plan client owed (change_goals server change world)
   goals_fair owed server change world shape none same p = (
     shape,
-    renoted graph client owed owed world.queues world.servers _ world.lines
+    renoted plan client owed owed world.queues world.servers _ world.lines
         (λ id. noted_changed client id (changing change) (ap (λ (goals : List GoalRecord). notes client id goals) none) server world.servers (owed id) (owed id) (ap (λ (n : ℕ). n + owed id) (same id (goals_of server world)))) p.1,
   )
 
-  call_fair : (owed : GoalId → ℕ) (from : Option ClientEntry) (value : ℤ) (world : WorldState) → IsFair graph client owed world → IsFair graph client owed (call_by from value world)
+  call_fair : (owed : GoalId → ℕ) (from : Option ClientEntry) (value : ℤ) (world : WorldState) → IsFair plan client owed world → IsFair plan client owed (call_by from value world)
   call_fair owed None value world p = p
   call_fair owed (Some from) value world p =
-      freely graph client owed from.service (item.Request from.entity (from.calls + 1) value) (add_line (line.Call from.entity (from.calls + 1) value) (with_call from.entity world)) (λ id. refl)
-      (line_fair graph client owed (line.Call from.entity (from.calls + 1) value) (with_call from.entity world) ((λ id. refl), ((λ id. refl), refl)) ((shapes graph client).basic.calls_kept from.entity world p.0, p.1))
+      freely plan client owed from.service (item.Request from.entity (from.calls + 1) value) (add_line (line.Call from.entity (from.calls + 1) value) (with_call from.entity world)) (λ id. refl)
+      (line_fair plan client owed (line.Call from.entity (from.calls + 1) value) (with_call from.entity world) ((λ id. refl), ((λ id. refl), refl)) ((shapes plan client).basic.calls_kept from.entity world p.0, p.1))
 
-  send_goal_fair : (owed : GoalId → ℕ) (from : Option ActionClientEntry) (value : ℤ) (world : WorldState) → IsFair graph client owed world → IsFair graph client owed (send_goal_by from value world)
+  send_goal_fair : (owed : GoalId → ℕ) (from : Option ActionClientEntry) (value : ℤ) (world : WorldState) → IsFair plan client owed world → IsFair plan client owed (send_goal_by from value world)
   send_goal_fair owed None value world p = p
   send_goal_fair owed (Some from) value world p =
-      freely graph client owed from.server (item.Goal (goal_id from.place (from.goals + 1)) (Some from.entity) value) (add_line (line.Goal from.entity (goal_id from.place (from.goals + 1)) value) (with_goal_sent from.entity world)) (λ id. refl)
-      (line_fair graph client owed (line.Goal from.entity (goal_id from.place (from.goals + 1)) value) (with_goal_sent from.entity world) ((λ id. refl), ((λ id. refl), refl)) ((shapes graph client).basic.sending_kept from.entity world p.0, p.1))
+      freely plan client owed from.server (item.Goal (goal_id from.place (from.goals + 1)) (Some from.entity) value) (add_line (line.Goal from.entity (goal_id from.place (from.goals + 1)) value) (with_goal_sent from.entity world)) (λ id. refl)
+      (line_fair plan client owed (line.Goal from.entity (goal_id from.place (from.goals + 1)) value) (with_goal_sent from.entity world) ((λ id. refl), ((λ id. refl), refl)) ((shapes plan client).basic.sending_kept from.entity world p.0, p.1))
 
-  send_cancel_fair : (owed : GoalId → ℕ) (from : ActionClientEntry) (request : CancelRequest) (world : WorldState) → IsFair graph client owed world → IsFair graph client owed (send_cancel from request world)
+  send_cancel_fair : (owed : GoalId → ℕ) (from : ActionClientEntry) (request : CancelRequest) (world : WorldState) → IsFair plan client owed world → IsFair plan client owed (send_cancel from request world)
   send_cancel_fair owed from request world p =
-      freely graph client owed from.server (item.Cancel request (Some from.entity)) (add_line (line.Cancel from.entity request.id request.stamp) world) (λ id. refl)
-      (line_fair graph client owed (line.Cancel from.entity request.id request.stamp) world ((λ id. refl), ((λ id. refl), refl)) p)
+      freely plan client owed from.server (item.Cancel request (Some from.entity)) (add_line (line.Cancel from.entity request.id request.stamp) world) (λ id. refl)
+      (line_fair plan client owed (line.Cancel from.entity request.id request.stamp) world ((λ id. refl), ((λ id. refl), refl)) p)
 
-  cancel_all_fair : (owed : GoalId → ℕ) (from : Option ActionClientEntry) (stamp : ℕ) (world : WorldState) → IsFair graph client owed world → IsFair graph client owed (cancel_all_by from stamp world)
+  cancel_all_fair : (owed : GoalId → ℕ) (from : Option ActionClientEntry) (stamp : ℕ) (world : WorldState) → IsFair plan client owed world → IsFair plan client owed (cancel_all_by from stamp world)
   cancel_all_fair owed None stamp world p = p
   cancel_all_fair owed (Some from) stamp world p = send_cancel_fair owed from (record { id = 0; stamp = stamp }) world p
 
-  cancel_goal_fair : (owed : GoalId → ℕ) (from : Option ActionClientEntry) (number stamp : ℕ) (world : WorldState) → IsFair graph client owed world → IsFair graph client owed (cancel_goal_by from number stamp world)
+  cancel_goal_fair : (owed : GoalId → ℕ) (from : Option ActionClientEntry) (number stamp : ℕ) (world : WorldState) → IsFair plan client owed world → IsFair plan client owed (cancel_goal_by from number stamp world)
   cancel_goal_fair owed None number stamp world p = p
   cancel_goal_fair owed (Some from) number stamp world p = send_cancel_fair owed from (record { id = goal_id from.place number; stamp = stamp }) world p
 
-  execute_fair : (owed : GoalId → ℕ) (server : EntityNo) (goal : Option GoalRecord) (world : WorldState) → IsFair graph client owed world → IsFair graph client owed (execute_goal server goal world)
+  execute_fair : (owed : GoalId → ℕ) (server : EntityNo) (goal : Option GoalRecord) (world : WorldState) → IsFair plan client owed world → IsFair plan client owed (execute_goal server goal world)
   execute_fair owed server None world p = p
   execute_fair owed server (Some goal) world p =
-      line_fair graph client owed (line.State server goal.id (status_of (after_event event.Execute goal).state)) (change_goals server (change_first (has_id goal.id) (after_event event.Execute)) world) ((λ id. refl), ((λ id. refl), refl))
-      (goals_fair owed server (change_first (has_id goal.id) (after_event event.Execute)) world ((shapes graph client).basic.goals_kept server _ world (ids_changed goal.id (after_event event.Execute) (λ one. refl)) p.0) refl (λ id goals. notes_executed client id goal.id goals) p)
+      line_fair plan client owed (line.State server goal.id (status_of (after_event event.Execute goal).state)) (change_goals server (change_first (has_id goal.id) (after_event event.Execute)) world) ((λ id. refl), ((λ id. refl), refl))
+      (goals_fair owed server (change_first (has_id goal.id) (after_event event.Execute)) world ((shapes plan client).basic.goals_kept server _ world (ids_changed goal.id (after_event event.Execute) (λ one. refl)) p.0) refl (λ id goals. notes_executed client id goal.id goals) p)
 
-  feedback_fair : (owed : GoalId → ℕ) (server : EntityNo) (why : Cause) (value : ℤ) (world : WorldState) → IsFair graph client owed world → IsFair graph client owed (give_feedback server why value world)
+  feedback_fair : (owed : GoalId → ℕ) (server : EntityNo) (why : Cause) (value : ℤ) (world : WorldState) → IsFair plan client owed world → IsFair plan client owed (give_feedback server why value world)
   feedback_fair owed server cause.Due value world p = p
   feedback_fair owed server (cause.Took taken) value world p = p
   feedback_fair owed server (cause.Woke goal given canceling) value world p =
-      freely_any graph client owed (client_of server goal world) (item.Feedback goal value) (add_line (line.Feedback server goal value) world) (λ to id. refl) (line_fair graph client owed (line.Feedback server goal value) world ((λ id. refl), ((λ id. refl), refl)) p)
+      freely_any plan client owed (client_of server goal world) (item.Feedback goal value) (add_line (line.Feedback server goal value) world) (λ to id. refl) (line_fair plan client owed (line.Feedback server goal value) world ((λ id. refl), ((λ id. refl), refl)) p)
 
-  published_fair : (owed : GoalId → ℕ) (topic : EntityNo) (value : ℤ) (world : WorldState) → IsFair graph client owed world → IsFair graph client owed (publish topic value world)
-  published_fair owed topic value world p = publish_kept {P = IsFair graph client owed} (λ entity one before q. freely graph client owed entity (item.Message one) before (λ id. refl) q) topic value world p
+  published_fair : (owed : GoalId → ℕ) (topic : EntityNo) (value : ℤ) (world : WorldState) → IsFair plan client owed world → IsFair plan client owed (publish topic value world)
+  published_fair owed topic value world p = publish_kept {P = IsFair plan client owed} (λ entity one before q. freely plan client owed entity (item.Message one) before (λ id. refl) q) topic value world p
 
-  give_fair : (owed : GoalId → ℕ) (one : Ready) (given : Effect) (world : WorldState) → IsFair graph client owed world → IsFair graph client owed (give one given world)
-  give_fair owed one (effect.Publish topic value) world p = published_fair owed topic value (add_line (line.Pub topic value) world) (line_fair graph client owed (line.Pub topic value) world ((λ id. refl), ((λ id. refl), refl)) p)
+  give_fair : (owed : GoalId → ℕ) (one : Ready) (given : Effect) (world : WorldState) → IsFair plan client owed world → IsFair plan client owed (give one given world)
+  give_fair owed one (effect.Publish topic value) world p = published_fair owed topic value (add_line (line.Pub topic value) world) (line_fair plan client owed (line.Pub topic value) world ((λ id. refl), ((λ id. refl), refl)) p)
   give_fair owed one (effect.Call from value) world p = call_fair owed (client_at from world) value world p
   give_fair owed one (effect.SendGoal from value) world p = send_goal_fair owed (action_client_at from world) value world p
   give_fair owed one (effect.CancelAll from stamp) world p = cancel_all_fair owed (action_client_at from world) stamp world p
   give_fair owed one (effect.CancelGoal from number stamp) world p = cancel_goal_fair owed (action_client_at from world) number stamp world p
   give_fair owed one (effect.Execute server) world p = execute_fair owed server (oldest_accepted server world) world p
-  give_fair owed one (effect.Log value) world p = line_fair graph client owed (line.Log one.entity value) world ((λ id. refl), ((λ id. refl), refl)) p
+  give_fair owed one (effect.Log value) world p = line_fair plan client owed (line.Log one.entity value) world ((λ id. refl), ((λ id. refl), refl)) p
   give_fair owed one (effect.Feedback value) world p = feedback_fair owed one.entity one.cause value world p
 
   -- ---- what closes a callback
 
   -- a result that an asker is told
-  result_told : (owed : GoalId → ℕ) (server : EntityNo) (goal : GoalId) (status : GoalStatus) (value : ℤ) (asker : EntityNo) (world : WorldState) → IsFair graph client (λ id. weigh ((asker == client) && (goal == id)) 1 + owed id) world → IsFair graph client owed (tell server goal status value asker world)
+  result_told : (owed : GoalId → ℕ) (server : EntityNo) (goal : GoalId) (status : GoalStatus) (value : ℤ) (asker : EntityNo) (world : WorldState) → IsFair plan client (λ id. weigh ((asker == client) && (goal == id)) 1 + owed id) world → IsFair plan client owed (tell server goal status value asker world)
   result_told owed server goal status value asker world p =
-      sent graph client (λ id. weigh ((asker == client) && (goal == id)) 1 + owed id) owed asker (item.Result goal status value) (add_line (line.Result server goal status value) world) (λ id. omega arith)
+      sent plan client (λ id. weigh ((asker == client) && (goal == id)) 1 + owed id) owed asker (item.Result goal status value) (add_line (line.Result server goal status value) world) (λ id. omega arith)
       (λ queues id. there queues id (asker == client) refl)
-      (line_fair graph client (λ id. weigh ((asker == client) && (goal == id)) 1 + owed id) (line.Result server goal status value) world ((λ id. refl), ((λ id. refl), refl)) p)
+      (line_fair plan client (λ id. weigh ((asker == client) && (goal == id)) 1 + owed id) (line.Result server goal status value) world ((λ id. refl), ((λ id. refl), refl)) p)
     where
-      there : HasQueues graph client → (id : GoalId) (b : Bool) → asker == client ≡ b → weigh (not (list_any (is_queue asker kind.Result) world.queues)) (0 + weigh ((asker == client) && (goal == id)) 1) ≡ 0
+      there : HasQueues plan client → (id : GoalId) (b : Bool) → asker == client ≡ b → weigh (not (list_any (is_queue asker kind.Result) world.queues)) (0 + weigh ((asker == client) && (goal == id)) 1) ≡ 0
       there queues id true e =
-          let has : list_any (is_queue asker kind.Result) world.queues ≡ true = ap (λ (n : EntityNo). list_any (is_queue n kind.Result) world.queues) (eqb-true asker client e) ∙ has_queue client kind.Result world (first_world graph) p.0 ∙ queues.results in
+          let has : list_any (is_queue asker kind.Result) world.queues ≡ true = ap (λ (n : EntityNo). list_any (is_queue n kind.Result) world.queues) (eqb-true asker client e) ∙ has_queue client kind.Result world (first_world plan) p.0 ∙ queues.results in
           ap (λ (b : Bool). weigh (not b) (0 + weigh ((asker == client) && (goal == id)) 1)) has
       there queues id false e = ap (λ (b : Bool). weigh (not (list_any (is_queue asker kind.Result) world.queues)) (0 + weigh (b && (goal == id)) 1)) e ∙ weighs_nothing (not (list_any (is_queue asker kind.Result) world.queues))
 
-  all_told : (owed : GoalId → ℕ) (server : EntityNo) (goal : GoalId) (status : GoalStatus) (value : ℤ) (askers : List EntityNo) (world : WorldState) → IsFair graph client (λ id. weigh (goal == id) (among client askers) + owed id) world →
-      IsFair graph client owed (fold (λ before asker. tell server goal status value asker before) world askers)
-  all_told owed server goal status value [] world p = same_owed graph client (λ id. weigh (goal == id) 0 + owed id) owed world (λ id. ap (λ (n : ℕ). n + owed id) (weighs_nothing (goal == id)) ∙ zero_more (owed id)) p
+  all_told : (owed : GoalId → ℕ) (server : EntityNo) (goal : GoalId) (status : GoalStatus) (value : ℤ) (askers : List EntityNo) (world : WorldState) → IsFair plan client (λ id. weigh (goal == id) (among client askers) + owed id) world →
+      IsFair plan client owed (fold (λ before asker. tell server goal status value asker before) world askers)
+  all_told owed server goal status value [] world p = same_owed plan client (λ id. weigh (goal == id) 0 + owed id) owed world (λ id. ap (λ (n : ℕ). n + owed id) (weighs_nothing (goal == id)) ∙ zero_more (owed id)) p
   all_told owed server goal status value (asker ∷ askers) world p =
       all_told owed server goal status value askers (tell server goal status value asker world)
       (result_told (λ id. weigh (goal == id) (among client askers) + owed id) server goal status value asker world
-      (same_owed graph client (λ id. weigh (goal == id) (weigh (asker == client) 1 + among client askers) + owed id) (λ id. weigh ((asker == client) && (goal == id)) 1 + (weigh (goal == id) (among client askers) + owed id)) world
+      (same_owed plan client (λ id. weigh (goal == id) (weigh (asker == client) 1 + among client askers) + owed id) (λ id. weigh ((asker == client) && (goal == id)) 1 + (weigh (goal == id) (among client askers) + owed id)) world
       (λ id. let split = one_more (asker == client) (goal == id) (among client askers) in omega (arith, split)) p))
     where
       one_more : (b c : Bool) (rest : ℕ) → weigh c (weigh b 1 + rest) ≡ weigh (b && c) 1 + weigh c rest
@@ -154,19 +154,19 @@ module _ (graph : GraphData) (client : EntityNo) where
       one_more false false rest = omega arith
 
   -- an ask is answered, or its client is noted
-  ask_answered : (owed : GoalId → ℕ) (server : EntityNo) (goal : GoalId) (asker : EntityNo) (asked : Asked) (world : WorldState) → asked_for goal (goals_of server world) ≡ asked → IsFair graph client (λ id. weigh ((asker == client) && (goal == id)) 1 + owed id) world → IsFair graph client owed (answer_ask server goal asker asked world)
+  ask_answered : (owed : GoalId → ℕ) (server : EntityNo) (goal : GoalId) (asker : EntityNo) (asked : Asked) (world : WorldState) → asked_for goal (goals_of server world) ≡ asked → IsFair plan client (λ id. weigh ((asker == client) && (goal == id)) 1 + owed id) world → IsFair plan client owed (answer_ask server goal asker asked world)
   ask_answered owed server goal asker (told status value) world is p = result_told owed server goal status value asker world p
   ask_answered owed server goal asker unknown world is p = result_told owed server goal status.Unknown (pos 0) asker world p
   ask_answered owed server goal asker later world is p =
       let found = comes_later server goal (find (has_id goal) (goals_of server world)) is in (
-        (shapes graph client).basic.goals_kept server _ world (ids_changed goal (asked_by asker) (λ one. refl)) p.0,
-        renoted graph client (λ id. weigh ((asker == client) && (goal == id)) 1 + owed id) owed world.queues world.servers _ world.lines
+        (shapes plan client).basic.goals_kept server _ world (ids_changed goal (asked_by asker) (λ one. refl)) p.0,
+        renoted plan client (λ id. weigh ((asker == client) && (goal == id)) 1 + owed id) owed world.queues world.servers _ world.lines
             (λ id. noted_changed client id (changing (change_first (has_id goal) (asked_by asker))) refl server world.servers (owed id) (weigh ((asker == client) && (goal == id)) 1 + owed id)
             (let more = notes_asked client id goal asker found.0 (goals_of server world) found.1.0 found.1.1 in omega (arith, more))) p.1,
       )
 
   -- a goal ends: those that are noted are told
-  ended : (owed : GoalId → ℕ) (server : EntityNo) (goal : GoalId) (by : Event) (value : ℤ) (moment : Moment) (reached : Option State) (world : WorldState) → end_state goal by (goals_of server world) ≡ reached → IsFair graph client owed world → IsFair graph client owed (end_in reached server goal by value moment world)
+  ended : (owed : GoalId → ℕ) (server : EntityNo) (goal : GoalId) (by : Event) (value : ℤ) (moment : Moment) (reached : Option State) (world : WorldState) → end_state goal by (goals_of server world) ≡ reached → IsFair plan client owed world → IsFair plan client owed (end_in reached server goal by value moment world)
   ended owed server goal by value moment None world leads p = p
   ended owed server goal by value moment (Some reached) world leads p = where_found (goal_at server goal over) (ap (λ (goals : List GoalRecord). find (has_id goal) goals) (sym (goals_here (changing ending) server world.servers (inr refl))))
     where
@@ -176,20 +176,20 @@ module _ (graph : GraphData) (client : EntityNo) where
       over : WorldState
       over = with_ended server goal by value moment world
 
-      where_found : (found : Option GoalRecord) → find (has_id goal) (ending (goals_of server world)) ≡ found → IsFair graph client owed (tell_end server found over)
+      where_found : (found : Option GoalRecord) → find (has_id goal) (ending (goals_of server world)) ≡ found → IsFair plan client owed (tell_end server found over)
       where_found None none = absurd (ended_found (goals_of server world) goal by value moment reached leads none)
       where_found (Some one) found =
           let named : one.id ≡ goal = eqb-true one.id goal (found_test (has_id goal) (ending (goals_of server world)) one found) in
           all_told owed server one.id (status_of one.state) one.result one.askers (add_line (line.State server one.id (status_of one.state)) over)
-          (line_fair graph client (λ id. weigh (one.id == id) (among client one.askers) + owed id) (line.State server one.id (status_of one.state)) over ((λ id. refl), ((λ id. refl), refl)) (
-            (shapes graph client).basic.goals_kept server _ world (ids_changed goal (after_end by value moment) (λ held. refl)) p.0,
-            subst (λ (n : GoalId). Accounts graph client (λ id. weigh (n == id) (among client one.askers) + owed id) over.queues over.servers over.lines) (sym named)
-                (renoted graph client owed (λ id. weigh (goal == id) (among client one.askers) + owed id) world.queues world.servers over.servers world.lines
+          (line_fair plan client (λ id. weigh (one.id == id) (among client one.askers) + owed id) (line.State server one.id (status_of one.state)) over ((λ id. refl), ((λ id. refl), refl)) (
+            (shapes plan client).basic.goals_kept server _ world (ids_changed goal (after_end by value moment) (λ held. refl)) p.0,
+            subst (λ (n : GoalId). Accounts plan client (λ id. weigh (n == id) (among client one.askers) + owed id) over.queues over.servers over.lines) (sym named)
+                (renoted plan client owed (λ id. weigh (goal == id) (among client one.askers) + owed id) world.queues world.servers over.servers world.lines
                 (λ id. let gone = notes_ended client id goal by value moment reached one (goals_of server world) leads found in
                 noted_changed client id (changing ending) refl server world.servers (weigh (goal == id) (among client one.askers) + owed id) (owed id) (omega (arith, gone))) p.1),
           ))
 
-  poll_fair : (owed : GoalId → ℕ) (server : EntityNo) (goal : GoalId) (moment : Moment) (closing : Close) (world : WorldState) → IsFair graph client owed world → IsFair graph client owed (close_poll server goal moment closing world)
+  poll_fair : (owed : GoalId → ℕ) (server : EntityNo) (goal : GoalId) (moment : Moment) (closing : Close) (world : WorldState) → IsFair plan client owed world → IsFair plan client owed (close_poll server goal moment closing world)
   poll_fair owed server goal moment close.Nothing world p = p
   poll_fair owed server goal moment (close.Reply value) world p = p
   poll_fair owed server goal moment (close.Decide decision) world p = p
@@ -198,16 +198,16 @@ module _ (graph : GraphData) (client : EntityNo) where
   poll_fair owed server goal moment (close.Ended by value) world p = ended owed server goal by value moment (end_state goal by (goals_of server world)) world refl p
 
   -- a goal is accepted that nobody asked for yet
-  accepted_silent : (server goal decision : ℕ) (b : Bool) → decision == 2 ≡ b → AllByRecursion (IsSilent graph client) (accepted_lines server goal decision)
+  accepted_silent : (server goal decision : ℕ) (b : Bool) → decision == 2 ≡ b → AllByRecursion (IsSilent plan client) (accepted_lines server goal decision)
   accepted_silent server goal decision true e = rw e (((λ id. refl), ((λ id. refl), refl)), (((λ id. refl), ((λ id. refl), refl)), tt))
   accepted_silent server goal decision false e = rw e (((λ id. refl), ((λ id. refl), refl)), tt)
 
-  accept_fair : (owed : GoalId → ℕ) (b : Bool) (server : EntityNo) (moment : Moment) (decision : ℕ) (request : GoalRequest) (world : WorldState) → (b ≡ true → has_room_for request.id (goals_of server world) ≡ true) → IsFair graph client owed world → IsFair graph client owed (accept_where b server moment decision request world)
+  accept_fair : (owed : GoalId → ℕ) (b : Bool) (server : EntityNo) (moment : Moment) (decision : ℕ) (request : GoalRequest) (world : WorldState) → (b ≡ true → has_room_for request.id (goals_of server world) ≡ true) → IsFair plan client owed world → IsFair plan client owed (accept_where b server moment decision request world)
   accept_fair owed false server moment decision request world room p = p
   accept_fair owed true server moment decision request world room p = (
-    (shapes graph client).accepts_kept server moment decision request world (room refl) p.0,
-    more_lines graph client owed world.queues _ world.lines (accepted_lines server request.id decision) (accepted_silent server request.id decision (decision == 2) refl)
-        (renoted graph client owed owed world.queues world.servers _ world.lines
+    (shapes plan client).accepts_kept server moment decision request world (room refl) p.0,
+    more_lines plan client owed world.queues _ world.lines (accepted_lines server request.id decision) (accepted_silent server request.id decision (decision == 2) refl)
+        (renoted plan client owed owed world.queues world.servers _ world.lines
         (λ id. noted_changed client id (accepting moment decision request) (notes_accepted client id [] (new_goal request.id request.value moment decision) refl) server world.servers (owed id) (owed id)
         (ap (λ (n : ℕ). n + owed id) (notes_accepted client id (goals_of server world) (new_goal request.id request.value moment decision) refl))) p.1),
   )
@@ -217,41 +217,41 @@ module _ (graph : GraphData) (client : EntityNo) where
   roomy true decision e = refl
   roomy false decision e = absurd cc
 
-  answer_fair : (owed : GoalId → ℕ) (server : EntityNo) (moment : Moment) (decision : ℕ) (request : GoalRequest) (world : WorldState) → IsFair graph client owed world → IsFair graph client owed (answer_goal server moment decision request world)
+  answer_fair : (owed : GoalId → ℕ) (server : EntityNo) (moment : Moment) (decision : ℕ) (request : GoalRequest) (world : WorldState) → IsFair plan client owed world → IsFair plan client owed (answer_goal server moment decision request world)
   answer_fair owed server moment decision request world p =
       let made : ℕ = if has_room_for request.id (goals_of server world) then decision else 1 in
-      freely_any graph client owed request.client (item.Response request.id (is_accepting made)) _ (λ to id. refl)
+      freely_any plan client owed request.client (item.Response request.id (is_accepting made)) _ (λ to id. refl)
       (accept_fair owed (is_accepting made) server moment made request (add_line (line.Decide server request.id made) world) (roomy (has_room_for request.id (goals_of server world)) decision)
-      (line_fair graph client owed (line.Decide server request.id made) world ((λ id. refl), ((λ id. refl), refl)) p))
+      (line_fair plan client owed (line.Decide server request.id made) world ((λ id. refl), ((λ id. refl), refl)) p))
 
-  moved_silent : (server : EntityNo) (goals : List GoalRecord) (more : List Line) → AllByRecursion (IsSilent graph client) more → AllByRecursion (IsSilent graph client) (moved_lines server goals ++ more)
+  moved_silent : (server : EntityNo) (goals : List GoalRecord) (more : List Line) → AllByRecursion (IsSilent plan client) more → AllByRecursion (IsSilent plan client) (moved_lines server goals ++ more)
   moved_silent server [] more p = p
   moved_silent server (goal ∷ goals) more p = (((λ id. refl), ((λ id. refl), refl)), moved_silent server goals more p)
 
-  cancel_fair : (owed : GoalId → ℕ) (server : EntityNo) (request : CancelRequest) (from : Option EntityNo) (decisions : List Decided) (world : WorldState) → IsFair graph client owed world → IsFair graph client owed (cancel server request from decisions world)
+  cancel_fair : (owed : GoalId → ℕ) (server : EntityNo) (request : CancelRequest) (from : Option EntityNo) (decisions : List Decided) (world : WorldState) → IsFair plan client owed world → IsFair plan client owed (cancel server request from decisions world)
   cancel_fair owed server request from decisions world p =
       let goals : List GoalRecord = moved decisions (goals_of server world) in
       let returned : ReturnCode = code_of request decisions (goals_of server world) in
-      let changed : IsFair graph client owed (change_goals server (table_after decisions) world) =
-      goals_fair owed server (table_after decisions) world ((shapes graph client).basic.goals_kept server _ world (ids_answered decisions) p.0) refl (λ id some. notes_answered client id decisions some) p in
-      freely_any graph client owed from (item.Code returned (length goals)) _ (λ to id. refl)
-      (changed.0, more_lines graph client owed world.queues _ world.lines (moved_lines server goals ++ line.Code server returned (length goals) ∷ []) (moved_silent server goals (line.Code server returned (length goals) ∷ []) (((λ id. refl), ((λ id. refl), refl)), tt)) changed.1)
+      let changed : IsFair plan client owed (change_goals server (table_after decisions) world) =
+      goals_fair owed server (table_after decisions) world ((shapes plan client).basic.goals_kept server _ world (ids_answered decisions) p.0) refl (λ id some. notes_answered client id decisions some) p in
+      freely_any plan client owed from (item.Code returned (length goals)) _ (λ to id. refl)
+      (changed.0, more_lines plan client owed world.queues _ world.lines (moved_lines server goals ++ line.Code server returned (length goals) ∷ []) (moved_silent server goals (line.Code server returned (length goals) ∷ []) (((λ id. refl), ((λ id. refl), refl)), tt)) changed.1)
 
   -- a client asks
-  asked : (owed : GoalId → ℕ) (at : EntityNo) (from : ActionClientEntry) (goal : GoalId) (world : WorldState) → action_client_at at world ≡ Some from → IsFair graph client owed world → IsFair graph client owed (ask_where true from goal world)
+  asked : (owed : GoalId → ℕ) (at : EntityNo) (from : ActionClientEntry) (goal : GoalId) (world : WorldState) → action_client_at at world ≡ Some from → IsFair plan client owed world → IsFair plan client owed (ask_where true from goal world)
   asked owed at from goal world found p =
-      sent graph client (λ id. weigh ((from.entity == client) && (goal == id)) 1 + owed id) owed from.server (item.Ask goal from.entity) (add_line (line.Ask from.entity goal) world) (λ id. omega arith)
+      sent plan client (λ id. weigh ((from.entity == client) && (goal == id)) 1 + owed id) owed from.server (item.Ask goal from.entity) (add_line (line.Ask from.entity goal) world) (λ id. omega arith)
       (λ queues id. there queues id (from.entity == client) refl) (p.0, counted)
     where
-      there : HasQueues graph client → (id : GoalId) (b : Bool) → from.entity == client ≡ b → weigh (not (list_any (is_queue from.server kind.Ask) world.queues)) (weigh ((from.entity == client) && (goal == id)) 1 + 0) ≡ 0
+      there : HasQueues plan client → (id : GoalId) (b : Bool) → from.entity == client ≡ b → weigh (not (list_any (is_queue from.server kind.Ask) world.queues)) (weigh ((from.entity == client) && (goal == id)) 1 + 0) ≡ 0
       there queues id true e =
-          let its : server_in (entity_at graph client).is ≡ from.server = ap (λ (n : EntityNo). server_in (entity_at graph n).is) (sym (eqb-true from.entity client e)) ∙ eqb-true _ from.server (action_client_knows graph world p.0 at from found) in
-          let has : list_any (is_queue from.server kind.Ask) world.queues ≡ true = ap (λ (n : EntityNo). list_any (is_queue n kind.Ask) world.queues) (sym its) ∙ has_queue (server_in (entity_at graph client).is) kind.Ask world (first_world graph) p.0 ∙ queues.asks in
+          let its : server_in (entity_at plan.graph client).is ≡ from.server = ap (λ (n : EntityNo). server_in (entity_at plan.graph n).is) (sym (eqb-true from.entity client e)) ∙ eqb-true _ from.server (action_client_knows plan world p.0 at from found) in
+          let has : list_any (is_queue from.server kind.Ask) world.queues ≡ true = ap (λ (n : EntityNo). list_any (is_queue n kind.Ask) world.queues) (sym its) ∙ has_queue (server_in (entity_at plan.graph client).is) kind.Ask world (first_world plan) p.0 ∙ queues.asks in
           ap (λ (b : Bool). weigh (not b) (weigh ((from.entity == client) && (goal == id)) 1 + 0)) has
       there queues id false e = ap (λ (b : Bool). weigh (not (list_any (is_queue from.server kind.Ask) world.queues)) (weigh (b && (goal == id)) 1 + 0)) e ∙ weighs_nothing (not (list_any (is_queue from.server kind.Ask) world.queues))
 
-      counted : Accounts graph client (λ id. weigh ((from.entity == client) && (goal == id)) 1 + owed id) world.queues world.servers (world.lines ++ line.Ask from.entity goal ∷ [])
-      counted = let a : Accounts graph client owed world.queues world.servers world.lines = p.1 in record {
+      counted : Accounts plan client (λ id. weigh ((from.entity == client) && (goal == id)) 1 + owed id) world.queues world.servers (world.lines ++ line.Ask from.entity goal ∷ [])
+      counted = let a : Accounts plan client owed world.queues world.servers world.lines = p.1 in record {
         lost = a.lost;
         astray = a.astray;
         losses =
@@ -269,60 +269,60 @@ module _ (graph : GraphData) (client : EntityNo) where
         sound = λ queues id. let was = a.sound queues id in let b = many_more is_loss world.lines (line.Ask from.entity goal ∷ []) in omega (arith, was, b);
       }
 
-  respond_fair : (owed : GoalId → ℕ) (at : EntityNo) (from : Option ActionClientEntry) (goal : GoalId) (accepted : Bool) (world : WorldState) → action_client_at at world ≡ from → IsFair graph client owed world → IsFair graph client owed (respond from goal accepted world)
+  respond_fair : (owed : GoalId → ℕ) (at : EntityNo) (from : Option ActionClientEntry) (goal : GoalId) (accepted : Bool) (world : WorldState) → action_client_at at world ≡ from → IsFair plan client owed world → IsFair plan client owed (respond from goal accepted world)
   respond_fair owed at None goal accepted world found p = p
   respond_fair owed at (Some from) goal accepted world found p = by (accepted && from.asks)
     where
-      by : (b : Bool) → IsFair graph client owed (ask_where b from goal world)
+      by : (b : Bool) → IsFair plan client owed (ask_where b from goal world)
       by true = asked owed at from goal world found p
       by false = p
 
-  item_fair : (rest : GoalId → ℕ) (entity : EntityNo) (moment : Moment) (taken : Item) (closing : Close) (world : WorldState) → IsFair graph client (λ id. of_ask graph client id entity taken + rest id) world → IsFair graph client rest (close_item entity moment taken closing world)
-  item_fair rest entity moment (item.Message value) closing world p = same_owed graph client _ rest world (λ id. zero_more (rest id)) p
+  item_fair : (rest : GoalId → ℕ) (entity : EntityNo) (moment : Moment) (taken : Item) (closing : Close) (world : WorldState) → IsFair plan client (λ id. of_ask plan client id entity taken + rest id) world → IsFair plan client rest (close_item entity moment taken closing world)
+  item_fair rest entity moment (item.Message value) closing world p = same_owed plan client _ rest world (λ id. zero_more (rest id)) p
   item_fair rest entity moment (item.Request from number value) closing world p =
-      freely graph client rest from (item.Reply number (reply_in closing)) (add_line (line.Reply entity (reply_in closing)) world) (λ id. refl) (line_fair graph client rest (line.Reply entity (reply_in closing)) world ((λ id. refl), ((λ id. refl), refl)) (same_owed graph client _ rest world (λ id. zero_more (rest id)) p))
-  item_fair rest entity moment (item.Reply number value) closing world p = same_owed graph client _ rest world (λ id. zero_more (rest id)) p
+      freely plan client rest from (item.Reply number (reply_in closing)) (add_line (line.Reply entity (reply_in closing)) world) (λ id. refl) (line_fair plan client rest (line.Reply entity (reply_in closing)) world ((λ id. refl), ((λ id. refl), refl)) (same_owed plan client _ rest world (λ id. zero_more (rest id)) p))
+  item_fair rest entity moment (item.Reply number value) closing world p = same_owed plan client _ rest world (λ id. zero_more (rest id)) p
   item_fair rest entity moment (item.Goal goal from value) closing world p =
-      answer_fair rest entity moment (decision_in closing) (record { id = goal; client = from; value = value }) world (same_owed graph client _ rest world (λ id. zero_more (rest id)) p)
-  item_fair rest entity moment (item.Cancel request from) closing world p = cancel_fair rest entity request from (decisions_in closing) world (same_owed graph client _ rest world (λ id. zero_more (rest id)) p)
+      answer_fair rest entity moment (decision_in closing) (record { id = goal; client = from; value = value }) world (same_owed plan client _ rest world (λ id. zero_more (rest id)) p)
+  item_fair rest entity moment (item.Cancel request from) closing world p = cancel_fair rest entity request from (decisions_in closing) world (same_owed plan client _ rest world (λ id. zero_more (rest id)) p)
   item_fair rest entity moment (item.Ask goal asker) closing world p = ask_answered rest entity goal asker (asked_for goal (goals_of entity world)) world refl p
-  item_fair rest entity moment (item.Response goal accepted) closing world p = respond_fair rest entity (action_client_at entity world) goal accepted world refl (same_owed graph client _ rest world (λ id. zero_more (rest id)) p)
-  item_fair rest entity moment (item.Code returned count) closing world p = same_owed graph client _ rest world (λ id. zero_more (rest id)) p
-  item_fair rest entity moment (item.Feedback goal value) closing world p = same_owed graph client _ rest world (λ id. zero_more (rest id)) p
-  item_fair rest entity moment (item.Result goal status value) closing world p = same_owed graph client _ rest world (λ id. zero_more (rest id)) p
+  item_fair rest entity moment (item.Response goal accepted) closing world p = respond_fair rest entity (action_client_at entity world) goal accepted world refl (same_owed plan client _ rest world (λ id. zero_more (rest id)) p)
+  item_fair rest entity moment (item.Code returned count) closing world p = same_owed plan client _ rest world (λ id. zero_more (rest id)) p
+  item_fair rest entity moment (item.Feedback goal value) closing world p = same_owed plan client _ rest world (λ id. zero_more (rest id)) p
+  item_fair rest entity moment (item.Result goal status value) closing world p = same_owed plan client _ rest world (λ id. zero_more (rest id)) p
 
-  close_fair : (rest : GoalId → ℕ) (entity : EntityNo) (moment : Moment) (why : Cause) (closing : Close) (world : WorldState) → IsFair graph client (λ id. hand_by (of_ask graph client id) entity why + rest id) world → IsFair graph client rest (close_cause entity moment why closing world)
-  close_fair rest entity moment cause.Due closing world p = same_owed graph client _ rest world (λ id. zero_more (rest id)) p
+  close_fair : (rest : GoalId → ℕ) (entity : EntityNo) (moment : Moment) (why : Cause) (closing : Close) (world : WorldState) → IsFair plan client (λ id. hand_by (of_ask plan client id) entity why + rest id) world → IsFair plan client rest (close_cause entity moment why closing world)
+  close_fair rest entity moment cause.Due closing world p = same_owed plan client _ rest world (λ id. zero_more (rest id)) p
   close_fair rest entity moment (cause.Took taken) closing world p = item_fair rest entity moment taken closing world p
-  close_fair rest entity moment (cause.Woke goal value canceling) closing world p = poll_fair rest entity goal moment closing world (same_owed graph client _ rest world (λ id. zero_more (rest id)) p)
+  close_fair rest entity moment (cause.Woke goal value canceling) closing world p = poll_fair rest entity goal moment closing world (same_owed plan client _ rest world (λ id. zero_more (rest id)) p)
 
   -- ---- callbacks
 
-  polled_fair : (owed : GoalId → ℕ) (server : EntityNo) (why : Cause) (task : Option TaskState) (world : WorldState) → IsFair graph client owed world → IsFair graph client owed (with_polled server why task world)
+  polled_fair : (owed : GoalId → ℕ) (server : EntityNo) (why : Cause) (task : Option TaskState) (world : WorldState) → IsFair plan client owed world → IsFair plan client owed (with_polled server why task world)
   polled_fair owed server cause.Due task world p = p
   polled_fair owed server (cause.Took taken) task world p = p
   polled_fair owed server (cause.Woke goal value canceling) None world p = p
   polled_fair owed server (cause.Woke goal value canceling) (Some task) world p = (
-    (shapes graph client).basic.tasks_kept server goal task world p.0,
-    renoted graph client owed owed world.queues world.servers _ world.lines (λ id. noted_changed client id (tasking goal task) refl server world.servers (owed id) (owed id) refl) p.1,
+    (shapes plan client).basic.tasks_kept server goal task world p.0,
+    renoted plan client owed owed world.queues world.servers _ world.lines (λ id. noted_changed client id (tasking goal task) refl server world.servers (owed id) (owed id) refl) p.1,
   )
 
-  variables_fair : (owed : GoalId → ℕ) (one : Ready) (variables : Variables) (world : WorldState) → IsFair graph client owed world → IsFair graph client owed (with_variables_for one variables world)
+  variables_fair : (owed : GoalId → ℕ) (one : Ready) (variables : Variables) (world : WorldState) → IsFair plan client owed world → IsFair plan client owed (with_variables_for one variables world)
   variables_fair owed one variables world p = by one.exclusive
     where
-      by : (b : Bool) → IsFair graph client owed (if b then with_variables one.group variables world else world)
-      by true = ((shapes graph client).basic.variables_kept one.group variables world p.0, p.1)
+      by : (b : Bool) → IsFair plan client owed (if b then with_variables one.group variables world else world)
+      by true = ((shapes plan client).basic.variables_kept one.group variables world p.0, p.1)
       by false = p
 
-  unclosed_fair : (owed : GoalId → ℕ) (one : Ready) (world : WorldState) → IsFair graph client owed (add_line (run_line one) world) → IsFair graph client owed (unclosed one world)
+  unclosed_fair : (owed : GoalId → ℕ) (one : Ready) (world : WorldState) → IsFair plan client owed (add_line (run_line one) world) → IsFair plan client owed (unclosed one world)
   unclosed_fair owed one world p =
       let outcome : Outcome WorldState = outcome_in one world in
       polled_fair owed one.entity one.cause outcome.task _
       (variables_fair owed one outcome.variables outcome.given
-      (callback_keeps (IsFair graph client owed) (give one) (λ effect given q. give_fair owed one effect given q) one (work_for one.entity one.cause world) (variables_for one world) (add_line (run_line one) world) p))
+      (callback_keeps (IsFair plan client owed) (give one) (λ effect given q. give_fair owed one effect given q) one (work_for one.entity one.cause world) (variables_for one world) (add_line (run_line one) world) p))
 
   -- a callback's line says the result that it had in hand
-  result_said : (id : GoalId) (one : Ready) (why : Cause) → weigh (is_result_taken client id (line_of one.entity why (input_of one))) 1 ≡ hand_by (of_result graph client id) one.entity why
+  result_said : (id : GoalId) (one : Ready) (why : Cause) → weigh (is_result_taken client id (line_of one.entity why (input_of one))) 1 ≡ hand_by (of_result plan client id) one.entity why
   result_said id one cause.Due = refl
   result_said id one (cause.Took (item.Message value)) = refl
   result_said id one (cause.Took (item.Request from number value)) = refl
@@ -336,13 +336,13 @@ module _ (graph : GraphData) (client : EntityNo) where
   result_said id one (cause.Took (item.Result goal status value)) = refl
   result_said id one (cause.Woke goal value canceling) = refl
 
-  hand_split : (id : GoalId) (entity : EntityNo) (why : Cause) → hand_by (weight graph client id) entity why ≡ hand_by (of_ask graph client id) entity why + hand_by (of_result graph client id) entity why
+  hand_split : (id : GoalId) (entity : EntityNo) (why : Cause) → hand_by (weight plan client id) entity why ≡ hand_by (of_ask plan client id) entity why + hand_by (of_result plan client id) entity why
   hand_split id entity cause.Due = refl
   hand_split id entity (cause.Took taken) = refl
   hand_split id entity (cause.Woke goal value canceling) = refl
 
-  begun : (one : Ready) (rest : List Ready) (world : WorldState) → IsFair graph client (λ id. hands (weight graph client id) (one ∷ rest)) world → IsFair graph client (λ id. hand_by (of_ask graph client id) one.entity one.cause + hands (weight graph client id) rest) (add_line (run_line one) world)
-  begun one rest world p = let a : Accounts graph client (λ id. hands (weight graph client id) (one ∷ rest)) world.queues world.servers world.lines = p.1 in (
+  begun : (one : Ready) (rest : List Ready) (world : WorldState) → IsFair plan client (λ id. hands (weight plan client id) (one ∷ rest)) world → IsFair plan client (λ id. hand_by (of_ask plan client id) one.entity one.cause + hands (weight plan client id) rest) (add_line (run_line one) world)
+  begun one rest world p = let a : Accounts plan client (λ id. hands (weight plan client id) (one ∷ rest)) world.queues world.servers world.lines = p.1 in (
     p.0,
     record {
       lost = a.lost;
@@ -365,66 +365,66 @@ module _ (graph : GraphData) (client : EntityNo) where
     },
   )
 
-  run_fair : (one : Ready) (rest : List Ready) (world : WorldState) → IsFair graph client (λ id. hands (weight graph client id) (one ∷ rest)) world → IsFair graph client (λ id. hands (weight graph client id) rest) (run one world)
+  run_fair : (one : Ready) (rest : List Ready) (world : WorldState) → IsFair plan client (λ id. hands (weight plan client id) (one ∷ rest)) world → IsFair plan client (λ id. hands (weight plan client id) rest) (run one world)
   run_fair one rest world p =
-      close_fair (λ id. hands (weight graph client id) rest) one.entity one.moment one.cause (outcome_in one world).close (unclosed one world)
-      (unclosed_fair (λ id. hand_by (of_ask graph client id) one.entity one.cause + hands (weight graph client id) rest) one world (begun one rest world p))
+      close_fair (λ id. hands (weight plan client id) rest) one.entity one.moment one.cause (outcome_in one world).close (unclosed one world)
+      (unclosed_fair (λ id. hand_by (of_ask plan client id) one.entity one.cause + hands (weight plan client id) rest) one world (begun one rest world p))
 
-  all_run : (list : List Ready) (world : WorldState) → IsFair graph client (λ id. hands (weight graph client id) list) world → IsFair graph client (λ id. 0) (run_all list world)
+  all_run : (list : List Ready) (world : WorldState) → IsFair plan client (λ id. hands (weight plan client id) list) world → IsFair plan client (λ id. 0) (run_all list world)
   all_run [] world p = p
   all_run (one ∷ list) world p = all_run list (run one world) (run_fair one list world p)
 
   -- ---- rounds
 
-  expired_fair : (moment : Moment) (world : WorldState) → IsFair graph client (λ id. 0) world → IsFair graph client (λ id. 0) (expire moment world)
+  expired_fair : (moment : Moment) (world : WorldState) → IsFair plan client (λ id. 0) world → IsFair plan client (λ id. 0) (expire moment world)
   expired_fair moment world p = (
-    (shapes graph client).expiry_kept moment world p.0,
-    more_lines graph client (λ id. 0) world.queues _ world.lines (flat_map (expire_lines moment) world.servers)
-        (all_flat (IsSilent graph client) (expire_lines moment) (λ entry. all_map (IsSilent graph client) _ (λ goal. ((λ id. refl), ((λ id. refl), refl))) (expired moment entry.timeout entry.goals)) world.servers)
-        (renoted graph client (λ id. 0) (λ id. 0) world.queues world.servers _ world.lines (λ id. ap (λ (n : ℕ). n + 0) (noted_expired client id moment world.servers)) p.1),
+    (shapes plan client).expiry_kept moment world p.0,
+    more_lines plan client (λ id. 0) world.queues _ world.lines (flat_map (expire_lines moment) world.servers)
+        (all_flat (IsSilent plan client) (expire_lines moment) (λ entry. all_map (IsSilent plan client) _ (λ goal. ((λ id. refl), ((λ id. refl), refl))) (expired moment entry.timeout entry.goals)) world.servers)
+        (renoted plan client (λ id. 0) (λ id. 0) world.queues world.servers _ world.lines (λ id. ap (λ (n : ℕ). n + 0) (noted_expired client id moment world.servers)) p.1),
   )
 
-  fed_fair : (one : Fed) (world : WorldState) → IsFair graph client (λ id. 0) world → IsFair graph client (λ id. 0) (feed_one one world)
+  fed_fair : (one : Fed) (world : WorldState) → IsFair plan client (λ id. 0) world → IsFair plan client (λ id. 0) (feed_one one world)
   fed_fair (feeding.Message topic value) world p = published_fair (λ id. 0) topic value world p
-  fed_fair (feeding.Goal server goal value) world p = freely graph client (λ id. 0) server (item.Goal goal None value) world (λ id. refl) p
-  fed_fair (feeding.Cancel server goal stamp) world p = freely graph client (λ id. 0) server (item.Cancel (record { id = goal; stamp = stamp }) None) world (λ id. refl) p
+  fed_fair (feeding.Goal server goal value) world p = freely plan client (λ id. 0) server (item.Goal goal None value) world (λ id. refl) p
+  fed_fair (feeding.Cancel server goal stamp) world p = freely plan client (λ id. 0) server (item.Cancel (record { id = goal; stamp = stamp }) None) world (λ id. refl) p
 
-  snapshot_fair : (plan : PlanData) (number : ℕ) (moment : Moment) (world : WorldState) → IsFair graph client (λ id. 0) world → IsFair graph client (λ id. 0) (at_snapshot plan number moment world)
-  snapshot_fair plan number moment world p =
-      fold_keeps (IsFair graph client (λ id. 0)) (λ before (entry : Feed). feed_one entry.fed before) (λ before entry q. fed_fair entry.fed before q) (fed_in number plan.feed) _
-      (expired_fair moment (add_line (line.Round number moment) world) (line_fair graph client (λ id. 0) (line.Round number moment) world ((λ id. refl), ((λ id. refl), refl)) p))
+  snapshot_fair : (number : ℕ) (moment : Moment) (world : WorldState) → IsFair plan client (λ id. 0) world → IsFair plan client (λ id. 0) (at_snapshot plan number moment world)
+  snapshot_fair number moment world p =
+      fold_keeps (IsFair plan client (λ id. 0)) (λ before (entry : Feed). feed_one entry.fed before) (λ before entry q. fed_fair entry.fed before q) (fed_in number plan.feed) _
+      (expired_fair moment (add_line (line.Round number moment) world) (line_fair plan client (λ id. 0) (line.Round number moment) world ((λ id. refl), ((λ id. refl), refl)) p))
 
-  taken_fair : (moment : Moment) (world : WorldState) → IsFair graph client (λ id. 0) world → IsFair graph client (λ id. hands (weight graph client id) (ready_list moment world)) (take_inputs moment world)
-  taken_fair moment world p = let a : Accounts graph client (λ id. 0) world.queues world.servers world.lines = p.1 in (
-    (shapes graph client).snapshot_kept moment world p.0,
+  taken_fair : (moment : Moment) (world : WorldState) → IsFair plan client (λ id. 0) world → IsFair plan client (λ id. hands (weight plan client id) (ready_list moment world)) (take_inputs moment world)
+  taken_fair moment world p = let a : Accounts plan client (λ id. 0) world.queues world.servers world.lines = p.1 in (
+    (shapes plan client).snapshot_kept moment world p.0,
     record {
       lost = a.lost;
       astray = a.astray;
       losses = a.losses;
       each = λ id.
           let all = a.each id in
-          let b = flying_taken (weight graph client id) world.queues in
-          let c = list_hands (weight graph client id) moment world in
+          let b = flying_taken (weight plan client id) world.queues in
+          let c = list_hands (weight plan client id) moment world in
           omega (arith, all, b, c);
       sound = a.sound;
     },
   )
 
-  rounds_fair : (plan : PlanData) (number : ℕ) (moments : List Moment) (world : WorldState) → IsFair graph client (λ id. 0) world → IsFair graph client (λ id. 0) (rounds plan number moments world)
-  rounds_fair plan number [] world p = p
-  rounds_fair plan number (moment ∷ moments) world p =
+  rounds_fair : (number : ℕ) (moments : List Moment) (world : WorldState) → IsFair plan client (λ id. 0) world → IsFair plan client (λ id. 0) (rounds plan number moments world)
+  rounds_fair number [] world p = p
+  rounds_fair number (moment ∷ moments) world p =
       let before : WorldState = at_snapshot plan number moment world in
-      rounds_fair plan (suc number) moments (round plan number moment world) (all_run (ready_list moment before) (take_inputs moment before) (taken_fair moment before (snapshot_fair plan number moment world p)))
+      rounds_fair (suc number) moments (round plan number moment world) (all_run (ready_list moment before) (take_inputs moment before) (taken_fair moment before (snapshot_fair number moment world p)))
 
-  none_flying : (id : GoalId) (waitables : List Waitable) → flying (weight graph client id) (map (new_queue graph) waitables) ≡ 0
+  none_flying : (id : GoalId) (waitables : List Waitable) → flying (weight plan client id) (map (new_queue plan.graph) waitables) ≡ 0
   none_flying id [] = refl
   none_flying id (waitable ∷ waitables) = let rest = none_flying id waitables in omega (arith, rest)
 
-  none_noted : (id : GoalId) (numbers : List EntityNo) → noted_by client id (map (new_server graph) numbers) ≡ 0
+  none_noted : (id : GoalId) (numbers : List EntityNo) → noted_by client id (map (new_server plan.graph) numbers) ≡ 0
   none_noted id [] = refl
   none_noted id (number ∷ numbers) = let rest = none_noted id numbers in omega (arith, rest)
 
-  first_fair : IsFair graph client (λ id. 0) (first_world graph)
+  first_fair : IsFair plan client (λ id. 0) (first_world plan)
   first_fair = (
     refl,
     record {
@@ -432,26 +432,26 @@ module _ (graph : GraphData) (client : EntityNo) where
       astray = λ id. 0;
       losses = refl;
       each = λ id.
-          let a = none_flying id (filter (λ waitable. takes_from_queue waitable.kind) (wait_set graph)) in
-          let b = none_noted id (entities_where is_server graph) in
+          let a = none_flying id (filter (λ waitable. takes_from_queue waitable.kind) (wait_set plan.graph)) in
+          let b = none_noted id (entities_where is_server plan.graph) in
           omega (arith, a, b);
       sound = λ queues id. omega arith;
     },
   )
 
-pending_silent : (graph : GraphData) (client other count : ℕ) → AllByRecursion (IsSilent graph client) (pending_by other count)
-pending_silent graph client other zero = tt
-pending_silent graph client other (suc more) = (((λ id. refl), ((λ id. refl), refl)), tt)
+pending_silent : (plan : PlanData) (client other count : ℕ) → AllByRecursion (IsSilent plan client) (pending_by other count)
+pending_silent plan client other zero = tt
+pending_silent plan client other (suc more) = (((λ id. refl), ((λ id. refl), refl)), tt)
 
 -- at a plan's end
-pub all_fair : (plan : PlanData) (client : EntityNo) → IsFair plan.graph client (λ id. 0) (last_world plan)
+pub all_fair : (plan : PlanData) (client : EntityNo) → IsFair plan client (λ id. 0) (last_world plan)
 all_fair plan client =
-    let last : WorldState = rounds plan 1 plan.moments (first_world plan.graph) in
-    let p = rounds_fair plan.graph client plan 1 plan.moments (first_world plan.graph) (first_fair plan.graph client) in (
+    let last : WorldState = rounds plan 1 plan.moments (first_world plan) in
+    let p = rounds_fair plan client 1 plan.moments (first_world plan) (first_fair plan client) in (
       p.0,
-      more_lines plan.graph client (λ id. 0) last.queues last.servers last.lines (closing_lines (length plan.moments) last)
-          (all_append (IsSilent plan.graph client) (flat_map (λ entry. pending_by entry.entity (length entry.pending)) last.clients) (line.End (length plan.moments) ∷ [])
-          (all_flat (IsSilent plan.graph client) (λ entry. pending_by entry.entity (length entry.pending)) (λ entry. pending_silent plan.graph client entry.entity (length entry.pending)) last.clients) (((λ id. refl), ((λ id. refl), refl)), tt)) p.1,
+      more_lines plan client (λ id. 0) last.queues last.servers last.lines (closing_lines (length plan.moments) last)
+          (all_append (IsSilent plan client) (flat_map (λ entry. pending_by entry.entity (length entry.pending)) last.clients) (line.End (length plan.moments) ∷ [])
+          (all_flat (IsSilent plan client) (λ entry. pending_by entry.entity (length entry.pending)) (λ entry. pending_silent plan client entry.entity (length entry.pending)) last.clients) (((λ id. refl), ((λ id. refl), refl)), tt)) p.1,
     )
 
 pub results_fair : (client : EntityNo) (id : GoalId) (plan : PlanData) → length (filter (is_result_taken client id) (lines_of plan)) ≤ length (filter (is_asked client id) (lines_of plan))

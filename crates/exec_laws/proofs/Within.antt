@@ -57,8 +57,8 @@ within_kept graph = record {
   snapshot_kept = λ moment world p. within_taken graph world.queues p;
 }
 
-pub queues_within : (plan : PlanData) (number : ℕ) (moments : List Moment) → All (λ queue. length queue.items ≤ queue_depth (entity_at plan.graph queue.handler.entity).is) (rounds plan number moments (first_world plan.graph)).queues
+pub queues_within : (plan : PlanData) (number : ℕ) (moments : List Moment) → All (λ queue. length queue.items ≤ queue_depth (entity_at plan.graph queue.handler.entity).is) (rounds plan number moments (first_world plan)).queues
 queues_within plan number moments =
     All-from_recursion (λ queue. length queue.items ≤ queue_depth (entity_at plan.graph queue.handler.entity).is) _
     (all_weaker (IsWithin plan.graph) (λ queue. length queue.items ≤ queue_depth (entity_at plan.graph queue.handler.entity).is) (λ queue p. omega (arith, p.0, p.1)) _
-    (rounds_keep (within_kept plan.graph) plan number moments (first_world plan.graph) (within_first plan.graph (filter (λ waitable. takes_from_queue waitable.kind) (wait_set plan.graph)))))
+    (rounds_keep (within_kept plan.graph) plan number moments (first_world plan) (within_first plan.graph (filter (λ waitable. takes_from_queue waitable.kind) (wait_set plan.graph)))))

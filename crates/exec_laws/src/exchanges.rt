@@ -14,7 +14,7 @@ ghost use Rattle.exec_rules.specs.World.{goals_of, subscribers_of, ActionClientE
 /// Each message that is published to a topic, or fed to it, is taken by each subscription of the topic, dropped with a line,
 /// or held in its queue at the end, in the order in which they were published.
 pub fn messages_are_delivered_in_order()
-    ensures { (plan : PlanData) (topic subscription : ℕ) → Contains (subscribers_of topic (first_world plan.graph)) subscription →
+    ensures { (plan : PlanData) (topic subscription : ℕ) → Contains (subscribers_of topic (first_world plan)) subscription →
         IsDelivered plan topic subscription (last_world plan) }
 {}
 

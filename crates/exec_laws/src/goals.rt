@@ -34,7 +34,7 @@ pub fn decisions_are_of_the_candidates<S>()
 /// No two goals of one server have one identifier, after any rounds of a plan.
 pub fn identifiers_differ()
     ensures { (plan : PlanData) (number : ℕ) (moments : List ℕ) (server : ℕ) →
-        IsDistinct (λ one other. one == other) (map (λ goal. goal.id) (goals_of server (rounds plan number moments (first_world plan.graph)))) }
+        IsDistinct (λ one other. one == other) (map (λ goal. goal.id) (goals_of server (rounds plan number moments (first_world plan)))) }
 {}
 
 /// In the transcript of a plan, the statuses of a server's goals of one identifier begin with the acceptance of the
@@ -69,16 +69,16 @@ pub fn goals_have_one_end()
 /// closed; where it is polled as one that is being canceled, it is CANCELING.
 pub fn polled_goals_stay_at_work()
     ensures turn { (plan : PlanData) (number : ℕ) (moments : List ℕ) (next moment : ℕ) (one : Ready) (here : WorldState) (id : ℕ) (value : ℤ) (canceling : Bool) →
-        IsTurn plan next moment (rounds plan number moments (first_world plan.graph)) one here → one.cause ≡ cause.Woke id value canceling →
+        IsTurn plan next moment (rounds plan number moments (first_world plan)) one here → one.cause ≡ cause.Woke id value canceling →
         may_be_polled canceling (state_in id (goals_of one.entity here)) ≡ true }
     ensures closing { (plan : PlanData) (number : ℕ) (moments : List ℕ) (next moment : ℕ) (one : Ready) (here : WorldState) (id : ℕ) (value : ℤ) (canceling : Bool) →
-        IsTurn plan next moment (rounds plan number moments (first_world plan.graph)) one here → one.cause ≡ cause.Woke id value canceling →
+        IsTurn plan next moment (rounds plan number moments (first_world plan)) one here → one.cause ≡ cause.Woke id value canceling →
         may_be_polled canceling (state_in id (goals_of one.entity (unclosed one here))) ≡ true }
 {}
 
 /// So the ending that a goal's script asks for is always a transition of the goal: it never comes to nothing.
 pub fn endings_are_allowed()
     ensures { (plan : PlanData) (number : ℕ) (moments : List ℕ) (next moment : ℕ) (one : Ready) (here : WorldState) (id : ℕ) (value : ℤ) (canceling : Bool) (by : Event) (result : ℤ) →
-        IsTurn plan next moment (rounds plan number moments (first_world plan.graph)) one here → one.cause ≡ cause.Woke id value canceling →
+        IsTurn plan next moment (rounds plan number moments (first_world plan)) one here → one.cause ≡ cause.Woke id value canceling →
         (outcome_in one here).close ≡ close.Ended by result → end_state id by (goals_of one.entity (unclosed one here)) ≢ None }
 {}

@@ -29,20 +29,20 @@ pub fn the_shape_never_changes()
 /// Each queue holds at most its entity's depth, after any rounds of a plan.
 pub fn queues_stay_within_their_depths()
     ensures { (plan : PlanData) (number : ℕ) (moments : List ℕ) →
-        All (λ queue. length queue.items ≤ queue_depth (entity_at plan.graph queue.handler.entity).is) (rounds plan number moments (first_world plan.graph)).queues }
+        All (λ queue. length queue.items ≤ queue_depth (entity_at plan.graph queue.handler.entity).is) (rounds plan number moments (first_world plan)).queues }
 {}
 
 /// Each queue holds items of its kind alone, after any rounds of a plan.
 pub fn queues_hold_items_of_their_kinds()
     ensures { (plan : PlanData) (number : ℕ) (moments : List ℕ) →
-        All (λ queue. All (λ one. taker_of one ≡ queue.kind) queue.items) (rounds plan number moments (first_world plan.graph)).queues }
+        All (λ queue. All (λ one. taker_of one ≡ queue.kind) queue.items) (rounds plan number moments (first_world plan)).queues }
 {}
 
 /// In the rounds of a lawful plan, as many as a plan may have, no service client makes 2^60 calls and no action client sends
 /// 2^60 goals: the numbers of calls and goals, which count them, fit into 64 bits with a sign.
 pub fn numbers_stay_below_their_limit()
     ensures calls { (plan : PlanData) (number : ℕ) (moments : List ℕ) → IsLawfulPlan plan → length moments ≤ MOMENTS →
-        All (λ client. client.calls < 2 ^ 60) (rounds plan number moments (first_world plan.graph)).clients }
+        All (λ client. client.calls < 2 ^ 60) (rounds plan number moments (first_world plan)).clients }
     ensures goals { (plan : PlanData) (number : ℕ) (moments : List ℕ) → IsLawfulPlan plan → length moments ≤ MOMENTS →
-        All (λ client. client.goals < 2 ^ 60) (rounds plan number moments (first_world plan.graph)).action_clients }
+        All (λ client. client.goals < 2 ^ 60) (rounds plan number moments (first_world plan)).action_clients }
 {}

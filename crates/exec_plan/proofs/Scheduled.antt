@@ -10,6 +10,7 @@ use Rattle.exec_plan.specs.Entity.{is_from_1}
 use Rattle.exec_plan.specs.Lawful.{IsLawful, IsLawfulPlan, is_at, is_ascending_from, is_fed_well}
 use Rattle.exec_plan.specs.Schedule.{schedule_fits, numbers_fit, greatest, stamp_of, is_in_order, is_identified, has_plan_fault, plan_faults_in_order, plan_fault_in}
 use Rattle.exec_plan.specs.Plan.{Fed, Feed}
+use Rattle.exec_plan.specs.declared.order.Order.{Order}
 use Rattle.exec_plan.specs.declared.plan.FedOf.TheVariants.{Message, Goal, Cancel}
 use Rattle.exec_msg.specs.declared.limits.TheConstants.{MOMENTS, FEED, TICKS}
 use Rattle.exec_plan.proofs.NonePasses.{none_passes}
@@ -119,9 +120,9 @@ moments_fit moments entries stamp fits within is = by (numbers_fit (length momen
   by numbers false within = absurd cc
 
 -- a lawful graph, moments and a feed without a fault are a lawful plan
-pub plan_lawful : (graph : GraphData) (moments : List ℕ) (feed : List Feed) → IsLawful graph → list_all (λ entry. goes_somewhere graph entry.fed) feed ≡ true → list_all (λ entry. has_128_bits entry.fed) feed ≡ true → plan_fault_in moments feed ≡ None →
-    IsLawfulPlan (record { graph = graph; moments = moments; feed = feed })
-plan_lawful graph moments feed lawful goes bits faultless =
+pub plan_lawful : (graph : GraphData) (order : Order) (moments : List ℕ) (feed : List Feed) → IsLawful graph → list_all (λ entry. goes_somewhere graph entry.fed) feed ≡ true → list_all (λ entry. has_128_bits entry.fed) feed ≡ true → plan_fault_in moments feed ≡ None →
+    IsLawfulPlan (record { graph = graph; order = order; moments = moments; feed = feed })
+plan_lawful graph order moments feed lawful goes bits faultless =
     let keeps = scheduled moments feed faultless in
     let fits = fitting moments (length feed) (greatest (map (λ entry. stamp_of entry.fed) feed)) keeps.fits in
     let clock = is_ascending_from 0 moments in

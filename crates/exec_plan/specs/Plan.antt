@@ -1,7 +1,8 @@
--- Plans: a graph, the moments at which it is run, and what is fed to it.
+-- Plans: a graph, the order in which ready callbacks are run, the moments of its rounds, and what is fed to it.
 use Rattle.std.specs.Prelude.{List}
 use Rattle.exec_msg.specs.Numbers.{EntityNo, GoalId, Moment}
 use Rattle.exec_plan.specs.Graph.{GraphData}
+use Rattle.exec_plan.specs.declared.order.Order.{Order}
 use Rattle.exec_plan.specs.declared.plan.FedOf.{FedOf}
 use Rattle.exec_plan.specs.declared.plan.FeedOf.{FeedOf}
 
@@ -13,8 +14,9 @@ Fed = FedOf EntityNo GoalId
 abbrev pub Feed : Type 0
 Feed = FeedOf EntityNo GoalId
 
--- a plan: the graph, the moment of each round, and the feed
+-- a plan: the graph, the order in which ready callbacks are run, the moment of each round, and the feed
 pub record PlanData : Type 0 where
   pub graph : GraphData
+  pub order : Order
   pub moments : List Moment
   pub feed : List Feed

@@ -13,6 +13,7 @@ ghost use Rattle.exec_plan.specs.Entity.{RoleScriptData, entity_kinds, rank_of};
 ghost use Rattle.exec_plan.specs.Lawful.{IsLawful, IsLawfulPlan, IsLawfulScript, is_at};
 ghost use Rattle.exec_plan.specs.Schedule.{plan_fault_in};
 ghost use Rattle.exec_plan.specs.Plan.{Feed};
+ghost use Rattle.exec_plan.specs.declared.order.Order.{Order};
 ghost use Rattle.exec_script.specs.Script.{CallInput, resumed};
 ghost use Rattle.exec_script.specs.declared.effects.Effect.{Effect};
 ghost use Rattle.exec_script.specs.declared.instr.Instr.{Instr};
@@ -64,9 +65,9 @@ pub fn what_is_found_stands_at_its_number()
 /// A lawful graph, moments and a feed without a fault are a lawful plan, where what is fed goes to topics and servers of
 /// the graph and identifiers have 128 bits.
 pub fn plans_without_faults_are_lawful()
-    ensures { (graph : GraphData) (moments : List ℕ) (feed : List Feed) → IsLawful graph
+    ensures { (graph : GraphData) (order : Order) (moments : List ℕ) (feed : List Feed) → IsLawful graph
         → list_all (λ entry. goes_somewhere graph entry.fed) feed ≡ true → list_all (λ entry. has_128_bits entry.fed) feed ≡ true
-        → plan_fault_in moments feed ≡ None → IsLawfulPlan (record { graph = graph; moments = moments; feed = feed }) }
+        → plan_fault_in moments feed ≡ None → IsLawfulPlan (record { graph = graph; order = order; moments = moments; feed = feed }) }
 {}
 
 /// A plan may be moved into another thread and shared with it, and so may its graph and a script.

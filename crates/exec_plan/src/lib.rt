@@ -5,6 +5,7 @@ mod entity;
 mod fault;
 mod graph;
 pub mod laws;
+mod order;
 mod plan;
 mod script;
 
@@ -15,6 +16,7 @@ pub use entity::{
 };
 pub use fault::PlanFault;
 pub use graph::Graph;
+pub use order::Order;
 pub use plan::feed_by_round::FeedByRound;
 pub use plan::schedule::{greatest_stamp, schedule_fits};
 pub use plan::{Fed, FedOf, Feed, FeedOf, Plan};

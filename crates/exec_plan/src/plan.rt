@@ -3,6 +3,7 @@ pub(crate) mod schedule;
 
 use crate::fault::PlanFault;
 use crate::graph::Graph;
+use crate::order::Order;
 use crate::plan::schedule::fault_of;
 use exec_msg::{EntityNo, GoalId, Moment};
 use std::marker::Model;
@@ -53,11 +54,12 @@ pub type Fed = FedOf<EntityNo, GoalId>;
 /// An entry of a plan's feed.
 pub type Feed = FeedOf<EntityNo, GoalId>;
 
-/// A lawful plan: a graph, the moment of each round, and what is fed to it. No moment is below the one before it, each
+/// A lawful plan: a graph, the order in which ready callbacks are run, the moment of each round, and what is fed to it. No moment is below the one before it, each
 /// round of the feed is one of the plan, and all limits hold.
 #[derive(Drop)]
 pub struct Plan {
     graph: Graph,
+    order: Order,
     moments: Vec<Moment>,
     feed: Vec<Feed>,
 }
@@ -68,10 +70,10 @@ impl Model for Plan {
 
     ghost Value = { PlanData };
 
-    ghost view = { λ plan. record { graph = plan.graph; moments = plan.moments.items; feed = plan.feed.items } };
+    ghost view = { λ plan. record { graph = plan.graph; order = plan.order; moments = plan.moments.items; feed = plan.feed.items } };
 
     ghost invariant = { λ plan.
-        IsLawfulPlan (record { graph = plan.graph; moments = plan.moments.items; feed = plan.feed.items }) };
+        IsLawfulPlan (record { graph = plan.graph; order = plan.order; moments = plan.moments.items; feed = plan.feed.items }) };
 }
 
 impl Plan {
@@ -81,14 +83,19 @@ impl Plan {
     ghost use Rattle.exec_plan.specs.Lawful.{IsLawfulPlan};
     ghost use Rattle.exec_plan.specs.Schedule.{plan_fault_in};
 
-    /// The plan of a graph, the moment of each round, and what is fed to topics and servers of the graph. What was handed in
-    /// is given up on a fault. It takes no memory.
+    /// The plan of a graph, the order in which ready callbacks are run, the moment of each round, and what is fed to topics and
+    /// servers of the graph. What was handed in is given up on a fault. It takes no memory.
     ///
     /// # Errors
     /// The least fault of moments and feed.
-    pub fn new(graph: Graph, moments: Vec<Moment>, feed: Vec<Feed>) -> Result<Plan, PlanFault>
+    pub fn new(
+        graph: Graph,
+        order: Order,
+        moments: Vec<Moment>,
+        feed: Vec<Feed>,
+    ) -> Result<Plan, PlanFault>
         requires { list_all (λ entry. goes_somewhere graph entry.fed) feed.items ≡ true }
-        ensures plan { IfOk result (λ plan. (plan_fault_in moments.items feed.items ≡ None) × (plan ≡ record { graph = graph; moments = moments.items; feed = feed.items })) }
+        ensures plan { IfOk result (λ plan. (plan_fault_in moments.items feed.items ≡ None) × (plan ≡ record { graph = graph; order = order; moments = moments.items; feed = feed.items })) }
         ensures fault { IfErr result (λ fault. plan_fault_in moments.items feed.items ≡ Some fault) }
     {
         if let Some(fault) = fault_of(&moments, &feed) {
@@ -96,6 +103,7 @@ impl Plan {
         }
         Ok(Plan {
             graph,
+            order,
             moments,
             feed,
         })
@@ -107,6 +115,13 @@ impl Plan {
         ensures lawful { IsLawfulPlan self.now }
     {
         &self.graph
+    }
+
+    /// The order in which ready callbacks are run.
+    pub fn order(&self) -> Order
+        ensures { result ≡ self.now.order }
+    {
+        self.order
     }
 
     /// The moment of each round, from the first.

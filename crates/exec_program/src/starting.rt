@@ -1,6 +1,6 @@
 //! How a program is started.
 use crate::program::execute;
-use exec_io::{InputStream, read_words};
+use exec_io::{InputStream, Uninterrupted, read_words};
 use exec_lane::Gate;
 use exec_round::Through;
 use std::env::Env;
@@ -10,7 +10,7 @@ use std::sync::Wait;
 use std::thread::Threads;
 
 /// The whole program by the words that it was started with, over standard input, standard output and standard error. No clause
-/// can say what these words are; what comes of them is [`execute`]'s.
+/// can say what these words are; what comes of them is [`execute`]'s. A read or a write that a signal interrupts is made again.
 pub fn start<
     H: Threads + Wait + Sync + Env + AllocGlobal,
     G: Gate,
@@ -24,9 +24,9 @@ pub fn start<
         rt.alloc(),
         words,
         gate,
-        &mut InputStream::new(input),
-        &mut Through::new(output),
-        &mut Through::new(errors),
+        &mut InputStream::new(Uninterrupted { stream: input }),
+        &mut Through::new(Uninterrupted { stream: output }),
+        &mut Through::new(Uninterrupted { stream: errors }),
     );
     ExitCode::from(status.number())
 }

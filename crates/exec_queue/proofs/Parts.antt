@@ -1,7 +1,8 @@
 -- Queues of which none is of a kind behind polls.
 use Rattle.std.proofs.Common.{◌≡◌, ℕ, zero, suc, ◌&&◌, ◌||◌, Bool, true, false, not, if◌then◌else◌, map, List, [], ◌∷◌, ◌++◌, refl, sym, ap, ◌∙◌, true≢false}
 use Rattle.exec_msg.specs.Places.{change_at}
-use Rattle.exec_rules.specs.Ready.{is_before_polls, queue_taken}
+use Rattle.exec_rules.specs.Ready.{queue_taken}
+use Rattle.exec_rules.specs.inner.ByKind.{is_before_polls}
 use Rattle.exec_rules.specs.World.{Queue}
 use Rattle.exec_rules.specs.inner.Places.{places_from, places_where}
 use Rattle.exec_queue.specs.inner.Queues.{has_item, is_in_part, AreBeforePolls}

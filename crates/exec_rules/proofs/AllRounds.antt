@@ -18,7 +18,7 @@ one_more plan number (moment ∷ moments) (suc count) world within =
 -- a world after one round more
 pub next_round : (plan : PlanData) (count : ℕ) → count < length plan.moments → after_round (count + 1) (world_after count plan) ≡ world_after (count + 1) plan
 next_round plan count within =
-    let first = first_world plan.graph in
+    let first = first_world plan in
     let before = rounds plan 1 (take count plan.moments) first in
     let here : count + 1 ≡ suc count = add-one count in
     let at : (count + 1) - 1 ≡ count = omega arith in
@@ -31,4 +31,4 @@ next_round plan count within =
 
 -- after all rounds its lines, closed, are the plan's
 pub closed_lines : (plan : PlanData) → (after_finish (world_after (length plan.moments) plan)).state.lines ≡ lines_of plan
-closed_lines plan = ap (λ (moments : List Moment). (finish (length plan.moments) (rounds plan 1 moments (first_world plan.graph))).lines) (take_all (length plan.moments) plan.moments (omega arith))
+closed_lines plan = ap (λ (moments : List Moment). (finish (length plan.moments) (rounds plan 1 moments (first_world plan))).lines) (take_all (length plan.moments) plan.moments (omega arith))

@@ -15,6 +15,18 @@ use Rattle.exec_rules.specs.Close.{GoalRequest, server_accepting, accept}
 use Rattle.exec_rules.specs.Transcript.{server_expired, first_world, new_server, rounds}
 use Rattle.exec_rules.specs.World.{WorldState, GoalWork, ServerEntry, is_server_at, is_for, goals_in, goals_of, has_room_for}
 
+-- ---- numbers
+
+-- equality looks the same from both sides
+pub eq_turned : (a b : ℕ) → (a == b) ≡ (b == a)
+eq_turned a b = by (a == b) (b == a) refl refl
+  where
+    by : (c d : Bool) → (a == b) ≡ c → (b == a) ≡ d → c ≡ d
+    by true true e f = refl
+    by false false e f = refl
+    by true false e f = sym (eq-eqb b a (sym (eqb-true a b e))) ∙ f
+    by false true e f = sym e ∙ eq-eqb a b (sym (eqb-true b a f))
+
 -- ---- lists of goals
 
 -- no two identifiers are one
@@ -172,9 +184,9 @@ distinct_kept = record {
   snapshot_kept = λ moment world p. p;
 }
 
-pub first_distinct : (graph : GraphData) → HasDistinct (first_world graph)
+pub first_distinct : (plan : PlanData) → HasDistinct (first_world plan)
 unfolding IsDistinct
-first_distinct graph server = subst (λ (some : List GoalRecord). Distinct (ids some)) (sym (first_goals graph server (entities_where is_server graph))) tt
+first_distinct plan server = subst (λ (some : List GoalRecord). Distinct (ids some)) (sym (first_goals plan.graph server (entities_where is_server plan.graph))) tt
 
-pub distinct_ids : (plan : PlanData) (number : ℕ) (moments : List Moment) (server : EntityNo) → IsDistinct (λ one other. one == other) (map (λ goal. goal.id) (goals_of server (rounds plan number moments (first_world plan.graph))))
-distinct_ids plan number moments = rounds_keep distinct_kept plan number moments (first_world plan.graph) (first_distinct plan.graph)
+pub distinct_ids : (plan : PlanData) (number : ℕ) (moments : List Moment) (server : EntityNo) → IsDistinct (λ one other. one == other) (map (λ goal. goal.id) (goals_of server (rounds plan number moments (first_world plan))))
+distinct_ids plan number moments = rounds_keep distinct_kept plan number moments (first_world plan) (first_distinct plan)

@@ -1,6 +1,7 @@
 pub mod AllRounds
 pub mod Apart
 pub mod Aside
+pub mod ByKind
 pub mod Calling
 pub mod Committing
 pub mod Identifiers
@@ -14,4 +15,5 @@ pub mod ReadyLists
 pub mod Running
 pub mod ScriptsHome
 pub mod Shapes
+pub mod Sorting
 pub mod Wiring

@@ -80,9 +80,9 @@ kinds_kept = record {
   snapshot_kept = λ moment world p. kinds_taken world.queues p;
 }
 
-pub queues_of_kinds : (plan : PlanData) (number : ℕ) (moments : List Moment) → All (λ queue. All (λ one. taker_of one ≡ queue.kind) queue.items) (rounds plan number moments (first_world plan.graph)).queues
+pub queues_of_kinds : (plan : PlanData) (number : ℕ) (moments : List Moment) → All (λ queue. All (λ one. taker_of one ≡ queue.kind) queue.items) (rounds plan number moments (first_world plan)).queues
 queues_of_kinds plan number moments =
-    All-from_recursion IsOfItsKind _ (rounds_keep kinds_kept plan number moments (first_world plan.graph) (kinds_first plan.graph (filter (λ waitable. takes_from_queue waitable.kind) (wait_set plan.graph))))
+    All-from_recursion IsOfItsKind _ (rounds_keep kinds_kept plan number moments (first_world plan) (kinds_first plan.graph (filter (λ waitable. takes_from_queue waitable.kind) (wait_set plan.graph))))
 
 -- ---- what is displaced
 

@@ -90,6 +90,10 @@ pub pairs_all : {A : Type 0} (Q : A → Type 0) (R : A → A → Type 0) → ((o
 pairs_all Q R related [] q = tt
 pairs_all Q R related (one ∷ all) q = (all_weaker Q (R one) (λ other p. related one other q.0 p) all q.1, pairs_all Q R related all q.1)
 
+pub pairs_weaker : {A : Type 0} (R S : A → A → Type 0) → ((one other : A) → R one other → S one other) → (all : List A) → Pairs R all → Pairs S all
+pairs_weaker R S weaker [] p = tt
+pairs_weaker R S weaker (one ∷ all) p = (all_weaker (R one) (S one) (λ other q. weaker one other q) all p.0, pairs_weaker R S weaker all p.1)
+
 -- ---- what a test leaves
 
 pub all_filter : {A : Type 0} (P : A → Type 0) (test : A → Bool) (all : List A) → AllByRecursion P all → AllByRecursion P (filter test all)

@@ -9,7 +9,7 @@ use Rattle.exec_script.specs.declared.effects.Effect.{Effect}
 use Rattle.exec_script.specs.declared.effects.Effect.TheVariants as effect
 use Rattle.exec_rules.specs.Callback.{act, poll, take_item}
 use Rattle.exec_rules.specs.Give.{give}
-use Rattle.exec_rules.specs.Ready.{is_goal_awake, placed_from, poll_ready, ready_for, ready_list, run_line, turn_at, woken}
+use Rattle.exec_rules.specs.Ready.{is_goal_awake, placed_from, poll_ready, ready_for, run_line, turn_at, woken}
 use Rattle.exec_rules.specs.Run.{after_callback, run, variables_for, work_for}
 use Rattle.exec_rules.specs.Transcript.{run_all}
 use Rattle.exec_msg.specs.Numbers.{Moment}
@@ -21,7 +21,8 @@ use Rattle.exec_rules.specs.declared.ready.AwakeGoal.{AwakeGoal}
 use Rattle.exec_rules.specs.declared.ready.Cause.{Cause}
 use Rattle.exec_rules.specs.declared.ready.Cause.TheVariants as cause
 use Rattle.exec_rules.specs.declared.ready.Ready.{Ready}
-use Rattle.exec_rules.specs.inner.Awake.{awake_goal, awake_goals, goal_awake, poll_at, ready_before, ready_behind}
+use Rattle.exec_rules.specs.inner.Awake.{awake_goal, awake_goals, goal_awake, poll_at}
+use Rattle.exec_rules.specs.inner.ByKind.{listed_by_kind, ready_before, ready_behind}
 
 -- ---- one list behind another
 
@@ -125,7 +126,7 @@ polls_more moment goals i goal world within reads =
 
 -- what is ready before polls, the polls, and what is ready behind them, each in a list of its own, run as the ready list does
 pub parts_alike : (moment : Moment) (world now : WorldState) (list : List Ready) (split position : ℕ) → take split list ≡ placed_from 1 (ready_before moment world) → drop split list ≡ placed_from position (ready_behind moment world)
-    → run_all (drop split list) (run_all (map (poll_at moment) (flat_map (awake_goals moment) world.servers)) (run_all (take split list) now)) ≡ run_all (ready_list moment world) now
+    → run_all (drop split list) (run_all (map (poll_at moment) (flat_map (awake_goals moment) world.servers)) (run_all (take split list) now)) ≡ run_all (listed_by_kind moment world) now
 parts_alike moment world now list split position front back =
     let before : List Ready = ready_before moment world in
     let polls : List Ready = flat_map (poll_ready moment) world.servers in

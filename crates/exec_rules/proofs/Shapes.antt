@@ -9,7 +9,7 @@ use Rattle.exec_msg.specs.Lists.{change_first}
 use Rattle.exec_rules.proofs.Running.{KeptByRounds, rounds_keep}
 use Rattle.exec_rules.specs.Close.{accept}
 use Rattle.exec_rules.specs.Shape.{timer_shape, queue_shape, server_shape, client_shape, action_client_shape, shape_of}
-use Rattle.exec_rules.specs.Ready.{timer_taken, queue_taken, call_answered, answered_by_first, queues_before_polls, reply_taken, take_inputs}
+use Rattle.exec_rules.specs.Ready.{timer_taken, queue_taken, call_answered, answered_by_first, reply_taken, take_inputs}
 use Rattle.exec_rules.specs.Transcript.{expire, rounds}
 use Rattle.exec_rules.specs.World.{WorldState, TimerEntry, Queue, ClientEntry, queued, change_goals, with_task, is_client_at, with_call, with_goal_sent, with_variables}
 use Rattle.exec_rules.specs.declared.item.Item.{Item}
@@ -55,30 +55,30 @@ replied_shape [] clients = refl
 replied_shape (queue ∷ queues) clients = replied_shape queues (reply_taken clients queue) ∙ answered_shape queue.handler.entity queue.items clients
 
 -- worlds whose parts have one shape have one
-same_shape : (before after : WorldState) → after.topics ≡ before.topics →
+same_shape : (before after : WorldState) → after.order ≡ before.order → after.topics ≡ before.topics →
     map timer_shape after.timers ≡ map timer_shape before.timers →
     map queue_shape after.queues ≡ map queue_shape before.queues →
     map server_shape after.servers ≡ map server_shape before.servers →
     map client_shape after.clients ≡ map client_shape before.clients →
     map action_client_shape after.action_clients ≡ map action_client_shape before.action_clients →
     length after.variables ≡ length before.variables → shape_of after ≡ shape_of before
-same_shape before after topics timers queues servers clients action_clients groups = rw (topics, timers, queues, servers, clients, action_clients, groups) refl
+same_shape before after order topics timers queues servers clients action_clients groups = rw (order, topics, timers, queues, servers, clients, action_clients, groups) refl
 
 pub shape_kept : (of : WorldState) → KeptByRounds (λ world. shape_of world ≡ of)
 shape_kept of = record {
   basic = record {
     lines_kept = λ lines world p. p;
-    queues_kept = λ entity new world p. same_shape world (queued entity new world) refl refl (part_changed queue_shape _ _ (λ queue. refl) world.queues) refl refl refl refl ∙ p;
-    goals_kept = λ server change world same p. same_shape world (change_goals server change world) refl refl refl (part_changed server_shape _ _ (λ entry. refl) world.servers) refl refl refl ∙ p;
-    tasks_kept = λ server id task world p. same_shape world (with_task server id task world) refl refl refl (part_changed server_shape _ _ (λ entry. refl) world.servers) refl refl refl ∙ p;
-    calls_kept = λ client world p. same_shape world (with_call client world) refl refl refl refl (part_changed client_shape _ _ (λ entry. refl) world.clients) refl refl ∙ p;
-    sending_kept = λ client world p. same_shape world (with_goal_sent client world) refl refl refl refl refl (part_changed action_client_shape _ _ (λ entry. refl) world.action_clients) refl ∙ p;
-    variables_kept = λ group variables world p. same_shape world (with_variables group variables world) refl refl refl refl refl refl (length-set world.variables group variables) ∙ p;
+    queues_kept = λ entity new world p. same_shape world (queued entity new world) refl refl refl (part_changed queue_shape _ _ (λ queue. refl) world.queues) refl refl refl refl ∙ p;
+    goals_kept = λ server change world same p. same_shape world (change_goals server change world) refl refl refl refl (part_changed server_shape _ _ (λ entry. refl) world.servers) refl refl refl ∙ p;
+    tasks_kept = λ server id task world p. same_shape world (with_task server id task world) refl refl refl refl (part_changed server_shape _ _ (λ entry. refl) world.servers) refl refl refl ∙ p;
+    calls_kept = λ client world p. same_shape world (with_call client world) refl refl refl refl refl (part_changed client_shape _ _ (λ entry. refl) world.clients) refl refl ∙ p;
+    sending_kept = λ client world p. same_shape world (with_goal_sent client world) refl refl refl refl refl refl (part_changed action_client_shape _ _ (λ entry. refl) world.action_clients) refl ∙ p;
+    variables_kept = λ group variables world p. same_shape world (with_variables group variables world) refl refl refl refl refl refl refl (length-set world.variables group variables) ∙ p;
   };
-  accepts_kept = λ server moment decision request world room p. same_shape world (accept server moment decision request world) refl refl refl (part_changed server_shape _ _ (λ entry. refl) world.servers) refl refl refl ∙ p;
-  expiry_kept = λ moment world p. same_shape world (expire moment world) refl refl refl (part_mapped server_shape _ (λ entry. refl) world.servers) refl refl refl ∙ p;
+  accepts_kept = λ server moment decision request world room p. same_shape world (accept server moment decision request world) refl refl refl refl (part_changed server_shape _ _ (λ entry. refl) world.servers) refl refl refl ∙ p;
+  expiry_kept = λ moment world p. same_shape world (expire moment world) refl refl refl refl (part_mapped server_shape _ (λ entry. refl) world.servers) refl refl refl ∙ p;
   snapshot_kept = λ moment world p.
-      same_shape world (take_inputs moment world) refl (part_mapped timer_shape _ (timer_same moment) world.timers) (part_mapped queue_shape queue_taken (λ queue. refl) world.queues) refl (replied_shape (queues_before_polls world) world.clients) refl refl ∙ p;
+      same_shape world (take_inputs moment world) refl refl (part_mapped timer_shape _ (timer_same moment) world.timers) (part_mapped queue_shape queue_taken (λ queue. refl) world.queues) refl (replied_shape world.queues world.clients) refl refl ∙ p;
 }
 
 pub shape_stays : (plan : PlanData) (number : ℕ) (moments : List Moment) (world : WorldState) → shape_of (rounds plan number moments world) ≡ shape_of world

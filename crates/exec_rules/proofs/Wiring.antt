@@ -4,6 +4,7 @@ use Rattle.std.specs.List.{AllByRecursion, list_any}
 use Rattle.std.proofs.lemmas.Bool.{eq-eqb}
 use Rattle.exec_msg.specs.Numbers.{EntityNo}
 use Rattle.exec_plan.specs.Entity.{Resolved}
+use Rattle.exec_plan.specs.Plan.{PlanData}
 use Rattle.exec_plan.specs.Graph.{GraphData, EntityData, Waitable, in_group, wait_set, kinds, cons_if, numbers_where, entities_where, has_kind, is_timer, is_server}
 use Rattle.exec_plan.specs.declared.entity.Declared.{Declared}
 use Rattle.exec_plan.specs.declared.entity.Declared.TheVariants as declared
@@ -141,16 +142,16 @@ new_servers graph [] = refl
 new_servers graph (number ∷ numbers) = ap (λ (rest : List EntityNo). number ∷ rest) (new_servers graph numbers)
 
 -- a world of this shape is wired so
-pub wired : (graph : GraphData) (world : WorldState) → shape_of world ≡ shape_of (first_world graph) → IsWired graph world
-wired graph world same = record {
+pub wired : (plan : PlanData) (world : WorldState) → shape_of world ≡ shape_of (first_world plan) → IsWired plan.graph world
+wired plan world same = record {
   timers = pairs_unmapped (λ one other. NumbersApart one.handler.entity other.handler.entity) timer_shape world.timers
       (subst (λ (timers : List TimerEntry). Pairs (λ one other. NumbersApart one.handler.entity other.handler.entity) timers) (sym (ap (λ (shape : WorldState). shape.timers) same))
-      (pairs_map _ _ timer_shape (λ one other apart. apart) _ (pairs_map NumbersApart (λ one other. NumbersApart one.handler.entity other.handler.entity) (new_timer graph) (λ one other apart. apart) _ (numbers_apart is_timer 0 graph.entities))));
+      (pairs_map _ _ timer_shape (λ one other apart. apart) _ (pairs_map NumbersApart (λ one other. NumbersApart one.handler.entity other.handler.entity) (new_timer plan.graph) (λ one other apart. apart) _ (numbers_apart is_timer 0 plan.graph.entities))));
   queues = pairs_unmapped QueuesApart queue_shape world.queues
       (subst (λ (queues : List Queue). Pairs QueuesApart queues) (sym (ap (λ (shape : WorldState). shape.queues) same))
-      (pairs_map QueuesApart QueuesApart queue_shape (λ one other apart. apart) _ (pairs_map WaitsApart QueuesApart (new_queue graph) (λ one other apart. apart) _ (pairs_filter WaitsApart (λ waitable. takes_from_queue waitable.kind) (wait_set graph) (waits_apart graph)))));
-  takes_goals = all_unmapped (TakesListed graph) queue_shape world.queues
-      (subst (λ (queues : List Queue). AllByRecursion (TakesListed graph) queues) (sym (ap (λ (shape : WorldState). shape.queues) same))
-      (all_mapped (TakesListed graph) (TakesListed graph) queue_shape (λ queue t. t) _ (all_mapped (WaitListed graph) (TakesListed graph) (new_queue graph) (λ waitable t. t) _ (all_filter (WaitListed graph) (λ waitable. takes_from_queue waitable.kind) (wait_set graph) (waits_listed graph)))));
-  listed = sym (servers_shaped world.servers) ∙ ap (λ (shape : WorldState). servers_of shape) same ∙ servers_shaped (map (new_server graph) (entities_where is_server graph)) ∙ new_servers graph (entities_where is_server graph);
+      (pairs_map QueuesApart QueuesApart queue_shape (λ one other apart. apart) _ (pairs_map WaitsApart QueuesApart (new_queue plan.graph) (λ one other apart. apart) _ (pairs_filter WaitsApart (λ waitable. takes_from_queue waitable.kind) (wait_set plan.graph) (waits_apart plan.graph)))));
+  takes_goals = all_unmapped (TakesListed plan.graph) queue_shape world.queues
+      (subst (λ (queues : List Queue). AllByRecursion (TakesListed plan.graph) queues) (sym (ap (λ (shape : WorldState). shape.queues) same))
+      (all_mapped (TakesListed plan.graph) (TakesListed plan.graph) queue_shape (λ queue t. t) _ (all_mapped (WaitListed plan.graph) (TakesListed plan.graph) (new_queue plan.graph) (λ waitable t. t) _ (all_filter (WaitListed plan.graph) (λ waitable. takes_from_queue waitable.kind) (wait_set plan.graph) (waits_listed plan.graph)))));
+  listed = sym (servers_shaped world.servers) ∙ ap (λ (shape : WorldState). servers_of shape) same ∙ servers_shaped (map (new_server plan.graph) (entities_where is_server plan.graph)) ∙ new_servers plan.graph (entities_where is_server plan.graph);
 }

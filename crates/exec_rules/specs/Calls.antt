@@ -23,13 +23,13 @@ pub record WorldData : Type 0 where
 
 -- the world of a plan before its first round
 abbrev pub new_world : PlanData → WorldData
-new_world plan = record { plan = plan; state = first_world plan.graph; rounds = 0; left = 0; failed = false }
+new_world plan = record { plan = plan; state = first_world plan; rounds = 0; left = 0; failed = false }
 
 -- the world of a plan after its first rounds, so many of them
 abbrev pub world_after : ℕ → PlanData → WorldData
 world_after count plan = record {
   plan = plan;
-  state = rounds plan 1 (take count plan.moments) (first_world plan.graph);
+  state = rounds plan 1 (take count plan.moments) (first_world plan);
   rounds = count;
   left = 0;
   failed = false;

@@ -7,6 +7,7 @@ pub mod Lines
 pub mod Ready
 pub mod Run
 pub mod Shape
+pub mod Sorting
 pub mod Transcript
 pub mod World
 pub mod inner

@@ -1,5 +1,5 @@
 -- The callbacks that are ready at a snapshot, and what the snapshot takes.
-use Rattle.std.specs.Prelude.{ℕ, suc, pos, List, [], ◌∷◌, ◌++◌, length, map, drop, nat_le, Bool, false, not, ◌&&◌, ◌==◌, if◌then◌else◌, Option, None, Some}
+use Rattle.std.specs.Prelude.{ℕ, suc, pos, List, [], ◌∷◌, ◌++◌, length, map, drop, Bool, false, ◌&&◌, ◌==◌, if◌then◌else◌, Option, None, Some}
 use Rattle.std.specs.List.{filter, find, flat_map, fold}
 use Rattle.std.specs.Option.{option_map_or}
 use Rattle.exec_goal.specs.Cancel.{candidates}
@@ -19,7 +19,10 @@ use Rattle.exec_msg.specs.declared.line.Line.TheVariants as line
 use Rattle.exec_script.specs.Script.{CallInput}
 use Rattle.exec_task.specs.Task.{is_awake, poll_input}
 use Rattle.exec_task.specs.declared.wait.Turn.{Turn}
+use Rattle.exec_plan.specs.declared.order.Order.{Order}
+use Rattle.exec_plan.specs.declared.order.Order.TheVariants as order
 use Rattle.exec_rules.specs.Item.{taker_of, first_of, aux_of, id_of}
+use Rattle.exec_rules.specs.Sorting.{sorted_by}
 use Rattle.exec_rules.specs.World.{WorldState, Handler, TimerEntry, Queue, ServerEntry, ClientEntry, HeldGoal, goals_of, has_room_for, is_client_at, is_for}
 use Rattle.exec_rules.specs.declared.item.Item.{Item}
 use Rattle.exec_rules.specs.declared.item.Item.TheVariants as item
@@ -122,30 +125,22 @@ abbrev pub poll_ready : Moment → ServerEntry → List Ready
 poll_ready moment entry =
     map (λ goal. ready_for moment entry.handler (woken goal) [] (Some entry.handler.script)) (filter (is_goal_awake moment entry.held) entry.goals)
 
--- whether the callbacks of a kind are ready before polls
-abbrev pub is_before_polls : Kind → Bool
-is_before_polls of = nat_le (ready_number of) (ready_number kind.Poll)
-
 -- ready callbacks at their places, the first of which is this
 abbrev pub placed_from : ℕ → List Ready → List Ready
 placed_from position [] = []
 placed_from position (one ∷ others) = record one { position = position } ∷ placed_from (suc position) others
 
--- the queues whose callbacks are ready before polls, those of replies among them
-abbrev pub queues_before_polls : WorldState → List Queue
-queues_before_polls world = filter (λ queue. is_before_polls queue.kind) world.queues
+-- all callbacks that are ready: those of timers, what takes from queues, and polls
+abbrev pub all_ready : Moment → WorldState → List Ready
+all_ready moment world = flat_map (due_ready moment) world.timers ++ flat_map (queue_ready moment world) world.queues ++ flat_map (poll_ready moment) world.servers
 
--- the queues whose callbacks are ready behind polls
-abbrev pub queues_behind_polls : WorldState → List Queue
-queues_behind_polls world = filter (λ queue. not (is_before_polls queue.kind)) world.queues
+-- the rank of a ready callback under an order
+abbrev pub rank_under : Order → Ready → ℕ
+rank_under order.Kind one = ready_number (kind_of one.cause)
 
--- the ready list: timers, then what takes from queues, with polls at their place among the kinds
+-- the ready list: all that is ready, in the order of ranks
 abbrev pub ready_list : Moment → WorldState → List Ready
-ready_list moment world = placed_from 1
-    (flat_map (due_ready moment) world.timers
-    ++ flat_map (queue_ready moment world) (queues_before_polls world)
-    ++ flat_map (poll_ready moment) world.servers
-    ++ flat_map (queue_ready moment world) (queues_behind_polls world))
+ready_list moment world = placed_from 1 (sorted_by (rank_under world.order) (all_ready moment world))
 
 -- ---- what is taken
 
@@ -173,7 +168,7 @@ reply_taken clients queue = answered_by_first queue.handler.entity queue.items c
 -- the world after each input is taken
 abbrev pub take_inputs : Moment → WorldState → WorldState
 take_inputs moment world =
-    record world { timers = map (timer_taken moment) world.timers; queues = map queue_taken world.queues; clients = fold reply_taken world.clients (queues_before_polls world) }
+    record world { timers = map (timer_taken moment) world.timers; queues = map queue_taken world.queues; clients = fold reply_taken world.clients world.queues }
 
 -- whether a ready callback is an entity's of a kind
 abbrev pub is_callback_of : EntityNo → Kind → Ready → Bool

@@ -1,4 +1,4 @@
--- What a world has of its graph.
+-- What a world has of its plan.
 use Rattle.std.specs.Prelude.{[], length, map, replicate}
 use Rattle.exec_script.specs.Zeros.{zeros}
 use Rattle.exec_rules.specs.World.{WorldState, TimerEntry, Queue, ServerEntry, ClientEntry, ActionClientEntry}
@@ -19,9 +19,10 @@ client_shape entry = record entry { calls = 0; pending = [] }
 abbrev pub action_client_shape : ActionClientEntry → ActionClientEntry
 action_client_shape entry = record entry { goals = 0 }
 
--- what a world has of its graph: all that a run changes is taken away
+-- what a world has of its plan: all that a run changes is taken away
 abbrev pub shape_of : WorldState → WorldState
 shape_of world = record {
+  order = world.order;
   topics = world.topics;
   timers = map timer_shape world.timers;
   queues = map queue_shape world.queues;

@@ -136,16 +136,17 @@ abbrev pub new_action_clients : GraphData → ℕ → List EntityNo → List Act
 new_action_clients graph place [] = []
 new_action_clients graph place (number ∷ numbers) = action_client_for place number (entity_at graph number) ∷ new_action_clients graph (suc place) numbers
 
--- the world of a graph before its first round
-abbrev pub first_world : GraphData → WorldState
-first_world graph = record {
-  topics = map (new_topic graph) (entities_where is_topic graph);
-  timers = map (new_timer graph) (entities_where is_timer graph);
-  queues = map (new_queue graph) (filter (λ waitable. takes_from_queue waitable.kind) (wait_set graph));
-  servers = map (new_server graph) (entities_where is_server graph);
-  clients = map (new_client graph) (entities_where is_client graph);
-  action_clients = new_action_clients graph 0 (entities_where is_action_client graph);
-  variables = replicate (length graph.groups) zeros;
+-- the world of a plan before its first round
+abbrev pub first_world : PlanData → WorldState
+first_world plan = record {
+  order = plan.order;
+  topics = map (new_topic plan.graph) (entities_where is_topic plan.graph);
+  timers = map (new_timer plan.graph) (entities_where is_timer plan.graph);
+  queues = map (new_queue plan.graph) (filter (λ waitable. takes_from_queue waitable.kind) (wait_set plan.graph));
+  servers = map (new_server plan.graph) (entities_where is_server plan.graph);
+  clients = map (new_client plan.graph) (entities_where is_client plan.graph);
+  action_clients = new_action_clients plan.graph 0 (entities_where is_action_client plan.graph);
+  variables = replicate (length plan.graph.groups) zeros;
   lines = [];
 }
 
@@ -219,7 +220,7 @@ finish number world = add_lines (closing_lines number world) world
 
 -- the world after the last round, its transcript closed
 abbrev pub last_world : PlanData → WorldState
-last_world plan = finish (length plan.moments) (rounds plan 1 plan.moments (first_world plan.graph))
+last_world plan = finish (length plan.moments) (rounds plan 1 plan.moments (first_world plan))
 
 -- the transcript of a plan
 abbrev pub lines_of : PlanData → List Line

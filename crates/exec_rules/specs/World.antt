@@ -6,6 +6,7 @@ use Rattle.exec_goal.specs.Table.{GoalRecord, holds_id, is_full}
 use Rattle.exec_msg.specs.Numbers.{EntityNo, GoalId}
 use Rattle.exec_script.specs.Instruction.{Script}
 use Rattle.exec_plan.specs.Graph.{GroupNo}
+use Rattle.exec_plan.specs.declared.order.Order.{Order}
 use Rattle.exec_msg.specs.KeepLast.{sent, displaced}
 use Rattle.exec_msg.specs.Kind.{ready_number}
 use Rattle.exec_msg.specs.Lists.{change_first}
@@ -85,10 +86,11 @@ pub record ActionClientEntry : Type 0 where
   pub asks : Bool
   pub goals : ℕ
 
--- the world: topics, timers, queues in ready order, servers, service clients and action clients, each of the others in the
--- order of declaration; the variables of each callback group (no callback of a reentrant group reads or writes its own); and
+-- the world: the order in which ready callbacks are run; topics, timers, queues in the order of their kinds, servers, service
+-- clients and action clients, each of the others in the order of declaration; the variables of each callback group (no callback of a reentrant group reads or writes its own); and
 -- the lines so far
 pub record WorldState : Type 0 where
+  pub order : Order
   pub topics : List TopicEntry
   pub timers : List TimerEntry
   pub queues : List Queue

@@ -35,5 +35,5 @@ pub fn rounds_follow_one_another()
 /// In each ready list an entity has at most one callback of each kind but poll.
 pub fn an_entity_has_one_callback_of_a_kind()
     ensures { (plan : PlanData) (number : ℕ) (moments : List ℕ) (next moment entity : ℕ) (of : Kind) → of ≢ kind.Poll →
-        length (filter (is_callback_of entity of) (ready_list moment (at_snapshot plan next moment (rounds plan number moments (first_world plan.graph))))) ≤ 1 }
+        length (filter (is_callback_of entity of) (ready_list moment (at_snapshot plan next moment (rounds plan number moments (first_world plan))))) ≤ 1 }
 {}

@@ -1,3 +1,4 @@
+mod Begun
 pub mod Committed
 pub mod Giving
 pub mod Grouped

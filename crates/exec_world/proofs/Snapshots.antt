@@ -7,12 +7,13 @@ use Rattle.exec_goal.specs.Table.{GoalRecord}
 use Rattle.exec_msg.specs.Numbers.{EntityNo, Moment}
 use Rattle.exec_queue.proofs.Filled.{given_each}
 use Rattle.exec_rules.proofs.Listing.{listed_more}
-use Rattle.exec_rules.specs.Ready.{answered_by_first, due_ready, item_ready, placed_from, poll_ready, queue_ready, queues_before_polls, queues_behind_polls, ready_list, reply_taken}
+use Rattle.exec_rules.specs.Ready.{answered_by_first, due_ready, item_ready, placed_from, poll_ready, queue_ready, reply_taken}
+use Rattle.exec_rules.specs.inner.ByKind as by_kind
+use Rattle.exec_rules.specs.inner.ByKind.{listed_by_kind, queues_before_polls, queues_behind_polls}
 use Rattle.exec_rules.specs.World.{ClientEntry, Handler, Queue, ServerEntry, TimerEntry, WorldState}
 use Rattle.exec_rules.specs.declared.item.Item.{Item}
 use Rattle.exec_rules.specs.declared.item.Item.TheVariants as item
 use Rattle.exec_rules.specs.declared.ready.Ready.{Ready}
-use Rattle.exec_rules.specs.inner.Awake as awake
 use Rattle.exec_rules.specs.inner.Listing.{listed_behind}
 use Rattle.exec_world.specs.inner.Mail.{MailState, mail_of}
 use Rattle.exec_rules.specs.inner.Places.{places_from, places_where}
@@ -126,23 +127,23 @@ module _ {inner held : WorldState} (same : inner ≡ held) (read : List Queue) (
 -- what is ready before polls, listed part by part
 pub first_listed : {inner held : WorldState} (due : List TimerEntry) (moment : Moment) (list with_due with_before : List Ready)
     → inner ≡ held → due ≡ inner.timers → list ≡ [] → with_due ≡ listed_behind list (flat_map (due_ready moment) due)
-    → with_before ≡ listed_behind with_due (flat_map (queue_ready moment inner) (queues_before_polls inner)) → with_before ≡ placed_from 1 (awake.ready_before moment held)
+    → with_before ≡ listed_behind with_due (flat_map (queue_ready moment inner) (queues_before_polls inner)) → with_before ≡ placed_from 1 (by_kind.ready_before moment held)
 first_listed {inner} {held} due moment list with_due with_before same reads clear is_due is_before =
     is_before
     ∙ ap (λ (so_far : List Ready). listed_behind so_far (flat_map (queue_ready moment inner) (queues_before_polls inner)))
     (is_due ∙ (λ k. listed_behind (clear k) (flat_map (due_ready moment) (reads k))))
     ∙ listed_more [] (flat_map (due_ready moment) inner.timers) (flat_map (queue_ready moment inner) (queues_before_polls inner))
-    ∙ ap (λ (world : WorldState). placed_from 1 (awake.ready_before moment world)) same
+    ∙ ap (λ (world : WorldState). placed_from 1 (by_kind.ready_before moment world)) same
 
 -- the whole list, the part behind polls in a world that has other timers and clients
 pub all_listed : (held : WorldState) {second : WorldState} (timers : List TimerEntry) (clients : List ClientEntry) (servers : List ServerEntry) (moment : Moment) (with_before with_polls whole : List Ready)
-    → second ≡ record held { timers = timers; clients = clients } → servers ≡ second.servers → with_before ≡ placed_from 1 (awake.ready_before moment held)
+    → second ≡ record held { timers = timers; clients = clients } → servers ≡ second.servers → with_before ≡ placed_from 1 (by_kind.ready_before moment held)
     → with_polls ≡ listed_behind with_before (flat_map (poll_ready moment) servers)
-    → whole ≡ listed_behind with_polls (flat_map (queue_ready moment second) (queues_behind_polls second)) → whole ≡ ready_list moment held
+    → whole ≡ listed_behind with_polls (flat_map (queue_ready moment second) (queues_behind_polls second)) → whole ≡ listed_by_kind moment held
 all_listed held timers clients servers moment with_before with_polls whole later there is_before is_polls is_whole =
-    let before : List Ready = awake.ready_before moment held in
+    let before : List Ready = by_kind.ready_before moment held in
     let polls : List Ready = flat_map (poll_ready moment) held.servers in
-    let behind : List Ready = awake.ready_behind moment held in
+    let behind : List Ready = by_kind.ready_behind moment held in
     is_whole
     ∙ (λ i. listed_behind
     ((is_polls ∙ (λ j. listed_behind (is_before j) (flat_map (poll_ready moment) ((there ∙ ap (λ (world : WorldState). world.servers) later) j)))) i)

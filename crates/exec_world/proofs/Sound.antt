@@ -9,81 +9,98 @@ use Rattle.std.proofs.lemmas.Bool.{and_parts, eqb-true, eq-eqb}
 use Rattle.exec_goal.specs.State.{is_canceling, is_worked_on}
 use Rattle.exec_goal.specs.Table.{GoalRecord}
 use Rattle.exec_msg.specs.Numbers.{EntityNo, GoalId, Moment}
-use Rattle.exec_plan.specs.Graph.{GraphData, is_server}
-use Rattle.exec_plan.specs.Plan.{Feed}
+use Rattle.exec_plan.specs.Graph.{is_server, wait_set}
+use Rattle.exec_plan.specs.Plan.{Feed, PlanData}
 use Rattle.exec_msg.specs.Lists.{change_first}
 use Rattle.exec_msg.specs.Timer.{is_due}
 use Rattle.exec_msg.specs.declared.line.Line.TheVariants as line
-use Rattle.exec_rules.proofs.Identifiers.{HasDistinct, Makes, distinct_kept, first_distinct, ids_left}
+use Rattle.exec_rules.proofs.ByKind.{listed, queues_rise, rounded, taken}
+use Rattle.exec_rules.proofs.Identifiers.{HasDistinct, eq_turned, Makes, distinct_kept, first_distinct, ids_left}
 use Rattle.exec_rules.proofs.Keeping.{Kept, feed_keeps, ids, moves_kept, publish_kept, push_kept}
 use Rattle.exec_rules.proofs.Pairs.{Pairs, across, all_append, all_flat, all_mapped, all_weaker, all_passed, pairs_append, pairs_all, pairs_filter, pairs_map, pairs_unmapped}
-use Rattle.exec_rules.proofs.ReadyLists.{all_ready}
+use Rattle.exec_rules.proofs.OfKinds.{kinds_first, kinds_kept}
+use Rattle.exec_rules.proofs.ReadyLists.{all_listed}
+use Rattle.exec_rules.proofs.Sorting.{pairs_sorted}
 use Rattle.exec_rules.proofs.Running.{KeptByRounds, run_all_keeps}
 use Rattle.exec_rules.proofs.Shapes.{part_changed, shape_kept}
 use Rattle.exec_rules.proofs.Wiring.{NumbersApart, numbers_apart, wired}
 use Rattle.exec_rules.specs.Calls.{AreHome, IsHomeFor, polls_same, polls_same_of, wakes}
 use Rattle.exec_rules.specs.Shape.{server_shape, shape_of}
-use Rattle.exec_rules.specs.Ready.{due_ready, is_goal_awake, is_task_awake, item_ready, poll_ready, placed_from, queue_ready, queues_before_polls, queues_behind_polls, ready_for, ready_list, take_inputs, turn_at, woken}
-use Rattle.exec_rules.specs.Transcript.{expire, feed, first_world, snapshot_and_run}
+use Rattle.exec_rules.specs.Ready.{due_ready, is_goal_awake, is_task_awake, item_ready, poll_ready, placed_from, queue_ready, rank_under, ready_for, ready_list, take_inputs, turn_at, woken}
+use Rattle.exec_rules.specs.Sorting.{sorted_by}
+use Rattle.exec_rules.specs.Transcript.{expire, feed, first_world, snapshot_and_run, takes_from_queue}
 use Rattle.exec_rules.specs.World.{GoalWork, HeldGoal, Queue, ServerEntry, TimerEntry, WorldState, add_line, goals_of, is_for, is_server_at, with_work}
 use Rattle.exec_rules.specs.declared.item.Item.{Item}
 use Rattle.exec_rules.specs.declared.item.Item.TheVariants as item
 use Rattle.exec_rules.specs.declared.ready.Cause.{Cause}
 use Rattle.exec_rules.specs.declared.ready.Cause.TheVariants as cause
 use Rattle.exec_rules.specs.declared.ready.Ready.{Ready}
+use Rattle.exec_rules.specs.inner.ByKind.{listed_by_kind, round_by_kind, taken_by_kind}
 use Rattle.exec_world.specs.inner.Sound.{IsSound}
 
 -- ---- what is kept
 
-module _ (graph : GraphData) where
-  shapes : KeptByRounds (λ world. shape_of world ≡ shape_of (first_world graph))
-  shapes = shape_kept (shape_of (first_world graph))
+module _ (plan : PlanData) where
+  shapes : KeptByRounds (λ world. shape_of world ≡ shape_of (first_world plan))
+  shapes = shape_kept (shape_of (first_world plan))
 
-  basic_sound : Kept (IsSound graph)
+  basic_sound : Kept (IsSound plan)
   basic_sound = record {
-    lines_kept = λ lines world p. record { shape = shapes.basic.lines_kept lines world p.shape; identifiers = distinct_kept.basic.lines_kept lines world p.identifiers };
-    queues_kept = λ entity new world p. record { shape = shapes.basic.queues_kept entity new world p.shape; identifiers = distinct_kept.basic.queues_kept entity new world p.identifiers };
-    goals_kept = λ server change world same p. record { shape = shapes.basic.goals_kept server change world same p.shape; identifiers = distinct_kept.basic.goals_kept server change world same p.identifiers };
-    tasks_kept = λ server id task world p. record { shape = shapes.basic.tasks_kept server id task world p.shape; identifiers = distinct_kept.basic.tasks_kept server id task world p.identifiers };
-    calls_kept = λ client world p. record { shape = shapes.basic.calls_kept client world p.shape; identifiers = distinct_kept.basic.calls_kept client world p.identifiers };
-    sending_kept = λ client world p. record { shape = shapes.basic.sending_kept client world p.shape; identifiers = distinct_kept.basic.sending_kept client world p.identifiers };
-    variables_kept = λ group variables world p. record { shape = shapes.basic.variables_kept group variables world p.shape; identifiers = distinct_kept.basic.variables_kept group variables world p.identifiers };
+    lines_kept = λ lines world p. record { shape = shapes.basic.lines_kept lines world p.shape; kinds = kinds_kept.basic.lines_kept lines world p.kinds; identifiers = distinct_kept.basic.lines_kept lines world p.identifiers };
+    queues_kept = λ entity new world p. record { shape = shapes.basic.queues_kept entity new world p.shape; kinds = kinds_kept.basic.queues_kept entity new world p.kinds; identifiers = distinct_kept.basic.queues_kept entity new world p.identifiers };
+    goals_kept = λ server change world same p. record { shape = shapes.basic.goals_kept server change world same p.shape; kinds = kinds_kept.basic.goals_kept server change world same p.kinds; identifiers = distinct_kept.basic.goals_kept server change world same p.identifiers };
+    tasks_kept = λ server id task world p. record { shape = shapes.basic.tasks_kept server id task world p.shape; kinds = kinds_kept.basic.tasks_kept server id task world p.kinds; identifiers = distinct_kept.basic.tasks_kept server id task world p.identifiers };
+    calls_kept = λ client world p. record { shape = shapes.basic.calls_kept client world p.shape; kinds = kinds_kept.basic.calls_kept client world p.kinds; identifiers = distinct_kept.basic.calls_kept client world p.identifiers };
+    sending_kept = λ client world p. record { shape = shapes.basic.sending_kept client world p.shape; kinds = kinds_kept.basic.sending_kept client world p.kinds; identifiers = distinct_kept.basic.sending_kept client world p.identifiers };
+    variables_kept = λ group variables world p. record { shape = shapes.basic.variables_kept group variables world p.shape; kinds = kinds_kept.basic.variables_kept group variables world p.kinds; identifiers = distinct_kept.basic.variables_kept group variables world p.identifiers };
   }
 
   -- a round, a snapshot and what is given to the world keep it
-  pub sound : KeptByRounds (IsSound graph)
+  pub sound : KeptByRounds (IsSound plan)
   sound = record {
     basic = basic_sound;
-    accepts_kept = λ server moment decision request world room p. record { shape = shapes.accepts_kept server moment decision request world room p.shape; identifiers = distinct_kept.accepts_kept server moment decision request world room p.identifiers };
-    expiry_kept = λ moment world p. record { shape = shapes.expiry_kept moment world p.shape; identifiers = distinct_kept.expiry_kept moment world p.identifiers };
-    snapshot_kept = λ moment world p. record { shape = shapes.snapshot_kept moment world p.shape; identifiers = distinct_kept.snapshot_kept moment world p.identifiers };
+    accepts_kept = λ server moment decision request world room p. record { shape = shapes.accepts_kept server moment decision request world room p.shape; kinds = kinds_kept.accepts_kept server moment decision request world room p.kinds; identifiers = distinct_kept.accepts_kept server moment decision request world room p.identifiers };
+    expiry_kept = λ moment world p. record { shape = shapes.expiry_kept moment world p.shape; kinds = kinds_kept.expiry_kept moment world p.kinds; identifiers = distinct_kept.expiry_kept moment world p.identifiers };
+    snapshot_kept = λ moment world p. record { shape = shapes.snapshot_kept moment world p.shape; kinds = kinds_kept.snapshot_kept moment world p.kinds; identifiers = distinct_kept.snapshot_kept moment world p.identifiers };
   }
 
   -- the first world is so
-  pub first_sound : IsSound graph (first_world graph)
-  first_sound = record { shape = refl; identifiers = first_distinct graph }
+  pub first_sound : IsSound plan (first_world plan)
+  first_sound = record { shape = refl; kinds = kinds_first plan.graph (filter (λ waitable. takes_from_queue waitable.kind) (wait_set plan.graph)); identifiers = first_distinct plan }
 
   lending : (id : GoalId) (work : Option GoalWork) → Makes (λ entry. record entry { held = change_first (is_for id) (λ held. record held { work = work }) entry.held }) (λ goals. goals)
   lending id work = record { stays = λ entry. refl; makes = λ entry. refl }
 
   -- a task that goes out or comes home keeps it
-  pub lent_sound : (server : EntityNo) (id : GoalId) (work : Option GoalWork) (world : WorldState) → IsSound graph world → IsSound graph (with_work server id work world)
+  pub lent_sound : (server : EntityNo) (id : GoalId) (work : Option GoalWork) (world : WorldState) → IsSound plan world → IsSound plan (with_work server id work world)
   lent_sound server id work world p = record {
     shape = ap (λ (servers : List ServerEntry). record (shape_of world) { servers = servers }) (part_changed server_shape (is_server_at server) _ (λ entry. refl) world.servers) ∙ p.shape;
+    kinds = p.kinds;
     identifiers = λ one. subst (λ (some : List GoalId). IsDistinct (λ first second. first == second) some) (sym (ids_left (lending id work) (λ goals. refl) one server world.servers)) (p.identifiers one);
   }
 
   -- a round that begins keeps it
-  pub fed_sound : (number : ℕ) (moment : Moment) (fed : List Feed) (world : WorldState) → IsSound graph world → IsSound graph (feed fed (expire moment (add_line (line.Round number moment) world)))
-  fed_sound number moment fed world p = feed_keeps (moves_kept sound.basic) (publish_kept {P = IsSound graph} (λ entity value before q. push_kept sound.basic entity (item.Message value) before q)) fed _ (sound.expiry_kept moment _ (sound.basic.lines_kept (line.Round number moment ∷ []) world p))
+  pub fed_sound : (number : ℕ) (moment : Moment) (fed : List Feed) (world : WorldState) → IsSound plan world → IsSound plan (feed fed (expire moment (add_line (line.Round number moment) world)))
+  fed_sound number moment fed world p = feed_keeps (moves_kept sound.basic) (publish_kept {P = IsSound plan} (λ entity value before q. push_kept sound.basic entity (item.Message value) before q)) fed _ (sound.expiry_kept moment _ (sound.basic.lines_kept (line.Round number moment ∷ []) world p))
 
-  pub begun_sound : (number : ℕ) (moment : Moment) (fed : List Feed) (world : WorldState) → IsSound graph world → IsSound graph (take_inputs moment (feed fed (expire moment (add_line (line.Round number moment) world))))
+  pub begun_sound : (number : ℕ) (moment : Moment) (fed : List Feed) (world : WorldState) → IsSound plan world → IsSound plan (take_inputs moment (feed fed (expire moment (add_line (line.Round number moment) world))))
   begun_sound number moment fed world p = sound.snapshot_kept moment _ (fed_sound number moment fed world p)
 
-  pub round_sound : (number : ℕ) (moment : Moment) (fed : List Feed) (world : WorldState) → IsSound graph world → IsSound graph (snapshot_and_run moment (feed fed (expire moment (add_line (line.Round number moment) world))))
+  pub round_sound : (number : ℕ) (moment : Moment) (fed : List Feed) (world : WorldState) → IsSound plan world → IsSound plan (snapshot_and_run moment (feed fed (expire moment (add_line (line.Round number moment) world))))
   round_sound number moment fed world p =
       let before : WorldState = feed fed (expire moment (add_line (line.Round number moment) world)) in
       run_all_keeps sound (ready_list moment before) (take_inputs moment before) (begun_sound number moment fed world p)
+
+-- a sound world's snapshot is the one by kinds
+module _ (plan : PlanData) (moment : Moment) (world : WorldState) (p : IsSound plan world) where
+  pub sound_listed : ready_list moment world ≡ listed_by_kind moment world
+  sound_listed = listed moment world p.kinds (queues_rise plan world p.shape)
+
+  pub sound_taken : take_inputs moment world ≡ taken_by_kind moment world
+  sound_taken = taken moment world p.kinds
+
+  pub sound_rounded : snapshot_and_run moment world ≡ round_by_kind moment world
+  sound_rounded = rounded moment world p.kinds (queues_rise plan world p.shape)
 
 -- what is told of a call that wasn't refused
 pub not_refused : {A E : Type 0} (result : Result A E) (fact : Type 0) → is_err result ≡ false → OnOk result fact → fact
@@ -267,29 +284,36 @@ home_taken moment world server cause.Due home = home
 home_taken moment world server (cause.Took taken) home = home
 home_taken moment world server (cause.Woke id value canceling) home = home
 
+-- two callbacks poll one goal, whichever is named first
+apart_turned : (one other : Ready) → Apart one other → Apart other one
+apart_turned one other apart = by one.cause other.cause refl refl apart
+  where
+    by : (why because : Cause) → one.cause ≡ why → other.cause ≡ because → polls_same_of one.entity why other ≡ false → polls_same_of other.entity because one ≡ false
+    by why cause.Due e f p = refl
+    by why (cause.Took taken) e f p = refl
+    by cause.Due (cause.Woke id value canceling) e f p = rw e refl
+    by (cause.Took taken) (cause.Woke id value canceling) e f p = rw e refl
+    by (cause.Woke first value canceling) (cause.Woke second more moved) e f p =
+        rw e ((λ i. eq_turned second first i && eq_turned other.entity one.entity i) ∙ sym (ap (λ (c : Cause). wakes first c && (one.entity == other.entity)) f) ∙ p)
+
 -- the tasks of the goals that a snapshot's callbacks poll are at home
-pub snapshot_home : (graph : GraphData) (moment : Moment) (world : WorldState) → IsSound graph world → AreHome (ready_list moment world) (take_inputs moment world)
-snapshot_home graph moment world p =
+pub snapshot_home : (plan : PlanData) (moment : Moment) (world : WorldState) → IsSound plan world → AreHome (ready_list moment world) (take_inputs moment world)
+snapshot_home plan moment world p =
     let apart : Pairs ServersApart world.servers =
-    pairs_unmapped NumbersApart (λ entry. entry.handler.entity) world.servers (subst (λ (numbers : List EntityNo). Pairs NumbersApart numbers) (sym (wired graph world p.shape).listed) (numbers_apart is_server 0 graph.entities)) in
+    pairs_unmapped NumbersApart (λ entry. entry.handler.entity) world.servers (subst (λ (numbers : List EntityNo). Pairs NumbersApart numbers) (sym (wired plan world p.shape).listed) (numbers_apart is_server 0 plan.graph.entities)) in
     let found : AllByRecursion (IsFound world.servers) world.servers = all_found world.servers apart in
     let timers : List Ready = flat_map (due_ready moment) world.timers in
-    let before : List Ready = flat_map (queue_ready moment world) (queues_before_polls world) in
+    let took : List Ready = flat_map (queue_ready moment world) world.queues in
     let polls : List Ready = flat_map (poll_ready moment) world.servers in
-    let behind : List Ready = flat_map (queue_ready moment world) (queues_behind_polls world) in
-    let none : AllByRecursion PollsNone (timers ++ before) =
-    all_append PollsNone timers before (all_flat PollsNone (due_ready moment) (due_none moment) world.timers) (all_flat PollsNone (queue_ready moment world) (taken_none moment world) (queues_before_polls world)) in
-    let none_behind : AllByRecursion PollsNone behind = all_flat PollsNone (queue_ready moment world) (taken_none moment world) (queues_behind_polls world) in
+    let none_due : AllByRecursion PollsNone timers = all_flat PollsNone (due_ready moment) (due_none moment) world.timers in
+    let none_taken : AllByRecursion PollsNone took = all_flat PollsNone (queue_ready moment world) (taken_none moment world) world.queues in
+    let none : AllByRecursion PollsNone (timers ++ took) = all_append PollsNone timers took none_due none_taken in
     let homes : (list : List Ready) → AllByRecursion PollsNone list → AllByRecursion (HasHome moment world) list = λ list p. all_weaker PollsNone (HasHome moment world) (home_without world) list p in
-    let pairs : (list : List Ready) → AllByRecursion PollsNone list → Pairs Apart list = λ list p. pairs_all PollsNone Apart (λ one other q r. none_with one other q) list p in
     record {
       home = all_weaker (HasHome moment world) (HasHome moment (take_inputs moment world)) (λ one home. home_taken moment world one.entity one.cause home) (ready_list moment world)
-          (all_ready (HasHome moment world) (λ place one q. q) moment world
-          (homes timers (all_flat PollsNone (due_ready moment) (due_none moment) world.timers))
-          (λ test. homes (flat_map (queue_ready moment world) (filter test world.queues)) (all_flat PollsNone (queue_ready moment world) (taken_none moment world) (filter test world.queues)))
-          (all_home moment world world.servers found));
-      apart = distinct_of (ready_list moment world) (placed_apart 1 (timers ++ before ++ polls ++ behind)
-          (pairs_append Apart (timers ++ before ++ polls) behind
-          (pairs_append Apart (timers ++ before) polls (pairs (timers ++ before) none) (all_polls_apart moment world world.servers apart (goals_own moment world world.servers p.identifiers found)) (none_against (timers ++ before) polls none))
-          (pairs behind none_behind) (all_against PollsNone (timers ++ before ++ polls) behind with_none none_behind)));
+          (all_listed (HasHome moment world) (λ place one q. q) moment world (homes timers none_due) (homes took none_taken) (all_home moment world world.servers found));
+      apart = distinct_of (ready_list moment world) (placed_apart 1 (sorted_by (rank_under world.order) (timers ++ took ++ polls))
+          (pairs_sorted Apart (rank_under world.order) (timers ++ took ++ polls) apart_turned
+          (pairs_append Apart (timers ++ took) polls (pairs_all PollsNone Apart (λ one other q r. none_with one other q) (timers ++ took) none)
+          (all_polls_apart moment world world.servers apart (goals_own moment world world.servers p.identifiers found)) (none_against (timers ++ took) polls none))));
     }

@@ -1,8 +1,10 @@
-//! The parts of the first world of a graph.
-ghost use Rattle.std.specs.Prelude.{◌≡◌, ◌<◌, ◌^◌, ◌++◌, [], false, true, length, map, IsTrue, OnOk, IfOk};
+//! The parts of the first world of a plan.
+ghost use Rattle.std.specs.Prelude.{◌≡◌, ◌<◌, ◌^◌, ◌++◌, [], false, true, length, map, replicate, IsTrue, OnOk, IfOk};
+ghost use Rattle.std.specs.List.{filter};
+ghost use Rattle.exec_script.specs.Zeros.{zeros};
 ghost use Rattle.exec_plan.specs.Entity.{is_within};
-ghost use Rattle.exec_plan.specs.Graph.{callback_script, cons_if, entities_where, has_kind, in_group, is_action_client, is_client, is_exclusive, is_server, is_timer, is_topic, of_entity};
-ghost use Rattle.exec_rules.specs.Transcript.{as_entity, first_world, new_topic, subscribes_to, takes_from_queue, action_client_for, client_for, queue_for, server_for, timer_for};
+ghost use Rattle.exec_plan.specs.Graph.{callback_script, cons_if, entities_where, has_kind, in_group, is_action_client, is_client, is_exclusive, is_server, is_timer, is_topic, of_entity, wait_set};
+ghost use Rattle.exec_rules.specs.Transcript.{as_entity, new_action_clients, new_client, new_queue, new_server, new_timer, new_topic, subscribes_to, takes_from_queue, action_client_for, client_for, queue_for, server_for, timer_for};
 ghost use Rattle.exec_world.specs.inner.Parts.{new_queue_of, queues_of};
 
 use crate::callback_script::callback_script;
@@ -16,7 +18,7 @@ use std::alloc::Global;
 
 // The timers of a graph, in the order of declaration.
 pub(crate) fn new_timers(alloc: Global, graph: &Graph) -> Result<Vec<EntityTimer>, Memory>
-    ensures { IfOk result (λ timers. timers.items ≡ (first_world graph.now).timers) }
+    ensures { IfOk result (λ timers. timers.items ≡ map (new_timer graph.now) (entities_where is_timer graph.now)) }
 {
     let mut timers = Vec::new(alloc);
     for number in 0..graph.len() {
@@ -60,7 +62,7 @@ fn push_timer_of(
 
 // The queues of a graph in ready order, all empty.
 pub(crate) fn new_queues(alloc: Global, graph: &Graph) -> Result<Queues, Memory>
-    ensures { IfOk result (λ queues. queues ≡ (first_world graph.now).queues) }
+    ensures { IfOk result (λ queues. queues ≡ map (new_queue graph.now) (filter (λ waitable. takes_from_queue waitable.kind) (wait_set graph.now))) }
 {
     let mut queues = Queues::new(alloc);
     for kind in Kind::IN_ORDER {
@@ -147,7 +149,7 @@ fn declare_queue_of(
 
 // The servers of a graph, in the order of declaration, none with a goal.
 pub(crate) fn new_servers(alloc: Global, graph: &Graph) -> Result<Servers, Memory>
-    ensures { IfOk result (λ servers. servers ≡ (first_world graph.now).servers) }
+    ensures { IfOk result (λ servers. servers ≡ map (new_server graph.now) (entities_where is_server graph.now)) }
 {
     let mut servers = Servers::new(alloc);
     for number in 0..graph.len() {
@@ -197,7 +199,7 @@ fn declare_server_of(
 
 // The service clients of a graph, in the order of declaration, none with a call.
 pub(crate) fn new_clients(alloc: Global, graph: &Graph) -> Result<Clients, Memory>
-    ensures { IfOk result (λ clients. clients ≡ (first_world graph.now).clients) }
+    ensures { IfOk result (λ clients. clients ≡ map (new_client graph.now) (entities_where is_client graph.now)) }
 {
     let mut clients = Clients::new(alloc);
     for number in 0..graph.len() {
@@ -237,7 +239,7 @@ fn declare_client_of(
 
 // The action clients of a graph, in the order of declaration, each with its place among them, and none with a goal.
 pub(crate) fn new_action_clients(alloc: Global, graph: &Graph) -> Result<ActionClients, Memory>
-    ensures { IfOk result (λ clients. clients ≡ (first_world graph.now).action_clients) }
+    ensures { IfOk result (λ clients. clients ≡ new_action_clients graph.now 0 (entities_where is_action_client graph.now)) }
 {
     let mut clients = ActionClients::new(alloc);
     for number in 0..graph.len() {
@@ -279,7 +281,7 @@ fn declare_action_client_of(
 
 // The topics of a graph, in the order of declaration, each with its subscriptions.
 pub(crate) fn new_topics(alloc: Global, graph: &Graph) -> Result<Topics, Memory>
-    ensures { IfOk result (λ topics. topics ≡ (first_world graph.now).topics) }
+    ensures { IfOk result (λ topics. topics ≡ map (new_topic graph.now) (entities_where is_topic graph.now)) }
 {
     let mut topics = Topics::new(alloc);
     for number in 0..graph.len() {
@@ -356,7 +358,7 @@ fn subscribes_to(is: &EntityOf<EntityNo, Script>, topic: EntityNo) -> bool
 
 // The variables of each callback group.
 pub(crate) fn new_banks(alloc: Global, graph: &Graph) -> Result<Vec<Bank>, Memory>
-    ensures { IfOk result (λ banks. banks.items ≡ (first_world graph.now).variables) }
+    ensures { IfOk result (λ banks. banks.items ≡ replicate (length graph.now.groups) zeros) }
 {
     let mut banks = Vec::new(alloc);
     for _ in 0..graph.groups().len() {

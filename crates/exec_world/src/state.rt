@@ -14,18 +14,19 @@ use crate::first_world::{
 use crate::mail::Mail;
 use exec_entity::{ActionClients, Clients, Servers, Topics};
 use exec_msg::{Line, Lines, Memory};
-use exec_plan::{Graph, GroupNo};
+use exec_plan::{GroupNo, Order, Plan};
 use exec_queue::EntityTimer;
 use exec_rules::AwakeGoal;
 use exec_script::Bank;
 use std::alloc::Global;
 use std::marker::Model;
 
-// The world of a graph: its topics, timers, queues, servers and clients, the variables of its callback groups, and the lines
+// The world of a plan: the order in which ready callbacks are run; topics, timers, queues, servers and clients, the variables of its callback groups, and the lines
 // so far.
 #[derive(Drop)]
 pub(crate) struct State<L: Lines> {
     alloc: Global,
+    order: Order,
     topics: Topics,
     timers: Vec<EntityTimer>,
     servers: Servers,
@@ -45,6 +46,7 @@ impl<L: Lines> Model for State<L> {
     ghost Value = { WorldState };
 
     ghost view = { λ state. record {
+      order = state.order;
       topics = state.topics;
       timers = state.timers.items;
       queues = state.mail.queues;
@@ -61,13 +63,15 @@ impl<L: Lines> State<L> {
     ghost use Rattle.exec_rules.specs.Transcript.{first_world};
     ghost use Rattle.exec_rules.specs.World.{add_line, variables_of, with_variables};
 
-    // The world of a graph before its first round, with no lines yet.
-    pub(crate) fn new(alloc: Global, graph: &Graph, lines: L) -> Result<State<L>, Memory>
+    // The world of a plan before its first round, with no lines yet.
+    pub(crate) fn new(alloc: Global, plan: &Plan, lines: L) -> Result<State<L>, Memory>
         requires { L.lines lines ≡ [] }
-        ensures { IfOk result (λ state. state ≡ first_world graph.now) }
+        ensures { IfOk result (λ state. state ≡ first_world plan.now) }
     {
+        let graph = plan.graph();
         Ok(State {
             alloc,
+            order: plan.order(),
             topics: new_topics(alloc, graph)?,
             timers: new_timers(alloc, graph)?,
             servers: new_servers(alloc, graph)?,

@@ -44,7 +44,7 @@ impl<L: Lines> Model for World<L> {
 
     ghost view = { λ world. record { plan = arc_value world.plan; state = world.state; rounds = rounds_in world.round world.left; left = world.left; failed = world.failed } };
 
-    ghost invariant = { λ world. (world.feed ≡ feeds_by_round (arc_value world.plan)) × (length world.feed ≡ length (arc_value world.plan).moments) × HasBegun world.round world.left × (world.failed ≡ false → IsSound (arc_value world.plan).graph world.state) };
+    ghost invariant = { λ world. (world.feed ≡ feeds_by_round (arc_value world.plan)) × (length world.feed ≡ length (arc_value world.plan).moments) × HasBegun world.round world.left × (world.failed ≡ false → IsSound (arc_value world.plan) world.state) };
 }
 
 impl World<LineList> {
@@ -90,7 +90,7 @@ impl<L: Lines> World<L> {
     {
         let feed = FeedByRound::of(alloc, &plan)?;
         let poller = Poller::new(alloc)?;
-        let state = State::new(alloc, plan.graph(), lines)?;
+        let state = State::new(alloc, &plan, lines)?;
         Ok(World {
             alloc,
             plan,
@@ -285,7 +285,8 @@ impl<L: Lines> World<L> {
     }
 
     fn run_round(&mut self, round: usize) -> Result<(), Memory>
-        requires { IsNext round self.old }
+        requires unfailed { self.old.failed ≡ false }
+        requires next { IsNext round self.old }
         ensures { OnOk result (self.new ≡ after_round round self.old) }
     {
         let moment = self.plan.moments()[round - 1];

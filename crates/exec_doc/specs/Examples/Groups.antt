@@ -5,6 +5,7 @@ use Rattle.exec_plan.specs.Graph.{in_group}
 use Rattle.exec_plan.specs.declared.entity.Declared.TheVariants.{Topic}
 use Rattle.exec_plan.specs.declared.entity.EntityOf.TheVariants.{Timer, Server}
 use Rattle.exec_plan.specs.Plan.{PlanData}
+use Rattle.exec_plan.specs.declared.order.Order.TheVariants as order
 use Rattle.exec_plan.specs.declared.plan.FedOf.TheVariants.{Message, Goal}
 use Rattle.exec_script.specs.declared.instr.Destination.TheVariants as destination
 use Rattle.exec_script.specs.Instruction as instr
@@ -40,6 +41,7 @@ many_goals = record {
         ∷ record { name = codes "a"; is = in_group 3 (Server (record { depth = 10; result_timeout = None; on_goal = instr.Decide (value 2) ∷ []; on_cancel = []; script = instr.Set (destination.Register 0) operation.Sub (value 20) operand.Now ∷ instr.Wait (operand.Register 0) ∷ instr.Succeed operand.In ∷ [] })) }
         ∷ [];
   };
+  order = order.Kind;
   moments = 1 ∷ 2 ∷ 20 ∷ [];
   feed = record { round = 1; fed = Goal 3 1 (pos 1) } ∷ [];
 }

@@ -3,6 +3,7 @@ use Rattle.std.specs.Prelude.{ℕ, List, [], ◌∷◌, codes, ◌++◌, true, N
 use Rattle.exec_plan.specs.Graph.{in_group}
 use Rattle.exec_plan.specs.declared.entity.EntityOf.TheVariants.{Service, Client}
 use Rattle.exec_plan.specs.Plan.{PlanData}
+use Rattle.exec_plan.specs.declared.order.Order.TheVariants as order
 
 -- a client of a service of a later node: services come before clients, and each node has a default group of its own
 abbrev pub across_nodes_text : List ℕ
@@ -20,6 +21,7 @@ across_nodes = record {
         ∷ record { name = codes "c"; is = in_group 0 (Client (record { service = 0; depth = 10; script = [] })) }
         ∷ [];
   };
+  order = order.Kind;
   moments = [];
   feed = [];
 }

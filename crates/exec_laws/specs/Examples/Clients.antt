@@ -3,6 +3,7 @@ use Rattle.std.specs.Prelude.{pos, List, [], ◌∷◌, codes, true, None, Some}
 use Rattle.exec_plan.specs.Graph.{in_group}
 use Rattle.exec_plan.specs.declared.entity.EntityOf.TheVariants.{Timer, Server, ActionClient}
 use Rattle.exec_plan.specs.Plan.{PlanData}
+use Rattle.exec_plan.specs.declared.order.Order.TheVariants as order
 use Rattle.exec_plan.specs.declared.plan.FedOf.TheVariants.{Goal, Cancel}
 use Rattle.exec_msg.specs.declared.goal.GoalStatus.TheVariants as status
 use Rattle.exec_msg.specs.declared.goal.ReturnCode.TheVariants as code
@@ -25,6 +26,7 @@ succeeded_while_canceling = record {
         ∷ record { name = codes "ac"; is = in_group 0 (ActionClient (record { server = 1; depth = 10; on_response = []; on_code = []; on_feedback = []; on_result = Some (instr.Log operand.In ∷ []) })) }
         ∷ [];
   };
+  order = order.Kind;
   moments = 10 ∷ 11 ∷ 12 ∷ 13 ∷ 14 ∷ [];
   feed =
       record { round = 3; fed = Cancel 1 (goal_id 0 1) 0 }
@@ -56,6 +58,7 @@ awaited_result = record {
         ∷ record { name = codes "ac"; is = in_group 0 (ActionClient (record { server = 1; depth = 10; on_response = []; on_code = []; on_feedback = []; on_result = Some (instr.Log operand.In ∷ []) })) }
         ∷ [];
   };
+  order = order.Kind;
   moments = 10 ∷ 11 ∷ 12 ∷ 13 ∷ 14 ∷ 15 ∷ [];
   feed = [];
 }
@@ -86,6 +89,7 @@ expired_result = record {
         ∷ record { name = codes "ac"; is = in_group 0 (ActionClient (record { server = 1; depth = 10; on_response = []; on_code = []; on_feedback = []; on_result = Some (instr.Log operand.In ∷ []) })) }
         ∷ [];
   };
+  order = order.Kind;
   moments = 10 ∷ 11 ∷ 12 ∷ 13 ∷ 14 ∷ 15 ∷ [];
   feed = [];
 }
@@ -116,6 +120,7 @@ feedback = record {
         ∷ record { name = codes "ac"; is = in_group 0 (ActionClient (record { server = 1; depth = 10; on_response = []; on_code = []; on_feedback = instr.Log operand.In ∷ []; on_result = Some [] })) }
         ∷ [];
   };
+  order = order.Kind;
   moments = 10 ∷ 11 ∷ 12 ∷ 13 ∷ 14 ∷ [];
   feed = [];
 }
@@ -145,6 +150,7 @@ canceled_by_client = record {
         ∷ record { name = codes "ac"; is = in_group 0 (ActionClient (record { server = 1; depth = 10; on_response = instr.CancelAll 2 (operand.Value (pos 0)) ∷ []; on_code = instr.Log operand.Aux ∷ []; on_feedback = []; on_result = None })) }
         ∷ [];
   };
+  order = order.Kind;
   moments = 10 ∷ 11 ∷ 12 ∷ 13 ∷ 14 ∷ [];
   feed = [];
 }
@@ -171,6 +177,7 @@ deferred = record {
         ∷ record { name = codes "a"; is = in_group 0 (Server (record { depth = 10; result_timeout = None; on_goal = instr.Decide (operand.Value (pos 3)) ∷ []; on_cancel = instr.Decide (operand.Value (pos 2)) ∷ []; script = instr.Succeed (operand.Value (pos 1)) ∷ [] })) }
         ∷ [];
   };
+  order = order.Kind;
   moments = 10 ∷ 20 ∷ 30 ∷ [];
   feed =
       record { round = 1; fed = Goal 1 1 (pos 5) }

@@ -4,6 +4,7 @@ use Rattle.std.specs.Prelude.{pos, negsuc, List, [], ◌∷◌, codes, true, Non
 use Rattle.exec_plan.specs.Graph.{in_group}
 use Rattle.exec_plan.specs.declared.entity.EntityOf.TheVariants.{Timer, Server, ActionClient}
 use Rattle.exec_plan.specs.Plan.{PlanData}
+use Rattle.exec_plan.specs.declared.order.Order.TheVariants as order
 use Rattle.exec_plan.specs.declared.plan.FedOf.TheVariants.{Goal, Cancel}
 use Rattle.exec_msg.specs.declared.goal.GoalStatus.TheVariants as status
 use Rattle.exec_msg.specs.declared.goal.ReturnCode.TheVariants as code
@@ -29,6 +30,7 @@ cancel_forms = record {
         ∷ record { name = codes "k"; is = in_group 0 (ActionClient (record { server = 2; depth = 10; on_response = []; on_code = instr.Log operand.Aux ∷ instr.Log operand.In ∷ []; on_feedback = []; on_result = None })) }
         ∷ [];
   };
+  order = order.Kind;
   moments = 1 ∷ 2 ∷ 3 ∷ 4 ∷ 5 ∷ 6 ∷ 6 ∷ 7 ∷ [];
   feed = [];
 }
@@ -89,6 +91,7 @@ two_clients = record {
         ∷ record { name = codes "k"; is = in_group 1 (ActionClient (record { server = 2; depth = 10; on_response = []; on_code = instr.Log operand.In ∷ []; on_feedback = []; on_result = Some (instr.Log operand.In ∷ []) })) }
         ∷ [];
   };
+  order = order.Kind;
   moments = 2 ∷ 3 ∷ 4 ∷ 5 ∷ 6 ∷ 6 ∷ 7 ∷ 8 ∷ [];
   feed = [];
 }
@@ -157,6 +160,7 @@ accepted_anew = record {
         record { name = codes "a"; is = in_group 0 (Server (record { depth = 10; result_timeout = Some 1; on_goal = instr.Decide (operand.Value (pos 2)) ∷ []; on_cancel = instr.Decide (operand.Value (pos 2)) ∷ []; script = instr.Succeed operand.In ∷ [] })) }
         ∷ [];
   };
+  order = order.Kind;
   moments = 1 ∷ 2 ∷ 3 ∷ 3 ∷ 4 ∷ 5 ∷ [];
   feed =
       record { round = 1; fed = Goal 0 1 (pos 1) }
@@ -192,6 +196,7 @@ arithmetic = record {
         record { name = codes "t"; is = in_group 0 (Timer (record { period = 1; script = instr.Set (destination.Register 0) operation.Add (operand.Value (pos 9223372036854775807)) (operand.Value (pos 9223372036854775807)) ∷ instr.Log (operand.Register 0) ∷ instr.Set (destination.Register 0) operation.Add (operand.Value (negsuc 9223372036854775807)) (operand.Value (negsuc 0)) ∷ instr.Log (operand.Register 0) ∷ instr.Set (destination.Register 0) operation.Add (operand.Value (negsuc 9223372036854775807)) (operand.Value (pos 1)) ∷ instr.Log (operand.Register 0) ∷ instr.Set (destination.Register 0) operation.Add (operand.Value (pos 0)) (operand.Value (pos 0)) ∷ instr.Log (operand.Register 0) ∷ instr.Set (destination.Register 0) operation.Sub (operand.Value (pos 9223372036854775807)) (operand.Value (pos 9223372036854775807)) ∷ instr.Log (operand.Register 0) ∷ instr.Set (destination.Register 0) operation.Sub (operand.Value (negsuc 9223372036854775807)) (operand.Value (negsuc 0)) ∷ instr.Log (operand.Register 0) ∷ instr.Set (destination.Register 0) operation.Sub (operand.Value (negsuc 9223372036854775807)) (operand.Value (pos 1)) ∷ instr.Log (operand.Register 0) ∷ instr.Set (destination.Register 0) operation.Sub (operand.Value (pos 0)) (operand.Value (pos 0)) ∷ instr.Log (operand.Register 0) ∷ instr.Set (destination.Register 0) operation.Mul (operand.Value (pos 9223372036854775807)) (operand.Value (pos 9223372036854775807)) ∷ instr.Log (operand.Register 0) ∷ instr.Set (destination.Register 0) operation.Mul (operand.Value (negsuc 9223372036854775807)) (operand.Value (negsuc 0)) ∷ instr.Log (operand.Register 0) ∷ instr.Set (destination.Register 0) operation.Mul (operand.Value (negsuc 9223372036854775807)) (operand.Value (pos 1)) ∷ instr.Log (operand.Register 0) ∷ instr.Set (destination.Register 0) operation.Mul (operand.Value (pos 0)) (operand.Value (pos 0)) ∷ instr.Log (operand.Register 0) ∷ instr.Set (destination.Register 0) operation.Min (operand.Value (pos 9223372036854775807)) (operand.Value (pos 9223372036854775807)) ∷ instr.Log (operand.Register 0) ∷ instr.Set (destination.Register 0) operation.Min (operand.Value (negsuc 9223372036854775807)) (operand.Value (negsuc 0)) ∷ instr.Log (operand.Register 0) ∷ instr.Set (destination.Register 0) operation.Min (operand.Value (negsuc 9223372036854775807)) (operand.Value (pos 1)) ∷ instr.Log (operand.Register 0) ∷ instr.Set (destination.Register 0) operation.Min (operand.Value (pos 0)) (operand.Value (pos 0)) ∷ instr.Log (operand.Register 0) ∷ instr.Set (destination.Register 0) operation.Max (operand.Value (pos 9223372036854775807)) (operand.Value (pos 9223372036854775807)) ∷ instr.Log (operand.Register 0) ∷ instr.Set (destination.Register 0) operation.Max (operand.Value (negsuc 9223372036854775807)) (operand.Value (negsuc 0)) ∷ instr.Log (operand.Register 0) ∷ instr.Set (destination.Register 0) operation.Max (operand.Value (negsuc 9223372036854775807)) (operand.Value (pos 1)) ∷ instr.Log (operand.Register 0) ∷ instr.Set (destination.Register 0) operation.Max (operand.Value (pos 0)) (operand.Value (pos 0)) ∷ instr.Log (operand.Register 0) ∷ instr.Set (destination.Register 0) operation.Lt (operand.Value (pos 9223372036854775807)) (operand.Value (pos 9223372036854775807)) ∷ instr.Log (operand.Register 0) ∷ instr.Set (destination.Register 0) operation.Lt (operand.Value (negsuc 9223372036854775807)) (operand.Value (negsuc 0)) ∷ instr.Log (operand.Register 0) ∷ instr.Set (destination.Register 0) operation.Lt (operand.Value (negsuc 9223372036854775807)) (operand.Value (pos 1)) ∷ instr.Log (operand.Register 0) ∷ instr.Set (destination.Register 0) operation.Lt (operand.Value (pos 0)) (operand.Value (pos 0)) ∷ instr.Log (operand.Register 0) ∷ instr.Set (destination.Register 0) operation.Eq (operand.Value (pos 9223372036854775807)) (operand.Value (pos 9223372036854775807)) ∷ instr.Log (operand.Register 0) ∷ instr.Set (destination.Register 0) operation.Eq (operand.Value (negsuc 9223372036854775807)) (operand.Value (negsuc 0)) ∷ instr.Log (operand.Register 0) ∷ instr.Set (destination.Register 0) operation.Eq (operand.Value (negsuc 9223372036854775807)) (operand.Value (pos 1)) ∷ instr.Log (operand.Register 0) ∷ instr.Set (destination.Register 0) operation.Eq (operand.Value (pos 0)) (operand.Value (pos 0)) ∷ instr.Log (operand.Register 0) ∷ [] })) }
         ∷ [];
   };
+  order = order.Kind;
   moments = 1 ∷ [];
   feed = [];
 }

@@ -3,6 +3,7 @@ use Rattle.std.specs.Prelude.{pos, List, [], ◌∷◌, codes, true, None, Some}
 use Rattle.exec_plan.specs.Graph.{in_group}
 use Rattle.exec_plan.specs.declared.entity.EntityOf.TheVariants.{Server}
 use Rattle.exec_plan.specs.Plan.{PlanData}
+use Rattle.exec_plan.specs.declared.order.Order.TheVariants as order
 use Rattle.exec_plan.specs.declared.plan.FedOf.TheVariants.{Goal}
 use Rattle.exec_msg.specs.declared.goal.GoalStatus.TheVariants as status
 use Rattle.exec_msg.specs.declared.kind.Kind.TheVariants as kind
@@ -21,6 +22,7 @@ full_table = record {
         record { name = codes "a"; is = in_group 0 (Server (record { depth = 10; result_timeout = None; on_goal = instr.Decide (operand.Value (pos 3)) ∷ []; on_cancel = instr.Decide (operand.Value (pos 2)) ∷ []; script = [] })) }
         ∷ [];
   };
+  order = order.Kind;
   moments = 1 ∷ 2 ∷ 3 ∷ 4 ∷ 5 ∷ 6 ∷ 7 ∷ 8 ∷ 9 ∷ 10 ∷ 11 ∷ 12 ∷ 13 ∷ 14 ∷ 15 ∷ 16 ∷ 17 ∷ 18 ∷ 19 ∷ 20 ∷ 21 ∷ 22 ∷ 23 ∷ 24 ∷ 25 ∷ 26 ∷ 27 ∷ 28 ∷ 29 ∷ 30 ∷ 31 ∷ 32 ∷ 33 ∷ 34 ∷ 35 ∷ 36 ∷ 37 ∷ 38 ∷ 39 ∷ 40 ∷ 41 ∷ 42 ∷ 43 ∷ 44 ∷ 45 ∷ 46 ∷ 47 ∷ 48 ∷ 49 ∷ 50 ∷ 51 ∷ 52 ∷ 53 ∷ 54 ∷ 55 ∷ 56 ∷ 57 ∷ 58 ∷ 59 ∷ 60 ∷ 61 ∷ 62 ∷ 63 ∷ 64 ∷ 65 ∷ [];
   feed =
       record { round = 1; fed = Goal 0 1 (pos 1) }

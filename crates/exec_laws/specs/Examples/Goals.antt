@@ -3,6 +3,7 @@ use Rattle.std.specs.Prelude.{pos, List, [], ◌∷◌, codes, true, None, Some}
 use Rattle.exec_plan.specs.Graph.{in_group}
 use Rattle.exec_plan.specs.declared.entity.EntityOf.TheVariants.{Server}
 use Rattle.exec_plan.specs.Plan.{PlanData}
+use Rattle.exec_plan.specs.declared.order.Order.TheVariants as order
 use Rattle.exec_plan.specs.declared.plan.FedOf.TheVariants.{Goal, Cancel}
 use Rattle.exec_msg.specs.declared.goal.GoalStatus.TheVariants as status
 use Rattle.exec_msg.specs.declared.goal.ReturnCode.TheVariants as code
@@ -22,6 +23,7 @@ cancel_all = record {
         record { name = codes "a"; is = in_group 0 (Server (record { depth = 10; result_timeout = None; on_goal = instr.Decide (operand.Value (pos 3)) ∷ []; on_cancel = instr.Decide (operand.Value (pos 2)) ∷ []; script = instr.Yield ∷ [] })) }
         ∷ [];
   };
+  order = order.Kind;
   moments = 10 ∷ 20 ∷ 30 ∷ 40 ∷ [];
   feed =
       record { round = 1; fed = Goal 0 1 (pos 5) }
@@ -51,6 +53,7 @@ cancel_before = record {
         record { name = codes "a"; is = in_group 0 (Server (record { depth = 10; result_timeout = None; on_goal = instr.Decide (operand.Value (pos 3)) ∷ []; on_cancel = instr.Decide (operand.Value (pos 2)) ∷ []; script = instr.Yield ∷ [] })) }
         ∷ [];
   };
+  order = order.Kind;
   moments = 10 ∷ 20 ∷ 30 ∷ 40 ∷ [];
   feed =
       record { round = 1; fed = Goal 0 1 (pos 5) }
@@ -80,6 +83,7 @@ cancel_goal_and_before = record {
         record { name = codes "a"; is = in_group 0 (Server (record { depth = 10; result_timeout = None; on_goal = instr.Decide (operand.Value (pos 3)) ∷ []; on_cancel = instr.Decide (operand.Value (pos 2)) ∷ []; script = instr.Yield ∷ [] })) }
         ∷ [];
   };
+  order = order.Kind;
   moments = 10 ∷ 20 ∷ 30 ∷ 40 ∷ [];
   feed =
       record { round = 1; fed = Goal 0 1 (pos 5) }
@@ -109,6 +113,7 @@ cancel_unknown = record {
         record { name = codes "a"; is = in_group 0 (Server (record { depth = 10; result_timeout = None; on_goal = instr.Decide (operand.Value (pos 3)) ∷ []; on_cancel = instr.Decide (operand.Value (pos 2)) ∷ []; script = instr.Yield ∷ [] })) }
         ∷ [];
   };
+  order = order.Kind;
   moments = 10 ∷ 20 ∷ 30 ∷ 40 ∷ [];
   feed =
       record { round = 1; fed = Goal 0 1 (pos 5) }
@@ -137,6 +142,7 @@ cancel_terminated = record {
         record { name = codes "a"; is = in_group 0 (Server (record { depth = 10; result_timeout = None; on_goal = instr.Decide (operand.Value (pos 2)) ∷ []; on_cancel = instr.Decide (operand.Value (pos 2)) ∷ []; script = instr.Succeed operand.In ∷ [] })) }
         ∷ [];
   };
+  order = order.Kind;
   moments = 10 ∷ 20 ∷ 30 ∷ [];
   feed =
       record { round = 1; fed = Goal 0 1 (pos 5) }
@@ -162,6 +168,7 @@ cancel_again = record {
         record { name = codes "a"; is = in_group 0 (Server (record { depth = 10; result_timeout = None; on_goal = instr.Decide (operand.Value (pos 3)) ∷ []; on_cancel = instr.Decide (operand.Value (pos 2)) ∷ []; script = instr.Yield ∷ [] })) }
         ∷ [];
   };
+  order = order.Kind;
   moments = 10 ∷ 20 ∷ 30 ∷ [];
   feed =
       record { round = 1; fed = Goal 0 1 (pos 5) }
@@ -188,6 +195,7 @@ cancel_refused = record {
         record { name = codes "a"; is = in_group 0 (Server (record { depth = 10; result_timeout = None; on_goal = instr.Decide (operand.Value (pos 3)) ∷ []; on_cancel = instr.Decide (operand.Value (pos 1)) ∷ []; script = [] })) }
         ∷ [];
   };
+  order = order.Kind;
   moments = 10 ∷ 20 ∷ [];
   feed =
       record { round = 1; fed = Goal 0 1 (pos 5) }
@@ -212,6 +220,7 @@ cancel_unknown_refused = record {
         record { name = codes "a"; is = in_group 0 (Server (record { depth = 10; result_timeout = None; on_goal = instr.Decide (operand.Value (pos 3)) ∷ []; on_cancel = instr.Decide (operand.Value (pos 1)) ∷ []; script = [] })) }
         ∷ [];
   };
+  order = order.Kind;
   moments = 10 ∷ 20 ∷ [];
   feed =
       record { round = 1; fed = Goal 0 1 (pos 5) }
@@ -236,6 +245,7 @@ canceled = record {
         record { name = codes "a"; is = in_group 0 (Server (record { depth = 10; result_timeout = None; on_goal = instr.Decide (operand.Value (pos 3)) ∷ []; on_cancel = instr.Decide (operand.Value (pos 2)) ∷ []; script = instr.Skip operand.Aux 1 ∷ instr.Yield ∷ instr.Canceled operand.In ∷ [] })) }
         ∷ [];
   };
+  order = order.Kind;
   moments = 10 ∷ 20 ∷ 30 ∷ [];
   feed =
       record { round = 1; fed = Goal 0 1 (pos 5) }
@@ -261,6 +271,7 @@ woken_by_cancel = record {
         record { name = codes "a"; is = in_group 0 (Server (record { depth = 10; result_timeout = None; on_goal = instr.Decide (operand.Value (pos 2)) ∷ []; on_cancel = instr.Decide (operand.Value (pos 2)) ∷ []; script = instr.Wait (operand.Value (pos 100)) ∷ instr.Skip operand.Aux 1 ∷ instr.Succeed (operand.Value (pos 1)) ∷ instr.Canceled (operand.Value (pos 2)) ∷ [] })) }
         ∷ [];
   };
+  order = order.Kind;
   moments = 10 ∷ 20 ∷ 30 ∷ 40 ∷ [];
   feed =
       record { round = 1; fed = Goal 0 1 (pos 5) }
@@ -287,6 +298,7 @@ canceled_unasked = record {
         record { name = codes "a"; is = in_group 0 (Server (record { depth = 10; result_timeout = None; on_goal = instr.Decide (operand.Value (pos 2)) ∷ []; on_cancel = instr.Decide (operand.Value (pos 2)) ∷ []; script = instr.Canceled (operand.Value (pos 7)) ∷ [] })) }
         ∷ [];
   };
+  order = order.Kind;
   moments = 10 ∷ 20 ∷ [];
   feed =
       record { round = 1; fed = Goal 0 1 (pos 5) }
@@ -310,6 +322,7 @@ held_id = record {
         record { name = codes "a"; is = in_group 0 (Server (record { depth = 10; result_timeout = None; on_goal = instr.Decide (operand.Value (pos 3)) ∷ []; on_cancel = instr.Decide (operand.Value (pos 2)) ∷ []; script = [] })) }
         ∷ [];
   };
+  order = order.Kind;
   moments = 10 ∷ 20 ∷ [];
   feed =
       record { round = 1; fed = Goal 0 1 (pos 5) }

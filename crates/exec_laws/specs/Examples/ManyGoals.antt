@@ -3,6 +3,7 @@ use Rattle.std.specs.Prelude.{pos, List, [], ◌∷◌, codes, true, false, None
 use Rattle.exec_plan.specs.Graph.{in_group}
 use Rattle.exec_plan.specs.declared.entity.EntityOf.TheVariants.{Timer, Server}
 use Rattle.exec_plan.specs.Plan.{PlanData}
+use Rattle.exec_plan.specs.declared.order.Order.TheVariants as order
 use Rattle.exec_plan.specs.declared.plan.FedOf.TheVariants.{Goal}
 use Rattle.exec_msg.specs.declared.goal.GoalStatus.TheVariants as status
 use Rattle.exec_msg.specs.declared.kind.Kind.TheVariants as kind
@@ -31,6 +32,7 @@ many_goals = record {
         ∷ record { name = codes "a"; is = in_group 3 (Server (record { depth = 10; result_timeout = None; on_goal = instr.Decide (operand.Value (pos 2)) ∷ []; on_cancel = []; script = instr.Set (destination.Register 0) operation.Sub (operand.Value (pos 20)) operand.Now ∷ instr.Wait (operand.Register 0) ∷ instr.Succeed operand.In ∷ [] })) }
         ∷ [];
   };
+  order = order.Kind;
   moments = 1 ∷ 2 ∷ 3 ∷ 4 ∷ 5 ∷ 6 ∷ 7 ∷ 8 ∷ 9 ∷ 10 ∷ 11 ∷ 12 ∷ 13 ∷ 14 ∷ 15 ∷ 16 ∷ 17 ∷ 18 ∷ 19 ∷ 20 ∷ [];
   feed =
       record { round = 1; fed = Goal 3 1 (pos 1) }

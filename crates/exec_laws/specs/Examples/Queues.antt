@@ -3,6 +3,7 @@ use Rattle.std.specs.Prelude.{pos, List, [], ◌∷◌, codes, true, None, Some}
 use Rattle.exec_plan.specs.Graph.{in_group}
 use Rattle.exec_plan.specs.declared.entity.EntityOf.TheVariants.{Timer, Server, ActionClient}
 use Rattle.exec_plan.specs.Plan.{PlanData}
+use Rattle.exec_plan.specs.declared.order.Order.TheVariants as order
 use Rattle.exec_plan.specs.declared.plan.FedOf.TheVariants.{Goal}
 use Rattle.exec_msg.specs.declared.goal.GoalStatus.TheVariants as status
 use Rattle.exec_msg.specs.declared.goal.ReturnCode.TheVariants as code
@@ -28,6 +29,7 @@ full_goal_queue = record {
         ∷ record { name = codes "k2"; is = in_group 0 (ActionClient (record { server = 1; depth = 1; on_response = instr.Log operand.In ∷ []; on_code = []; on_feedback = []; on_result = None })) }
         ∷ [];
   };
+  order = order.Kind;
   moments = 0 ∷ 1 ∷ 1 ∷ 2 ∷ 2 ∷ 3 ∷ [];
   feed = [];
 }
@@ -64,6 +66,7 @@ full_cancel_queue = record {
         ∷ record { name = codes "k2"; is = in_group 0 (ActionClient (record { server = 1; depth = 1; on_response = []; on_code = instr.Log operand.In ∷ []; on_feedback = []; on_result = None })) }
         ∷ [];
   };
+  order = order.Kind;
   moments = 1 ∷ 2 ∷ 3 ∷ 4 ∷ 5 ∷ [];
   feed =
       record { round = 1; fed = Goal 1 1 (pos 1) }
@@ -106,6 +109,7 @@ full_feedback_queue = record {
         ∷ record { name = codes "k2"; is = in_group 0 (ActionClient (record { server = 1; depth = 1; on_response = []; on_code = []; on_feedback = instr.Log operand.In ∷ []; on_result = None })) }
         ∷ [];
   };
+  order = order.Kind;
   moments = 9 ∷ 10 ∷ 11 ∷ 12 ∷ 13 ∷ 14 ∷ [];
   feed = [];
 }
@@ -149,6 +153,7 @@ full_result_queue = record {
         ∷ record { name = codes "k2"; is = in_group 0 (ActionClient (record { server = 1; depth = 1; on_response = []; on_code = []; on_feedback = []; on_result = Some (instr.Log operand.In ∷ []) })) }
         ∷ [];
   };
+  order = order.Kind;
   moments = 9 ∷ 10 ∷ 11 ∷ 12 ∷ 13 ∷ 14 ∷ 15 ∷ 16 ∷ 17 ∷ [];
   feed = [];
 }

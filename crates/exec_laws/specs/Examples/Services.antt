@@ -3,6 +3,7 @@ use Rattle.std.specs.Prelude.{pos, List, [], ◌∷◌, codes, true, None}
 use Rattle.exec_plan.specs.Graph.{in_group}
 use Rattle.exec_plan.specs.declared.entity.EntityOf.TheVariants.{Timer, Service, Client}
 use Rattle.exec_plan.specs.Plan.{PlanData}
+use Rattle.exec_plan.specs.declared.order.Order.TheVariants as order
 use Rattle.exec_msg.specs.declared.kind.Kind.TheVariants as kind
 use Rattle.exec_msg.specs.declared.line.Line.{Line}
 use Rattle.exec_msg.specs.declared.line.Line.TheVariants as line
@@ -23,6 +24,7 @@ doubled = record {
         ∷ record { name = codes "c"; is = in_group 0 (Client (record { service = 1; depth = 10; script = instr.Log operand.In ∷ [] })) }
         ∷ [];
   };
+  order = order.Kind;
   moments = 5 ∷ 6 ∷ 7 ∷ [];
   feed = [];
 }
@@ -47,6 +49,7 @@ unscripted = record {
         ∷ record { name = codes "c"; is = in_group 0 (Client (record { service = 1; depth = 10; script = instr.Log operand.In ∷ [] })) }
         ∷ [];
   };
+  order = order.Kind;
   moments = 5 ∷ 6 ∷ 7 ∷ [];
   feed = [];
 }
@@ -72,6 +75,7 @@ displaced_request = record {
         ∷ record { name = codes "c2"; is = in_group 0 (Client (record { service = 1; depth = 10; script = [] })) }
         ∷ [];
   };
+  order = order.Kind;
   moments = 5 ∷ 6 ∷ 7 ∷ [];
   feed = [];
 }

@@ -4,6 +4,7 @@ use Rattle.exec_plan.specs.Graph.{in_group}
 use Rattle.exec_plan.specs.declared.entity.Declared.TheVariants.{Topic}
 use Rattle.exec_plan.specs.declared.entity.EntityOf.TheVariants.{Timer, Subscription}
 use Rattle.exec_plan.specs.Plan.{PlanData}
+use Rattle.exec_plan.specs.declared.order.Order.TheVariants as order
 use Rattle.exec_plan.specs.declared.plan.FedOf.TheVariants.{Message}
 use Rattle.exec_msg.specs.declared.kind.Kind.TheVariants as kind
 use Rattle.exec_msg.specs.declared.line.Line.{Line}
@@ -21,6 +22,7 @@ empty = record {
     groups = [];
     entities = [];
   };
+  order = order.Kind;
   moments = [];
   feed = [];
 }
@@ -40,6 +42,7 @@ late = record {
         record { name = codes "t"; is = in_group 0 (Timer (record { period = 10; script = instr.Log operand.Now ∷ [] })) }
         ∷ [];
   };
+  order = order.Kind;
   moments = 0 ∷ 10 ∷ 35 ∷ 40 ∷ [];
   feed = [];
 }
@@ -63,6 +66,7 @@ repeated = record {
         record { name = codes "t"; is = in_group 0 (Timer (record { period = 10; script = instr.Log operand.Now ∷ [] })) }
         ∷ [];
   };
+  order = order.Kind;
   moments = 30 ∷ 30 ∷ 30 ∷ [];
   feed = [];
 }
@@ -86,6 +90,7 @@ shared = record {
         ∷ record { name = codes "t2"; is = in_group 0 (Timer (record { period = 1; script = instr.Set (destination.Variable 0) operation.Add (operand.Variable 0) (operand.Value (pos 1)) ∷ instr.Log (operand.Variable 0) ∷ [] })) }
         ∷ [];
   };
+  order = order.Kind;
   moments = 1 ∷ 2 ∷ 3 ∷ [];
   feed = [];
 }
@@ -108,6 +113,7 @@ wrapped = record {
         record { name = codes "t"; is = in_group 0 (Timer (record { period = 1; script = instr.Set (destination.Register 0) operation.Add (operand.Value (pos 9223372036854775807)) (operand.Value (pos 1)) ∷ instr.Log (operand.Register 0) ∷ [] })) }
         ∷ [];
   };
+  order = order.Kind;
   moments = 1 ∷ [];
   feed = [];
 }
@@ -131,6 +137,7 @@ full_queue = record {
         ∷ record { name = codes "s"; is = in_group 0 (Subscription (record { topic = 0; depth = 2; script = [] })) }
         ∷ [];
   };
+  order = order.Kind;
   moments = 10 ∷ 11 ∷ 12 ∷ 13 ∷ [];
   feed = [];
 }
@@ -156,6 +163,7 @@ echo = record {
         ∷ record { name = codes "s"; is = in_group 0 (Subscription (record { topic = 0; depth = 10; script = instr.Pub 0 operand.In ∷ [] })) }
         ∷ [];
   };
+  order = order.Kind;
   moments = 1 ∷ 2 ∷ 3 ∷ [];
   feed =
       record { round = 1; fed = Message 0 (pos 7) }

@@ -6,7 +6,7 @@ use Rattle.exec_msg.specs.Numbers.{EntityNo}
 use Rattle.exec_plan.specs.Graph.{kinds}
 use Rattle.exec_msg.specs.Kind.{ready_number}
 use Rattle.exec_msg.specs.declared.kind.Kind.{Kind}
-use Rattle.exec_rules.specs.Ready.{is_before_polls}
+use Rattle.exec_rules.specs.inner.ByKind.{is_before_polls}
 use Rattle.exec_rules.specs.World.{Queue, is_queue}
 use Rattle.exec_msg.specs.Places.{first_place, place_under}
 

@@ -1,7 +1,8 @@
 ghost use Rattle.std.specs.Prelude.{◌≡◌, ◌==◌, ◌≤◌, List, [], Some, false, true, length, slice_get, OnOk, OnErr, IfOk};
 ghost use Rattle.exec_msg.specs.KeepLast.{displaced};
 ghost use Rattle.exec_script.specs.Instruction.{Script};
-ghost use Rattle.exec_rules.specs.Ready.{candidates_for, is_before_polls, item_ready, queue_taken, script_to_take};
+ghost use Rattle.exec_rules.specs.Ready.{candidates_for, item_ready, queue_taken, script_to_take};
+ghost use Rattle.exec_rules.specs.inner.ByKind.{is_before_polls};
 ghost use Rattle.exec_rules.specs.World.{Handler, queue_after};
 ghost use Rattle.exec_rules.specs.inner.Homes.{AreHomes, handlers_of};
 ghost use Rattle.std.specs.Option.{option_map_or};

@@ -1,11 +1,11 @@
 -- Goals that are awake at a snapshot, in a list of their own.
-use Rattle.std.specs.Prelude.{List, [], ◌∷◌, ◌++◌, if◌then◌else◌, None}
+use Rattle.std.specs.Prelude.{List, [], ◌∷◌, if◌then◌else◌, None}
 use Rattle.std.specs.List.{flat_map}
 use Rattle.exec_goal.specs.State.{is_canceling}
 use Rattle.exec_goal.specs.Table.{GoalRecord}
-use Rattle.exec_rules.specs.Ready.{due_ready, is_goal_awake, queue_ready, queues_before_polls, queues_behind_polls}
+use Rattle.exec_rules.specs.Ready.{is_goal_awake}
 use Rattle.exec_msg.specs.Numbers.{Moment}
-use Rattle.exec_rules.specs.World.{Handler, ServerEntry, WorldState}
+use Rattle.exec_rules.specs.World.{Handler, ServerEntry}
 use Rattle.exec_rules.specs.declared.ready.AwakeGoal.{AwakeGoal}
 use Rattle.exec_rules.specs.declared.ready.Cause.TheVariants as cause
 use Rattle.exec_rules.specs.declared.ready.Ready.{Ready}
@@ -41,10 +41,3 @@ goal_awake moment entry goal = if is_goal_awake moment entry.held goal then awak
 -- a server's goals that are awake at a moment, in order of acceptance
 abbrev pub awake_goals : Moment → ServerEntry → List AwakeGoal
 awake_goals moment entry = flat_map (goal_awake moment entry) entry.goals
-
--- the callbacks that are ready before polls, and those that are ready behind them
-abbrev pub ready_before : Moment → WorldState → List Ready
-ready_before moment world = flat_map (due_ready moment) world.timers ++ flat_map (queue_ready moment world) (queues_before_polls world)
-
-abbrev pub ready_behind : Moment → WorldState → List Ready
-ready_behind moment world = flat_map (queue_ready moment world) (queues_behind_polls world)

@@ -18,10 +18,10 @@ use std::mem;
 impl<L: Lines> State<L> {
     ghost use Rattle.std.specs.Prelude.{◌≡◌, ◌≤◌, length, map, take, drop, OnOk};
     ghost use Rattle.exec_msg.specs.declared.line.Line.TheVariants as line;
-    ghost use Rattle.exec_rules.specs.Ready.{ready_list, take_inputs};
-    ghost use Rattle.exec_rules.specs.Transcript.{expire, feed, feed_one, finish, run_all, snapshot_and_run};
+    ghost use Rattle.exec_rules.specs.Transcript.{expire, feed, feed_one, finish, run_all};
     ghost use Rattle.exec_rules.specs.World.{add_line};
     ghost use Rattle.exec_rules.specs.inner.Awake.{poll_at};
+    ghost use Rattle.exec_rules.specs.inner.ByKind.{listed_by_kind, round_by_kind, taken_by_kind};
     ghost use Rattle.exec_rules.specs.inner.Homes.{AreHomes, queue_handlers, timer_handlers};
 
     // Begins the round of a number at a moment, and takes each input. The list then has the callbacks that are ready, and these
@@ -34,8 +34,8 @@ impl<L: Lines> State<L> {
         list: &mut ReadyList,
         homes: &mut Homes,
     ) -> Result<(), Memory>
-        ensures list { OnOk result (list.new ≡ ready_list moment (feed fed.now (expire moment (add_line (line.Round number moment) self.old)))) }
-        ensures taken { OnOk result (self.new ≡ take_inputs moment (feed fed.now (expire moment (add_line (line.Round number moment) self.old)))) }
+        ensures list { OnOk result (list.new ≡ listed_by_kind moment (feed fed.now (expire moment (add_line (line.Round number moment) self.old)))) }
+        ensures taken { OnOk result (self.new ≡ taken_by_kind moment (feed fed.now (expire moment (add_line (line.Round number moment) self.old)))) }
         ensures timers { OnOk result (AreHomes (timer_handlers self.new) list.new homes.new.timers.items) }
         ensures queues { OnOk result (AreHomes (queue_handlers self.new) list.new homes.new.queues.items) }
     {
@@ -56,7 +56,7 @@ impl<L: Lines> State<L> {
         effects: &mut EffectList,
         cx: &mut Context<'_>,
     ) -> Result<(), Memory>
-        ensures { OnOk result (self.new ≡ snapshot_and_run moment (feed fed.now (expire moment (add_line (line.Round number moment) self.old)))) }
+        ensures { OnOk result (self.new ≡ round_by_kind moment (feed fed.now (expire moment (add_line (line.Round number moment) self.old)))) }
     {
         self.open_round(number, moment, fed)?;
         let mut goals = self.take_room();

@@ -12,8 +12,10 @@ use exec_rules::{AwakeGoal, Home, Homes, Item, ReadyList};
 impl<L: Lines> State<L> {
     ghost use Rattle.std.specs.Prelude.{◌≡◌, ◌+◌, ◌≤◌, length, map, take, drop, IfOk, OnOk};
     ghost use Rattle.std.specs.List.{flat_map, fold};
-    ghost use Rattle.exec_rules.specs.Ready.{placed_from, poll_ready, queue_ready, queues_before_polls, queues_behind_polls, ready_list, reply_taken, take_inputs, timer_taken};
-    ghost use Rattle.exec_rules.specs.inner.Awake.{awake_goals, ready_before, ready_behind};
+    ghost use Rattle.exec_rules.specs.Ready.{placed_from, poll_ready, queue_ready, reply_taken, timer_taken};
+    ghost use Rattle.exec_rules.specs.inner.ByKind.{listed_by_kind, queues_before_polls, queues_behind_polls, taken_by_kind};
+    ghost use Rattle.exec_rules.specs.inner.Awake.{awake_goals};
+    ghost use Rattle.exec_rules.specs.inner.ByKind.{ready_before, ready_behind};
     ghost use Rattle.exec_rules.specs.inner.Homes.{AreHomes, queue_handlers, timer_handlers};
     ghost use Rattle.exec_rules.specs.inner.Listing.{listed_behind};
 
@@ -24,8 +26,8 @@ impl<L: Lines> State<L> {
         list: &mut ReadyList,
         homes: &mut Homes,
     ) -> Result<(), Memory>
-        ensures list { OnOk result (list.new ≡ ready_list moment self.old) }
-        ensures taken { OnOk result (self.new ≡ take_inputs moment self.old) }
+        ensures list { OnOk result (list.new ≡ listed_by_kind moment self.old) }
+        ensures taken { OnOk result (self.new ≡ taken_by_kind moment self.old) }
         ensures timers { OnOk result (AreHomes (timer_handlers self.old) list.new homes.new.timers.items) }
         ensures queues { OnOk result (AreHomes (queue_handlers self.old) list.new homes.new.queues.items) }
     {
@@ -49,7 +51,7 @@ impl<L: Lines> State<L> {
         ensures first { IfOk result (λ before. take before list.new ≡ placed_from 1 (ready_before moment self.old)) }
         ensures goals { OnOk result (goals.new.items ≡ flat_map (awake_goals moment) self.old.servers) }
         ensures last { IfOk result (λ before. drop before list.new ≡ placed_from (before + 1) (ready_behind moment self.old)) }
-        ensures taken { OnOk result (self.new ≡ take_inputs moment self.old) }
+        ensures taken { OnOk result (self.new ≡ taken_by_kind moment self.old) }
         ensures timers { OnOk result (AreHomes (timer_handlers self.old) list.new homes.new.timers.items) }
         ensures queues { OnOk result (AreHomes (queue_handlers self.old) list.new homes.new.queues.items) }
     {

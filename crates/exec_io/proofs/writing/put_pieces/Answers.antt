@@ -1,4 +1,4 @@
-use Rattle.std.proofs.Common.{◌≡◌, ℕ, List, ◌+◌, ◌-◌, ◌++◌, ◌≤◌, length, take, sym, subst, ◌∙◌, append_assoc, arith}
+use Rattle.std.proofs.Common.{◌≡◌, ℕ, List, ◌+◌, ◌-◌, ◌++◌, ◌≤◌, length, take, sym, subst, ◌∙◌, arith}
 use Rattle.exec_msg.specs.Line.{line_room, transcript_text}
 use Rattle.exec_io.proofs.KnownBytes.{Appends-front, Appends-piece, front_and_rest, front_written}
 use Rattle.exec_io.proofs.writing.put_pieces.Goals as goal

@@ -8,5 +8,5 @@ use Rattle.exec_rules.specs.Transcript.{at_snapshot, first_world, rounds}
 pub returns : goal.returns
 returns c = λ plan number moments next moment entity of other.
     subst (λ (count : ℕ). count ≤ 1)
-    (sym (lanes_have_all (ready_list moment (at_snapshot plan next moment (rounds plan number moments (first_world plan.graph)))) (is_callback_of entity of)))
+    (sym (lanes_have_all (ready_list moment (at_snapshot plan next moment (rounds plan number moments (first_world plan)))) (is_callback_of entity of)))
     (c.an_entity_has_one_callback_of_a_kind.ensures plan number moments next moment entity of other)

@@ -4,16 +4,16 @@ use Rattle.exec_rules.specs.Ready.{call_answered}
 use Rattle.exec_rules.specs.World.{ClientEntry, is_client_at}
 use Rattle.exec_entity.proofs.client.ByNumber+Client.complete.Goals as goal
 
-pub returns-in_default : goal.returns-in_default
-returns-in_default c =
+pub returns-in_default-clause-answered : goal.returns-in_default-clause-answered
+returns-in_default-clause-answered c =
     unchanged (is_client_at c.args.client) c.self.inside.entries.items c.args.self.now c.place-place.result c.self.view_is c.place-place.ensures (call_answered c.args.number) c.in_default.ensures.item.0
 
 pub invariant_of-self-2 : goal.invariant_of-self-2
 invariant_of-self-2 c =
     finds_set (λ (entry : ClientEntry). entry.entity) c.self.inside.places c.self.inside.entries.items c.place-place.result c.in-Some.entry.now c.complete.new.self c.self.invariant c.in-Some.ensures.value
-    (ap (λ (entry : ClientEntry). entry.entity) c.complete.ensures)
+    (ap (λ (entry : ClientEntry). entry.entity) c.complete.ensures.answered)
 
-pub returns : goal.returns
-returns c =
+pub returns-clause-answered : goal.returns-clause-answered
+returns-clause-answered c =
     changed_at (is_client_at c.args.client) c.self.inside.entries.items c.args.self.now c.place-place.result c.self.view_is c.place-place.ensures (call_answered c.args.number) c.in-Some.entry.now c.complete.new.self c.in-Some.ensures.item.0 c.in-Some.ensures.value
-    c.complete.ensures
+    c.complete.ensures.answered

@@ -13,4 +13,4 @@ invariant_of-result c =
     let faultless : plan_fault_in c.args.moments.items c.args.feed.items ≡ None =
     sym (λ i. plan_fault_in (c.deref.ensures.value i) (c.deref-2.ensures.value i)) ∙ sym c.fault_of.ensures.fault ∙ none in
     let bits = sym (λ i. list_all (λ entry. has_128_bits entry.fed) (c.deref-2.ensures.value i)) ∙ c.fault_of.ensures.bits none in
-    plan_lawful c.args.graph c.args.moments.items c.args.feed.items (subst IsLawful c.graph.view_is c.graph.invariant.0) c.requires bits faultless
+    plan_lawful c.args.graph c.args.order c.args.moments.items c.args.feed.items (subst IsLawful c.graph.view_is c.graph.invariant.0) c.requires bits faultless

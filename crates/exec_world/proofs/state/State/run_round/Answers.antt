@@ -1,10 +1,10 @@
 use Rattle.std.proofs.Common.{◌+◌, List, map, take, drop, ap, subst, sym, ◌∙◌}
 use Rattle.exec_rules.proofs.PolledAlike.{parts_alike}
 use Rattle.exec_rules.proofs.ScriptsHome.{queues_left, queues_stay, timers_left, timers_stay}
-use Rattle.exec_rules.specs.Ready.{take_inputs}
-use Rattle.exec_rules.specs.Transcript.{run_all, snapshot_and_run}
+use Rattle.exec_rules.specs.Transcript.{run_all}
 use Rattle.exec_rules.specs.World.{Handler}
 use Rattle.exec_rules.specs.inner.Awake.{poll_at}
+use Rattle.exec_rules.specs.inner.ByKind.{round_by_kind, taken_by_kind}
 use Rattle.exec_rules.specs.inner.Homes.{AreHomes, queue_handlers, timer_handlers}
 use Rattle.exec_world.proofs.state.State.run_round.Goals as goal
 
@@ -44,5 +44,5 @@ returns g c =
     ∙ c.put_room.ensures
     ∙ c.in_ok-run_parts.ensures
     ∙ (λ i. run_all (drop before (c.as_slice.ensures i)) (run_all (map (poll_at c.args.moment) ((c.as_slice-2.ensures.value ∙ c.in_ok-before.ensures.goals) i)) (run_all (take before (c.as_slice.ensures i)) (c.in_ok-before.ensures.taken i))))
-    ∙ parts_alike c.args.moment world (take_inputs c.args.moment world) c.snapshot_in_parts.new.list before (before + 1) c.in_ok-before.ensures.first c.in_ok-before.ensures.last
-    ∙ ap (snapshot_and_run c.args.moment) (c.take_room-goals.ensures ∙ c.in_ok-open_round.ensures)
+    ∙ parts_alike c.args.moment world (taken_by_kind c.args.moment world) c.snapshot_in_parts.new.list before (before + 1) c.in_ok-before.ensures.first c.in_ok-before.ensures.last
+    ∙ ap (round_by_kind c.args.moment) (c.take_room-goals.ensures ∙ c.in_ok-open_round.ensures)

@@ -14,5 +14,5 @@ invariant_of-self-2 g c =
       c.self.invariant.0,
       c.self.invariant.1,
       begun,
-      λ unfailed. subst (λ (state : WorldState). IsSound plan.graph state) (sym given) (commit_keeps (sound plan.graph).basic (sound plan.graph).accepts_kept c.args.one.now (record { list = c.as_slice.result.now; close = c.args.effects.close }) c.self.inside.state (c.self.invariant.3 unfailed)),
+      λ unfailed. subst (λ (state : WorldState). IsSound plan state) (sym given) (commit_keeps (sound plan).basic (sound plan).accepts_kept c.args.one.now (record { list = c.as_slice.result.now; close = c.args.effects.close }) c.self.inside.state (c.self.invariant.3 unfailed)),
     )

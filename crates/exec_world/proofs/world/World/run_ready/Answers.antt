@@ -13,5 +13,5 @@ invariant_of-self-2 g c =
       c.self.invariant.0,
       c.self.invariant.1,
       (λ none. absurd (true≢false none)),
-      λ unfailed. subst (λ (state : WorldState). IsSound plan.graph state) (sym ran) (run_all_keeps (sound plan.graph) c.args.list.now c.self.inside.state (c.self.invariant.3 unfailed)),
+      λ unfailed. subst (λ (state : WorldState). IsSound plan state) (sym ran) (run_all_keeps (sound plan) c.args.list.now c.self.inside.state (c.self.invariant.3 unfailed)),
     )

@@ -13,9 +13,12 @@ run_round-requires g c =
     let moments : length c.moments-rounds.result.now ≡ length c.loop-done.self.plan.moments =
     ap length c.moments-rounds.ensures ∙ ap (λ (plan : PlanData). length plan.moments) (c.deref.ensures ∙ ap (λ (world : WorldData). world.plan) c.self.view_is) ∙ ap (λ (world : WorldData). length world.plan.moments) (sym here) in
     record {
-      next = ap (λ (world : WorldData). world.rounds + 1) (sym here);
-      within = omega (arith, c.loop-done-test.true, moments);
-      done = ap (λ (world : WorldData). world.left) here;
+      unfailed = ap (λ (world : WorldData). world.failed) here;
+      next = record {
+        next = ap (λ (world : WorldData). world.rounds + 1) (sym here);
+        within = omega (arith, c.loop-done-test.true, moments);
+        done = ap (λ (world : WorldData). world.left) here;
+      };
     }
 
 pub loop-done-preserved : goal.loop-done-preserved

@@ -11,5 +11,5 @@ invariant_of-self g c =
       c.self.invariant.0,
       c.self.invariant.1,
       c.self.invariant.2,
-      λ unfailed. subst (λ (state : WorldState). IsSound plan.graph state) (sym c.take_task.ensures.out) (lent_sound plan.graph c.args.server c.args.id None c.self.inside.state (c.self.invariant.3 unfailed)),
+      λ unfailed. subst (λ (state : WorldState). IsSound plan state) (sym c.take_task.ensures.out) (lent_sound plan c.args.server c.args.id None c.self.inside.state (c.self.invariant.3 unfailed)),
     )
