@@ -2,6 +2,7 @@ mod Begun
 pub mod Committed
 pub mod Giving
 pub mod Grouped
+mod KeptBanks
 pub mod ListedFronts
 pub mod Plain
 pub mod Polled

@@ -1,7 +1,6 @@
 //! The parts of the first world of a plan.
-ghost use Rattle.std.specs.Prelude.{◌≡◌, ◌<◌, ◌^◌, ◌++◌, [], false, true, length, map, replicate, IsTrue, OnOk, IfOk};
+ghost use Rattle.std.specs.Prelude.{◌≡◌, ◌<◌, ◌^◌, ◌++◌, [], false, true, length, map, IsTrue, OnOk, IfOk};
 ghost use Rattle.std.specs.List.{filter};
-ghost use Rattle.exec_script.specs.Zeros.{zeros};
 ghost use Rattle.exec_plan.specs.Entity.{is_within};
 ghost use Rattle.exec_plan.specs.Graph.{callback_script, cons_if, entities_where, has_kind, in_group, is_action_client, is_client, is_exclusive, is_server, is_timer, is_topic, of_entity, wait_set};
 ghost use Rattle.exec_rules.specs.Transcript.{as_entity, new_action_clients, new_client, new_queue, new_server, new_timer, new_topic, subscribes_to, takes_from_queue, action_client_for, client_for, queue_for, server_for, timer_for};
@@ -13,7 +12,6 @@ use exec_msg::{EntityNo, Kind, Memory};
 use exec_plan::{Declared, EntityOf, Graph, GraphEntity, Script};
 use exec_queue::{EntityTimer, Queues};
 use exec_rules::{Handler, share};
-use exec_script::Bank;
 use std::alloc::Global;
 
 // The timers of a graph, in the order of declaration.
@@ -354,17 +352,6 @@ fn subscribes_to(is: &EntityOf<EntityNo, Script>, topic: EntityNo) -> bool
         EntityOf::Subscription(subscription) => subscription.topic == topic,
         _ => false,
     }
-}
-
-// The variables of each callback group.
-pub(crate) fn new_banks(alloc: Global, graph: &Graph) -> Result<Vec<Bank>, Memory>
-    ensures { IfOk result (λ banks. banks.items ≡ replicate (length graph.now.groups) zeros) }
-{
-    let mut banks = Vec::new(alloc);
-    for _ in 0..graph.groups().len() {
-        banks.push(Bank::new())?;
-    }
-    Ok(banks)
 }
 
 // A callback of an entity, with its script.

@@ -1,6 +1,7 @@
 //! The executor on one thread: the world, its rounds, and the transcript of a plan.
 #![tactic(auto)]
 
+mod banks;
 mod callback_script;
 mod fault;
 mod first_world;

@@ -8,8 +8,9 @@ mod poll;
 mod round;
 mod snapshot;
 
+use crate::banks::Banks;
 use crate::first_world::{
-    new_action_clients, new_banks, new_clients, new_queues, new_servers, new_timers, new_topics,
+    new_action_clients, new_clients, new_queues, new_servers, new_timers, new_topics,
 };
 use crate::mail::Mail;
 use exec_entity::{ActionClients, Clients, Servers, Topics};
@@ -32,7 +33,7 @@ pub(crate) struct State<L: Lines> {
     servers: Servers,
     clients: Clients,
     action_clients: ActionClients,
-    banks: Vec<Bank>,
+    banks: Banks,
     mail: Mail<L>,
     // The places of queues that a snapshot takes from; room that is used again.
     places: Vec<usize>,
@@ -53,7 +54,7 @@ impl<L: Lines> Model for State<L> {
       servers = state.servers;
       clients = state.clients;
       action_clients = state.action_clients;
-      variables = state.banks.items;
+      variables = state.banks;
       lines = state.mail.lines;
     } };
 }
@@ -77,7 +78,7 @@ impl<L: Lines> State<L> {
             servers: new_servers(alloc, graph)?,
             clients: new_clients(alloc, graph)?,
             action_clients: new_action_clients(alloc, graph)?,
-            banks: new_banks(alloc, graph)?,
+            banks: Banks::new(alloc, graph.groups().len())?,
             mail: Mail::new(new_queues(alloc, graph)?, lines),
             places: Vec::new(alloc),
             awake: Vec::new(alloc),
@@ -109,18 +110,13 @@ impl<L: Lines> State<L> {
     pub(crate) fn bank(&self, group: GroupNo) -> Bank
         ensures { result ≡ variables_of group self.now }
     {
-        match self.banks.get(group.0 as usize) {
-            Some(bank) => *bank,
-            None => Bank::new(),
-        }
+        self.banks.get(group)
     }
 
     #[inline(always)]
     pub(crate) fn set_bank(&mut self, group: GroupNo, bank: &Bank)
         ensures { self.new ≡ with_variables group bank.now self.old }
     {
-        if let Some(place) = self.banks.get_mut(group.0 as usize) {
-            *place = *bank;
-        }
+        self.banks.set(group, bank);
     }
 }

@@ -1,20 +1,13 @@
 //! How a ready callback runs.
-ghost use Rattle.std.specs.Prelude.{◌≡◌, [], slice_index_or, slice_set, OnOk};
-ghost use Rattle.exec_script.specs.Script.{listed};
-ghost use Rattle.exec_script.specs.Zeros.{zeros};
-ghost use Rattle.exec_rules.specs.Callback.{callback};
+ghost use Rattle.std.specs.Prelude.{◌≡◌, OnOk};
 ghost use Rattle.exec_rules.specs.Ready.{input_of};
-ghost use Rattle.exec_entity.specs.inner.Polling.{polled_by};
-ghost use Rattle.exec_rules.specs.Run.{work_by};
 
 use super::State;
-use exec_entity::Servers;
 use exec_msg::{Kind, Lines, Memory};
 use exec_rules::{Cause, Item, Ready, call_in, take_item};
-use exec_script::{Bank, Close, Effect, EffectList, Input, Role};
+use exec_script::{Close, Effect, EffectList, Input, Role};
 use exec_task::Turn;
 use futures::task::Context;
-use std::alloc::Global;
 
 impl<L: Lines> State<L> {
     ghost use Rattle.std.specs.Prelude.{◌≡◌, OnOk};
@@ -109,107 +102,20 @@ impl<L: Lines> State<L> {
         ensures home { OnOk result (self.new ≡ brought_home one.now (apart one.now self.old) self.old) }
     {
         effects.clear();
-        if one.exclusive {
-            return act_in(
-                self.alloc,
-                &mut self.banks,
-                &mut self.servers,
-                one,
-                input,
-                effects,
-                close,
-                cx,
-            );
-        }
-        act_for_nobody(
-            self.alloc,
-            &mut self.servers,
-            one,
-            input,
-            effects,
-            close,
-            cx,
-        )
-    }
-}
-
-// Runs a ready callback with the variables of its group, where they stand: they are copied into the script's frame and out of it
-// alone. No group but the graph's has any.
-#[inline(always)]
-fn act_in(
-    alloc: Global,
-    banks: &mut Vec<Bank>,
-    servers: &mut Servers,
-    one: &Ready,
-    input: &Input,
-    effects: &mut EffectList,
-    close: &mut Close,
-    cx: &mut Context<'_>,
-) -> Result<(), Memory>
-    requires none { effects.old ≡ [] }
-    requires handed { input.now ≡ input_of one.now }
-    ensures variables { OnOk result (banks.new.items ≡ slice_set banks.old.items one.now.group (callback listed one.now (work_by one.now.entity one.now.cause servers.old) (slice_index_or banks.old.items one.now.group zeros) []).variables) }
-    ensures effects { OnOk result (effects.new ≡ (callback listed one.now (work_by one.now.entity one.now.cause servers.old) (slice_index_or banks.old.items one.now.group zeros) []).given) }
-    ensures close { OnOk result (close.new ≡ (callback listed one.now (work_by one.now.entity one.now.cause servers.old) (slice_index_or banks.old.items one.now.group zeros) []).close) }
-    ensures task { OnOk result (servers.new ≡ polled_by one.now.entity one.now.cause (callback listed one.now (work_by one.now.entity one.now.cause servers.old) (slice_index_or banks.old.items one.now.group zeros) []).task servers.old) }
-{
-    match banks.get_mut(one.group.0 as usize) {
-        Some(bank) => act(alloc, servers, one, input, bank, effects, close, cx),
-        None => act_for_nobody(alloc, servers, one, input, effects, close, cx),
-    }
-}
-
-// Runs a ready callback with its group's variables. The list then has its effects, and these alone.
-#[inline(always)]
-fn act(
-    alloc: Global,
-    servers: &mut Servers,
-    one: &Ready,
-    input: &Input,
-    bank: &mut Bank,
-    effects: &mut EffectList,
-    close: &mut Close,
-    cx: &mut Context<'_>,
-) -> Result<(), Memory>
-    requires none { effects.old ≡ [] }
-    requires handed { input.now ≡ input_of one.now }
-    ensures variables { OnOk result (bank.new ≡ (callback listed one.now (work_by one.now.entity one.now.cause servers.old) bank.old []).variables) }
-    ensures effects { OnOk result (effects.new ≡ (callback listed one.now (work_by one.now.entity one.now.cause servers.old) bank.old []).given) }
-    ensures close { OnOk result (close.new ≡ (callback listed one.now (work_by one.now.entity one.now.cause servers.old) bank.old []).close) }
-    ensures task { OnOk result (servers.new ≡ polled_by one.now.entity one.now.cause (callback listed one.now (work_by one.now.entity one.now.cause servers.old) bank.old []).task servers.old) }
-{
-    match &one.cause {
-        Cause::Due => call_in(Role::Callback, one, input, bank, effects, close)?,
-        Cause::Took(item) => take_item(alloc, item, one, input, bank, effects, close)?,
-        Cause::Woke { id, canceling, .. } => {
-            let turn = Turn {
-                moment: one.moment,
-                canceling: *canceling,
-            };
-            *close = servers.poll(one.entity, *id, &turn, bank, cx, effects)?;
+        let bank = self.banks.lend(one.exclusive, one.group);
+        match &one.cause {
+            Cause::Due => call_in(Role::Callback, one, input, bank, effects, close),
+            Cause::Took(item) => take_item(self.alloc, item, one, input, bank, effects, close),
+            Cause::Woke { id, canceling, .. } => {
+                let turn = Turn {
+                    moment: one.moment,
+                    canceling: *canceling,
+                };
+                *close = self
+                    .servers
+                    .poll(one.entity, *id, &turn, bank, cx, effects)?;
+                Ok(())
+            }
         }
     }
-    Ok(())
-}
-
-// Runs a ready callback whose group keeps no variables, as a reentrant one: it begins with zeros, and what it leaves is
-// nobody's.
-#[inline(always)]
-fn act_for_nobody(
-    alloc: Global,
-    servers: &mut Servers,
-    one: &Ready,
-    input: &Input,
-    effects: &mut EffectList,
-    close: &mut Close,
-    cx: &mut Context<'_>,
-) -> Result<(), Memory>
-    requires none { effects.old ≡ [] }
-    requires handed { input.now ≡ input_of one.now }
-    ensures effects { OnOk result (effects.new ≡ (callback listed one.now (work_by one.now.entity one.now.cause servers.old) zeros []).given) }
-    ensures close { OnOk result (close.new ≡ (callback listed one.now (work_by one.now.entity one.now.cause servers.old) zeros []).close) }
-    ensures task { OnOk result (servers.new ≡ polled_by one.now.entity one.now.cause (callback listed one.now (work_by one.now.entity one.now.cause servers.old) zeros []).task servers.old) }
-{
-    let mut bank = Bank::new();
-    act(alloc, servers, one, input, &mut bank, effects, close, cx)
 }

@@ -1,13 +1,8 @@
 //! Callbacks that run their script once, that nothing closes, and whose line has no identifier.
-ghost use Rattle.std.specs.Prelude.{◌≡◌, [], slice_index_or, slice_set, OnOk};
-ghost use Rattle.exec_script.specs.Zeros.{zeros};
-ghost use Rattle.exec_rules.specs.Ready.{input_of};
-ghost use Rattle.exec_world.specs.inner.Plain.{script_ran};
-
 use super::State;
 use exec_msg::{Kind, Line, Lines, Memory};
 use exec_rules::{Ready, call_in};
-use exec_script::{Bank, Close, EffectList, Input, Role};
+use exec_script::{Close, EffectList, Input, Role};
 
 impl<L: Lines> State<L> {
     ghost use Rattle.std.specs.Prelude.{◌≡◌, true, OnOk};
@@ -61,57 +56,8 @@ impl<L: Lines> State<L> {
         ensures home { OnOk result (self.new ≡ brought_home one.now (apart one.now self.old) self.old) }
     {
         effects.clear();
-        if one.exclusive {
-            return script_in(&mut self.banks, one, input, effects);
-        }
-        script_for_nobody(one, input, effects)
+        let mut close = Close::Nothing;
+        let bank = self.banks.lend(one.exclusive, one.group);
+        call_in(Role::Callback, one, input, bank, effects, &mut close)
     }
-}
-
-// Runs a callback's script with the variables of its group, where they stand. No group but the graph's has any.
-#[inline(always)]
-fn script_in(
-    banks: &mut Vec<Bank>,
-    one: &Ready,
-    input: &Input,
-    effects: &mut EffectList,
-) -> Result<(), Memory>
-    requires none { effects.old ≡ [] }
-    requires handed { input.now ≡ input_of one.now }
-    ensures variables { OnOk result (banks.new.items ≡ slice_set banks.old.items one.now.group (script_ran one.now (slice_index_or banks.old.items one.now.group zeros)).variables) }
-    ensures effects { OnOk result (effects.new ≡ (script_ran one.now (slice_index_or banks.old.items one.now.group zeros)).given) }
-{
-    match banks.get_mut(one.group.0 as usize) {
-        Some(bank) => script_with(one, input, bank, effects),
-        None => script_for_nobody(one, input, effects),
-    }
-}
-
-// Runs the script of a callback whose group keeps no variables, as a reentrant one: it begins with zeros, and what it leaves is
-// nobody's.
-#[inline(always)]
-fn script_for_nobody(one: &Ready, input: &Input, effects: &mut EffectList) -> Result<(), Memory>
-    requires none { effects.old ≡ [] }
-    requires handed { input.now ≡ input_of one.now }
-    ensures { OnOk result (effects.new ≡ (script_ran one.now zeros).given) }
-{
-    let mut bank = Bank::new();
-    script_with(one, input, &mut bank, effects)
-}
-
-// Runs a callback's script with its group's variables.
-#[inline(always)]
-fn script_with(
-    one: &Ready,
-    input: &Input,
-    bank: &mut Bank,
-    effects: &mut EffectList,
-) -> Result<(), Memory>
-    requires none { effects.old ≡ [] }
-    requires handed { input.now ≡ input_of one.now }
-    ensures variables { OnOk result (bank.new ≡ (script_ran one.now bank.old).variables) }
-    ensures effects { OnOk result (effects.new ≡ (script_ran one.now bank.old).given) }
-{
-    let mut close = Close::Nothing;
-    call_in(Role::Callback, one, input, bank, effects, &mut close)
 }

@@ -1,13 +1,8 @@
 //! Polls of goals that are awake.
-ghost use Rattle.std.specs.Prelude.{◌≡◌, slice_index_or, slice_set, IfOk, OnOk};
-ghost use Rattle.exec_script.specs.Zeros.{zeros};
-ghost use Rattle.exec_world.specs.inner.Polls.{goal_home, poll_ran};
-
 use super::State;
-use exec_entity::Servers;
 use exec_msg::{Kind, Line, Lines, Memory, Moment};
 use exec_rules::AwakeGoal;
-use exec_script::{Bank, Close, Effect, EffectList};
+use exec_script::{Close, Effect, EffectList};
 use exec_task::Turn;
 use futures::task::Context;
 
@@ -75,10 +70,9 @@ impl<L: Lines> State<L> {
             moment,
             canceling: goal.canceling,
         };
-        if goal.exclusive {
-            return poll_in(&mut self.banks, &mut self.servers, goal, &turn, effects, cx);
-        }
-        poll_for_nobody(&mut self.servers, goal, &turn, effects, cx)
+        let bank = self.banks.lend(goal.exclusive, goal.group);
+        self.servers
+            .poll(goal.server, goal.id, &turn, bank, cx, effects)
     }
 
     // Gives a poll's effects. Its ready callback is made where it has some.
@@ -97,43 +91,4 @@ impl<L: Lines> State<L> {
         let one = goal.poll_at(self.alloc, moment);
         self.give_all(&one, effects)
     }
-}
-
-// Polls a goal with the variables of its group, where they stand. No group but the graph's has any.
-#[inline(always)]
-fn poll_in(
-    banks: &mut Vec<Bank>,
-    servers: &mut Servers,
-    goal: &AwakeGoal,
-    turn: &Turn,
-    effects: &mut EffectList,
-    cx: &mut Context<'_>,
-) -> Result<Close, Memory>
-    ensures variables { OnOk result (banks.new.items ≡ slice_set banks.old.items goal.now.group (poll_ran turn.now goal.now servers.old (slice_index_or banks.old.items goal.now.group zeros)).variables) }
-    ensures effects { OnOk result (effects.new ≡ (poll_ran turn.now goal.now servers.old (slice_index_or banks.old.items goal.now.group zeros)).given) }
-    ensures close { IfOk result (λ close. close ≡ (poll_ran turn.now goal.now servers.old (slice_index_or banks.old.items goal.now.group zeros)).close) }
-    ensures task { OnOk result (servers.new ≡ goal_home goal.now (poll_ran turn.now goal.now servers.old (slice_index_or banks.old.items goal.now.group zeros)).task servers.old) }
-{
-    match banks.get_mut(goal.group.0 as usize) {
-        Some(bank) => servers.poll(goal.server, goal.id, turn, bank, cx, effects),
-        None => poll_for_nobody(servers, goal, turn, effects, cx),
-    }
-}
-
-// Polls a goal whose group keeps no variables, as one of a reentrant group: it begins with zeros, and what it leaves is
-// nobody's.
-#[inline(always)]
-fn poll_for_nobody(
-    servers: &mut Servers,
-    goal: &AwakeGoal,
-    turn: &Turn,
-    effects: &mut EffectList,
-    cx: &mut Context<'_>,
-) -> Result<Close, Memory>
-    ensures effects { OnOk result (effects.new ≡ (poll_ran turn.now goal.now servers.old zeros).given) }
-    ensures close { IfOk result (λ close. close ≡ (poll_ran turn.now goal.now servers.old zeros).close) }
-    ensures task { OnOk result (servers.new ≡ goal_home goal.now (poll_ran turn.now goal.now servers.old zeros).task servers.old) }
-{
-    let mut bank = Bank::new();
-    servers.poll(goal.server, goal.id, turn, &mut bank, cx, effects)
 }
