@@ -155,32 +155,32 @@ put_back-map f count (suc number) shares =
     ∙ (λ i. put_back-map f count number (taken_from (number % count) shares) i ++ last-map f (get_or shares (number % count) []) i)
     ∙ sym (map-append f (put_back count number (taken_from (number % count) shares)) (last_of (get_or shares (number % count) [])))
 
--- where a test can't tell shares from what they were, it can't tell the lists of them
-same_each : {V B : Type 0} (f : V → B) (before after : List V) → length after ≡ length before → ((i : ℕ) (d : V) → i < length before → f (get_or after i d) ≡ f (get_or before i d)) → map f after ≡ map f before
-same_each f [] [] long each = refl
-same_each f [] (y ∷ after) long each = absurd (omega (arith, long))
-same_each f (x ∷ before) [] long each = absurd (omega (arith, long))
-same_each f (x ∷ before) (y ∷ after) long each =
-    (λ i. each 0 x (omega arith) i ∷ same_each f before after (omega (arith, long)) (λ k d within. each (suc k) d (omega (arith, within))) i)
+-- where a test of shares finds what another found of them before, so it does of the lists of them
+same_each : {V B : Type 0} (f g : V → B) (before after : List V) → length after ≡ length before → ((i : ℕ) (d : V) → i < length before → f (get_or after i d) ≡ g (get_or before i d)) → map f after ≡ map g before
+same_each f g [] [] long each = refl
+same_each f g [] (y ∷ after) long each = absurd (omega (arith, long))
+same_each f g (x ∷ before) [] long each = absurd (omega (arith, long))
+same_each f g (x ∷ before) (y ∷ after) long each =
+    (λ i. each 0 x (omega arith) i ∷ same_each f g before after (omega (arith, long)) (λ k d within. each (suc k) d (omega (arith, within))) i)
 
 -- what is written back of a slice is all of it
-pub same_written : {V B : Type 0} (f : V → B) (n : ℕ) (before after : List V) → n ≡ length before → length after ≡ length before → ((i : ℕ) (d : V) → i < length before → f (get_or after i d) ≡ f (get_or before i d)) →
-    map f (take n (after ++ drop (length after) before)) ≡ map f before
-same_written f n before after count long each =
+pub same_written : {V B : Type 0} (f g : V → B) (n : ℕ) (before after : List V) → n ≡ length before → length after ≡ length before → ((i : ℕ) (d : V) → i < length before → f (get_or after i d) ≡ g (get_or before i d)) →
+    map f (take n (after ++ drop (length after) before)) ≡ map g before
+same_written f g n before after count long each =
     ap (λ k. map f (take k (after ++ drop (length after) before))) (count ∙ sym long)
     ∙ ap (map f) (take-append_seam after (drop (length after) before))
-    ∙ same_each f before after long each
+    ∙ same_each f g before after long each
 
 twice : {V A B : Type 0} (items : V → List A) (f : A → B) (shares : List V) → map (λ share. map f (items share)) shares ≡ map (map f) (map items shares)
 twice items f [] = refl
 twice items f (share ∷ shares) = ap (λ others. map f (items share) ∷ others) (twice items f shares)
 
--- items that are put back are those that were dealt, as far as a test can tell those of each share from what they were
-pub back_same : {V A B : Type 0} (items : V → List A) (f : A → B) (count number : ℕ) (before after : List V) (lanes : List A) → 0 < count → number ≡ length lanes → map items before ≡ dealt count lanes →
-    map (λ share. map f (items share)) after ≡ map (λ share. map f (items share)) before → map f (put_back count number (map items after)) ≡ map f lanes
-back_same items f count number before after lanes some all dealt_so same =
+-- where a test of dealt items finds, share by share, what another found of them before, so it does of what is put back
+pub back_same : {V A B : Type 0} (items : V → List A) (f g : A → B) (count number : ℕ) (before after : List V) (lanes : List A) → 0 < count → number ≡ length lanes → map items before ≡ dealt count lanes →
+    map (λ share. map f (items share)) after ≡ map (λ share. map g (items share)) before → map f (put_back count number (map items after)) ≡ map g lanes
+back_same items f g count number before after lanes some all dealt_so same =
     sym (put_back-map f count number (map items after))
-    ∙ ap (put_back count number) (sym (twice items f after) ∙ same ∙ twice items f before ∙ ap (map (map f)) dealt_so)
-    ∙ put_back-map f count number (dealt count lanes)
-    ∙ ap (λ n. map f (put_back count n (dealt count lanes))) all
-    ∙ ap (map f) (dealt_back count lanes some)
+    ∙ ap (put_back count number) (sym (twice items f after) ∙ same ∙ twice items g before ∙ ap (map (map g)) dealt_so)
+    ∙ put_back-map g count number (dealt count lanes)
+    ∙ ap (λ n. map g (put_back count n (dealt count lanes))) all
+    ∙ ap (map g) (dealt_back count lanes some)

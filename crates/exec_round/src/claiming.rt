@@ -1,5 +1,5 @@
 //! How lanes are claimed by workers.
-ghost use Rattle.std.specs.Prelude.{◌≡◌, ◌<◌, [], IfOk};
+ghost use Rattle.std.specs.Prelude.{◌≡◌, ◌<◌, [], IfOk, IsOk};
 ghost use Rattle.exec_lane.specs.Lane.{AreFinished};
 ghost use Rattle.exec_round.specs.inner.Sharing.{IsSweptPass};
 ghost use denote.Param.Send.{IsSync};
@@ -23,7 +23,8 @@ pub(crate) fn claim_lanes<R: Threads + Sync, G: Gate>(
 ) -> Result<Vec<LaneBox>, Memory>
     requires workers { 0 < workers }
     requires quantum { 0 < quantum }
-    ensures { IfOk result (λ finished. AreFinished lanes.items finished.items) }
+    ensures finished { IfOk result (λ finished. AreFinished lanes.items finished.items) }
+    ensures none { lanes.items ≡ [] → IsOk result }
 {
     if lanes.is_empty() {
         return Ok(lanes);

@@ -1,5 +1,5 @@
 //! How lanes are run by workers that send on what the callbacks did, as they run.
-ghost use Rattle.std.specs.Prelude.{◌≡◌, ◌+◌, ◌-◌, ◌<◌, ◌≤◌, [], ◌++◌, false, length, Ok, IfOk, OnOk};
+ghost use Rattle.std.specs.Prelude.{◌≡◌, ◌+◌, ◌-◌, ◌<◌, ◌≤◌, [], ◌++◌, false, length, Ok, IfOk, IsOk, OnOk};
 ghost use Rattle.std.specs.List.{flat_map};
 ghost use Rattle.exec_board.specs.Seats.{IsLast, back_half, front_half, together};
 ghost use Rattle.exec_board.specs.Sweeps.{AllSeen, FirstSeen};
@@ -373,6 +373,7 @@ pub(crate) fn stream_lanes<R: Threads + Wait + Sync, G: Gate>(
     requires unrun { AreUnrun lanes.items }
     ensures finished { IfOk result (λ ran. AreFinished lanes.items ran.0.items) }
     ensures collected { IfOk result (λ ran. AreCollected (flat_map outcomes_in ran.0.items) ran.1.items) }
+    ensures none { lanes.items ≡ [] → IsOk result }
 {
     if lanes.is_empty() {
         return Ok((lanes, Vec::new(alloc)));

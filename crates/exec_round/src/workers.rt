@@ -1,7 +1,7 @@
 //! How the lanes of a round are run by workers.
-ghost use Rattle.std.specs.Prelude.{◌≡◌, ◌<◌, [], map, vec_len, slice_index_or, option_to_list, IfOk};
+ghost use Rattle.std.specs.Prelude.{◌≡◌, ◌<◌, [], true, map, vec_len, slice_index_or, option_to_list, IfOk};
 ghost use Rattle.exec_lane.specs.Lane.{AreFinished};
-ghost use Rattle.exec_round.specs.inner.Running.{are_done, opening_of, openings_of};
+ghost use Rattle.exec_round.specs.inner.Running.{AreRun, are_done, as_left, as_wanted, is_run, opening_of};
 ghost use Rattle.exec_round.specs.inner.Shares.{dealt, last_of, put_back, taken_from};
 ghost use denote.Param.Send.{IsSync};
 
@@ -38,7 +38,7 @@ fn run_by<R: Threads + Sync, G: Gate>(
     gate: &G,
 ) -> Result<Vec<LaneBox>, Memory>
     requires { 0 < workers }
-    ensures { IfOk result (λ ran. openings_of ran.items ≡ openings_of lanes.items) }
+    ensures { IfOk result (λ ran. AreRun lanes.items ran.items) }
 {
     let number = lanes.as_slice().len();
     let count = workers.min(number);
@@ -59,7 +59,8 @@ fn are_finished(lanes: &[LaneBox]) -> bool
 
 // Runs what is left of a lane's callbacks, until one is refused memory.
 fn run_lane<G: Gate>(lane: &mut LaneBox, gate: &G)
-    ensures { opening_of lane.new ≡ opening_of lane.old }
+    ensures opening { opening_of lane.new ≡ opening_of lane.old }
+    ensures run { is_run lane.new ≡ true }
 {
     while !lane.is_finished() {
         if lane.run_next(gate).is_err() {
@@ -70,7 +71,7 @@ fn run_lane<G: Gate>(lane: &mut LaneBox, gate: &G)
 
 // Runs lanes one after another.
 fn run_share<G: Gate>(lanes: &mut Vec<LaneBox>, gate: &G)
-    ensures { openings_of lanes.new.items ≡ openings_of lanes.old.items }
+    ensures { AreRun lanes.old.items lanes.new.items }
 {
     for lane in lanes.iter_mut() {
         run_lane(lane, gate);
@@ -81,11 +82,11 @@ fn run_share<G: Gate>(lanes: &mut Vec<LaneBox>, gate: &G)
 fn run_shares<R: Threads + Sync, G: Gate>(rt: &R, shares: &mut Vec<Vec<LaneBox>>, gate: &G)
     requires { 0 < vec_len shares.old }
     ensures len { vec_len shares.new ≡ vec_len shares.old }
-    ensures same { map (λ share. openings_of share.items) shares.new.items ≡ map (λ share. openings_of share.items) shares.old.items }
+    ensures run { map (λ share. map as_left share.items) shares.new.items ≡ map (λ share. map as_wanted share.items) shares.old.items }
 {
     let run = |_: usize, share: &mut Vec<LaneBox>|
         requires { IsSync G.row }
-        ensures { openings_of share.exit.now.items ≡ openings_of share.entry.now.items }
+        ensures { AreRun share.entry.now.items share.exit.now.items }
     { run_share(share, gate) };
     let count = shares.len();
     for_each_mut(rt, shares.as_mut_slice(), count, &run);

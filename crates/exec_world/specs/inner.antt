@@ -1,3 +1,4 @@
+pub mod Adding
 pub mod Banks
 pub mod Lending
 pub mod Mail

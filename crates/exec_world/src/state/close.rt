@@ -10,9 +10,11 @@ use exec_rules::{Cause, Item, Ready, decision_in};
 use exec_script::Close;
 
 impl<L: Lines> State<L> {
-    ghost use Rattle.std.specs.Prelude.{◌≡◌, ◌⊎◌, ℕ, true, map, OnOk};
+    ghost use Rattle.std.specs.Prelude.{◌≡◌, ◌⊎◌, ℕ, true, map, OnErr, OnOk};
     ghost use Rattle.std.specs.List.{fold};
-    ghost use Rattle.exec_goal.specs.Calls.{askers_in};
+    ghost use Rattle.std.specs.Option.{is_some};
+    ghost use Rattle.exec_goal.specs.Calls.{askers_in, end_state};
+    ghost use Rattle.exec_world.specs.inner.Adding.{closing_adds, item_adds, poll_adds, response_adds};
     ghost use Rattle.exec_msg.specs.declared.goal.GoalStatus.TheVariants as status;
     ghost use Rattle.exec_msg.specs.declared.line.Line.TheVariants as line;
     ghost use Rattle.exec_rules.specs.declared.item.Item.TheVariants as item;
@@ -20,10 +22,11 @@ impl<L: Lines> State<L> {
     ghost use Rattle.exec_rules.specs.Close.{accept, answer_goal, ask, cancel, close_callback, close_item, close_poll, decide, decisions_in, end, reply_to, respond, tell};
     ghost use Rattle.exec_rules.specs.World.{action_client_at, add_line, add_lines, goals_of, has_room_for, push};
 
-    // Closes a ready callback.
+    // Closes a ready callback. Memory is refused only where that adds something to the world.
     #[inline(always)]
     pub(super) fn close(&mut self, one: &Ready, closing: &Close) -> Result<(), Memory>
-        ensures { OnOk result (self.new ≡ close_callback one.now closing.now self.old) }
+        ensures closed { OnOk result (self.new ≡ close_callback one.now closing.now self.old) }
+        ensures memory { OnErr result (closing_adds one.now closing.now self.old ≡ true) }
     {
         match &one.cause {
             Cause::Due => Ok(()),
@@ -41,7 +44,8 @@ impl<L: Lines> State<L> {
         item: &Item,
         closing: &Close,
     ) -> Result<(), Memory>
-        ensures { OnOk result (self.new ≡ close_item entity moment item.now closing.now self.old) }
+        ensures closed { OnOk result (self.new ≡ close_item entity moment item.now closing.now self.old) }
+        ensures memory { OnErr result (item_adds entity item.now self.old ≡ true) }
     {
         match item {
             Item::Request { client, number, .. } => {
@@ -233,7 +237,8 @@ impl<L: Lines> State<L> {
     }
 
     fn respond(&mut self, client: EntityNo, id: GoalId, accepted: bool) -> Result<(), Memory>
-        ensures { OnOk result (self.new ≡ respond (action_client_at client self.old) id accepted self.old) }
+        ensures responded { OnOk result (self.new ≡ respond (action_client_at client self.old) id accepted self.old) }
+        ensures memory { OnErr result (response_adds (action_client_at client self.old) accepted ≡ true) }
     {
         match self.action_clients.find(client) {
             None => Ok(()),
@@ -263,7 +268,8 @@ impl<L: Lines> State<L> {
         moment: Moment,
         closing: &Close,
     ) -> Result<(), Memory>
-        ensures { OnOk result (self.new ≡ close_poll server id moment closing.now self.old) }
+        ensures closed { OnOk result (self.new ≡ close_poll server id moment closing.now self.old) }
+        ensures memory { OnErr result (poll_adds server id closing.now self.old ≡ true) }
     {
         match closing {
             Close::Ended(event, value) => self.end(server, id, *event, *value, moment),
@@ -281,7 +287,8 @@ impl<L: Lines> State<L> {
         value: i64,
         moment: Moment,
     ) -> Result<(), Memory>
-        ensures { OnOk result (self.new ≡ end server id event value moment self.old) }
+        ensures ended { OnOk result (self.new ≡ end server id event value moment self.old) }
+        ensures memory { OnErr result (is_some (end_state id event (goals_of server self.old)) ≡ true) }
     {
         match self.servers.end(server, id, event, value, moment) {
             None => Ok(()),

@@ -165,6 +165,6 @@ fn answer_by(clients: &mut Clients, entity: EntityNo, item: Item)
     ensures { clients.new ≡ answered_by_first entity (item ∷ []) clients.old }
 {
     if let Item::Reply { number, value } = item {
-        clients.complete(entity, number, value);
+        let _answered = clients.complete(entity, number, value);
     }
 }

@@ -6,8 +6,8 @@ use Rattle.exec_entity.proofs.Closings.{ended_told}
 use Rattle.exec_rules.specs.Close.{end}
 use Rattle.exec_world.proofs.state.State.end.Goals as goal
 
-pub returns-in-Some : goal.returns-in-Some
-returns-in-Some g c =
+pub returns-in-Some-clause-ended : goal.returns-in-Some-clause-ended
+returns-in-Some-clause-ended g c =
     let fits : SFits w64 c.args.value = search rules in
     on_ok_weaker c.tell_end.result
     (λ told. told

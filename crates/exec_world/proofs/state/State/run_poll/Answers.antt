@@ -23,4 +23,4 @@ returns g c =
     ∙ (λ i. add_line (line.Run awake.server kind.Poll (to_z-of_z value i) ((to_z-of_z aux ∙ handed) i) (Some awake.id)) home)))
     ∙ committed poll c.args.self.now home effects c.in_ok-close.close
     (c.as_slice.ensures ∙ c.in_ok-close.ensures.effects) c.in_ok-close.ensures.close c.in_ok-close.ensures.home)
-    c.close_poll.ensures
+    c.close_poll.ensures.closed
