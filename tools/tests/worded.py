@@ -1,0 +1,38 @@
+"""That `tools/words` counts the words of the pages as its text says, and reports each limit that a page exceeds."""
+import pathlib
+import tempfile
+
+from . import tool
+
+SHORT, LONG = "A page has these words. ", "Word " + "word " * 48 + "word."
+# A page with one thing too much, and what is said of it; 'docs/x.md' is the page.
+PAGES = (
+    ("a short page", SHORT, "docs/x.md                        5        5      5.0         5          5\n"),
+    ("a sentence of 50 words", SHORT * 9 + LONG, "docs/x.md                       95       95      9.5        50         95\n"),
+    ("a sentence of 51 words", SHORT * 9 + "And w" + LONG[1:], "  docs/x.md:1: a sentence of 51 words: And word word word word word word word ..\n"),
+    ("a paragraph of 120 words", SHORT * 24, "docs/x.md                      120      120      5.0         5        120\n"),
+    ("a paragraph of 121 words", SHORT * 23 + "A page has these six words.", "  docs/x.md:1: a paragraph of 121 words: A page has these words. ..\n"),
+    ("an average of 20 words", "word " * 19 + "word.", "docs/x.md                       20       20     20.0        20         20\n"),
+    ("an average above 20 words", "word " * 20 + "word.", "  docs/x.md:1: 21.0 words a sentence on average\n"),
+    ("a sentence of the second line", "A page has\nlines. And w" + LONG[1:], "  docs/x.md:2: a sentence of 51 words: And word word word word word word word ..\n"),
+    ("what is aside", f"# Head\n\n```text\n{LONG}\n{LONG}\n```\n| a | table |\n\n{SHORT}", "docs/x.md                      109        5      5.0         5          5\n"),
+    ("inline code, a link and a mark", "A `let x = 1` is **one** [such word](x.md) more.", "docs/x.md                        7        7      7.0         7          7\n"),
+    ("entries of a list", f"- {SHORT * 20}\n- {SHORT * 20}", "docs/x.md                      200      200      5.0         5        100\n"),
+    ("40,000 words", f"{SHORT * 20}\n\n" * 400, "all that no script writes    40000    40000\n10 passed, 0 failed\n"),
+    ("40,001 words", f"{SHORT * 20}\n\n" * 400 + "Word.", "  40001 words in the sentences of all pages, and at most 40000 are wanted\n9 passed, 1 failed\n"),
+)
+
+
+def answers(_program):
+    with tempfile.TemporaryDirectory() as folder:
+        top = pathlib.Path(folder)
+        (top / "docs").mkdir()
+        for name in ("README.md", "CONTRIBUTING.md"):
+            (top / name).write_text("")
+        for what, text, says in PAGES:
+            (top / "docs/x.md").write_text(text)
+            status, told = tool.run("words", top)
+            yield f"words of {what}: {told}", (status, says in told), (1 if says.startswith("  ") else 0, True)
+        (top / "docs/x.md").rename(top / "docs/HEADLINE.md")
+        yield "the same words on a page that a script writes", tool.run("words", top)[0], 0
+    yield "wrong words of words", tool.run("words", "--all")[0], 1
