@@ -47,14 +47,16 @@ def answers(_program):
             yield f"{page.name}: the link {link}", (page.parent / link).exists(), True
     yield from toured()
     yield "mistakes.md", (tool.TOP / "docs/mistakes.md").read_text(), mistakes()
+    yield from planting()
+    yield from renaming()
     yield from notices()
 
 
 MISTAKES = """# 100 mistakes
 
-Each is a document in `tools/tests/mistakes`, made from `tools/tests/right.json` by one change. Beside it is all that [explain](explain.md) tells of it. This table has the lines of the mistake itself. Each advice was followed: the document is then accepted, or its next fault is another one (`tools/tests/advised.py`).
+Each is a document in `tools/tests/mistakes`, made from `tools/tests/right.json` by one change. The same folder has all that [explain](explain.md) reports of it. This table has the lines of the mistake itself. Each advice was followed: the document is then accepted, or its next fault is another one (`tools/tests/advised.py`).
 
-| Mistake | Where | What is told |
+| Mistake | Where | What is reported |
 |---|---|---|
 """
 
@@ -80,6 +82,25 @@ def toured():
             said = re.split(" {2,}", line)[0]
             if said.split(" ")[0] in transcript.WORDS:
                 yield f"tour.md: {said}", said in runs, True
+
+
+def planting():
+    """The bug that docs/CHECKING.md plants is the one of the wrong body that it shows, and stands once in the source."""
+    page = (tool.TOP / "docs/CHECKING.md").read_text()
+    file = tool.TOP / re.search(r"^The repository keeps .* This one is `(.*?)`:$", page, re.M)[1]
+    yield f"CHECKING.md shows {file.name}", file.read_text() in page, True
+    path, old, new = re.fullmatch("file: (.*)\nold: (.*)\nnew: (.*)\n", file.read_text()).groups()
+    yield "CHECKING.md plants it", f"sed -i 's/{old}/{new}/' {path}\n" in page, True
+    yield "what CHECKING.md changes", (file.parent.parent / path).read_text().count(old), 1
+
+
+def renaming():
+    """The names that docs/NAMES.md wants renamed are in their files, so that none is there which was renamed."""
+    for row in (tool.TOP / "docs/NAMES.md").read_text().partition("## To be renamed")[2].splitlines():
+        names, files = (re.findall("`([^`]+)`", cell) for cell in (row.split("|") + ["", ""])[1:3])
+        for name in names if row.startswith("| `") else []:
+            there = [file for file in files if re.search(rf"\b{name}\b", (tool.TOP / "crates" / file).read_text())]
+            yield f"NAMES.md: {name} in {files}", bool(there), True
 
 
 def written(program):
