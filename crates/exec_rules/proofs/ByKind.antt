@@ -15,19 +15,21 @@ use Rattle.exec_plan.specs.declared.order.Order.{Order}
 use Rattle.exec_plan.specs.declared.order.Order.TheVariants as order
 use Rattle.exec_rules.proofs.OfKinds.{AreOfTheirKinds, IsOfItsKind}
 use Rattle.exec_rules.proofs.Pairs.{Pairs, all_append, all_both, all_filter, all_flat, all_flat_where, all_map, all_passed, all_weaker, pairs_all, pairs_append, pairs_filter, pairs_flat, pairs_map, pairs_tested, pairs_unmapped, pairs_with}
-use Rattle.exec_rules.proofs.ReadyLists.{IsOf, due_of, poll_of, queue_of}
+use Rattle.exec_rules.proofs.ReadyLists.{IsOf, due_of, poll_of, queue_of, snapshot_of_kinds}
+use Rattle.exec_rules.proofs.Running.{rounds_keep, snapshot_keeps}
+use Rattle.exec_rules.proofs.Shapes.{shape_kept}
 use Rattle.exec_rules.proofs.Sorting.{Rises, back_goes, front_stays}
 use Rattle.exec_rules.proofs.Wiring.{waits_of}
 use Rattle.exec_rules.specs.Ready.{all_ready, answered_by_first, due_ready, item_ready, kind_of, placed_from, poll_ready, queue_ready, rank_under, ready_list, reply_taken, take_inputs}
 use Rattle.exec_rules.specs.Shape.{queue_shape, shape_of}
 use Rattle.exec_rules.specs.Sorting.{sorted_by}
 use Rattle.exec_rules.specs.Item.{taker_of}
-use Rattle.exec_rules.specs.Transcript.{first_world, new_queue, run_all, snapshot_and_run, takes_from_queue}
+use Rattle.exec_rules.specs.Transcript.{at_snapshot, first_world, new_queue, rounds, run_all, snapshot_and_run, takes_from_queue}
 use Rattle.exec_rules.specs.World.{ClientEntry, Queue, WorldState, goals_of}
 use Rattle.exec_rules.specs.declared.item.Item.{Item}
 use Rattle.exec_rules.specs.declared.item.Item.TheVariants as item
 use Rattle.exec_rules.specs.declared.ready.Ready.{Ready}
-use Rattle.exec_rules.specs.inner.ByKind.{is_before_polls, listed_by_kind, queues_before_polls, queues_behind_polls, ready_before, ready_behind, round_by_kind, taken_by_kind}
+use Rattle.exec_rules.specs.inner.ByKind.{IsListedByKind, is_before_polls, listed_by_kind, queues_before_polls, queues_behind_polls, ready_before, ready_behind, round_by_kind, taken_by_kind}
 
 -- ---- queues stand in the order of their kinds
 
@@ -246,3 +248,12 @@ taken moment world kinds = ap (λ (clients : List ClientEntry). record (take_inp
 -- so the round is the one by kinds
 pub rounded : (moment : Moment) (world : WorldState) → AreOfTheirKinds world → QueuesRise world.queues → snapshot_and_run moment world ≡ round_by_kind moment world
 rounded moment world kinds rise = ap₂ run_all (listed moment world kinds rise) (taken moment world kinds)
+
+-- ---- in a plan
+
+-- the snapshots of its rounds are so under the order of kinds
+pub listed_in_rounds : (plan : PlanData) (number : ℕ) (moments : List Moment) (next moment : Moment) → plan.order ≡ order.Kind → IsListedByKind moment (at_snapshot plan next moment (rounds plan number moments (first_world plan)))
+listed_in_rounds plan number moments next moment of_kinds =
+    let shapes = shape_kept (shape_of (first_world plan)) in
+    let before : WorldState = at_snapshot plan next moment (rounds plan number moments (first_world plan)) in
+    listed moment before (snapshot_of_kinds plan number moments next moment) (queues_rise plan before (snapshot_keeps shapes plan next moment _ (rounds_keep shapes plan number moments (first_world plan) refl)))

@@ -8,6 +8,8 @@ ghost use Rattle.exec_rules.specs.Calls.{IsHomeFor, after_finish, after_round, w
 ghost use Rattle.exec_rules.specs.Ready.{is_callback_of};
 ghost use Rattle.exec_rules.specs.Ready.{ready_list};
 ghost use Rattle.exec_rules.specs.Run.{all_apart, all_home, apart, brought_home, commit, commit_all, effects_of, run};
+ghost use Rattle.exec_plan.specs.declared.order.Order.TheVariants as order;
+ghost use Rattle.exec_rules.specs.inner.ByKind.{IsListedByKind};
 ghost use Rattle.exec_rules.specs.Transcript.{at_snapshot, first_world, lines_of, rounds, run_all};
 ghost use Rattle.exec_rules.specs.World.{WorldState};
 ghost use Rattle.exec_rules.specs.declared.ready.Ready.{Ready};
@@ -36,4 +38,11 @@ pub fn rounds_follow_one_another()
 pub fn an_entity_has_one_callback_of_a_kind()
     ensures { (plan : PlanData) (number : ℕ) (moments : List ℕ) (next moment entity : ℕ) (of : Kind) → of ≢ kind.Poll →
         length (filter (is_callback_of entity of) (ready_list moment (at_snapshot plan next moment (rounds plan number moments (first_world plan))))) ≤ 1 }
+{}
+
+/// Under the order of kinds a ready list has the callbacks of timers, those that take from queues of the kinds before polls, polls,
+/// and those that take from the other queues, one after another.
+pub fn the_order_of_kinds_goes_part_by_part()
+    ensures { (plan : PlanData) (number : ℕ) (moments : List ℕ) (next moment : ℕ) → plan.order ≡ order.Kind →
+        IsListedByKind moment (at_snapshot plan next moment (rounds plan number moments (first_world plan))) }
 {}

@@ -1,12 +1,12 @@
 -- The ready list under the order of kinds, part by part: timers, what takes from the queues of kinds before polls, polls, and what
 -- takes from the other queues.
-use Rattle.std.specs.Prelude.{List, ◌++◌, map, nat_le, Bool, not}
+use Rattle.std.specs.Prelude.{◌≡◌, List, ◌++◌, map, nat_le, Bool, not}
 use Rattle.std.specs.List.{filter, flat_map, fold}
 use Rattle.exec_msg.specs.Kind.{ready_number}
 use Rattle.exec_msg.specs.Numbers.{Moment}
 use Rattle.exec_msg.specs.declared.kind.Kind.{Kind}
 use Rattle.exec_msg.specs.declared.kind.Kind.TheVariants as kind
-use Rattle.exec_rules.specs.Ready.{due_ready, placed_from, poll_ready, queue_ready, queue_taken, reply_taken, timer_taken}
+use Rattle.exec_rules.specs.Ready.{due_ready, placed_from, poll_ready, queue_ready, queue_taken, ready_list, reply_taken, timer_taken}
 use Rattle.exec_rules.specs.Transcript.{run_all}
 use Rattle.exec_rules.specs.World.{Queue, WorldState}
 use Rattle.exec_rules.specs.declared.ready.Ready.{Ready}
@@ -42,3 +42,7 @@ taken_by_kind moment world =
 -- the world after the callbacks of this list
 abbrev pub round_by_kind : Moment → WorldState → WorldState
 round_by_kind moment world = run_all (listed_by_kind moment world) (taken_by_kind moment world)
+
+-- the ready list of a world is this list
+abbrev pub IsListedByKind : Moment → WorldState → Type 0
+IsListedByKind moment world = ready_list moment world ≡ listed_by_kind moment world
