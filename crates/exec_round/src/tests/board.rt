@@ -1,11 +1,13 @@
 // Calls of a board, by one pass and by two.
-ghost use Rattle.std.specs.Prelude.{◌≡◌, ◌+◌, ◌<◌, ◌≤◌, []};
+ghost use Rattle.std.specs.Prelude.{◌≡◌, ◌+◌, ◌<◌, ◌≤◌, [], IfOk};
 ghost use Rattle.exec_board.specs.Seats.{IsLast};
 ghost use Rattle.exec_round.specs.inner.Sharing.{IsSweptPass};
 
-use super::TURNS;
-use super::fixture::{have_run, open, run_some, visit};
+use super::fixture::{have_run, lanes_in, open, run_some, visit};
+use super::lanes::EXCLUSIVE;
+use super::{TURNS, world_of};
 use exec_board::{Board, Busy, Pass};
+use exec_doc::Refused;
 use exec_lane::Open;
 use exec_msg::Memory;
 use std::alloc::Global;
@@ -178,4 +180,49 @@ fn shares_are_halved_and_joined(rt: HostRuntime) -> Result<(), Fail> {
     let pass = board.join(front, board.join(middle, last));
     assert!(rt; pass.share() == (0, 5));
     Ok(())
+}
+
+// Run with each allocation refused in turn, too: the answer is Memory, or a board of all lanes.
+#[test]
+fn a_board_has_all_lanes_or_none_is_opened(rt: HostRuntime) {
+    if let Ok((board, pass)) = open(rt.alloc(), &[2, 1], 3) {
+        assert!(rt; board.lanes() == 2 && pass.share() == (0, 3));
+    }
+}
+
+// A board with one lane of two callbacks that log, for one pass.
+fn open_logging(alloc: Global) -> Result<(Board, Pass), Refused>
+    ensures board { IfOk result (λ opened. (opened.0.words ≡ 1) × (opened.1.board ≡ opened.0)) }
+{
+    let world = world_of(alloc, EXCLUSIVE)?;
+    let boxes = lanes_in(alloc, world)?;
+    if boxes.len() != 1 {
+        return Err(Refused::Memory);
+    }
+    Ok(Board::open(alloc, boxes, 1)?)
+}
+
+// Claims and releases that lane three times, for one callback each. Tells whether both callbacks ran, or nothing did after one
+// that was refused memory.
+fn runs_until_refused(board: &Board, pass: &mut Pass) -> bool
+    requires board { pass.old.board ≡ board.now }
+    requires lane { 0 < board.now.words }
+{
+    let first = visit(board, pass, 0, 1);
+    let second = visit(board, pass, 0, 1);
+    let third = visit(board, pass, 0, 1);
+    match first {
+        Ok((0, 0)) => second == Ok((0, 0)) && third == Ok((0, 0)),
+        Ok((0, 1)) if second == Ok((1, 1)) => third == Ok((1, 1)),
+        Ok((0, 1)) => second == Ok((1, 2)) && third == Err(Busy::Finished),
+        _ => false,
+    }
+}
+
+// Run with each allocation refused in turn, too: a lane that was refused one runs nothing in later claims.
+#[test]
+fn a_lane_that_has_failed_stays_so_on_its_board(rt: HostRuntime) {
+    if let Ok((board, mut pass)) = open_logging(rt.alloc()) {
+        assert!(rt; runs_until_refused(&board, &mut pass));
+    }
 }

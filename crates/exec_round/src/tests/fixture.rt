@@ -79,7 +79,7 @@ fn lanes_of(alloc: Global, lengths: &[usize]) -> Result<Vec<LaneBox>, Refused> {
 
 // The lanes of a world's first round. The world is made elsewhere, since a function that makes one and lends it takes minutes to
 // prove.
-fn lanes_in(alloc: Global, mut world: World) -> Result<Vec<LaneBox>, Memory> {
+pub(super) fn lanes_in(alloc: Global, mut world: World) -> Result<Vec<LaneBox>, Memory> {
     split_first(alloc, &mut world)
 }
 

@@ -207,11 +207,11 @@ fn run_two(lanes: &mut Vec<LaneBox>) -> Option<usize> {
     }
 }
 
-// Whether lanes are refused memory, or so many callbacks are gathered.
+// Whether so many callbacks are gathered, or memory is refused and the world has failed.
 fn gather_some(alloc: Global, lanes: Vec<LaneBox>, world: &mut World, count: usize) -> bool {
     match gather(alloc, lanes, world) {
         Ok(all) => all.len() == count,
-        Err(Memory) => true,
+        Err(Memory) => world.is_failed(),
     }
 }
 
