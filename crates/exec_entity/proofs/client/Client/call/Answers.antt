@@ -9,13 +9,12 @@ pub invariant_of-self-2 : goal.invariant_of-self-2
 invariant_of-self-2 c =
     let calls : ℕ = c.self.inside.calls in
     let next : c.in_ok-number.number ≡ calls + 1 = search rules in
-    let above : calls < c.in_ok-number.number = omega (arith, next) in
-    (
-    subst (λ (keys : List ℕ). All (λ number. number ≤ c.in_ok-number.number) keys)
-    (sym (ap (λ es. keys_of es) c.in_ok-insert.ensures.entries ∙ keys_more calls c.in_ok-number.number _ c.self.inside.pending.entries above c.self.invariant.0))
-    (subst (λ (number : ℕ). All (λ other. other ≤ number) (keys_of c.self.inside.pending.entries ++ number ∷ [])) (sym next) (below_more calls (keys_of c.self.inside.pending.entries) c.self.invariant.0)),
-    subst (All IsNew) (sym c.in_ok-insert.ensures.entries)
-    (new_more calls c.in_ok-number.number _ c.self.inside.pending.entries above c.self.invariant.0 c.new.ensures.call c.self.invariant.1)
+    let above : calls < c.in_ok-number.number = omega (arith, next) in (
+      subst (λ (keys : List ℕ). All (λ number. number ≤ c.in_ok-number.number) keys)
+          (sym (ap (λ es. keys_of es) c.in_ok-insert.ensures.entries ∙ keys_more calls c.in_ok-number.number _ c.self.inside.pending.entries above c.self.invariant.0))
+          (subst (λ (number : ℕ). All (λ other. other ≤ number) (keys_of c.self.inside.pending.entries ++ number ∷ [])) (sym next) (below_more calls (keys_of c.self.inside.pending.entries) c.self.invariant.0)),
+      subst (All IsNew) (sym c.in_ok-insert.ensures.entries)
+          (new_more calls c.in_ok-number.number _ c.self.inside.pending.entries above c.self.invariant.0 c.new.ensures.call c.self.invariant.1),
     )
 
 pub returns-clause-called : goal.returns-clause-called

@@ -8,22 +8,20 @@ use Rattle.exec_task.specs.Call.{new_call}
 use Rattle.exec_entity.proofs.client.Client.complete.Goals as goal
 
 pub invariant_of-self : goal.invariant_of-self
-invariant_of-self c =
-    (
-    subst (λ (keys : List ℕ). All (λ number. number ≤ c.self.inside.calls) keys)
-    (sym (ap (λ es. keys_of es) c.shift_remove.ensures.entries ∙ keys_less c.args.number c.self.inside.pending.entries))
-    (below_less c.self.inside.calls c.args.number (keys_of c.self.inside.pending.entries) c.self.invariant.0),
-    subst (All IsNew) (sym c.shift_remove.ensures.entries) (new_less c.args.number c.self.inside.pending.entries c.self.invariant.1)
-    )
+invariant_of-self c = (
+  subst (λ (keys : List ℕ). All (λ number. number ≤ c.self.inside.calls) keys)
+      (sym (ap (λ es. keys_of es) c.shift_remove.ensures.entries ∙ keys_less c.args.number c.self.inside.pending.entries))
+      (below_less c.self.inside.calls c.args.number (keys_of c.self.inside.pending.entries) c.self.invariant.0),
+  subst (All IsNew) (sym c.shift_remove.ensures.entries) (new_less c.args.number c.self.inside.pending.entries c.self.invariant.1),
+)
 
 pub invariant_of-self-2 : goal.invariant_of-self-2
-invariant_of-self-2 c =
-    (
-    subst (λ (keys : List ℕ). All (λ number. number ≤ c.self.inside.calls) keys)
-    (sym (ap (λ es. keys_of es) c.shift_remove.ensures.entries ∙ keys_less c.args.number c.self.inside.pending.entries))
-    (below_less c.self.inside.calls c.args.number (keys_of c.self.inside.pending.entries) c.self.invariant.0),
-    subst (All IsNew) (sym c.shift_remove.ensures.entries) (new_less c.args.number c.self.inside.pending.entries c.self.invariant.1)
-    )
+invariant_of-self-2 c = (
+  subst (λ (keys : List ℕ). All (λ number. number ≤ c.self.inside.calls) keys)
+      (sym (ap (λ es. keys_of es) c.shift_remove.ensures.entries ∙ keys_less c.args.number c.self.inside.pending.entries))
+      (below_less c.self.inside.calls c.args.number (keys_of c.self.inside.pending.entries) c.self.invariant.0),
+  subst (All IsNew) (sym c.shift_remove.ensures.entries) (new_less c.args.number c.self.inside.pending.entries c.self.invariant.1),
+)
 
 pub returns-in_err-call-clause-answered : goal.returns-in_err-call-clause-answered
 returns-in_err-call-clause-answered c =
