@@ -105,6 +105,7 @@ fn fail_and_ask(rt: &impl Abort, alloc: Global, world: &mut World) -> Result<(),
     let list = world.snapshot(2)?;
     world.fail();
     assert!(rt; world.is_failed());
+    assert!(rt; world.run_ready(list.as_slice()) == Err(WorldFault::Failed));
     assert!(rt;
         world
             .snapshot(7)
