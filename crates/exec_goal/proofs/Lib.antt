@@ -1,3 +1,4 @@
+pub mod AmongIds
 pub mod Answering
 pub mod Asking
 pub mod Changing

@@ -1,14 +1,16 @@
 -- The return codes of cancel requests.
-use Rattle.std.proofs.Common.{◌≡◌, ◌≢◌, ℕ, zero, suc, List, [], ◌∷◌, Bool, true, false, if◌then◌else◌, Option, None, Some, refl}
+use Rattle.std.proofs.Common.{◌≡◌, ◌≢◌, ℕ, zero, suc, List, [], ◌∷◌, Bool, true, false, if◌then◌else◌, Option, None, Some, refl, ap}
 use Rattle.std.specs.List.{find, list_any}
-use Rattle.std.proofs.lemmas.Bool.{not-true, not_from_false, false_from_ne_true, true_from_ne_false, ne_eqb, eqb-false}
+use Rattle.std.proofs.lemmas.Bool.{not-true, not_from_false, false_from_ne_true, true_from_ne_false}
 use Rattle.std.proofs.lemmas.List.Elements.{All-weaker}
 use Rattle.std.proofs.lemmas.List.Folds.{list_any_none}
+use Rattle.exec_goal.proofs.Answering.{reject_alone}
 use Rattle.exec_goal.proofs.Filtering.{filter-none, none-filter, find-none, none-find, All-none}
-use Rattle.exec_goal.specs.Cancel.{CancelRequest, Decided, decision_of, is_acceptance, is_refused, is_moved, moved, code_by, code_of}
+use Rattle.exec_goal.specs.Cancel.{CancelRequest, Decided, decision_of, accepts, is_acceptance, is_refused, is_moved, moved, code_by, code_of}
 use Rattle.exec_goal.specs.LawWords.{AllRefused}
 use Rattle.exec_goal.specs.State.{is_terminal}
 use Rattle.exec_goal.specs.Table.{GoalRecord, has_id, holds_id}
+use Rattle.exec_msg.specs.declared.goal.CancelDecision.TheVariants as cancel_decision
 use Rattle.exec_msg.specs.declared.goal.ReturnCode.{ReturnCode}
 use Rattle.exec_msg.specs.declared.goal.ReturnCode.TheVariants as code
 
@@ -16,13 +18,13 @@ pub refused_from : (decisions : List Decided) → AllRefused decisions → is_re
 refused_from [] refused = absurd (refused.0 refl)
 refused_from (decided ∷ others) refused =
     not_from_false (list_any is_acceptance (decided ∷ others))
-    (list_any_none is_acceptance (decided ∷ others) (All-weaker (λ decided. decision_of decided ≢ 2) (λ decided. is_acceptance decided ≡ false) (λ decided differs. ne_eqb (decision_of decided) 2 differs) (decided ∷ others) refused.1))
+    (list_any_none is_acceptance (decided ∷ others) (All-weaker (λ decided. decision_of decided ≡ cancel_decision.Reject) (λ decided. is_acceptance decided ≡ false) (λ decided rejects. ap accepts rejects) (decided ∷ others) refused.1))
 
 pub refused_to : (decisions : List Decided) → is_refused decisions ≡ true → AllRefused decisions
 refused_to [] refused = absurd cc
 refused_to (decided ∷ others) refused = (
   (λ none. cc),
-  All-weaker (λ decided. is_acceptance decided ≡ false) (λ decided. decision_of decided ≢ 2) (λ decided fails. eqb-false (decision_of decided) 2 fails) (decided ∷ others)
+  All-weaker (λ decided. is_acceptance decided ≡ false) (λ decided. decision_of decided ≡ cancel_decision.Reject) (λ decided fails. reject_alone (decision_of decided) fails) (decided ∷ others)
       (All-none is_acceptance (decided ∷ others) (not-true (list_any is_acceptance (decided ∷ others)) refused)),
 )
 

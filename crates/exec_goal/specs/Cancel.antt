@@ -1,7 +1,9 @@
 -- Cancel requests: `action_msgs/srv/CancelGoal`.
-use Rattle.std.specs.Prelude.{ℕ, zero, suc, List, [], ◌∷◌, map, Bool, true, false, not, ◌&&◌, ◌||◌, ◌==◌, nat_le, if◌then◌else◌, Option, None, Some}
+use Rattle.std.specs.Prelude.{zero, suc, List, [], ◌∷◌, map, Bool, true, false, not, ◌&&◌, ◌||◌, ◌==◌, nat_le, if◌then◌else◌, Option, None, Some}
 use Rattle.std.specs.List.{find, filter, list_any}
 use Rattle.exec_msg.specs.Numbers.{GoalId, Moment}
+use Rattle.exec_msg.specs.declared.goal.CancelDecision.{CancelDecision}
+use Rattle.exec_msg.specs.declared.goal.CancelDecision.TheVariants as cancel_decision
 use Rattle.exec_msg.specs.declared.goal.Event.TheVariants as event
 use Rattle.exec_msg.specs.declared.goal.ReturnCode.{ReturnCode}
 use Rattle.exec_msg.specs.declared.goal.ReturnCode.TheVariants as code
@@ -31,19 +33,24 @@ candidates request goals = filter (is_candidate request) goals
 
 -- what a cancel handler decided of a candidate
 abbrev pub Decided : Type 0
-Decided = GoalId × ℕ
+Decided = GoalId × CancelDecision
 
 -- the candidate's identifier
 abbrev pub decided_goal : Decided → GoalId
 decided_goal decided = decided.0
 
 -- the decision
-abbrev pub decision_of : Decided → ℕ
+abbrev pub decision_of : Decided → CancelDecision
 decision_of decided = decided.1
 
--- a decision that accepts: ACCEPT is 2, and any other number rejects
+-- whether a decision accepts
+abbrev pub accepts : CancelDecision → Bool
+accepts cancel_decision.Reject = false
+accepts cancel_decision.Accept = true
+
+-- whether a candidate is accepted for cancelling
 abbrev pub is_acceptance : Decided → Bool
-is_acceptance decided = decision_of decided == 2
+is_acceptance decided = accepts (decision_of decided)
 
 -- whether the goal of an identifier is accepted for cancelling
 abbrev pub is_accepted_for : List Decided → GoalId → Bool
@@ -51,7 +58,7 @@ is_accepted_for decisions id = list_any (λ decided. (decided_goal decided == id
 
 -- an accepted candidate moves where it still may, by which identifiers are accepted
 abbrev pub moves_by : (GoalId → Bool) → GoalRecord → Bool
-moves_by accepts goal = accepts goal.id && is_cancelable goal.state
+moves_by accepted goal = accepted goal.id && is_cancelable goal.state
 
 -- whether a goal moves by the decisions
 abbrev pub is_moved : List Decided → GoalRecord → Bool
@@ -63,7 +70,7 @@ moved decisions goals = filter (is_moved decisions) goals
 
 -- a goal after the answer, by which identifiers are accepted
 abbrev pub after_answer_by : (GoalId → Bool) → GoalRecord → GoalRecord
-after_answer_by accepts goal = if moves_by accepts goal then after_event event.CancelGoal goal else goal
+after_answer_by accepted goal = if moves_by accepted goal then after_event event.CancelGoal goal else goal
 
 -- a goal after the answer
 abbrev pub after_answer : List Decided → GoalRecord → GoalRecord

@@ -1,6 +1,7 @@
 -- Words for the laws of goals.
-use Rattle.std.specs.Prelude.{◌≢◌, List, [], ◌∷◌, All}
+use Rattle.std.specs.Prelude.{◌≡◌, ◌≢◌, List, [], ◌∷◌, All}
 use Rattle.exec_goal.specs.Cancel.{Decided, decision_of}
+use Rattle.exec_msg.specs.declared.goal.CancelDecision.TheVariants as cancel_decision
 
 -- the first list is the second without some of its elements, the others in their order
 pub data IsSublist {X : Type 0} : List X → List X → Type 0 where
@@ -10,4 +11,4 @@ pub data IsSublist {X : Type 0} : List X → List X → Type 0 where
 
 -- there were candidates, and the handler refused all of them
 abbrev pub AllRefused : List Decided → Type 0
-AllRefused decisions = (decisions ≢ []) × All (λ decided. decision_of decided ≢ 2) decisions
+AllRefused decisions = (decisions ≢ []) × All (λ decided. decision_of decided ≡ cancel_decision.Reject) decisions

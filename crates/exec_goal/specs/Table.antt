@@ -1,8 +1,12 @@
 -- The goals that a server holds, in the order in which it accepted them.
 use Rattle.std.specs.Prelude.{◌≢◌, ℕ, ℤ, pos, ◌+◌, List, [], ◌∷◌, ◌++◌, length, Bool, false, not, ◌&&◌, ◌==◌, nat_le, if◌then◌else◌, Option, None, Some, AllPairs}
-use Rattle.std.specs.Option.{unwrap_or}
+use Rattle.std.specs.Option.{is_some, unwrap_or}
 use Rattle.std.specs.List.{find, filter, list_any}
+use Rattle.exec_msg.specs.Goal.{acceptance_of}
 use Rattle.exec_msg.specs.Numbers.{EntityNo, GoalId, Moment, Ticks}
+use Rattle.exec_msg.specs.declared.goal.Acceptance.{Acceptance}
+use Rattle.exec_msg.specs.declared.goal.Acceptance.TheVariants as acceptance
+use Rattle.exec_msg.specs.declared.goal.Decision.{Decision}
 use Rattle.exec_msg.specs.declared.goal.Event.{Event}
 use Rattle.exec_msg.specs.declared.goal.Event.TheVariants as event
 use Rattle.exec_msg.specs.declared.goal.GoalStatus.{GoalStatus}
@@ -42,25 +46,26 @@ is_full goals = nat_le GOALS (length goals)
 abbrev pub working : List GoalRecord → ℕ
 working goals = length (filter (λ goal. is_worked_on goal.state) goals)
 
--- the decisions of a goal handler: anything but ACCEPT_AND_EXECUTE, 2, and ACCEPT_AND_DEFER, 3, rejects
-abbrev pub is_accepting : ℕ → Bool
-is_accepting decision = nat_le 2 decision && nat_le decision 3
+-- whether a goal handler's decision accepts the goal
+abbrev pub is_accepting : Decision → Bool
+is_accepting decision = is_some (acceptance_of decision)
 
 -- the state after an event, or the state before where there is no such transition
 abbrev pub moved_by : Event → State → State
 moved_by event before = unwrap_or (after before event) before
 
--- the state of a goal that is accepted by decision 2 or 3: decision 2 executes it at once
-abbrev pub accepted_state : ℕ → State
-accepted_state decision = if decision == 2 then moved_by event.Execute state.Accepted else state.Accepted
+-- the state of a goal that is accepted so
+abbrev pub accepted_state : Acceptance → State
+accepted_state acceptance.Execute = moved_by event.Execute state.Accepted
+accepted_state acceptance.Defer = state.Accepted
 
 -- a goal that is accepted at a moment
-abbrev pub new_goal : GoalId → ℤ → Moment → ℕ → GoalRecord
-new_goal id value moment decision = record { id = id; value = value; stamp = moment; state = accepted_state decision; result = pos 0; ended = moment; askers = [] }
+abbrev pub new_goal : GoalId → ℤ → Moment → Acceptance → GoalRecord
+new_goal id value moment how = record { id = id; value = value; stamp = moment; state = accepted_state how; result = pos 0; ended = moment; askers = [] }
 
--- a goal accepted by decision 2 or 3 stands at the end of the table
-abbrev pub with_accepted : GoalId → ℤ → Moment → ℕ → List GoalRecord → List GoalRecord
-with_accepted id value moment decision goals = goals ++ new_goal id value moment decision ∷ []
+-- an accepted goal stands at the end of the table
+abbrev pub with_accepted : GoalId → ℤ → Moment → Acceptance → List GoalRecord → List GoalRecord
+with_accepted id value moment how goals = goals ++ new_goal id value moment how ∷ []
 
 -- a goal after an event
 abbrev pub after_event : Event → GoalRecord → GoalRecord

@@ -6,7 +6,7 @@ ghost use Rattle.exec_goal.specs.Info.{info_of};
 ghost use Rattle.exec_goal.specs.Table.{GoalRecord};
 
 use crate::info::GoalInfo;
-use exec_msg::{GoalId, Items, Memory, ReturnCode};
+use exec_msg::{CancelDecision, GoalId, Items, Memory, ReturnCode};
 use indexmap::IndexSet;
 use std::alloc::Global;
 use std::marker::Model;
@@ -31,9 +31,6 @@ impl Model for CancelRequest {
 
     ghost inverse = { λ request. record { id = request.id; stamp = request.stamp } };
 }
-
-// The decision of a cancel handler that accepts; any other refuses.
-const ACCEPT: u8 = 2;
 
 impl CancelRequest {
     // Whether a goal is selected, and may be moved.
@@ -82,12 +79,15 @@ impl Model for AcceptedIds {
 
 impl AcceptedIds {
     // Those of the decisions.
-    pub(crate) fn of(alloc: Global, decisions: &[(GoalId, u8)]) -> Result<AcceptedIds, Memory>
+    pub(crate) fn of(
+        alloc: Global,
+        decisions: &[(GoalId, CancelDecision)],
+    ) -> Result<AcceptedIds, Memory>
         ensures { IfOk result (λ accepted. (id : ℕ) → is_among accepted id ≡ is_accepted_for decisions.now id) }
     {
         let mut ids = IndexSet::new(alloc);
         for decided in decisions {
-            if decided.1 == ACCEPT {
+            if is_acceptance(decided) {
                 ids.insert(decided.0)?;
             }
         }
@@ -110,14 +110,21 @@ impl AcceptedIds {
 }
 
 // Whether there are decisions, and all of them refuse.
-pub(crate) fn is_refused(decisions: &[(GoalId, u8)]) -> bool
+pub(crate) fn is_refused(decisions: &[(GoalId, CancelDecision)]) -> bool
     ensures { result ≡ is_refused decisions.now }
 {
     !decisions.is_empty() && !accepts_any(decisions)
 }
 
-fn accepts_any(decisions: &[(GoalId, u8)]) -> bool
+fn accepts_any(decisions: &[(GoalId, CancelDecision)]) -> bool
     ensures { result ≡ list_any is_acceptance decisions.now }
 {
-    decisions.iter().any(|&(_, decision)| decision == ACCEPT)
+    decisions.iter().any(|decided| is_acceptance(decided))
+}
+
+// Whether a candidate is accepted for cancelling.
+fn is_acceptance(decided: &(GoalId, CancelDecision)) -> bool
+    ensures { result ≡ is_acceptance decided.now }
+{
+    matches!(decided.1, CancelDecision::Accept)
 }

@@ -9,7 +9,7 @@ use crate::refusals::Reject;
 use crate::state::State;
 use crate::tally::Tally;
 use exec_msg::limits::GOALS;
-use exec_msg::{GoalId, Moment};
+use exec_msg::{Acceptance, GoalId, Moment};
 use indexmap::IndexMap;
 use std::alloc::Global;
 use std::marker::Model;
@@ -39,12 +39,12 @@ impl Model for Goals {
 /// The answer to a goal that is accepted.
 #[derive(Clone, Copy, Debug, PartialEq, Eq)]
 pub struct Accepted {
-    /// `State::Executing` by decision 2, and `State::Accepted` by decision 3.
+    /// `State::Executing` if it is executed at once, and else `State::Accepted`.
     pub state: State,
 }
 
 impl Goals {
-    ghost use Rattle.std.specs.Prelude.{◌≡◌, ◌⊎◌, ◌↔◌, ◌<◌, [], true, false, Some, length, map, slice_get, OnOk, OnErr, IfOk};
+    ghost use Rattle.std.specs.Prelude.{◌≡◌, ◌↔◌, ◌<◌, [], true, false, Some, length, map, slice_get, OnOk, OnErr, IfOk};
     ghost use Rattle.exec_goal.specs.Calls.{state_in};
     ghost use Rattle.exec_goal.specs.Info.{info_of};
     ghost use Rattle.exec_goal.specs.Table.{holds_id, HaveDistinctIds, is_full, working, accepted_state, with_accepted};
@@ -114,19 +114,17 @@ impl Goals {
         self.infos()[index]
     }
 
-    /// Accepts a goal of a value at a moment by decision 2, which executes it at once, or by
-    /// decision 3, which defers it. It is refused where its identifier is held, else where no room
-    /// is left, else where memory is refused; the goals are then as they were.
+    /// Accepts a goal of a value at a moment. It is refused where its identifier is held, else
+    /// where no room is left, else where memory is refused; the goals are then as they were.
     pub fn accept(
         &mut self,
         id: GoalId,
         value: i64,
         moment: Moment,
-        decision: u8,
+        how: Acceptance,
     ) -> Result<Accepted, Reject>
-        requires { (decision ≡ 2) ⊎ (decision ≡ 3) }
-        ensures state { IfOk result (λ accepted. accepted.state ≡ accepted_state decision) }
-        ensures accepted { OnOk result (self.new ≡ with_accepted id value moment decision self.old) }
+        ensures state { IfOk result (λ accepted. accepted.state ≡ accepted_state how) }
+        ensures accepted { OnOk result (self.new ≡ with_accepted id value moment how self.old) }
         ensures held { (result ≡ Err reject.Held) ↔ (holds_id id self.old ≡ true) }
         ensures full { (result ≡ Err reject.Full) ↔ ((holds_id id self.old ≡ false) × (is_full self.old ≡ true)) }
         ensures unchanged { OnErr result (self.new ≡ self.old) }
@@ -137,7 +135,7 @@ impl Goals {
         if self.is_full() {
             return Err(Reject::Full);
         }
-        let goal = GoalEntry::new(self.alloc, value, moment, decision);
+        let goal = GoalEntry::new(self.alloc, value, moment, how);
         let state = goal.state;
         let info = goal.info(id);
         let place = self.len();

@@ -1,7 +1,7 @@
 use crate::info::GoalInfo;
 use crate::state::State;
 use crate::tally::has_passed;
-use exec_msg::{EntityNo, GoalId, Items, Moment};
+use exec_msg::{Acceptance, EntityNo, GoalId, Items, Moment};
 use std::alloc::Global;
 
 // A goal that a server holds, but for its identifier, by which the table finds it.
@@ -18,10 +18,6 @@ pub(crate) struct GoalEntry {
     pub(crate) askers: Items<EntityNo>,
 }
 
-// The decision of a goal handler that has a goal executed at once, ACCEPT_AND_EXECUTE. The other
-// one that accepts, 3, ACCEPT_AND_DEFER, doesn't.
-const ACCEPT_AND_EXECUTE: u8 = 2;
-
 impl GoalEntry {
     ghost use Rattle.std.specs.Prelude.{◌≡◌, ℕ, Some};
     ghost use Rattle.exec_goal.specs.Cancel.{after_answer_by};
@@ -29,15 +25,14 @@ impl GoalEntry {
     ghost use Rattle.exec_goal.specs.Info.{info_of};
     ghost use Rattle.exec_goal.specs.Table.{accepted_state, new_goal, is_expired};
 
-    // A goal that is accepted at a moment by decision 2 or 3. It takes no memory.
-    pub(crate) fn new(alloc: Global, value: i64, moment: Moment, decision: u8) -> GoalEntry
-        ensures stands_for { (id : ℕ) → record_of (id, result) ≡ new_goal id value moment decision }
-        ensures state { result.state ≡ accepted_state decision }
+    // A goal that is accepted at a moment. It takes no memory.
+    pub(crate) fn new(alloc: Global, value: i64, moment: Moment, how: Acceptance) -> GoalEntry
+        ensures stands_for { (id : ℕ) → record_of (id, result) ≡ new_goal id value moment how }
+        ensures state { result.state ≡ accepted_state how }
     {
-        let state = if decision == ACCEPT_AND_EXECUTE {
-            State::Executing
-        } else {
-            State::Accepted
+        let state = match how {
+            Acceptance::Execute => State::Executing,
+            Acceptance::Defer => State::Accepted,
         };
         GoalEntry {
             value,

@@ -11,6 +11,11 @@ ghost use Rattle.exec_goal.specs.declared.state.State.{State};
 ghost use Rattle.exec_goal.specs.declared.state.State.TheVariants as state;
 ghost use Rattle.exec_msg.specs.Goal.{status_number};
 ghost use Rattle.exec_msg.specs.Lists.{change_first};
+ghost use Rattle.exec_msg.specs.declared.goal.Acceptance.{Acceptance};
+ghost use Rattle.exec_msg.specs.declared.goal.Acceptance.TheVariants as acceptance;
+ghost use Rattle.exec_msg.specs.declared.goal.CancelDecision.TheVariants as cancel_decision;
+ghost use Rattle.exec_msg.specs.declared.goal.Decision.{Decision};
+ghost use Rattle.exec_msg.specs.declared.goal.Decision.TheVariants as decision;
 ghost use Rattle.exec_msg.specs.declared.goal.Event.{Event};
 ghost use Rattle.exec_msg.specs.declared.goal.Event.TheVariants as event;
 ghost use Rattle.exec_msg.specs.declared.goal.GoalStatus.{GoalStatus};
@@ -51,9 +56,9 @@ pub fn held_goals_are_known()
     ensures { (held : State) → status_number (status_of held) ≢ 0 }
 {}
 
-/// A goal is accepted by the decisions 2 and 3, and by no other.
+/// A goal is accepted by two decisions, and by no other.
 pub fn two_decisions_accept()
-    ensures { (decision : ℕ) → (is_accepting decision ≡ true) ↔ ((decision ≡ 2) ⊎ (decision ≡ 3)) }
+    ensures { (made : Decision) → (is_accepting made ≡ true) ↔ ((made ≡ decision.Execute) ⊎ (made ≡ decision.Defer)) }
 {}
 
 /// A server has no room where it holds 64 goals or more.
@@ -64,24 +69,24 @@ pub fn servers_hold_64_goals()
 /// Where no two goals have one identifier and that of a new goal isn't held, no two goals have one identifier once it is
 /// accepted.
 pub fn accepting_keeps_identifiers_distinct()
-    ensures { (id : ℕ) (value : ℤ) (moment decision : ℕ) (goals : List GoalRecord) →
-        HaveDistinctIds goals → holds_id id goals ≡ false → HaveDistinctIds (with_accepted id value moment decision goals) }
+    ensures { (id : ℕ) (value : ℤ) (moment : ℕ) (how : Acceptance) (goals : List GoalRecord) →
+        HaveDistinctIds goals → holds_id id goals ≡ false → HaveDistinctIds (with_accepted id value moment how goals) }
 {}
 
 /// A goal that is accepted stands last, behind the goals that were held, and is held.
 pub fn accepted_goals_stand_last()
-    ensures others { (id : ℕ) (value : ℤ) (moment decision : ℕ) (goals : List GoalRecord) →
-        take (length goals) (with_accepted id value moment decision goals) ≡ goals }
-    ensures last { (id : ℕ) (value : ℤ) (moment decision : ℕ) (goals : List GoalRecord) →
-        drop (length goals) (with_accepted id value moment decision goals) ≡ new_goal id value moment decision ∷ [] }
-    ensures held { (id : ℕ) (value : ℤ) (moment decision : ℕ) (goals : List GoalRecord) →
-        holds_id id (with_accepted id value moment decision goals) ≡ true }
+    ensures others { (id : ℕ) (value : ℤ) (moment : ℕ) (how : Acceptance) (goals : List GoalRecord) →
+        take (length goals) (with_accepted id value moment how goals) ≡ goals }
+    ensures last { (id : ℕ) (value : ℤ) (moment : ℕ) (how : Acceptance) (goals : List GoalRecord) →
+        drop (length goals) (with_accepted id value moment how goals) ≡ new_goal id value moment how ∷ [] }
+    ensures held { (id : ℕ) (value : ℤ) (moment : ℕ) (how : Acceptance) (goals : List GoalRecord) →
+        holds_id id (with_accepted id value moment how goals) ≡ true }
 {}
 
-/// A goal that is accepted is EXECUTING by decision 2, and ACCEPTED by decision 3.
+/// A goal that is accepted is EXECUTING if it is executed at once, and else ACCEPTED.
 pub fn accepted_goals_begin_by_their_decision()
-    ensures executed { (id : ℕ) (value : ℤ) (moment : ℕ) → (new_goal id value moment 2).state ≡ state.Executing }
-    ensures deferred { (id : ℕ) (value : ℤ) (moment : ℕ) → (new_goal id value moment 3).state ≡ state.Accepted }
+    ensures executed { (id : ℕ) (value : ℤ) (moment : ℕ) → (new_goal id value moment acceptance.Execute).state ≡ state.Executing }
+    ensures deferred { (id : ℕ) (value : ℤ) (moment : ℕ) → (new_goal id value moment acceptance.Defer).state ≡ state.Accepted }
 {}
 
 /// A result request is told a status and a result exactly where the first goal of its identifier has ended with them.
@@ -154,11 +159,11 @@ pub fn candidates_may_be_moved()
     ensures ordered { (request : CancelRequest) (goals : List GoalRecord) → IsSublist (candidates request goals) goals }
 {}
 
-/// A goal moves exactly where a decision of 2 names it and it is still ACCEPTED or EXECUTING.
+/// A goal moves exactly where a decision that accepts names it and it is still ACCEPTED or EXECUTING.
 pub fn accepted_candidates_move()
     ensures { (decisions : List Decided) (goal : GoalRecord) →
         (is_moved decisions goal ≡ true)
-        ↔ (Contains decisions (goal.id, 2) × ((goal.state ≡ state.Accepted) ⊎ (goal.state ≡ state.Executing))) }
+        ↔ (Contains decisions (goal.id, cancel_decision.Accept) × ((goal.state ≡ state.Accepted) ⊎ (goal.state ≡ state.Executing))) }
 {}
 
 /// The goals that move are all such goals of the table, in order of acceptance.

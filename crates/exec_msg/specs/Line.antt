@@ -5,7 +5,7 @@ use Rattle.std.specs.Fmt.{signed_decimal}
 use Rattle.std.specs.List.{flat_map}
 use Rattle.exec_msg.specs.Numbers.{EntityNo, GoalId}
 use Rattle.uuid.specs.Text.{hyphenated_text, lower}
-use Rattle.exec_msg.specs.Goal.{status_number, code_number}
+use Rattle.exec_msg.specs.Goal.{status_number, code_number, decision_number}
 use Rattle.exec_msg.specs.declared.kind.Kind.{Kind}
 use Rattle.exec_msg.specs.declared.kind.Kind.TheVariants as kind
 use Rattle.exec_msg.specs.declared.line.Line.{Line}
@@ -62,7 +62,7 @@ fields_of names (line.Goal client id value) = codes "goal" ∷ name_at names cli
 fields_of names (line.Cancel client id stamp) = codes "cancel" ∷ name_at names client ∷ id_text id ∷ decimal stamp ∷ []
 fields_of names (line.Log entity value) = codes "log" ∷ name_at names entity ∷ signed_decimal value ∷ []
 fields_of names (line.Feedback server id value) = codes "feedback" ∷ name_at names server ∷ id_text id ∷ signed_decimal value ∷ []
-fields_of names (line.Decide server id decision) = codes "decide" ∷ name_at names server ∷ id_text id ∷ decimal decision ∷ []
+fields_of names (line.Decide server id decision) = codes "decide" ∷ name_at names server ∷ id_text id ∷ decimal (decision_number decision) ∷ []
 fields_of names (line.State server id status) = codes "state" ∷ name_at names server ∷ id_text id ∷ decimal (status_number status) ∷ []
 fields_of names (line.Code server code moved) = codes "code" ∷ name_at names server ∷ decimal (code_number code) ∷ decimal moved ∷ []
 fields_of names (line.Ask client id) = codes "ask" ∷ name_at names client ∷ id_text id ∷ []

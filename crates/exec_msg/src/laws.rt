@@ -2,7 +2,9 @@
 ghost use Rattle.std.specs.Prelude.{◌≡◌, ℕ, ◌+◌, ◌-◌, ◌<◌, ◌≤◌, ◌^◌, List, [], ◌∷◌, ◌++◌, length, drop};
 ghost use Rattle.std.specs.List.{fold};
 ghost use Rattle.std.specs.Ordering.{nat_cmp};
-ghost use Rattle.exec_msg.specs.Goal.{status_number, code_number};
+ghost use Rattle.exec_msg.specs.Goal.{status_number, code_number, decision_number, cancel_decision_number};
+ghost use Rattle.exec_msg.specs.declared.goal.CancelDecision.{CancelDecision};
+ghost use Rattle.exec_msg.specs.declared.goal.Decision.{Decision};
 ghost use Rattle.exec_msg.specs.declared.goal.GoalStatus.{GoalStatus};
 ghost use Rattle.exec_msg.specs.declared.goal.ReturnCode.{ReturnCode};
 ghost use Rattle.exec_msg.specs.Kind.{ready_number};
@@ -25,6 +27,16 @@ pub fn status_numbers_differ()
 /// No two return codes have one number.
 pub fn code_numbers_differ()
     ensures { (first second : ReturnCode) → code_number first ≡ code_number second → first ≡ second }
+{}
+
+/// No two decisions of a goal handler have one number.
+pub fn decision_numbers_differ()
+    ensures { (first second : Decision) → decision_number first ≡ decision_number second → first ≡ second }
+{}
+
+/// No two decisions of a cancel handler have one number.
+pub fn cancel_decision_numbers_differ()
+    ensures { (first second : CancelDecision) → cancel_decision_number first ≡ cancel_decision_number second → first ≡ second }
 {}
 
 /// Whatever a keep-last queue held, it holds no more than its depth once an item was sent to it.

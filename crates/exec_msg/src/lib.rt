@@ -22,7 +22,7 @@ mod timer;
 mod transcript;
 mod value_texts;
 
-pub use goal::{Event, GoalStatus, ReturnCode};
+pub use goal::{Acceptance, CancelDecision, Decision, Event, GoalStatus, ReturnCode};
 pub use items::Items;
 pub use keep_last::KeepLast;
 pub use kind::Kind;

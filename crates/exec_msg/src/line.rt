@@ -1,4 +1,4 @@
-use crate::goal::{GoalStatus, ReturnCode};
+use crate::goal::{Decision, GoalStatus, ReturnCode};
 use crate::kind::Kind;
 use crate::numbers::{EntityNo, GoalId, Moment};
 
@@ -68,12 +68,11 @@ pub enum Line {
         id: GoalId,
         value: i64,
     },
-    /// A server decides on a goal request: 1 rejects it, 2 accepts and executes it, 3 accepts and
-    /// defers it.
+    /// A server decides on a goal request.
     Decide {
         server: EntityNo,
         id: GoalId,
-        decision: u8,
+        decision: Decision,
     },
     /// A goal has another state now.
     State {

@@ -4,7 +4,7 @@ mod halves;
 pub(crate) mod push;
 pub(crate) mod said;
 
-use crate::goal::GoalStatus;
+use crate::goal::{Decision, GoalStatus};
 use crate::kind::Kind;
 use crate::numbers::EntityNo;
 use std::mem::size_of;
@@ -119,7 +119,7 @@ pub(crate) enum Cell {
         low: u32,
     },
     Decide {
-        decision: u8,
+        decision: Decision,
         server: EntityNo,
     },
     State {

@@ -3,7 +3,7 @@ mod run;
 
 ghost use Rattle.std.specs.Prelude.{◌≡◌, ◌+◌, ◌<◌, ◌≤◌, [], ◌∷◌, ◌++◌, length, take, codes, decimal, ◌^◌, vec_capacity, vec_len, IfOk, OnErr};
 ghost use Rattle.std.specs.Fmt.{signed_decimal};
-ghost use Rattle.exec_msg.specs.Goal.{status_number, code_number};
+ghost use Rattle.exec_msg.specs.Goal.{status_number, code_number, decision_number};
 ghost use Rattle.exec_msg.specs.Line.{IsAppended, greatest_length, line_room, joined, name_at, word_of, id_text, fields_of, line_text};
 
 use crate::goal::{GoalStatus, ReturnCode};
@@ -133,7 +133,15 @@ fn place_fields(
             server,
             id,
             decision,
-        } => place_goal_count(bytes, at, "decide", names, server, id, decision as u64),
+        } => place_goal_count(
+            bytes,
+            at,
+            "decide",
+            names,
+            server,
+            id,
+            decision.number() as u64,
+        ),
         Line::State { server, id, status } => place_goal_count(
             bytes,
             at,

@@ -1,9 +1,14 @@
 -- What a script does, by recursion on the instructions that are left of it.
-use Rattle.std.specs.Prelude.{◌≡◌, ℕ, zero, suc, ◌<◌, ℤ, pos, negsuc, List, [], ◌∷◌, ◌++◌, length, drop, int_lt, nat_le, ◌&&◌, if◌then◌else◌, slice_index_or, slice_set, Option, None, Some, ⊤}
+use Rattle.std.specs.Prelude.{◌≡◌, ℕ, zero, suc, ◌<◌, ℤ, pos, negsuc, List, [], ◌∷◌, ◌++◌, length, drop, int_lt, if◌then◌else◌, slice_index_or, slice_set, Option, None, Some, ⊤}
 use Rattle.std.specs.Int.{w64, int_wrapping_add, int_wrapping_sub, int_wrapping_mul, int_min, int_max}
 use Rattle.std.specs.Option.{unwrap_or}
 use Rattle.std.specs.Ordering.{int_eq}
+use Rattle.exec_msg.specs.Goal.{decision_number, cancel_decision_number}
 use Rattle.exec_msg.specs.Numbers.{Moment, Ticks}
+use Rattle.exec_msg.specs.declared.goal.CancelDecision.{CancelDecision}
+use Rattle.exec_msg.specs.declared.goal.CancelDecision.TheVariants as cancel_decision
+use Rattle.exec_msg.specs.declared.goal.Decision.{Decision}
+use Rattle.exec_msg.specs.declared.goal.Decision.TheVariants as decision
 use Rattle.exec_msg.specs.declared.goal.Event.TheVariants as event
 use Rattle.exec_script.specs.Zeros.{zeros}
 use Rattle.exec_script.specs.declared.effects.Close.{Close}
@@ -152,17 +157,25 @@ listed effect effects = effects ++ effect ∷ []
 abbrev pub call_of : Script → Variables → CallInput → ScriptState (List Effect)
 call_of script variables input = called listed script variables input []
 
--- a number from 1 up to a greatest one, or else 1
-abbrev pub decision_within : ℕ → ℤ → ℕ
-decision_within most (pos n) = if nat_le 1 n && nat_le n most then n else 1
-decision_within most (negsuc n) = 1
+-- a goal handler's decision by the number that it decides, if it does: any other number or none rejects
+abbrev pub goal_decided : Option ℤ → Decision
+goal_decided None = decision.Reject
+goal_decided (Some number) =
+    if int_eq number (pos (decision_number decision.Execute)) then decision.Execute
+    else if int_eq number (pos (decision_number decision.Defer)) then decision.Defer
+    else decision.Reject
 
--- what closes a call of a script for this kind of callback, by its reply or decision: no reply is 0, and no decision 1
+-- a cancel handler's decision by the number that it decides, if it does: any other number or none rejects
+abbrev pub cancel_decided : Option ℤ → CancelDecision
+cancel_decided None = cancel_decision.Reject
+cancel_decided (Some number) = if int_eq number (pos (cancel_decision_number cancel_decision.Accept)) then cancel_decision.Accept else cancel_decision.Reject
+
+-- what closes a call of a script for this kind of callback, by its reply or the number that it decides; no reply is 0
 abbrev pub close_of : Role → Option ℤ → Close
 close_of role.Callback answer = close.Nothing
 close_of role.Service answer = close.Reply (unwrap_or answer (pos 0))
-close_of role.GoalHandler answer = close.Decide (decision_within 3 (unwrap_or answer (pos 1)))
-close_of role.CancelHandler answer = close.Decide (decision_within 2 (unwrap_or answer (pos 1)))
+close_of role.GoalHandler answer = close.Decide (goal_decided answer)
+close_of role.CancelHandler answer = close.DecideCancel (cancel_decided answer)
 close_of role.Goal answer = close.Nothing
 
 -- what a call of a script leaves in a role: the group's variables, its effects behind those that were listed before, and what

@@ -1,4 +1,4 @@
-use exec_msg::{EntityNo, Event, GoalId, Items, Memory};
+use exec_msg::{CancelDecision, Decision, EntityNo, Event, GoalId, Items, Memory};
 use std::alloc::Global;
 use std::marker::Model;
 
@@ -49,12 +49,13 @@ pub enum Close {
     Nothing,
     /// A service's reply.
     Reply(i64),
-    /// A goal handler's decision: 1 rejects, 2 accepts and executes, 3 accepts and defers. Of one
-    /// candidate a cancel handler's: 1 rejects, 2 accepts.
-    Decide(u8),
+    /// A goal handler's decision.
+    Decide(Decision),
+    /// A cancel handler's decision of one candidate.
+    DecideCancel(CancelDecision),
     /// A cancel handler's decisions in the order of its candidates, each with the candidate's
-    /// identifier: 1 rejects, 2 accepts.
-    Decisions(Items<(GoalId, u8)>),
+    /// identifier.
+    Decisions(Items<(GoalId, CancelDecision)>),
     /// The goal pends.
     Pending,
     /// The goal ended by this event with a value.
@@ -75,6 +76,7 @@ impl Close {
             Close::Nothing => Close::Nothing,
             Close::Reply(value) => Close::Reply(*value),
             Close::Decide(decision) => Close::Decide(*decision),
+            Close::DecideCancel(decision) => Close::DecideCancel(*decision),
             Close::Decisions(decisions) => {
                 Close::Decisions(Items::of(Vec::from_slice(alloc, decisions.as_slice())?))
             }

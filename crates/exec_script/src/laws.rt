@@ -1,16 +1,25 @@
 //! Laws of scripts. Each holds for all scripts, from every state, and for effects that go anywhere: `S` is what they
 //! are put into, and `give` puts one there.
 
-ghost use Rattle.std.specs.Prelude.{◌≡◌, ◌≢◌, ℕ, ◌+◌, ◌<◌, ◌≤◌, ℤ, List, [], length, true, Option, None, Ok, IfSome};
+ghost use Rattle.std.specs.Prelude.{◌≡◌, ◌≢◌, ℕ, ◌+◌, ◌<◌, ◌≤◌, ℤ, pos, List, [], length, true, Option, None, Some, Ok, IfSome};
 ghost use Rattle.std.specs.List.{All, Any};
+ghost use Rattle.exec_msg.specs.Goal.{decision_number, cancel_decision_number};
+ghost use Rattle.exec_msg.specs.declared.goal.CancelDecision.{CancelDecision};
+ghost use Rattle.exec_msg.specs.declared.goal.Decision.{Decision};
 ghost use Rattle.exec_script.specs.LawWords.{goes_on_at, ended_by, IsEnding, MayGive, state_with_variables, give_each, given_later};
 ghost use Rattle.exec_script.specs.Legality.{legality_of};
-ghost use Rattle.exec_script.specs.Script.{CallInput, call_of, called, listed, resumed};
+ghost use Rattle.exec_script.specs.Script.{CallInput, call_of, called, goal_decided, cancel_decided, listed, resumed};
 ghost use Rattle.exec_script.specs.declared.effects.Effect.{Effect};
 ghost use Rattle.exec_script.specs.declared.instr.Instr.{Instr};
 ghost use Rattle.exec_script.specs.declared.place.Place.{Place};
 ghost use Rattle.exec_script.specs.declared.place.Role.TheVariants as role;
 ghost use Rattle.exec_script.specs.declared.step.Stop.TheVariants as stop;
+
+/// A handler that decides the number of a decision makes that decision.
+pub fn decisions_are_made_by_their_numbers()
+    ensures goal { (made : Decision) → goal_decided (Some (pos (decision_number made))) ≡ made }
+    ensures cancel { (made : CancelDecision) → cancel_decided (Some (pos (cancel_decision_number made))) ≡ made }
+{}
 
 /// A script that waits or yields goes on behind the place from which it came, and at most at its end.
 pub fn goes_on_within_its_end<S>()

@@ -1,5 +1,5 @@
 ghost use Rattle.std.specs.Prelude.{◌≡◌, ◌+◌, ◌-◌, ◌<◌, ◌≤◌, ◌^◌, ℤ, List, [], Option, None, length, vec_len, vec_capacity, IsOk, OnOk, OnErr, IfOk};
-ghost use Rattle.exec_script.specs.Script.{at_least_0, step_of, WaitsWithin, listed, resumed, decision_within, close_of, HasCalled};
+ghost use Rattle.exec_script.specs.Script.{at_least_0, step_of, WaitsWithin, listed, resumed, goal_decided, cancel_decided, close_of, HasCalled};
 ghost use Rattle.exec_script.specs.inner.Steps.{PausesWithin};
 ghost use Rattle.exec_script.specs.declared.effects.Effect.{Effect};
 
@@ -10,7 +10,7 @@ use crate::instr::{Instr, Opcode};
 use crate::place::Role;
 use crate::results::{Foreseen, Picked, Results};
 use crate::step::{Step, Stop};
-use exec_msg::{Event, Memory, Moment};
+use exec_msg::{CancelDecision, Decision, Event, Memory, Moment};
 use std::alloc::Global;
 use std::marker::Model;
 
@@ -201,18 +201,27 @@ fn close_of(role: Role, answer: Option<i64>) -> Close
     match role {
         Role::Callback | Role::Goal => Close::Nothing,
         Role::Service => Close::Reply(answer.unwrap_or(0)),
-        Role::GoalHandler => Close::Decide(decision_within(3, answer.unwrap_or(1))),
-        Role::CancelHandler => Close::Decide(decision_within(2, answer.unwrap_or(1))),
+        Role::GoalHandler => Close::Decide(goal_decided(answer)),
+        Role::CancelHandler => Close::DecideCancel(cancel_decided(answer)),
     }
 }
 
-fn decision_within(most: u8, answer: i64) -> u8
-    ensures { result ≡ decision_within most answer }
+fn goal_decided(answer: Option<i64>) -> Decision
+    ensures { result ≡ goal_decided answer }
 {
-    if answer >= 1 && answer <= most as i64 {
-        answer as u8
-    } else {
-        1
+    match answer {
+        Some(2) => Decision::Execute,
+        Some(3) => Decision::Defer,
+        _ => Decision::Reject,
+    }
+}
+
+fn cancel_decided(answer: Option<i64>) -> CancelDecision
+    ensures { result ≡ cancel_decided answer }
+{
+    match answer {
+        Some(2) => CancelDecision::Accept,
+        _ => CancelDecision::Reject,
     }
 }
 

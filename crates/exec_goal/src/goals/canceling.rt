@@ -2,7 +2,7 @@
 use super::Goals;
 use crate::cancel::{AcceptedIds, CancelAnswer, CancelRequest, is_refused};
 use crate::info::GoalInfo;
-use exec_msg::{GoalId, Items, Memory, ReturnCode};
+use exec_msg::{CancelDecision, GoalId, Items, Memory, ReturnCode};
 
 impl Goals {
     ghost use Rattle.std.specs.Prelude.{◌≡◌, ◌<◌, length, map, slice_index_or, slice_set, OnOk, OnErr, IfOk};
@@ -29,13 +29,12 @@ impl Goals {
     }
 
     /// Answers a cancel request by what its handler decided of the candidates, each by its
-    /// identifier: 2 accepts, and any other number refuses. An accepted candidate that is still
-    /// ACCEPTED or EXECUTING becomes CANCELING. Where memory is refused, all goals stay as they
-    /// were: it is taken before any goal moves.
+    /// identifier. An accepted candidate that is still ACCEPTED or EXECUTING becomes CANCELING.
+    /// Where memory is refused, all goals stay as they were: it is taken before any goal moves.
     pub fn answer(
         &mut self,
         request: &CancelRequest,
-        decisions: &[(GoalId, u8)],
+        decisions: &[(GoalId, CancelDecision)],
     ) -> Result<CancelAnswer, Memory>
         ensures code { IfOk result (λ answer. answer.code ≡ code_of request.now decisions.now self.old) }
         ensures moved { IfOk result (λ answer. answer.moved ≡ map (λ goal. goal.id) (moved decisions.now self.old)) }
@@ -66,7 +65,11 @@ impl Goals {
         Ok(ids)
     }
 
-    fn code_unmoved(&self, request: &CancelRequest, decisions: &[(GoalId, u8)]) -> ReturnCode
+    fn code_unmoved(
+        &self,
+        request: &CancelRequest,
+        decisions: &[(GoalId, CancelDecision)],
+    ) -> ReturnCode
         ensures { result ≡ code_unmoved request.now decisions.now self.now }
     {
         if is_refused(decisions) {

@@ -19,8 +19,8 @@ returns-clause-accepted c =
     let none : holds_id c.args.id (records_of c.self.inside.held.entries) ≡ false = ap (holds_id c.args.id) c.self.view_is ∙ sym c.holds.ensures ∙ c.if-holds.false in
     ap records_of c.in_ok-insert.ensures.entries ∙ inserted-new _ (λ a b. ids_decide a b) c.args.id _ c.self.inside.held.entries none
     ∙ ap (λ goal. records_of c.self.inside.held.entries ++ goal ∷ []) (c.new-goal.ensures.stands_for c.args.id)
-    ∙ ap (λ value. records_of c.self.inside.held.entries ++ new_goal c.args.id value c.args.moment c.args.decision ∷ []) (to_z-of_z fits)
-    ∙ ap (λ goals. goals ++ new_goal c.args.id c.args.value c.args.moment c.args.decision ∷ []) c.self.view_is
+    ∙ ap (λ value. records_of c.self.inside.held.entries ++ new_goal c.args.id value c.args.moment c.args.how ∷ []) (to_z-of_z fits)
+    ∙ ap (λ goals. goals ++ new_goal c.args.id c.args.value c.args.moment c.args.how ∷ []) c.self.view_is
 
 pub count_move-requires-clause-fits : goal.count_move-requires-clause-fits
 count_move-requires-clause-fits c = tallied-fits c.self.inside.tally (records_of c.self.inside.held.entries) c.self.invariant
