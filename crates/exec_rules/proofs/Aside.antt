@@ -8,8 +8,12 @@ use Rattle.exec_goal.specs.Cancel.{CancelRequest, Decided, code_of, moved, table
 use Rattle.exec_goal.specs.State.{status_of}
 use Rattle.exec_goal.specs.Table.{Asked, GoalRecord, after_end, asked_by, asked_for, has_id, is_accepting, later, new_goal, told, unknown}
 use Rattle.exec_goal.specs.declared.state.State.{State}
+use Rattle.exec_msg.specs.Goal.{acceptance_of}
 use Rattle.exec_msg.specs.Numbers.{EntityNo, GoalId, Moment}
 use Rattle.exec_msg.specs.Lists.{change_first}
+use Rattle.exec_msg.specs.declared.goal.Acceptance.{Acceptance}
+use Rattle.exec_msg.specs.declared.goal.Decision.{Decision}
+use Rattle.exec_msg.specs.declared.goal.Decision.TheVariants as decision
 use Rattle.exec_msg.specs.declared.goal.Event.{Event}
 use Rattle.exec_msg.specs.declared.goal.GoalStatus.{GoalStatus}
 use Rattle.exec_msg.specs.declared.goal.GoalStatus.TheVariants as status
@@ -42,7 +46,7 @@ pub record StandsAside (P : WorldState → Type 0) (home : WorldState → WorldS
   pub aside : StandsApart home
   pub basic : Kept P
   pub accepts : KeptByAcceptance P
-  pub acceptance_apart : (server : EntityNo) (moment : Moment) (decision : ℕ) (request : GoalRequest) (world : WorldState) → P world → home (accept server moment decision request world) ≡ accept server moment decision request (home world)
+  pub acceptance_apart : (server : EntityNo) (moment : Moment) (how : Acceptance) (request : GoalRequest) (world : WorldState) → P world → home (accept server moment how request world) ≡ accept server moment how request (home world)
 
 module _ {P : WorldState → Type 0} {home : WorldState → WorldState} (s : StandsAside P home) where
   tell_apart : (server : EntityNo) (id : GoalId) (value : GoalStatus) (result : ℤ) (client : EntityNo) (world : WorldState) → home (tell server id value result client world) ≡ tell server id value result client (home world)
@@ -80,26 +84,27 @@ module _ {P : WorldState → Type 0} {home : WorldState → WorldState} (s : Sta
   close_poll_apart server id moment close.Nothing world = refl
   close_poll_apart server id moment (close.Reply value) world = refl
   close_poll_apart server id moment (close.Decide decision) world = refl
+  close_poll_apart server id moment (close.DecideCancel decision) world = refl
   close_poll_apart server id moment (close.Decisions decisions) world = refl
   close_poll_apart server id moment close.Pending world = refl
   close_poll_apart server id moment (close.Ended by value) world = end_apart server id by value moment world
 
-  accept_where_apart : (b : Bool) (server : EntityNo) (moment : Moment) (decision : ℕ) (request : GoalRequest) (world : WorldState) → P world → home (accept_where b server moment decision request world) ≡ accept_where b server moment decision request (home world)
-  accept_where_apart true server moment decision request world p = s.acceptance_apart server moment decision request world p
-  accept_where_apart false server moment decision request world p = refl
+  accept_where_apart : (wanted : Option Acceptance) (server : EntityNo) (moment : Moment) (request : GoalRequest) (world : WorldState) → P world → home (accept_where wanted server moment request world) ≡ accept_where wanted server moment request (home world)
+  accept_where_apart None server moment request world p = refl
+  accept_where_apart (Some how) server moment request world p = s.acceptance_apart server moment how request world p
 
-  decide_apart : (server : EntityNo) (moment : Moment) (decision : ℕ) (request : GoalRequest) (world : WorldState) → P world → home (decide server moment decision request world) ≡ decide server moment decision request (home world)
+  decide_apart : (server : EntityNo) (moment : Moment) (decision : Decision) (request : GoalRequest) (world : WorldState) → P world → home (decide server moment decision request world) ≡ decide server moment decision request (home world)
   decide_apart server moment decision request world p =
       let said : WorldState = add_line (line.Decide server request.id decision) world in
-      push_any_apart s.aside request.client (item.Response request.id (is_accepting decision)) (accept_where (is_accepting decision) server moment decision request said)
+      push_any_apart s.aside request.client (item.Response request.id (is_accepting decision)) (accept_where (acceptance_of decision) server moment request said)
       ∙ ap (λ (after : WorldState). push_any request.client (item.Response request.id (is_accepting decision)) after)
-      (accept_where_apart (is_accepting decision) server moment decision request said (s.basic.lines_kept (line.Decide server request.id decision ∷ []) world p)
-      ∙ ap (λ (after : WorldState). accept_where (is_accepting decision) server moment decision request after) (line_apart s.aside (line.Decide server request.id decision) world))
+      (accept_where_apart (acceptance_of decision) server moment request said (s.basic.lines_kept (line.Decide server request.id decision ∷ []) world p)
+      ∙ ap (λ (after : WorldState). accept_where (acceptance_of decision) server moment request after) (line_apart s.aside (line.Decide server request.id decision) world))
 
-  answer_goal_apart : (server : EntityNo) (moment : Moment) (decision : ℕ) (request : GoalRequest) (world : WorldState) → P world → home (answer_goal server moment decision request world) ≡ answer_goal server moment decision request (home world)
-  answer_goal_apart server moment decision request world p =
-      decide_apart server moment (if has_room_for request.id (goals_of server world) then decision else 1) request world p
-      ∙ ap (λ (goals : List GoalRecord). decide server moment (if has_room_for request.id goals then decision else 1) request (home world)) (sym (s.aside.goals_same server world))
+  answer_goal_apart : (server : EntityNo) (moment : Moment) (made : Decision) (request : GoalRequest) (world : WorldState) → P world → home (answer_goal server moment made request world) ≡ answer_goal server moment made request (home world)
+  answer_goal_apart server moment made request world p =
+      decide_apart server moment (if has_room_for request.id (goals_of server world) then made else decision.Reject) request world p
+      ∙ ap (λ (goals : List GoalRecord). decide server moment (if has_room_for request.id goals then made else decision.Reject) request (home world)) (sym (s.aside.goals_same server world))
 
   answer_cancel_apart : (server : EntityNo) (client : Option EntityNo) (returned : ReturnCode) (goals : List GoalRecord) (world : WorldState) → home (answer_cancel server client returned goals world) ≡ answer_cancel server client returned goals (home world)
   answer_cancel_apart server client returned goals world =
@@ -217,8 +222,8 @@ module _ (server : EntityNo) (id : GoalId) where
   }
 
   held_accepts : KeptByAcceptance (IsHeld server id)
-  held_accepts other moment decision request world room p =
-      read_kept (keeps id) (is_server_at other) (is_server_at server) (server_accepting moment decision request) (λ entry. refl)
+  held_accepts other moment how request world room p =
+      read_kept (keeps id) (is_server_at other) (is_server_at server) (server_accepting moment how request) (λ entry. refl)
       (λ entry q. any_before (is_for id) entry.held (held_goal entry.handler.script request ∷ []) q) world.servers p
 
   module _ (change : HeldGoal → HeldGoal) (id_same : (held : HeldGoal) → (change held).id ≡ held.id) (client_same : (held : HeldGoal) → (change held).client ≡ held.client) where
@@ -226,17 +231,17 @@ module _ (server : EntityNo) (id : GoalId) where
     changed entry = record entry { held = change_first (is_for id) change entry.held }
 
     -- an acceptance, and a change of what is kept for a goal that is held
-    accepted_in_turn : (other : EntityNo) (moment : Moment) (decision : ℕ) (request : GoalRequest) (servers : List ServerEntry) → option_map_or (keeps id) (find (is_server_at server) servers) false ≡ true →
-        change_first (is_server_at server) changed (change_first (is_server_at other) (server_accepting moment decision request) servers) ≡ change_first (is_server_at other) (server_accepting moment decision request) (change_first (is_server_at server) changed servers)
-    accepted_in_turn other moment decision request [] p = refl
-    accepted_in_turn other moment decision request (entry ∷ servers) p = by (is_server_at server entry) (is_server_at other entry) refl refl p (accepted_in_turn other moment decision request servers)
+    accepted_in_turn : (other : EntityNo) (moment : Moment) (how : Acceptance) (request : GoalRequest) (servers : List ServerEntry) → option_map_or (keeps id) (find (is_server_at server) servers) false ≡ true →
+        change_first (is_server_at server) changed (change_first (is_server_at other) (server_accepting moment how request) servers) ≡ change_first (is_server_at other) (server_accepting moment how request) (change_first (is_server_at server) changed servers)
+    accepted_in_turn other moment how request [] p = refl
+    accepted_in_turn other moment how request (entry ∷ servers) p = by (is_server_at server entry) (is_server_at other entry) refl refl p (accepted_in_turn other moment how request servers)
       where
         by : (b c : Bool) → is_server_at server entry ≡ b → is_server_at other entry ≡ c → option_map_or (keeps id) (find (is_server_at server) (entry ∷ servers)) false ≡ true →
-            (option_map_or (keeps id) (find (is_server_at server) servers) false ≡ true → change_first (is_server_at server) changed (change_first (is_server_at other) (server_accepting moment decision request) servers) ≡ change_first (is_server_at other) (server_accepting moment decision request) (change_first (is_server_at server) changed servers)) →
-            change_first (is_server_at server) changed (change_first (is_server_at other) (server_accepting moment decision request) (entry ∷ servers)) ≡ change_first (is_server_at other) (server_accepting moment decision request) (change_first (is_server_at server) changed (entry ∷ servers))
+            (option_map_or (keeps id) (find (is_server_at server) servers) false ≡ true → change_first (is_server_at server) changed (change_first (is_server_at other) (server_accepting moment how request) servers) ≡ change_first (is_server_at other) (server_accepting moment how request) (change_first (is_server_at server) changed servers)) →
+            change_first (is_server_at server) changed (change_first (is_server_at other) (server_accepting moment how request) (entry ∷ servers)) ≡ change_first (is_server_at other) (server_accepting moment how request) (change_first (is_server_at server) changed (entry ∷ servers))
         by true true e f p rest =
             let here : keeps id entry ≡ true = rw e at p in
-            rw (e, f, e) (ap (λ (held : List HeldGoal). record entry { goals = entry.goals ++ new_goal request.id request.value moment decision ∷ []; held = held } ∷ servers) (changed_front (is_for id) change entry.held (held_goal entry.handler.script request ∷ []) here))
+            rw (e, f, e) (ap (λ (held : List HeldGoal). record entry { goals = entry.goals ++ new_goal request.id request.value moment how ∷ []; held = held } ∷ servers) (changed_front (is_for id) change entry.held (held_goal entry.handler.script request ∷ []) here))
         by true false e f p rest = rw (e, f, e) refl
         by false true e f p rest = rw (e, f, e) refl
         by false false e f p rest =
@@ -248,8 +253,8 @@ module _ (server : EntityNo) (id : GoalId) where
       aside = held_apart server id change id_same client_same;
       basic = held_kept;
       accepts = held_accepts;
-      acceptance_apart = λ other moment decision request world p.
-          ap (λ (servers : List ServerEntry). record (add_lines (accept other moment decision request world).lines world) { servers = servers; lines = (accept other moment decision request world).lines }) (accepted_in_turn other moment decision request world.servers p);
+      acceptance_apart = λ other moment how request world p.
+          ap (λ (servers : List ServerEntry). record (add_lines (accept other moment how request world).lines world) { servers = servers; lines = (accept other moment how request world).lines }) (accepted_in_turn other moment how request world.servers p);
     }
 
 -- anywhere
@@ -284,8 +289,8 @@ set_aside variables = record {
     senders_same = λ server id world. refl;
   };
   basic = anywhere_kept;
-  accepts = λ server moment decision request world room p. p;
-  acceptance_apart = λ server moment decision request world p. refl;
+  accepts = λ server moment how request world room p. p;
+  acceptance_apart = λ server moment how request world p. refl;
 }
 
 -- what is committed leaves variables

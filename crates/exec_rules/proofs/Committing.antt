@@ -48,7 +48,7 @@ module _ (one : Ready) (effects : Effects) where
   variables_in_turn other variables world = by other.exclusive
     where
       by : (b : Bool) → (if b then with_variables other.group variables (commit one effects world) else commit one effects world) ≡ commit one effects (if b then with_variables other.group variables world else world)
-      by true = commit_apart (record { aside = variables_apart other.group variables; basic = anywhere_kept; accepts = λ server moment decision request world room p. p; acceptance_apart = λ server moment decision request world p. refl }) one effects world tt
+      by true = commit_apart (record { aside = variables_apart other.group variables; basic = anywhere_kept; accepts = λ server moment how request world room p. p; acceptance_apart = λ server moment how request world p. refl }) one effects world tt
       by false = refl
 
   home_with_variables : (other : Ready) (variables : Variables) (world : WorldState) → IsHomeFor other.entity other.cause world → IsHomeFor other.entity other.cause (with_variables_for other variables world)

@@ -5,6 +5,7 @@ use Rattle.std.specs.Option.{option_map}
 use Rattle.std.proofs.lemmas.Bool.{eqb-true, eq-eqb, or_parts, not-true}
 use Rattle.exec_goal.specs.Table.{GoalRecord, holds_id, has_id, is_full, is_expired, new_goal, unexpired}
 use Rattle.exec_msg.specs.Numbers.{EntityNo, GoalId, Moment}
+use Rattle.exec_msg.specs.declared.goal.Acceptance.{Acceptance}
 use Rattle.exec_plan.specs.Graph.{GraphData, entities_where, is_server}
 use Rattle.exec_plan.specs.Plan.{PlanData}
 use Rattle.exec_msg.specs.Lists.{change_first}
@@ -89,8 +90,8 @@ tasked id task entry = record entry { held = change_first (is_for id) (λ held. 
 pub tasking : (id : GoalId) (task : TaskState) → Makes (tasked id task) (λ goals. goals)
 tasking id task = record { stays = λ entry. refl; makes = λ entry. refl }
 
-pub accepting : (moment : Moment) (decision : ℕ) (request : GoalRequest) → Makes (server_accepting moment decision request) (λ goals. goals ++ new_goal request.id request.value moment decision ∷ [])
-accepting moment decision request = record { stays = λ entry. refl; makes = λ entry. refl }
+pub accepting : (moment : Moment) (how : Acceptance) (request : GoalRequest) → Makes (server_accepting moment how request) (λ goals. goals ++ new_goal request.id request.value moment how ∷ [])
+accepting moment how request = record { stays = λ entry. refl; makes = λ entry. refl }
 
 module _ {change : ServerEntry → ServerEntry} {goals : List GoalRecord → List GoalRecord} (m : Makes change goals) where
   pub old_or_new : (one server : EntityNo) (servers : List ServerEntry) → OldOrNew one server change goals servers
@@ -155,15 +156,15 @@ first_goals graph server (number ∷ numbers) = by (number == server) refl (firs
 abbrev pub HasDistinct : WorldState → Type 0
 HasDistinct world = (server : EntityNo) → Distinct (ids (goals_of server world))
 
-distinct_accepted : (server : EntityNo) (moment : Moment) (decision : ℕ) (request : GoalRequest) (world : WorldState) → has_room_for request.id (goals_of server world) ≡ true → HasDistinct world → HasDistinct (accept server moment decision request world)
-distinct_accepted server moment decision request world room p one =
-    by (old_or_new (accepting moment decision request) one server world.servers)
+distinct_accepted : (server : EntityNo) (moment : Moment) (how : Acceptance) (request : GoalRequest) (world : WorldState) → has_room_for request.id (goals_of server world) ≡ true → HasDistinct world → HasDistinct (accept server moment how request world)
+distinct_accepted server moment how request world room p one =
+    by (old_or_new (accepting moment how request) one server world.servers)
   where
-    by : OldOrNew one server (server_accepting moment decision request) (λ goals. goals ++ new_goal request.id request.value moment decision ∷ []) world.servers → Distinct (ids (goals_of one (accept server moment decision request world)))
+    by : OldOrNew one server (server_accepting moment how request) (λ goals. goals ++ new_goal request.id request.value moment how ∷ []) world.servers → Distinct (ids (goals_of one (accept server moment how request world)))
     by (inl e) = subst (λ (some : List GoalRecord). Distinct (ids some)) (sym e) (p one)
     by (inr q) =
         subst (λ (some : List GoalRecord). Distinct (ids some)) (sym q.1)
-        (distinct_more (goals_of one world) (new_goal request.id request.value moment decision) (p one)
+        (distinct_more (goals_of one world) (new_goal request.id request.value moment how) (p one)
         (subst (λ (at : EntityNo). holds_id request.id (goals_of at world) ≡ false) q.0 (room_without request.id (goals_of server world) room)))
 
 pub distinct_kept : KeptByRounds HasDistinct

@@ -8,9 +8,13 @@ use Rattle.exec_msg.specs.declared.goal.ReturnCode.{ReturnCode}
 use Rattle.exec_goal.specs.Calls.{end_state}
 use Rattle.exec_goal.specs.declared.state.State.{State}
 use Rattle.exec_goal.specs.Table.{asked_for, is_accepting, after_end}
+use Rattle.exec_msg.specs.Goal.{acceptance_of}
 use Rattle.exec_msg.specs.Numbers.{EntityNo, GoalId, Moment}
 use Rattle.exec_plan.specs.Feeding.{fed_in}
 use Rattle.exec_plan.specs.Plan.{PlanData}
+use Rattle.exec_msg.specs.declared.goal.Acceptance.{Acceptance}
+use Rattle.exec_msg.specs.declared.goal.Decision.{Decision}
+use Rattle.exec_msg.specs.declared.goal.Decision.TheVariants as decision
 use Rattle.exec_msg.specs.declared.goal.Event.{Event}
 use Rattle.exec_msg.specs.declared.kind.Kind.{Kind}
 use Rattle.exec_msg.specs.declared.kind.Kind.TheVariants as kind
@@ -41,8 +45,8 @@ use Rattle.exec_rules.specs.declared.ready.Ready.{Ready}
 -- for the goal
 abbrev pub Accepts : Ready → (WorldState → Type 0) → Type 0
 Accepts one P =
-    (request : GoalRequest) (decision : ℕ) (world : WorldState) →
-    one.cause ≡ cause.Took (item.Goal request.id request.client request.value) → has_room_for request.id (goals_of one.entity world) ≡ true → P world → P (accept one.entity one.moment decision request world)
+    (request : GoalRequest) (how : Acceptance) (world : WorldState) →
+    one.cause ≡ cause.Took (item.Goal request.id request.client request.value) → has_room_for request.id (goals_of one.entity world) ≡ true → P world → P (accept one.entity one.moment how request world)
 
 -- the world in which a goal ended by an event, with the line of its state
 abbrev pub ended : EntityNo → GoalId → Event → ℤ → Moment → WorldState → WorldState
@@ -151,23 +155,23 @@ module _ {routes : Routes} {P Q : WorldState → Type 0} (k : Moves routes P) (o
   weaken : (why : Cause) (world : WorldState) → one.cause ≡ why → takes_ask why ≡ false → P world → Q world
   weaken why world same none p = unchanged world (ap (λ (c : Cause). takes_ask c) same ∙ none) p
 
-  accept_keeps : (b : Bool) (request : GoalRequest) (decision : ℕ) (world : WorldState) → one.cause ≡ cause.Took (item.Goal request.id request.client request.value) → (b ≡ true → has_room_for request.id (goals_of one.entity world) ≡ true) → P world → P (accept_where b one.entity one.moment decision request world)
-  accept_keeps true request decision world same room p = accepts request decision world same (room refl) p
-  accept_keeps false request decision world same room p = p
+  accept_keeps : (wanted : Option Acceptance) (request : GoalRequest) (world : WorldState) → one.cause ≡ cause.Took (item.Goal request.id request.client request.value) → (is_some wanted ≡ true → has_room_for request.id (goals_of one.entity world) ≡ true) → P world → P (accept_where wanted one.entity one.moment request world)
+  accept_keeps None request world same room p = p
+  accept_keeps (Some how) request world same room p = accepts request how world same (room refl) p
 
   -- a decision that accepts is one for which there is room
-  roomy : (b : Bool) (decision : ℕ) → is_accepting (if b then decision else 1) ≡ true → b ≡ true
-  roomy true decision e = refl
-  roomy false decision e = absurd (true≢false (sym e))
+  roomy : (b : Bool) (made : Decision) → is_accepting (if b then made else decision.Reject) ≡ true → b ≡ true
+  roomy true made e = refl
+  roomy false made e = absurd (true≢false (sym e))
 
   response_sent : (client : Option EntityNo) (id : GoalId) (value : ℤ) (accepted : Bool) (world : WorldState) → one.cause ≡ cause.Took (item.Goal id client value) → P world → Q (push_any client (item.Response id accepted) world)
   response_sent None id value accepted world same p = weaken _ world same refl p
   response_sent (Some client) id value accepted world same p = sends client (item.Response id accepted) world (value, same) refl p
 
-  decide_keeps : (request : GoalRequest) (decision : ℕ) (world : WorldState) → one.cause ≡ cause.Took (item.Goal request.id request.client request.value) → (is_accepting decision ≡ true → has_room_for request.id (goals_of one.entity world) ≡ true) → P world → Q (decide one.entity one.moment decision request world)
+  decide_keeps : (request : GoalRequest) (decision : Decision) (world : WorldState) → one.cause ≡ cause.Took (item.Goal request.id request.client request.value) → (is_accepting decision ≡ true → has_room_for request.id (goals_of one.entity world) ≡ true) → P world → Q (decide one.entity one.moment decision request world)
   decide_keeps request decision world same room p =
       response_sent request.client request.id request.value (is_accepting decision) _ same
-      (accept_keeps (is_accepting decision) request decision _ same room (k.lines_kept (line.Decide one.entity request.id decision ∷ []) _ ((λ at goal. refl), (refl, refl)) p))
+      (accept_keeps (acceptance_of decision) request _ same room (k.lines_kept (line.Decide one.entity request.id decision ∷ []) _ ((λ at goal. refl), (refl, refl)) p))
 
   code_sent : (client : Option EntityNo) (request : CancelRequest) (returned : ReturnCode) (count : ℕ) (world : WorldState) → one.cause ≡ cause.Took (item.Cancel request client) → P world → Q (push_any client (item.Code returned count) world)
   code_sent None request returned count world same p = weaken _ world same refl p
@@ -192,7 +196,7 @@ module _ {routes : Routes} {P Q : WorldState → Type 0} (k : Moves routes P) (o
       sends client (item.Reply number (reply_in closing)) _ (value, same) refl (k.lines_kept (line.Reply one.entity (reply_in closing) ∷ []) _ ((λ at goal. refl), (refl, refl)) p)
   took_keeps (item.Reply number value) closing world same p = weaken _ world same refl p
   took_keeps (item.Goal id client value) closing world same p =
-      decide_keeps (record { id = id; client = client; value = value }) (if has_room_for id (goals_of one.entity world) then decision_in closing else 1) world same
+      decide_keeps (record { id = id; client = client; value = value }) (if has_room_for id (goals_of one.entity world) then decision_in closing else decision.Reject) world same
       (roomy (has_room_for id (goals_of one.entity world)) (decision_in closing)) p
   took_keeps (item.Cancel request client) closing world same p = cancel_keeps request client (decisions_in closing) world same p
   took_keeps (item.Ask id client) closing world same p = asks id client world same p
@@ -209,6 +213,7 @@ module _ {routes : Routes} {P Q : WorldState → Type 0} (k : Moves routes P) (o
   poll_keeps id goal canceling close.Nothing world same p = p
   poll_keeps id goal canceling (close.Reply reply) world same p = p
   poll_keeps id goal canceling (close.Decide decision) world same p = p
+  poll_keeps id goal canceling (close.DecideCancel decision) world same p = p
   poll_keeps id goal canceling (close.Decisions decisions) world same p = p
   poll_keeps id goal canceling close.Pending world same p = p
   poll_keeps id goal canceling (close.Ended by value) world same p = end_keeps id goal canceling by value (end_state id by (goals_of one.entity world)) world same refl p
@@ -238,7 +243,7 @@ end_kept k server id by value moment world p =
 
 -- what an acceptance makes of a property, whichever goal it is that is accepted
 abbrev pub KeptByAcceptance : (WorldState → Type 0) → Type 0
-KeptByAcceptance P = (server : EntityNo) (moment : Moment) (decision : ℕ) (request : GoalRequest) (world : WorldState) → has_room_for request.id (goals_of server world) ≡ true → P world → P (accept server moment decision request world)
+KeptByAcceptance P = (server : EntityNo) (moment : Moment) (how : Acceptance) (request : GoalRequest) (world : WorldState) → has_room_for request.id (goals_of server world) ≡ true → P world → P (accept server moment how request world)
 
 module _ {P : WorldState → Type 0} (basic : Kept P) (accepts : KeptByAcceptance P) where
   -- effects, one after another
@@ -249,7 +254,7 @@ module _ {P : WorldState → Type 0} (basic : Kept P) (accepts : KeptByAcceptanc
   pub commit_keeps : (one : Ready) (effects : Effects) (world : WorldState) → P world → P (commit one effects world)
   commit_keeps one effects world p =
       closing_keeps (moves_kept basic) one (λ before none q. q)
-      (λ request decision before same room q. accepts one.entity one.moment decision request before room q)
+      (λ request how before same room q. accepts one.entity one.moment how request before room q)
       (ends_told (moves_kept basic) (tells_kept basic) one (λ id goal canceling by value reached before same leads q. end_kept basic one.entity id by value one.moment before q))
       (asks_told (moves_kept basic) (tells_kept basic) one (λ before q. q))
       (responds_sent P P (moves_kept basic) one (λ entity new before answers q. push_kept basic entity new before q))
@@ -267,7 +272,7 @@ module _ {P : WorldState → Type 0} (k : KeptByRounds P) where
   pub one_keeps : (one : Ready) (world : WorldState) → P world → P (run one world)
   one_keeps one world p =
       run_keeps (moves_kept k.basic) one (λ before none q. q)
-      (λ request decision before same room q. k.accepts_kept one.entity one.moment decision request before room q)
+      (λ request how before same room q. k.accepts_kept one.entity one.moment how request before room q)
       (ends_told (moves_kept k.basic) (tells_kept k.basic) one (λ id goal canceling by value reached before same leads q. end_kept k.basic one.entity id by value one.moment before q))
       (asks_told (moves_kept k.basic) (tells_kept k.basic) one (λ before q. q))
       (λ entity new before answers q. push_kept k.basic entity new before q) world (k.basic.lines_kept (run_line one ∷ []) world p)

@@ -75,7 +75,7 @@ shape_kept of = record {
     sending_kept = λ client world p. same_shape world (with_goal_sent client world) refl refl refl refl refl refl (part_changed action_client_shape _ _ (λ entry. refl) world.action_clients) refl ∙ p;
     variables_kept = λ group variables world p. same_shape world (with_variables group variables world) refl refl refl refl refl refl refl (length-set world.variables group variables) ∙ p;
   };
-  accepts_kept = λ server moment decision request world room p. same_shape world (accept server moment decision request world) refl refl refl refl (part_changed server_shape _ _ (λ entry. refl) world.servers) refl refl refl ∙ p;
+  accepts_kept = λ server moment how request world room p. same_shape world (accept server moment how request world) refl refl refl refl (part_changed server_shape _ _ (λ entry. refl) world.servers) refl refl refl ∙ p;
   expiry_kept = λ moment world p. same_shape world (expire moment world) refl refl refl refl (part_mapped server_shape _ (λ entry. refl) world.servers) refl refl refl ∙ p;
   snapshot_kept = λ moment world p.
       same_shape world (take_inputs moment world) refl refl (part_mapped timer_shape _ (timer_same moment) world.timers) (part_mapped queue_shape queue_taken (λ queue. refl) world.queues) refl (replied_shape world.queues world.clients) refl refl ∙ p;

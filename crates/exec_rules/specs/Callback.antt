@@ -7,7 +7,7 @@ use Rattle.exec_goal.specs.State.{status_of}
 use Rattle.exec_goal.specs.declared.info.GoalInfo.{GoalInfo}
 use Rattle.exec_script.specs.Instruction.{Script}
 use Rattle.exec_msg.specs.Goal.{status_number}
-use Rattle.exec_script.specs.Script.{CallInput, ScriptState, called, close_of, decision_within, listed, Variables}
+use Rattle.exec_script.specs.Script.{CallInput, ScriptState, called, cancel_decided, close_of, listed, Variables}
 use Rattle.exec_script.specs.declared.effects.Close.{Close}
 use Rattle.exec_script.specs.declared.effects.Close.TheVariants as close
 use Rattle.exec_script.specs.declared.effects.Effect.{Effect}
@@ -68,14 +68,10 @@ pub record Handling (S : Type 0) : Type 0 where
 abbrev pub candidate_input : Moment → GoalInfo → CallInput
 candidate_input moment candidate = record { first = candidate.value; aux = pos (status_number (status_of candidate.state)); moment = moment }
 
--- the decision of a handler that answered so, or not at all
-abbrev pub decision_by : Option ℤ → ℕ
-decision_by answer = decision_within 2 (unwrap_or answer (pos 1))
-
 -- a cancel handler that came to stand so for a candidate
 abbrev pub handled : {S : Type 0} → GoalInfo → List Decided → ScriptState S → Handling S
 handled candidate decisions state =
-    record { variables = state.variables; given = state.given; decisions = decisions ++ (candidate.id, decision_by state.answer) ∷ [] }
+    record { variables = state.variables; given = state.given; decisions = decisions ++ (candidate.id, cancel_decided state.answer) ∷ [] }
 
 -- a cancel handler runs for a candidate
 abbrev pub handle : {S : Type 0} → (Effect → S → S) → Ready → Handling S → GoalInfo → Handling S

@@ -1,13 +1,18 @@
 -- What closes a callback in the world, behind its effects.
-use Rattle.std.specs.Prelude.{ℕ, ℤ, pos, List, [], ◌∷◌, ◌++◌, length, map, Bool, true, false, ◌&&◌, ◌==◌, if◌then◌else◌, Option, None, Some}
+use Rattle.std.specs.Prelude.{ℕ, ℤ, pos, List, [], ◌∷◌, ◌++◌, length, map, Bool, true, false, ◌&&◌, if◌then◌else◌, Option, None, Some}
 use Rattle.std.specs.List.{find, fold}
 use Rattle.exec_goal.specs.Calls.{end_state}
 use Rattle.exec_goal.specs.Cancel.{CancelRequest, Decided, moved, table_after, code_of}
 use Rattle.exec_goal.specs.State.{status_of}
 use Rattle.exec_goal.specs.Table.{GoalRecord, Asked, told, later, unknown, has_id, is_accepting, with_accepted, after_end, asked_for, asked_by}
 use Rattle.exec_goal.specs.declared.state.State.{State}
+use Rattle.exec_msg.specs.Goal.{acceptance_of}
 use Rattle.exec_msg.specs.Numbers.{EntityNo, GoalId, Moment}
 use Rattle.exec_script.specs.Instruction.{Script}
+use Rattle.exec_msg.specs.declared.goal.Acceptance.{Acceptance}
+use Rattle.exec_msg.specs.declared.goal.Acceptance.TheVariants as acceptance
+use Rattle.exec_msg.specs.declared.goal.Decision.{Decision}
+use Rattle.exec_msg.specs.declared.goal.Decision.TheVariants as decision
 use Rattle.exec_msg.specs.declared.goal.Event.{Event}
 use Rattle.exec_msg.specs.declared.goal.GoalStatus.{GoalStatus}
 use Rattle.exec_msg.specs.declared.goal.GoalStatus.TheVariants as status
@@ -31,9 +36,9 @@ reply_in (close.Reply value) = value
 reply_in _ = pos 0
 
 -- the decision that closes it; any other closing rejects
-abbrev pub decision_in : Close → ℕ
-decision_in (close.Decide decision) = decision
-decision_in _ = 1
+abbrev pub decision_in : Close → Decision
+decision_in (close.Decide made) = made
+decision_in _ = decision.Reject
 
 -- the decisions that close it
 abbrev pub decisions_in : Close → List Decided
@@ -55,9 +60,9 @@ pub record GoalRequest : Type 0 where
   pub value : ℤ
 
 -- the lines of a goal's first state, and of its execution where that follows at once
-abbrev pub accepted_lines : EntityNo → GoalId → ℕ → List Line
-accepted_lines server id decision =
-    if decision == 2 then line.State server id status.Accepted ∷ line.State server id status.Executing ∷ [] else line.State server id status.Accepted ∷ []
+abbrev pub accepted_lines : EntityNo → GoalId → Acceptance → List Line
+accepted_lines server id acceptance.Execute = line.State server id status.Accepted ∷ line.State server id status.Executing ∷ []
+accepted_lines server id acceptance.Defer = line.State server id status.Accepted ∷ []
 
 -- what a server keeps beside the record of a goal that it accepts
 abbrev pub held_goal : Script → GoalRequest → HeldGoal
@@ -65,32 +70,32 @@ held_goal script request =
     record { id = request.id; client = request.client; work = Some (record { script = script; value = request.value; task = new_task }) }
 
 -- a server that holds one more goal, accepted at a moment
-abbrev pub server_accepting : Moment → ℕ → GoalRequest → ServerEntry → ServerEntry
-server_accepting moment decision request entry = record entry {
-  goals = with_accepted request.id request.value moment decision entry.goals;
+abbrev pub server_accepting : Moment → Acceptance → GoalRequest → ServerEntry → ServerEntry
+server_accepting moment how request entry = record entry {
+  goals = with_accepted request.id request.value moment how entry.goals;
   held = entry.held ++ held_goal entry.handler.script request ∷ [];
 }
 
 -- a server accepts a goal at a moment
-abbrev pub accept : EntityNo → Moment → ℕ → GoalRequest → WorldState → WorldState
-accept server moment decision request world =
-    add_lines (accepted_lines server request.id decision) (change_server server (server_accepting moment decision request) world)
+abbrev pub accept : EntityNo → Moment → Acceptance → GoalRequest → WorldState → WorldState
+accept server moment how request world =
+    add_lines (accepted_lines server request.id how) (change_server server (server_accepting moment how request) world)
 
--- a goal request is accepted or not
-abbrev pub accept_where : Bool → EntityNo → Moment → ℕ → GoalRequest → WorldState → WorldState
-accept_where true server moment decision request world = accept server moment decision request world
-accept_where false server moment decision request world = world
+-- a goal request is accepted so, or not
+abbrev pub accept_where : Option Acceptance → EntityNo → Moment → GoalRequest → WorldState → WorldState
+accept_where None server moment request world = world
+accept_where (Some how) server moment request world = accept server moment how request world
 
 -- a server decides so on a goal request, and answers the client that sent it
-abbrev pub decide : EntityNo → Moment → ℕ → GoalRequest → WorldState → WorldState
-decide server moment decision request world =
-    push_any request.client (item.Response request.id (is_accepting decision))
-    (accept_where (is_accepting decision) server moment decision request (add_line (line.Decide server request.id decision) world))
+abbrev pub decide : EntityNo → Moment → Decision → GoalRequest → WorldState → WorldState
+decide server moment made request world =
+    push_any request.client (item.Response request.id (is_accepting made))
+    (accept_where (acceptance_of made) server moment request (add_line (line.Decide server request.id made) world))
 
 -- a server decides on a goal request: it rejects one whose identifier it holds, or for which it has no room
-abbrev pub answer_goal : EntityNo → Moment → ℕ → GoalRequest → WorldState → WorldState
-answer_goal server moment decision request world =
-    decide server moment (if has_room_for request.id (goals_of server world) then decision else 1) request world
+abbrev pub answer_goal : EntityNo → Moment → Decision → GoalRequest → WorldState → WorldState
+answer_goal server moment made request world =
+    decide server moment (if has_room_for request.id (goals_of server world) then made else decision.Reject) request world
 
 -- ---- cancel requests
 

@@ -1,5 +1,6 @@
 pub mod Awake
 pub mod ByKind
+pub mod Handling
 pub mod Homes
 pub mod Listing
 pub mod Places

@@ -1,9 +1,10 @@
 //! What a callback does apart from the world, its effects listed.
 ghost use Rattle.std.specs.Prelude.{◌≡◌, IfOk, OnErr, OnOk};
 ghost use Rattle.std.specs.Option.{option_map};
-ghost use Rattle.exec_script.specs.Script.{called, listed};
-ghost use Rattle.exec_rules.specs.Callback.{call_in, candidate_input, decision_by, handle_all, instructions_of, take_item};
+ghost use Rattle.exec_script.specs.Script.{called, cancel_decided, listed};
+ghost use Rattle.exec_rules.specs.Callback.{call_in, candidate_input, handle_all, instructions_of, take_item};
 ghost use Rattle.exec_rules.specs.Close.{decision_in};
+ghost use Rattle.exec_rules.specs.inner.Handling.{cancel_decision_in};
 ghost use Rattle.exec_rules.specs.Ready.{input_of, turn_at};
 ghost use Rattle.exec_rules.specs.Run.{apart_with, effects_of, work_after};
 ghost use Rattle.exec_rules.specs.World.{work_of};
@@ -13,7 +14,7 @@ use crate::item::Item;
 use crate::polling::poll_any;
 use crate::ready::{Cause, Ready};
 use exec_goal::GoalInfo;
-use exec_msg::{Items, Memory, Moment};
+use exec_msg::{CancelDecision, Decision, Items, Memory, Moment};
 use exec_script::{
     Bank, Close, EffectList, Effects, Input, Instr, Role, run_call_closing, run_call_into,
 };
@@ -191,10 +192,10 @@ fn handle(
     candidate: &GoalInfo,
     bank: &mut Bank,
     effects: &mut EffectList,
-) -> Result<u8, Memory>
+) -> Result<CancelDecision, Memory>
     ensures variables { OnOk result (bank.new ≡ (called listed (instructions_of one.now.script) bank.old (candidate_input one.now.moment candidate.now) effects.old).variables) }
     ensures effects { OnOk result (effects.new ≡ (called listed (instructions_of one.now.script) bank.old (candidate_input one.now.moment candidate.now) effects.old).given) }
-    ensures decision { IfOk result (λ decision. decision ≡ decision_by (called listed (instructions_of one.now.script) bank.old (candidate_input one.now.moment candidate.now) effects.old).answer) }
+    ensures decision { IfOk result (λ decision. decision ≡ cancel_decided (called listed (instructions_of one.now.script) bank.old (candidate_input one.now.moment candidate.now) effects.old).answer) }
 {
     let input = candidate_input(one.moment, candidate);
     let close = run_call_into(
@@ -204,7 +205,7 @@ fn handle(
         &input,
         effects,
     )?;
-    Ok(decision_in(&close))
+    Ok(cancel_decision_in(&close))
 }
 
 fn candidate_input(moment: Moment, candidate: &GoalInfo) -> Input
@@ -218,11 +219,21 @@ fn candidate_input(moment: Moment, candidate: &GoalInfo) -> Input
 }
 
 /// The decision that closes a callback; any other closing rejects.
-pub fn decision_in(closing: &Close) -> u8
+pub fn decision_in(closing: &Close) -> Decision
     ensures { result ≡ decision_in closing.now }
 {
     match closing {
         Close::Decide(decision) => *decision,
-        _ => 1,
+        _ => Decision::Reject,
+    }
+}
+
+// The decision that closes a cancel handler's call for a candidate; any other closing rejects.
+fn cancel_decision_in(closing: &Close) -> CancelDecision
+    ensures { result ≡ cancel_decision_in closing.now }
+{
+    match closing {
+        Close::DecideCancel(decision) => *decision,
+        _ => CancelDecision::Reject,
     }
 }

@@ -1,7 +1,8 @@
 use Rattle.std.proofs.Common.{ap, ◌∙◌}
 use Rattle.exec_rules.proofs.Calling.{variables_behind, effects_behind, answer_behind}
-use Rattle.exec_rules.specs.Callback.{candidate_input, decision_by, instructions_of}
-use Rattle.exec_rules.specs.Close.{decision_in}
+use Rattle.exec_rules.specs.Callback.{candidate_input, instructions_of}
+use Rattle.exec_rules.specs.inner.Handling.{cancel_decision_in}
+use Rattle.exec_script.specs.Script.{cancel_decided}
 use Rattle.exec_rules.proofs.callback.handle.Goals as goal
 
 pub returns-clause-variables : goal.returns-clause-variables
@@ -17,4 +18,4 @@ returns-clause-effects c =
 pub returns-clause-decision : goal.returns-clause-decision
 returns-clause-decision c =
     answer_behind c.instructions_of.result.now (instructions_of c.args.one.now.script) c.candidate_input-input.result (candidate_input c.args.one.now.moment c.args.candidate.now) c.args.bank.now c.args.effects.now
-    c.instructions_of.ensures c.candidate_input-input.ensures decision_by c.decision_in.result (c.decision_in.ensures ∙ ap decision_in c.in_ok-close.ensures.called.close)
+    c.instructions_of.ensures c.candidate_input-input.ensures cancel_decided c.cancel_decision_in.result (c.cancel_decision_in.ensures ∙ ap cancel_decision_in c.in_ok-close.ensures.called.close)
