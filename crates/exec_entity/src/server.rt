@@ -12,7 +12,7 @@ mod found;
 mod polling;
 
 use exec_goal::{Asked, CancelAnswer, CancelRequest, GoalInfo, Goals, State};
-use exec_msg::{EntityNo, Event, GoalId, Items, Memory, Moment};
+use exec_msg::{Acceptance, CancelDecision, EntityNo, Event, GoalId, Items, Memory, Moment};
 use exec_rules::Handler;
 use exec_task::GoalTask;
 pub use found::Servers;
@@ -151,17 +151,15 @@ impl Server {
         self.goals.asker(id, index)
     }
 
-    // Accepts a goal at a moment, by decision 2, which executes it at once, or by decision 3, which defers it. Where memory is
-    // refused, the server stays as it was.
+    // Accepts a goal at a moment. Where memory is refused, the server stays as it was.
     pub(crate) fn accept(
         &mut self,
         moment: Moment,
-        decision: u8,
+        how: Acceptance,
         request: &GoalRequest,
     ) -> Result<(), Memory>
-        requires decision { (decision ≡ 2) ⊎ (decision ≡ 3) }
         requires room { has_room_for request.now.id self.old.goals ≡ true }
-        ensures accepted { OnOk result (self.new ≡ server_accepting moment decision request.now self.old) }
+        ensures accepted { OnOk result (self.new ≡ server_accepting moment how request.now self.old) }
         ensures unchanged { OnErr result (self.new ≡ self.old) }
     {
         let task = self.new_task(request.value)?;
@@ -172,10 +170,7 @@ impl Server {
         self.held.reserve(1)?;
         self.wakes.reserve(1)?;
         // Room and identifier are as they must be, so that memory alone may be refused.
-        let Ok(_accepted) = self
-            .goals
-            .accept(request.id, request.value, moment, decision)
-        else {
+        let Ok(_accepted) = self.goals.accept(request.id, request.value, moment, how) else {
             return Err(Memory);
         };
         insert_new(&mut self.held, request.id, held);
@@ -203,12 +198,12 @@ impl Server {
         self.goals.candidates(request)
     }
 
-    // Cancels by what was decided of a request's candidates, each by its identifier, of which 2 accepts. Where memory is
-    // refused, the server stays as it was.
+    // Cancels by what was decided of a request's candidates, each by its identifier. Where memory is refused, the server
+    // stays as it was.
     pub(crate) fn cancel(
         &mut self,
         request: &CancelRequest,
-        decisions: &[(GoalId, u8)],
+        decisions: &[(GoalId, CancelDecision)],
     ) -> Result<CancelAnswer, Memory>
         ensures code { IfOk result (λ answer. answer.code ≡ code_of request.now decisions.now self.old.goals) }
         ensures moved { IfOk result (λ answer. answer.moved ≡ map (λ goal. goal.id) (moved decisions.now self.old.goals)) }

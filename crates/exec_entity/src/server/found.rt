@@ -2,7 +2,7 @@
 use super::{GoalRequest, Server};
 use crate::by_number::{ByNumber, Numbered};
 use exec_goal::{Asked, CancelAnswer, CancelRequest, Goals, State};
-use exec_msg::{EntityNo, Event, GoalId, Memory, Moment};
+use exec_msg::{Acceptance, CancelDecision, EntityNo, Event, GoalId, Memory, Moment};
 use exec_rules::{AwakeGoal, ReadyList};
 use exec_script::{Bank, Close, EffectList};
 use exec_task::{GoalTask, Turn};
@@ -18,7 +18,7 @@ impl Numbered for Server {
 }
 
 impl ByNumber<Server> {
-    ghost use Rattle.std.specs.Prelude.{◌≡◌, ◌⊎◌, true, None, Some, map, find, slice_get, IfNone, IfOk, IfSome, IsSomeAnd, OnErr, OnOk};
+    ghost use Rattle.std.specs.Prelude.{◌≡◌, true, None, Some, map, find, slice_get, IfNone, IfOk, IfSome, IsSomeAnd, OnErr, OnOk};
     ghost use Rattle.std.specs.List.{flat_map};
     ghost use Rattle.std.specs.Option.{option_map, option_map_or};
     ghost use Rattle.exec_goal.specs.Calls.{askers_in, end_state};
@@ -61,7 +61,7 @@ impl ByNumber<Server> {
         self.find(server)?.asker(id, index)
     }
 
-    /// A server accepts a goal at a moment, by decision 2, which executes it at once, or by decision 3, which defers it.
+    /// A server accepts a goal at a moment.
     ///
     /// # Errors
     /// [`Memory`] where a growth was refused.
@@ -69,23 +69,22 @@ impl ByNumber<Server> {
         &mut self,
         server: EntityNo,
         moment: Moment,
-        decision: u8,
+        how: Acceptance,
         request: &GoalRequest,
     ) -> Result<(), Memory>
-        requires decision { (decision ≡ 2) ⊎ (decision ≡ 3) }
         requires room { has_room_for request.now.id (goals_in server self.old) ≡ true }
-        ensures { OnOk result (self.new ≡ change_first (is_server_at server) (server_accepting moment decision request.now) self.old) }
+        ensures { OnOk result (self.new ≡ change_first (is_server_at server) (server_accepting moment how request.now) self.old) }
     {
         let place = self.place(server);
         let Some(entry) = self.entries.get_mut(place) else {
             return Ok(());
         };
-        entry.accept(moment, decision, request)?;
+        entry.accept(moment, how, request)?;
         Ok(())
     }
 
-    /// A server cancels by what was decided of a request's candidates, each by its identifier, of which 2 accepts. One that
-    /// isn't there has no goals.
+    /// A server cancels by what was decided of a request's candidates, each by its identifier. One that isn't there has no
+    /// goals.
     ///
     /// # Errors
     /// [`Memory`] where a growth was refused.
@@ -94,7 +93,7 @@ impl ByNumber<Server> {
         alloc: Global,
         server: EntityNo,
         request: &CancelRequest,
-        decisions: &[(GoalId, u8)],
+        decisions: &[(GoalId, CancelDecision)],
     ) -> Result<CancelAnswer, Memory>
         ensures code { IfOk result (λ answer. answer.code ≡ code_of request.now decisions.now (goals_in server self.old)) }
         ensures moved { IfOk result (λ answer. answer.moved ≡ map (λ goal. goal.id) (moved decisions.now (goals_in server self.old))) }

@@ -4,6 +4,7 @@ use Rattle.std.proofs.lemmas.List.{get_or-map, length-map, take_all}
 use Rattle.exec_goal.specs.Info.{info_of}
 use Rattle.exec_goal.specs.Table.{GoalRecord, new_goal}
 use Rattle.exec_goal.specs.declared.info.GoalInfo.{GoalInfo}
+use Rattle.exec_msg.specs.declared.goal.Acceptance.TheVariants as acceptance
 use Rattle.exec_entity.proofs.Polls.{added_next}
 use Rattle.exec_rules.specs.World.{ServerEntry}
 use Rattle.exec_rules.specs.declared.ready.AwakeGoal.{AwakeGoal}
@@ -15,7 +16,7 @@ loop-index-preserved c =
     let goals : List GoalRecord = c.args.self.now.goals in
     let told : c.infos-infos.result.now ≡ map info_of goals = c.infos-infos.ensures ∙ ap (λ (server : ServerEntry). map info_of server.goals) c.self.view_is in
     let within : c.loop-index.index < length goals = omega (arith, c.loop-index-test.true, ap length told, length-map goals info_of) in
-    let d : GoalRecord = new_goal 0 (pos 0) 0 3 in
+    let d : GoalRecord = new_goal 0 (pos 0) 0 acceptance.Defer in
     let info : c.index-infos-index.result ≡ info_of (slice_index_or goals c.loop-index.index d) =
     c.index-infos-index.is ∙ ap (λ (infos : List GoalInfo). slice_index_or infos c.loop-index.index c.index-infos-index.result) told ∙ get_or-map info_of goals c.loop-index.index d c.index-infos-index.result within in
     c.in_ok-add_where_awake.ensures (slice_index_or goals c.loop-index.index d) info

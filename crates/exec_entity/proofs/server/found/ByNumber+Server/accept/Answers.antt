@@ -6,11 +6,11 @@ use Rattle.exec_rules.specs.World.{has_room_for, is_server_at}
 use Rattle.exec_entity.proofs.server.found.ByNumber+Server.accept.Goals as goal
 
 pub returns-in_default : goal.returns-in_default
-returns-in_default c = unchanged (is_server_at c.args.server) c.self.inside.entries.items c.args.self.now c.place-place.result c.self.view_is c.place-place.ensures (server_accepting c.args.moment c.args.decision c.args.request.now) c.in_default.ensures.item.0
+returns-in_default c = unchanged (is_server_at c.args.server) c.self.inside.entries.items c.args.self.now c.place-place.result c.self.view_is c.place-place.ensures (server_accepting c.args.moment c.args.how c.args.request.now) c.in_default.ensures.item.0
 
-pub accept-requires-clause-room : goal.accept-requires-clause-room
-accept-requires-clause-room c =
-    ap (has_room_for c.args.request.now.id) (sym (goals_found c.args.server c.self.inside.entries.items c.args.self.now c.place-place.result c.self.view_is c.place-place.ensures c.in-Some.entry.now c.in-Some.ensures.item.0 c.in-Some.ensures.value)) ∙ c.requires.room
+pub accept-requires : goal.accept-requires
+accept-requires c =
+    record { room = ap (has_room_for c.args.request.now.id) (sym (goals_found c.args.server c.self.inside.entries.items c.args.self.now c.place-place.result c.self.view_is c.place-place.ensures c.in-Some.entry.now c.in-Some.ensures.item.0 c.in-Some.ensures.value)) ∙ c.requires.room }
 
 pub invariant_of-self-2 : goal.invariant_of-self-2
 invariant_of-self-2 c =
@@ -19,5 +19,5 @@ invariant_of-self-2 c =
 
 pub returns : goal.returns
 returns c =
-    changed_at (is_server_at c.args.server) c.self.inside.entries.items c.args.self.now c.place-place.result c.self.view_is c.place-place.ensures (server_accepting c.args.moment c.args.decision c.args.request.now) c.in-Some.entry.now c.accept.new.self c.in-Some.ensures.item.0 c.in-Some.ensures.value
+    changed_at (is_server_at c.args.server) c.self.inside.entries.items c.args.self.now c.place-place.result c.self.view_is c.place-place.ensures (server_accepting c.args.moment c.args.how c.args.request.now) c.in-Some.entry.now c.accept.new.self c.in-Some.ensures.item.0 c.in-Some.ensures.value
     c.in_ok-accept.ensures.accepted
