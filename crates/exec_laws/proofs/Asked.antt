@@ -10,6 +10,8 @@ use Rattle.exec_goal.specs.declared.state.State.{State}
 use Rattle.exec_goal.specs.declared.state.State.TheVariants as state
 use Rattle.exec_msg.specs.Numbers.{EntityNo, GoalId}
 use Rattle.exec_msg.specs.Lists.{change_first}
+use Rattle.exec_msg.specs.declared.goal.Acceptance.{Acceptance}
+use Rattle.exec_msg.specs.declared.goal.Acceptance.TheVariants as acceptance
 use Rattle.exec_msg.specs.declared.goal.Event.{Event}
 use Rattle.exec_msg.specs.declared.goal.Event.TheVariants as event
 use Rattle.exec_msg.specs.declared.goal.GoalStatus.{GoalStatus}
@@ -215,9 +217,9 @@ module _ (server : EntityNo) (id : GoalId) where
   moved_other entity [] more p = p
   moved_other entity (goal ∷ goals) more p = ((refl, refl), moved_other entity goals more p)
 
-  pub accepted_other : (entity : EntityNo) (goal : GoalId) (decision : ℕ) (b : Bool) → decision == 2 ≡ b → AllByRecursion IsOther (accepted_lines entity goal decision)
-  accepted_other entity goal decision true e = rw e ((refl, refl), ((refl, refl), tt))
-  accepted_other entity goal decision false e = rw e ((refl, refl), tt)
+  pub accepted_other : (entity : EntityNo) (goal : GoalId) (how : Acceptance) → AllByRecursion IsOther (accepted_lines entity goal how)
+  accepted_other entity goal acceptance.Execute = ((refl, refl), ((refl, refl), tt))
+  accepted_other entity goal acceptance.Defer = ((refl, refl), tt)
 
   pub owes_moves : (owed : ℕ) → Moves anywhere (Owes owed)
   owes_moves owed = record {

@@ -171,9 +171,9 @@ module _ (server : EntityNo) (id : GoalId) (canceling : Bool) where
   others_run : (one : Ready) (world : WorldState) → PollsAnother one → StaysAtWork world → StaysAtWork (run one world)
   others_run one world other p =
       run_keeps at_work_moves one (λ before none q. q)
-      (λ request decision before same room q. (
-        distinct_kept.accepts_kept one.entity one.moment decision request before room q.0,
-        changed (accepting one.moment decision request) one.entity before q.1 (λ is. after_acceptance canceling id (goals_of server before) (new_goal request.id request.value one.moment decision) q.1),
+      (λ request how before same room q. (
+        distinct_kept.accepts_kept one.entity one.moment how request before room q.0,
+        changed (accepting one.moment how request) one.entity before q.1 (λ is. after_acceptance canceling id (goals_of server before) (new_goal request.id request.value one.moment how) q.1),
       ))
       (ends_told at_work_moves at_work_tells one (λ goal value asked by result reached before same leads q. ended_at_work one other goal value asked by result before same q))
       (asks_told at_work_moves at_work_tells one (λ before q. q))

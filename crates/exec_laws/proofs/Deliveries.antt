@@ -11,6 +11,8 @@ use Rattle.exec_msg.specs.Numbers.{EntityNo, Moment}
 use Rattle.exec_plan.specs.Feeding.{fed_in}
 use Rattle.exec_plan.specs.Plan.{PlanData, Fed, Feed}
 use Rattle.exec_plan.specs.declared.plan.FedOf.TheVariants as feeding
+use Rattle.exec_msg.specs.declared.goal.Acceptance.{Acceptance}
+use Rattle.exec_msg.specs.declared.goal.Acceptance.TheVariants as acceptance
 use Rattle.exec_msg.specs.declared.goal.Event.TheVariants as event
 use Rattle.exec_msg.specs.declared.goal.GoalStatus.{GoalStatus}
 use Rattle.exec_msg.specs.declared.kind.Kind.TheVariants as kind
@@ -184,9 +186,9 @@ module _ (plan : PlanData) (topic subscription : EntityNo) (among : Contains (su
   moved_silent server [] more p = p
   moved_silent server (goal ∷ goals) more p = ((refl, (refl, refl)), moved_silent server goals more p)
 
-  accepted_silent : (server id decision : ℕ) (b : Bool) → decision == 2 ≡ b → AllByRecursion IsSilent (accepted_lines server id decision)
-  accepted_silent server id decision true e = rw e ((refl, (refl, refl)), ((refl, (refl, refl)), tt))
-  accepted_silent server id decision false e = rw e ((refl, (refl, refl)), tt)
+  accepted_silent : (server id : ℕ) (how : Acceptance) → AllByRecursion IsSilent (accepted_lines server id how)
+  accepted_silent server id acceptance.Execute = ((refl, (refl, refl)), ((refl, (refl, refl)), tt))
+  accepted_silent server id acceptance.Defer = ((refl, (refl, refl)), tt)
 
   sent_on : (hand : List ℤ) (entity : EntityNo) (new : Item) (world : WorldState) → is_message (taker_of new) ≡ false → Delivers hand world → Delivers hand (push entity new world)
   sent_on hand entity new world other d = settled (published world.lines) hand (push entity new world) (other_sent (published world.lines) hand (published world.lines) entity new world other d)
@@ -246,9 +248,9 @@ module _ (plan : PlanData) (topic subscription : EntityNo) (among : Contains (su
   run_delivers : (hand : List ℤ) (one : Ready) (world : WorldState) → Delivers (handed subscription one ++ hand) world → Delivers hand (run one world)
   run_delivers hand one world d =
       run_keeps {P = Delivers hand} {Q = Delivers hand} (moves hand) one (λ before none q. q)
-      (λ request decision before at room q.
-      kept hand before _ (accepted_lines one.entity request.id decision) (kinds_kept.accepts_kept one.entity one.moment decision request before room q.base.0, shapes.accepts_kept one.entity one.moment decision request before room q.base.1) refl refl
-      (accepted_silent one.entity request.id decision (decision == 2) refl) q)
+      (λ request how before at room q.
+      kept hand before _ (accepted_lines one.entity request.id how) (kinds_kept.accepts_kept one.entity one.moment how request before room q.base.0, shapes.accepts_kept one.entity one.moment how request before room q.base.1) refl refl
+      (accepted_silent one.entity request.id how) q)
       (ends_told (moves hand) (tells hand) one (λ id goal canceling by value reached before at leads q.
       said_on hand one.entity (goal_at one.entity id (with_ended one.entity id by value one.moment before)) (with_ended one.entity id by value one.moment before)
       (same hand before (with_ended one.entity id by value one.moment before) (base_kept.goals_kept one.entity _ before (ids_changed id (after_end by value one.moment) (λ held. refl)) q.base) refl refl q)))

@@ -14,6 +14,8 @@ use Rattle.exec_msg.specs.KeepLast.{displaced}
 use Rattle.exec_msg.specs.Kind.{ready_number}
 use Rattle.exec_msg.specs.Lists.{change_first}
 use Rattle.exec_msg.specs.Timer.{is_due}
+use Rattle.exec_msg.specs.declared.goal.Acceptance.{Acceptance}
+use Rattle.exec_msg.specs.declared.goal.Acceptance.TheVariants as acceptance
 use Rattle.exec_msg.specs.declared.goal.Event.TheVariants as event
 use Rattle.exec_msg.specs.declared.kind.Kind.{Kind}
 use Rattle.exec_msg.specs.declared.kind.Kind.TheVariants as kind
@@ -70,9 +72,9 @@ moved_lossless : (server : EntityNo) (goals : List GoalRecord) → IsLossless (m
 moved_lossless server [] = refl
 moved_lossless server (goal ∷ goals) = moved_lossless server goals
 
-accepted_lossless : (server : EntityNo) (id decision : ℕ) (b : Bool) → decision == 2 ≡ b → IsLossless (accepted_lines server id decision)
-accepted_lossless server id decision true e = rw e refl
-accepted_lossless server id decision false e = rw e refl
+accepted_lossless : (server : EntityNo) (id : ℕ) (how : Acceptance) → IsLossless (accepted_lines server id how)
+accepted_lossless server id acceptance.Execute = refl
+accepted_lossless server id acceptance.Defer = refl
 
 expired_lossless : (entity : EntityNo) (goals : List GoalRecord) → IsLossless (map (λ goal. line.Expire entity goal.id) goals)
 expired_lossless entity [] = refl
@@ -237,8 +239,8 @@ module _ (plan : PlanData) (deep_first : AllByRecursion (λ queue. 1 ≤ queue.d
   run_light : (one : Ready) (rest : List Ready) (world : WorldState) → cause_sent (routes_of plan.graph) one.entity one.cause ≡ true → IsLight (one ∷ rest) world → IsLight rest (run one world)
   run_light one rest world well s =
       run_keeps {P = IsLight (one ∷ rest)} {Q = IsLight rest} (moves (one ∷ rest)) one (λ before none q. lighter before q)
-      (λ request decision before same room q.
-      kept (one ∷ rest) before (accept one.entity one.moment decision request before) (accepted_lines one.entity request.id decision) q (shapes.accepts_kept one.entity one.moment decision request before room q.shape) refl refl (accepted_lossless one.entity request.id decision (decision == 2) refl))
+      (λ request how before same room q.
+      kept (one ∷ rest) before (accept one.entity one.moment how request before) (accepted_lines one.entity request.id how) q (shapes.accepts_kept one.entity one.moment how request before room q.shape) refl refl (accepted_lossless one.entity request.id how))
       (ends_told (moves (one ∷ rest)) (tells (one ∷ rest)) one (λ id goal canceling by value reached before same leads q.
       said (one ∷ rest) one.entity (goal_at one.entity id (with_ended one.entity id by value one.moment before)) (with_ended one.entity id by value one.moment before)
       (same_lines (one ∷ rest) before (with_ended one.entity id by value one.moment before) q (shapes.basic.goals_kept one.entity (change_first (has_id id) (after_end by value one.moment)) before (ids_changed id (after_end by value one.moment) (λ goal. refl)) q.shape) refl refl)))

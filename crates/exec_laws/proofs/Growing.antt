@@ -28,7 +28,7 @@ begins_kept before = record {
     sending_kept = λ client world p. p;
     variables_kept = λ group variables world p. p;
   };
-  accepts_kept = λ server moment decision request world room p. more_lines before _ world.lines p;
+  accepts_kept = λ server moment how request world room p. more_lines before _ world.lines p;
   expiry_kept = λ moment world p. more_lines before (flat_map (expire_lines moment) world.servers) world.lines p;
   snapshot_kept = λ moment world p. p;
 }

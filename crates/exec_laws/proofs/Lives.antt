@@ -14,6 +14,7 @@ use Rattle.exec_plan.specs.Feeding.{fed_in}
 use Rattle.exec_plan.specs.Graph.{wait_set, entities_where, is_server}
 use Rattle.exec_plan.specs.Plan.{PlanData}
 use Rattle.exec_msg.specs.Lists.{change_first}
+use Rattle.exec_msg.specs.declared.goal.Acceptance.{Acceptance}
 use Rattle.exec_msg.specs.declared.goal.Event.{Event}
 use Rattle.exec_msg.specs.declared.goal.Event.TheVariants as event
 use Rattle.exec_msg.specs.declared.goal.GoalStatus.{GoalStatus}
@@ -126,13 +127,13 @@ module _ (server : EntityNo) (id : GoalId) (listed : List EntityNo) where
   any_listed [] = refl
   any_listed (entry ∷ servers) = ap (λ (b : Bool). (entry.handler.entity == server) || b) (any_listed servers)
 
-  accept_view : (other : EntityNo) (moment : Moment) (decision : ℕ) (request : GoalRequest) (world : WorldState) → is_listed listed other ≡ true → has_room_for request.id (goals_of other world) ≡ true → View world → View (accept other moment decision request world)
-  accept_view other moment decision request world there room v =
-      changed (accepting moment decision request) other (world.lines ++ accepted_lines other request.id decision) world
-      (λ is. subst (λ (n : EntityNo). Fits server id (world.lines ++ accepted_lines n request.id decision) (goals_of server world ++ new_goal request.id request.value moment decision ∷ [])) (sym is)
-      (fits_accepted server id world.lines (goals_of server world) v.0 request moment decision
+  accept_view : (other : EntityNo) (moment : Moment) (how : Acceptance) (request : GoalRequest) (world : WorldState) → is_listed listed other ≡ true → has_room_for request.id (goals_of other world) ≡ true → View world → View (accept other moment how request world)
+  accept_view other moment how request world there room v =
+      changed (accepting moment how request) other (world.lines ++ accepted_lines other request.id how) world
+      (λ is. subst (λ (n : EntityNo). Fits server id (world.lines ++ accepted_lines n request.id how) (goals_of server world ++ new_goal request.id request.value moment how ∷ [])) (sym is)
+      (fits_accepted server id world.lines (goals_of server world) v.0 request moment how
       (subst (λ (n : EntityNo). holds_id request.id (goals_of n world) ≡ false) is (room_without request.id (goals_of other world) room))))
-      (λ differs. elsewhere (accepted_lines other request.id decision) world (accepted_elsewhere server id other request.id decision (decision == 2) refl differs) v)
+      (λ differs. elsewhere (accepted_lines other request.id how) world (accepted_elsewhere server id other request.id how differs) v)
       (λ is. inl (any_listed world.servers ∙ ap (λ (some : List EntityNo). is_listed some server) v.1 ∙ ap (λ (n : EntityNo). is_listed listed n) (sym is) ∙ there)) v.1
 
   -- the law of a goal's transitions
@@ -193,7 +194,7 @@ module _ (moves : (before : State) (by : Event) (reached : State) → after befo
       let moves_view = view_moves server id (entities_where is_server plan.graph) in
       let tells_view = view_tells server id (entities_where is_server plan.graph) in
       run_keeps moves_view one (λ before none q. q)
-      (λ request decision before same room q. accept_view server id (entities_where is_server plan.graph) one.entity one.moment decision request before (is_there (ap (λ (why : Cause). kind_of why) same)) room q)
+      (λ request how before same room q. accept_view server id (entities_where is_server plan.graph) one.entity one.moment how request before (is_there (ap (λ (why : Cause). kind_of why) same)) room q)
       (ends_told moves_view tells_view one (λ goal sent canceling by value reached before same leads q. end_view server id (entities_where is_server plan.graph) moves one.entity goal by value one.moment reached before leads q))
       (asks_told moves_view tells_view one (λ before q. q))
       (λ entity new before answers q. push_view server id (entities_where is_server plan.graph) entity new before q) world

@@ -16,6 +16,7 @@ use Rattle.exec_plan.specs.Lawful.{IsLawfulPlan}
 use Rattle.exec_plan.specs.Plan.{PlanData, Fed, Feed}
 use Rattle.exec_plan.specs.declared.plan.FedOf.TheVariants as feeding
 use Rattle.exec_msg.specs.Lists.{change_first}
+use Rattle.exec_msg.specs.declared.goal.Acceptance.{Acceptance}
 use Rattle.exec_msg.specs.declared.goal.Event.{Event}
 use Rattle.exec_msg.specs.declared.line.Line.TheVariants as line
 use Rattle.exec_script.specs.Script.{CallInput, ScriptState, after_step, follow, passed_by, resumed, step_of, Variables}
@@ -194,9 +195,9 @@ module _ (most : ℕ) where
   pushed None new world p = p
   pushed (Some client) new world p = p
 
-  accepted : (b : Bool) (server : EntityNo) (moment : Moment) (decision : ℕ) (request : _) (world : WorldState) → HaveMade most world → HaveMade most (accept_where b server moment decision request world)
-  accepted true server moment decision request world p = p
-  accepted false server moment decision request world p = p
+  accepted : (wanted : Option Acceptance) (server : EntityNo) (moment : Moment) (request : _) (world : WorldState) → HaveMade most world → HaveMade most (accept_where wanted server moment request world)
+  accepted None server moment request world p = p
+  accepted (Some how) server moment request world p = p
 
   asked : (b : Bool) (client : ActionClientEntry) (id : GoalId) (world : WorldState) → HaveMade most world → HaveMade most (ask_where b client id world)
   asked true client id world p = p
@@ -218,7 +219,7 @@ module _ (most : ℕ) where
 
   item_closed : (entity : EntityNo) (moment : Moment) (taken : Item) (closing : Close) (world : WorldState) → HaveMade most world → HaveMade most (close_item entity moment taken closing world)
   item_closed entity moment (item.Request client number value) closing world p = p
-  item_closed entity moment (item.Goal id client value) closing world p = pushed client _ _ (accepted _ entity moment _ (record { id = id; client = client; value = value }) _ p)
+  item_closed entity moment (item.Goal id client value) closing world p = pushed client _ _ (accepted _ entity moment (record { id = id; client = client; value = value }) _ p)
   item_closed entity moment (item.Cancel request client) closing world p = pushed client _ _ p
   item_closed entity moment (item.Ask id client) closing world p = answered entity id client (asked_for id (goals_of entity world)) world p
   item_closed entity moment (item.Response id accepted) closing world p = responded (action_client_at entity world) id accepted world p
@@ -237,6 +238,7 @@ module _ (most : ℕ) where
   poll_closed server id moment close.Nothing world p = p
   poll_closed server id moment (close.Reply reply) world p = p
   poll_closed server id moment (close.Decide decision) world p = p
+  poll_closed server id moment (close.DecideCancel decision) world p = p
   poll_closed server id moment (close.Decisions decisions) world p = p
   poll_closed server id moment close.Pending world p = p
 

@@ -8,12 +8,17 @@ use Rattle.exec_goal.specs.Cancel.{CancelRequest, Decided, moved, code_of}
 use Rattle.exec_goal.specs.State.{status_of}
 use Rattle.exec_goal.specs.Table.{GoalRecord, Asked, told, later, unknown, after_event, asked_for, expired, is_accepting}
 use Rattle.exec_goal.specs.declared.state.State.{State}
+use Rattle.exec_msg.specs.Goal.{acceptance_of}
 use Rattle.exec_msg.specs.Numbers.{EntityNo, GoalId, Moment}
 use Rattle.exec_plan.specs.Feeding.{fed_in}
 use Rattle.exec_plan.specs.Graph.{GraphData, Waitable, wait_set}
 use Rattle.exec_plan.specs.Plan.{PlanData, Fed, Feed}
 use Rattle.exec_plan.specs.declared.plan.FedOf.TheVariants as feeding
 use Rattle.exec_msg.specs.Lists.{change_first}
+use Rattle.exec_msg.specs.declared.goal.Acceptance.{Acceptance}
+use Rattle.exec_msg.specs.declared.goal.Acceptance.TheVariants as acceptance
+use Rattle.exec_msg.specs.declared.goal.Decision.{Decision}
+use Rattle.exec_msg.specs.declared.goal.Decision.TheVariants as decision
 use Rattle.exec_msg.specs.declared.goal.Event.{Event}
 use Rattle.exec_msg.specs.declared.goal.Event.TheVariants as event
 use Rattle.exec_msg.specs.declared.goal.GoalStatus.{GoalStatus}
@@ -233,6 +238,7 @@ module _ (client : EntityNo) (id : GoalId) where
   poll_once owed server goal moment close.Nothing world p = p
   poll_once owed server goal moment (close.Reply value) world p = p
   poll_once owed server goal moment (close.Decide decision) world p = p
+  poll_once owed server goal moment (close.DecideCancel decision) world p = p
   poll_once owed server goal moment (close.Decisions decisions) world p = p
   poll_once owed server goal moment close.Pending world p = p
   poll_once owed server goal moment (close.Ended by value) world p = ended_once owed server goal by value moment (end_state goal by (goals_of server world)) world p
@@ -242,23 +248,23 @@ module _ (client : EntityNo) (id : GoalId) where
   answer_ask_once owed server goal asker unknown world p = told_once owed server goal status.Unknown (pos 0) asker world p
   answer_ask_once owed server goal asker later world p = p
 
-  accepted_none : (server goal decision : ℕ) (b : Bool) → decision == 2 ≡ b → HasNone (is_asked client id) (accepted_lines server goal decision)
-  accepted_none server goal decision true e = rw e (refl, (refl, tt))
-  accepted_none server goal decision false e = rw e (refl, tt)
+  accepted_none : (server goal : ℕ) (how : Acceptance) → HasNone (is_asked client id) (accepted_lines server goal how)
+  accepted_none server goal acceptance.Execute = (refl, (refl, tt))
+  accepted_none server goal acceptance.Defer = (refl, tt)
 
-  accept_once : (owed : ℕ) (b : Bool) (server : EntityNo) (moment : Moment) (decision : ℕ) (request : GoalRequest) (world : WorldState) → IsOnce owed world → IsOnce owed (accept_where b server moment decision request world)
-  accept_once owed false server moment decision request world p = p
-  accept_once owed true server moment decision request world p = more_lines owed world.queues world.action_clients world.lines (accepted_lines server request.id decision) (accepted_none server request.id decision (decision == 2) refl) p
+  accept_once : (owed : ℕ) (wanted : Option Acceptance) (server : EntityNo) (moment : Moment) (request : GoalRequest) (world : WorldState) → IsOnce owed world → IsOnce owed (accept_where wanted server moment request world)
+  accept_once owed None server moment request world p = p
+  accept_once owed (Some how) server moment request world p = more_lines owed world.queues world.action_clients world.lines (accepted_lines server request.id how) (accepted_none server request.id how) p
 
   response_once : (rest : ℕ) (from : Option EntityNo) (goal : GoalId) (accepted : Bool) (world : WorldState) → IsOnce (of_sender goal from + rest) world → IsOnce rest (push_any from (item.Response goal accepted) world)
   response_once rest None goal accepted world p = lighter _ rest world (omega arith) p
   response_once rest (Some from) goal accepted world p = sent (of_sender goal (Some from) + rest) rest from (item.Response goal accepted) world (omega arith) p
 
-  answer_once : (rest : ℕ) (server : EntityNo) (moment : Moment) (decision : ℕ) (request : GoalRequest) (world : WorldState) → IsOnce (of_sender request.id request.client + rest) world → IsOnce rest (answer_goal server moment decision request world)
-  answer_once rest server moment decision request world p =
-      let made : ℕ = if has_room_for request.id (goals_of server world) then decision else 1 in
+  answer_once : (rest : ℕ) (server : EntityNo) (moment : Moment) (wanted : Decision) (request : GoalRequest) (world : WorldState) → IsOnce (of_sender request.id request.client + rest) world → IsOnce rest (answer_goal server moment wanted request world)
+  answer_once rest server moment wanted request world p =
+      let made : Decision = if has_room_for request.id (goals_of server world) then wanted else decision.Reject in
       response_once rest request.client request.id (is_accepting made) _
-      (accept_once (of_sender request.id request.client + rest) (is_accepting made) server moment made request (add_line (line.Decide server request.id made) world)
+      (accept_once (of_sender request.id request.client + rest) (acceptance_of made) server moment request (add_line (line.Decide server request.id made) world)
       (line_once (of_sender request.id request.client + rest) (line.Decide server request.id made) world refl p))
 
   moved_none : (server : EntityNo) (goals : List GoalRecord) (more : List Line) → HasNone (is_asked client id) more → HasNone (is_asked client id) (moved_lines server goals ++ more)

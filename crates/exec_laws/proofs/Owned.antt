@@ -184,10 +184,10 @@ module _ (plan : PlanData) where
   run_owned : (one : Ready) (world : WorldState) → IsTakenThere one.entity one.cause → AreOwned world → AreOwned (run one world)
   run_owned one world its p =
       run_told {P = AreOwned} {Q = AreOwned} moves one (λ before none q. q)
-      (λ request decision before same room q. record {
-        shape = shapes.accepts_kept one.entity one.moment decision request before room q.shape;
+      (λ request how before same room q. record {
+        shape = shapes.accepts_kept one.entity one.moment how request before room q.shape;
         asks = q.asks;
-        notes = served (accepting one.moment decision request) one.entity (λ some r. all_append (AreItsClients one.entity) some (new_goal request.id request.value one.moment decision ∷ []) r (tt, tt)) before.servers q.notes;
+        notes = served (accepting one.moment how request) one.entity (λ some r. all_append (AreItsClients one.entity) some (new_goal request.id request.value one.moment how ∷ []) r (tt, tt)) before.servers q.notes;
       })
       (λ goal value canceling by result reached before same leads q. own_end one.entity (goal_at one.entity goal (with_ended one.entity goal by result one.moment before)) _ (own_ended one.entity goal by result one.moment before q))
       (λ goal from before same q. own_answered one.entity goal from (asked_for goal (goals_of one.entity before)) before (subst (λ (why : Cause). IsTakenThere one.entity why) same its) q)

@@ -14,6 +14,8 @@ use Rattle.exec_msg.specs.Numbers.{EntityNo, Moment}
 use Rattle.exec_plan.specs.Feeding.{fed_in}
 use Rattle.exec_plan.specs.Graph.{GraphData, Waitable, entities_where, is_client, wait_set}
 use Rattle.exec_plan.specs.Plan.{PlanData}
+use Rattle.exec_msg.specs.declared.goal.Acceptance.{Acceptance}
+use Rattle.exec_msg.specs.declared.goal.Acceptance.TheVariants as acceptance
 use Rattle.exec_msg.specs.declared.goal.Event.TheVariants as event
 use Rattle.exec_msg.specs.declared.line.Line.{Line}
 use Rattle.exec_msg.specs.declared.line.Line.TheVariants as line
@@ -49,9 +51,9 @@ module _ (client : EntityNo) where
   moved_mute server [] more p = p
   moved_mute server (goal ∷ goals) more p = ((refl, refl), moved_mute server goals more p)
 
-  accepted_mute : (server id decision : ℕ) (b : Bool) → decision == 2 ≡ b → AllByRecursion (IsMute client) (accepted_lines server id decision)
-  accepted_mute server id decision true e = rw e ((refl, refl), ((refl, refl), tt))
-  accepted_mute server id decision false e = rw e ((refl, refl), tt)
+  accepted_mute : (server id : ℕ) (how : Acceptance) → AllByRecursion (IsMute client) (accepted_lines server id how)
+  accepted_mute server id acceptance.Execute = ((refl, refl), ((refl, refl), tt))
+  accepted_mute server id acceptance.Defer = ((refl, refl), tt)
 
   moves : (hand : List ℕ) (owed : ℕ → ℕ) → Moves anywhere (KeepsIn client hand owed)
   moves hand owed = record {
@@ -143,7 +145,7 @@ module _ (client : EntityNo) where
       let weaker : (before : WorldState) → KeepsIn client hand (λ n. hands (of_request client n) (one ∷ rest)) before → KeepsIn client hand (λ n. hands (of_request client n) rest) before = λ before q. lighter hand owed less before (λ n. omega arith) q in
       run_keeps {P = KeepsIn client hand (λ n. hands (of_request client n) (one ∷ rest))} {Q = KeepsIn client hand (λ n. hands (of_request client n) rest)} (moves hand owed) one
       (λ before none q. weaker before q)
-      (λ request decision before at room q. more_lines client hand owed before.queues before.clients before.lines (accepted_lines one.entity request.id decision) (accepted_mute one.entity request.id decision (decision == 2) refl) q)
+      (λ request how before at room q. more_lines client hand owed before.queues before.clients before.lines (accepted_lines one.entity request.id how) (accepted_mute one.entity request.id how) q)
       (ends_told (moves hand owed) (tells hand owed) one (λ id goal canceling by value reached before at leads q.
       said_on hand owed one.entity (goal_at one.entity id (with_ended one.entity id by value one.moment before)) (with_ended one.entity id by value one.moment before) q))
       (asks_told (moves hand owed) (tells hand owed) one weaker)

@@ -13,6 +13,7 @@ use Rattle.exec_plan.specs.Feeding.{fed_in}
 use Rattle.exec_plan.specs.Graph.{entities_where, is_server}
 use Rattle.exec_plan.specs.Plan.{PlanData}
 use Rattle.exec_msg.specs.Lists.{change_first}
+use Rattle.exec_msg.specs.declared.goal.Acceptance.{Acceptance}
 use Rattle.exec_msg.specs.declared.goal.Event.{Event}
 use Rattle.exec_msg.specs.declared.goal.GoalStatus.TheVariants as status
 use Rattle.exec_msg.specs.declared.line.Line.TheVariants as line
@@ -203,12 +204,12 @@ module _ (server : EntityNo) (id : GoalId) where
       let balance = p.1 in
       (p.0, omega (arith, a, b, c, d, balance))
 
-  accept_owes : (owed : ℕ) (other : EntityNo) (moment : Moment) (decision : ℕ) (request : GoalRequest) (world : WorldState) → has_room_for request.id (goals_of other world) ≡ true → Owing owed world → Owing owed (accept other moment decision request world)
-  accept_owes owed other moment decision request world room p = (
-    distinct_kept.accepts_kept other moment decision request world room p.0,
-    others_balanced server id owed world.lines (accepted_lines other request.id decision) _ (accepted_other server id other request.id decision (decision == 2) refl)
+  accept_owes : (owed : ℕ) (other : EntityNo) (moment : Moment) (how : Acceptance) (request : GoalRequest) (world : WorldState) → has_room_for request.id (goals_of other world) ≡ true → Owing owed world → Owing owed (accept other moment how request world)
+  accept_owes owed other moment how request world room p = (
+    distinct_kept.accepts_kept other moment how request world room p.0,
+    others_balanced server id owed world.lines (accepted_lines other request.id how) _ (accepted_other server id other request.id how)
         (same_wait server id owed world.lines (goals_of server world) _
-        (served server id (accepting moment decision request) other world (λ is_here. accepted_waits server id (new_goal request.id request.value moment decision) refl (goals_of server world))) p.1),
+        (served server id (accepting moment how request) other world (λ is_here. accepted_waits server id (new_goal request.id request.value moment how) refl (goals_of server world))) p.1),
   )
 
   -- a callback that runs
@@ -216,7 +217,7 @@ module _ (server : EntityNo) (id : GoalId) where
   run_owes one world p =
       run_keeps {P = Owing (owed_by one)} {Q = Owing 0} (owes_moves server id (owed_by one)) one
       (λ before none q. subst (λ (n : ℕ). Owing n before) (owes_none one one.cause refl none) q)
-      (λ request decision before same room q. accept_owes (owed_by one) one.entity one.moment decision request before room q)
+      (λ request how before same room q. accept_owes (owed_by one) one.entity one.moment how request before room q)
       (λ goal value canceling by result reached before same leads q.
       let none : owed_by one ≡ 0 = owes_none one _ same refl in
       subst (λ (n : ℕ). Owing n (end_in (Some reached) one.entity goal by result one.moment before)) (sym none)

@@ -7,6 +7,7 @@ use Rattle.std.proofs.lemmas.List.{length-map}
 use Rattle.std.proofs.lemmas.List.Elements.{recursion_from_All}
 use Rattle.std.proofs.lemmas.List.Filters.{length-filter_both}
 use Rattle.exec_goal.specs.Table.{GoalRecord, holds_id, is_full, is_expired, new_goal}
+use Rattle.exec_msg.specs.declared.goal.Acceptance.{Acceptance}
 use Rattle.exec_msg.specs.Numbers.{EntityNo, GoalId, Moment}
 use Rattle.exec_script.specs.Instruction.{Script}
 use Rattle.exec_plan.specs.Entity.{Resolved, scripts_of, result_scripts}
@@ -83,20 +84,20 @@ server_changed change same entry p =
     record { script = p.script; goals = omega (arith, long, p.goals); works = p.works }
 
 -- a server accepts a goal where it has room for one more
-server_accepted : (server : EntityNo) (moment : Moment) (decision : ℕ) (request : GoalRequest) (servers : List ServerEntry) → has_room_for request.id (goals_in server servers) ≡ true → AllByRecursion IsSmallServer servers →
-    AllByRecursion IsSmallServer (change_first (is_server_at server) (server_accepting moment decision request) servers)
-server_accepted server moment decision request [] room p = tt
-server_accepted server moment decision request (entry ∷ servers) room p = by (is_server_at server entry) refl (server_accepted server moment decision request servers)
+server_accepted : (server : EntityNo) (moment : Moment) (how : Acceptance) (request : GoalRequest) (servers : List ServerEntry) → has_room_for request.id (goals_in server servers) ≡ true → AllByRecursion IsSmallServer servers →
+    AllByRecursion IsSmallServer (change_first (is_server_at server) (server_accepting moment how request) servers)
+server_accepted server moment how request [] room p = tt
+server_accepted server moment how request (entry ∷ servers) room p = by (is_server_at server entry) refl (server_accepted server moment how request servers)
   where
     by : (b : Bool) → is_server_at server entry ≡ b →
-        (has_room_for request.id (goals_in server servers) ≡ true → AllByRecursion IsSmallServer servers → AllByRecursion IsSmallServer (change_first (is_server_at server) (server_accepting moment decision request) servers)) →
-        AllByRecursion IsSmallServer (change_first (is_server_at server) (server_accepting moment decision request) (entry ∷ servers))
+        (has_room_for request.id (goals_in server servers) ≡ true → AllByRecursion IsSmallServer servers → AllByRecursion IsSmallServer (change_first (is_server_at server) (server_accepting moment how request) servers)) →
+        AllByRecursion IsSmallServer (change_first (is_server_at server) (server_accepting moment how request) (entry ∷ servers))
     by true e rest =
         let here : has_room_for request.id entry.goals ≡ true = rw e at room in
         let few : nat_le 64 (length entry.goals) ≡ false = (or_parts (holds_id request.id entry.goals) (is_full entry.goals) (not-true (holds_id request.id entry.goals || is_full entry.goals) here)).1 in
-        let one_more : List GoalRecord = new_goal request.id request.value moment decision ∷ [] in
+        let one_more : List GoalRecord = new_goal request.id request.value moment how ∷ [] in
         let fits : length (entry.goals ++ one_more) ≤ 64 = omega (arith, leb-false 64 (length entry.goals) few, length-append entry.goals one_more) in
-        let accepted : IsSmallServer (server_accepting moment decision request entry) = record {
+        let accepted : IsSmallServer (server_accepting moment how request entry) = record {
           script = p.0.script;
           goals = fits;
           works = all_append (λ held. IsShortWork held.work) entry.held (held_goal entry.handler.script request ∷ []) p.0.works (p.0.script, tt);
@@ -129,7 +130,7 @@ small_kept = record {
     sending_kept = λ client world p. record { timers = p.timers; queues = p.queues; servers = p.servers };
     variables_kept = λ group variables world p. record { timers = p.timers; queues = p.queues; servers = p.servers };
   };
-  accepts_kept = λ server moment decision request world room p. record { timers = p.timers; queues = p.queues; servers = server_accepted server moment decision request world.servers room p.servers };
+  accepts_kept = λ server moment how request world room p. record { timers = p.timers; queues = p.queues; servers = server_accepted server moment how request world.servers room p.servers };
   expiry_kept = λ moment world p. record { timers = p.timers; queues = p.queues; servers = all_mapped IsSmallServer IsSmallServer _ (server_left moment) world.servers p.servers };
   snapshot_kept = λ moment world p. record {
     timers = all_mapped (λ entry. IsShort entry.handler.script) (λ entry. IsShort entry.handler.script) _ (timer_called moment) world.timers p.timers;

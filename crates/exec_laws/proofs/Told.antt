@@ -1,6 +1,6 @@
 -- Through rounds, an action client's asks for the result of a goal are those that were answered, those that are on their way, and
 -- those for which it is noted.
-use Rattle.std.proofs.Common.{◌≡◌, inr, ℕ, zero, suc, ℤ, pos, ◌+◌, ◌≤◌, Bool, true, false, not, ◌&&◌, ◌==◌, if◌then◌else◌, List, [], ◌∷◌, ◌++◌, length, map, Option, None, Some, refl, sym, ap, subst, ◌∙◌, arith}
+use Rattle.std.proofs.Common.{◌≡◌, inr, ℕ, zero, suc, ℤ, pos, ◌+◌, ◌≤◌, Bool, true, false, not, ◌&&◌, ◌==◌, if◌then◌else◌, is_some, List, [], ◌∷◌, ◌++◌, length, map, Option, None, Some, refl, sym, ap, subst, ◌∙◌, arith}
 use Rattle.std.specs.List.{AllByRecursion, filter, find, flat_map, fold, list_any}
 use Rattle.std.proofs.lemmas.Bool.{eqb-true}
 use Rattle.exec_goal.specs.Calls.{end_state}
@@ -8,12 +8,17 @@ use Rattle.exec_goal.specs.Cancel.{CancelRequest, Decided, moved, table_after, c
 use Rattle.exec_goal.specs.State.{status_of}
 use Rattle.exec_goal.specs.Table.{GoalRecord, Asked, told, later, unknown, has_id, after_event, after_end, asked_for, asked_by, new_goal, expired, is_accepting}
 use Rattle.exec_goal.specs.declared.state.State.{State}
+use Rattle.exec_msg.specs.Goal.{acceptance_of}
 use Rattle.exec_msg.specs.Numbers.{EntityNo, GoalId, Moment}
 use Rattle.exec_plan.specs.Feeding.{fed_in}
 use Rattle.exec_plan.specs.Graph.{Waitable, entities_where, is_server, wait_set}
 use Rattle.exec_plan.specs.Plan.{PlanData, Fed, Feed}
 use Rattle.exec_plan.specs.declared.plan.FedOf.TheVariants as feeding
 use Rattle.exec_msg.specs.Lists.{change_first}
+use Rattle.exec_msg.specs.declared.goal.Acceptance.{Acceptance}
+use Rattle.exec_msg.specs.declared.goal.Acceptance.TheVariants as acceptance
+use Rattle.exec_msg.specs.declared.goal.Decision.{Decision}
+use Rattle.exec_msg.specs.declared.goal.Decision.TheVariants as decision
 use Rattle.exec_msg.specs.declared.goal.Event.{Event}
 use Rattle.exec_msg.specs.declared.goal.Event.TheVariants as event
 use Rattle.exec_msg.specs.declared.goal.GoalStatus.{GoalStatus}
@@ -193,35 +198,36 @@ module _ (plan : PlanData) (client : EntityNo) where
   poll_fair owed server goal moment close.Nothing world p = p
   poll_fair owed server goal moment (close.Reply value) world p = p
   poll_fair owed server goal moment (close.Decide decision) world p = p
+  poll_fair owed server goal moment (close.DecideCancel decision) world p = p
   poll_fair owed server goal moment (close.Decisions decisions) world p = p
   poll_fair owed server goal moment close.Pending world p = p
   poll_fair owed server goal moment (close.Ended by value) world p = ended owed server goal by value moment (end_state goal by (goals_of server world)) world refl p
 
   -- a goal is accepted that nobody asked for yet
-  accepted_silent : (server goal decision : ℕ) (b : Bool) → decision == 2 ≡ b → AllByRecursion (IsSilent plan client) (accepted_lines server goal decision)
-  accepted_silent server goal decision true e = rw e (((λ id. refl), ((λ id. refl), refl)), (((λ id. refl), ((λ id. refl), refl)), tt))
-  accepted_silent server goal decision false e = rw e (((λ id. refl), ((λ id. refl), refl)), tt)
+  accepted_silent : (server goal : ℕ) (how : Acceptance) → AllByRecursion (IsSilent plan client) (accepted_lines server goal how)
+  accepted_silent server goal acceptance.Execute = (((λ id. refl), ((λ id. refl), refl)), (((λ id. refl), ((λ id. refl), refl)), tt))
+  accepted_silent server goal acceptance.Defer = (((λ id. refl), ((λ id. refl), refl)), tt)
 
-  accept_fair : (owed : GoalId → ℕ) (b : Bool) (server : EntityNo) (moment : Moment) (decision : ℕ) (request : GoalRequest) (world : WorldState) → (b ≡ true → has_room_for request.id (goals_of server world) ≡ true) → IsFair plan client owed world → IsFair plan client owed (accept_where b server moment decision request world)
-  accept_fair owed false server moment decision request world room p = p
-  accept_fair owed true server moment decision request world room p = (
-    (shapes plan client).accepts_kept server moment decision request world (room refl) p.0,
-    more_lines plan client owed world.queues _ world.lines (accepted_lines server request.id decision) (accepted_silent server request.id decision (decision == 2) refl)
+  accept_fair : (owed : GoalId → ℕ) (wanted : Option Acceptance) (server : EntityNo) (moment : Moment) (request : GoalRequest) (world : WorldState) → (is_some wanted ≡ true → has_room_for request.id (goals_of server world) ≡ true) → IsFair plan client owed world → IsFair plan client owed (accept_where wanted server moment request world)
+  accept_fair owed None server moment request world room p = p
+  accept_fair owed (Some how) server moment request world room p = (
+    (shapes plan client).accepts_kept server moment how request world (room refl) p.0,
+    more_lines plan client owed world.queues _ world.lines (accepted_lines server request.id how) (accepted_silent server request.id how)
         (renoted plan client owed owed world.queues world.servers _ world.lines
-        (λ id. noted_changed client id (accepting moment decision request) (notes_accepted client id [] (new_goal request.id request.value moment decision) refl) server world.servers (owed id) (owed id)
-        (ap (λ (n : ℕ). n + owed id) (notes_accepted client id (goals_of server world) (new_goal request.id request.value moment decision) refl))) p.1),
+        (λ id. noted_changed client id (accepting moment how request) (notes_accepted client id [] (new_goal request.id request.value moment how) refl) server world.servers (owed id) (owed id)
+        (ap (λ (n : ℕ). n + owed id) (notes_accepted client id (goals_of server world) (new_goal request.id request.value moment how) refl))) p.1),
   )
 
   -- a decision that accepts is one for which there is room
-  roomy : (b : Bool) (decision : ℕ) → is_accepting (if b then decision else 1) ≡ true → b ≡ true
-  roomy true decision e = refl
-  roomy false decision e = absurd cc
+  roomy : (b : Bool) (made : Decision) → is_accepting (if b then made else decision.Reject) ≡ true → b ≡ true
+  roomy true made e = refl
+  roomy false made e = absurd cc
 
-  answer_fair : (owed : GoalId → ℕ) (server : EntityNo) (moment : Moment) (decision : ℕ) (request : GoalRequest) (world : WorldState) → IsFair plan client owed world → IsFair plan client owed (answer_goal server moment decision request world)
-  answer_fair owed server moment decision request world p =
-      let made : ℕ = if has_room_for request.id (goals_of server world) then decision else 1 in
+  answer_fair : (owed : GoalId → ℕ) (server : EntityNo) (moment : Moment) (wanted : Decision) (request : GoalRequest) (world : WorldState) → IsFair plan client owed world → IsFair plan client owed (answer_goal server moment wanted request world)
+  answer_fair owed server moment wanted request world p =
+      let made : Decision = if has_room_for request.id (goals_of server world) then wanted else decision.Reject in
       freely_any plan client owed request.client (item.Response request.id (is_accepting made)) _ (λ to id. refl)
-      (accept_fair owed (is_accepting made) server moment made request (add_line (line.Decide server request.id made) world) (roomy (has_room_for request.id (goals_of server world)) decision)
+      (accept_fair owed (acceptance_of made) server moment request (add_line (line.Decide server request.id made) world) (roomy (has_room_for request.id (goals_of server world)) wanted)
       (line_fair plan client owed (line.Decide server request.id made) world ((λ id. refl), ((λ id. refl), refl)) p))
 
   moved_silent : (server : EntityNo) (goals : List GoalRecord) (more : List Line) → AllByRecursion (IsSilent plan client) more → AllByRecursion (IsSilent plan client) (moved_lines server goals ++ more)

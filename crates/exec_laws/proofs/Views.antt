@@ -12,6 +12,8 @@ use Rattle.exec_goal.specs.Table.{GoalRecord, has_id, holds_id, moved_by, after_
 use Rattle.exec_goal.specs.declared.state.State.{State}
 use Rattle.exec_goal.specs.declared.state.State.TheVariants as state
 use Rattle.exec_msg.specs.Lists.{change_first}
+use Rattle.exec_msg.specs.declared.goal.Acceptance.{Acceptance}
+use Rattle.exec_msg.specs.declared.goal.Acceptance.TheVariants as acceptance
 use Rattle.exec_msg.specs.declared.goal.Event.{Event}
 use Rattle.exec_msg.specs.declared.goal.Event.TheVariants as event
 use Rattle.exec_msg.specs.declared.goal.GoalStatus.{GoalStatus}
@@ -55,20 +57,20 @@ turned a b apart = by (b == a) refl
 
 module _ (server : EntityNo) (id : GoalId) where
   -- an accepted goal's lines lead from none to its state
-  told_accepted : (goal : GoalId) (decision : ℕ) (said : List GoalStatus) (b : Bool) → decision == 2 ≡ b → goal == id ≡ true → Told said None → Told (said ++ statuses_of server id (accepted_lines server goal decision)) (Some (accepted_state decision))
-  told_accepted goal decision said true e f p =
-      rw (e, eq-eqb server server refl, f)
+  told_accepted : (goal : GoalId) (how : Acceptance) (said : List GoalStatus) → goal == id ≡ true → Told said None → Told (said ++ statuses_of server id (accepted_lines server goal how)) (Some (accepted_state how))
+  told_accepted goal acceptance.Execute said f p =
+      rw (eq-eqb server server refl, f)
       (subst (λ (all : List GoalStatus). Told all (Some state.Executing)) (append_assoc said (status.Accepted ∷ []) (status.Executing ∷ []))
       (told_step (said ++ status.Accepted ∷ []) state.Accepted event.Execute state.Executing execute (told_new said p)))
-  told_accepted goal decision said false e f p = rw (e, eq-eqb server server refl, f) (told_new said p)
+  told_accepted goal acceptance.Defer said f p = rw (eq-eqb server server refl, f) (told_new said p)
 
-  accepted_apart : (goal : GoalId) (decision : ℕ) (b : Bool) → decision == 2 ≡ b → goal == id ≡ false → statuses_of server id (accepted_lines server goal decision) ≡ []
-  accepted_apart goal decision true e apart = rw (e, eq-eqb server server refl, apart) refl
-  accepted_apart goal decision false e apart = rw (e, eq-eqb server server refl, apart) refl
+  accepted_apart : (goal : GoalId) (how : Acceptance) → goal == id ≡ false → statuses_of server id (accepted_lines server goal how) ≡ []
+  accepted_apart goal acceptance.Execute apart = rw (eq-eqb server server refl, apart) refl
+  accepted_apart goal acceptance.Defer apart = rw (eq-eqb server server refl, apart) refl
 
-pub accepted_elsewhere : (server : EntityNo) (id : GoalId) (other : EntityNo) (goal : GoalId) (decision : ℕ) (b : Bool) → decision == 2 ≡ b → other == server ≡ false → statuses_of server id (accepted_lines other goal decision) ≡ []
-accepted_elsewhere server id other goal decision true e apart = rw (e, apart) refl
-accepted_elsewhere server id other goal decision false e apart = rw (e, apart) refl
+pub accepted_elsewhere : (server : EntityNo) (id : GoalId) (other : EntityNo) (goal : GoalId) (how : Acceptance) → other == server ≡ false → statuses_of server id (accepted_lines other goal how) ≡ []
+accepted_elsewhere server id other goal acceptance.Execute apart = rw apart refl
+accepted_elsewhere server id other goal acceptance.Defer apart = rw apart refl
 
 -- ---- what a cancel request makes of a goal
 
@@ -263,19 +265,19 @@ module _ (server : EntityNo) (id : GoalId) where
 
     -- ---- acceptance
 
-    pub fits_accepted : (request : GoalRequest) (moment : Moment) (decision : ℕ) → holds_id request.id goals ≡ false → Fits server id (lines ++ accepted_lines server request.id decision) (goals ++ new_goal request.id request.value moment decision ∷ [])
-    fits_accepted request moment decision fresh = where_same (request.id == id) refl
+    pub fits_accepted : (request : GoalRequest) (moment : Moment) (how : Acceptance) → holds_id request.id goals ≡ false → Fits server id (lines ++ accepted_lines server request.id how) (goals ++ new_goal request.id request.value moment how ∷ [])
+    fits_accepted request moment how fresh = where_same (request.id == id) refl
       where
-        where_same : (b : Bool) → request.id == id ≡ b → Fits server id (lines ++ accepted_lines server request.id decision) (goals ++ new_goal request.id request.value moment decision ∷ [])
+        where_same : (b : Bool) → request.id == id ≡ b → Fits server id (lines ++ accepted_lines server request.id how) (goals ++ new_goal request.id request.value moment how ∷ [])
         where_same true e =
             let none : state_in id goals ≡ None = ap (λ (n : GoalId). state_in n goals) (sym (eqb-true request.id id e)) ∙ none_in request.id goals fresh in
-            fits_by lines (accepted_lines server request.id decision) (goals ++ new_goal request.id request.value moment decision ∷ []) (statuses_of server id (accepted_lines server request.id decision)) (Some (accepted_state decision)) refl
-            (state_behind id goals (new_goal request.id request.value moment decision) none ∙ rw e refl)
-            (distinct_more goals (new_goal request.id request.value moment decision) f.distinct fresh)
-            (told_accepted server id request.id decision (statuses_of server id lines) (decision == 2) refl e (subst (λ (held : Option State). Told (statuses_of server id lines) held) none f.told))
+            fits_by lines (accepted_lines server request.id how) (goals ++ new_goal request.id request.value moment how ∷ []) (statuses_of server id (accepted_lines server request.id how)) (Some (accepted_state how)) refl
+            (state_behind id goals (new_goal request.id request.value moment how) none ∙ rw e refl)
+            (distinct_more goals (new_goal request.id request.value moment how) f.distinct fresh)
+            (told_accepted server id request.id how (statuses_of server id lines) e (subst (λ (held : Option State). Told (statuses_of server id lines) held) none f.told))
         where_same false e =
-            fits_quiet (accepted_lines server request.id decision) (goals ++ new_goal request.id request.value moment decision ∷ []) (accepted_apart server id request.id decision (decision == 2) refl e)
-            (state_before id goals (new_goal request.id request.value moment decision) e) (distinct_more goals (new_goal request.id request.value moment decision) f.distinct fresh)
+            fits_quiet (accepted_lines server request.id how) (goals ++ new_goal request.id request.value moment how ∷ []) (accepted_apart server id request.id how e)
+            (state_before id goals (new_goal request.id request.value moment how) e) (distinct_more goals (new_goal request.id request.value moment how) f.distinct fresh)
 
     -- ---- cancel requests
 

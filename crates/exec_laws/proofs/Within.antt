@@ -52,7 +52,7 @@ within_kept graph = record {
     sending_kept = λ client world p. p;
     variables_kept = λ group variables world p. p;
   };
-  accepts_kept = λ server moment decision request world room p. p;
+  accepts_kept = λ server moment how request world room p. p;
   expiry_kept = λ moment world p. p;
   snapshot_kept = λ moment world p. within_taken graph world.queues p;
 }

@@ -1,6 +1,5 @@
 -- The life of a goal.
 use Rattle.std.specs.Prelude.{◌≡◌, ◌⊎◌, ℕ, Bool, List, [], ◌∷◌, ◌++◌, Option, None, Some, true, false}
-use Rattle.exec_goal.specs.Cancel.{Decided, decision_of}
 use Rattle.exec_goal.specs.State.{Transition, is_canceling, is_worked_on, status_of}
 use Rattle.exec_goal.specs.declared.state.State.{State}
 use Rattle.exec_plan.specs.Plan.{PlanData}
@@ -12,10 +11,6 @@ use Rattle.exec_rules.specs.Transcript.{at_snapshot, run_all}
 use Rattle.exec_msg.specs.Numbers.{Moment}
 use Rattle.exec_rules.specs.World.{WorldState}
 use Rattle.exec_rules.specs.declared.ready.Ready.{Ready}
-
--- a cancel handler's decision: 1 rejects, and 2 accepts
-abbrev pub IsDecision : Decided → Type 0
-IsDecision decided = (decision_of decided ≡ 1) ⊎ (decision_of decided ≡ 2)
 
 -- a transition leads from one status to another
 pub record IsStep (before after : GoalStatus) : Type 0 where

@@ -1,6 +1,6 @@
 //! The life of a goal.
 ghost use Rattle.std.specs.Prelude.{◌≡◌, ◌≢◌, ℕ, List, ◌∷◌, ◌++◌, ◌==◌, length, map, take, drop, None, Some, ℤ, Bool, true};
-ghost use Rattle.std.specs.List.{All, IsDistinct, fold};
+ghost use Rattle.std.specs.List.{IsDistinct, fold};
 ghost use Rattle.exec_goal.specs.Calls.{end_state, state_in};
 ghost use Rattle.exec_goal.specs.Cancel.{decided_goal};
 ghost use Rattle.exec_goal.specs.declared.info.GoalInfo.{GoalInfo};
@@ -11,7 +11,7 @@ ghost use Rattle.exec_msg.specs.declared.goal.GoalStatus.TheVariants as status;
 ghost use Rattle.exec_script.specs.declared.effects.Close.TheVariants as close;
 ghost use Rattle.exec_script.specs.declared.effects.Effect.{Effect};
 ghost use Rattle.exec_rules.specs.Callback.{Handling, handle};
-ghost use Rattle.exec_laws.specs.Goals.{AreLawful, IsDecision, IsFinal, MayCome, IsTurn, may_be_polled};
+ghost use Rattle.exec_laws.specs.Goals.{AreLawful, IsFinal, MayCome, IsTurn, may_be_polled};
 ghost use Rattle.exec_rules.specs.Lines.{statuses_of};
 ghost use Rattle.exec_rules.specs.Run.{unclosed};
 ghost use Rattle.exec_rules.specs.Run.{outcome_in};
@@ -21,14 +21,12 @@ ghost use Rattle.exec_rules.specs.declared.ready.Cause.TheVariants as cause;
 ghost use Rattle.exec_rules.specs.declared.ready.Ready.{Ready};
 
 /// Where a cancel handler ran for candidates, the decisions are those before, followed by one for each candidate, with
-/// its identifier, in order, and each of these is 1 or 2. `S` is whatever the handler's effects go into.
+/// its identifier, in order. `S` is whatever the handler's effects go into.
 pub fn decisions_are_of_the_candidates<S>()
     ensures before { (give : Effect → S → S) (ready : Ready) (handling : Handling S) (candidates : List GoalInfo) →
         take (length handling.decisions) (fold (handle give ready) handling candidates).decisions ≡ handling.decisions }
     ensures identifiers { (give : Effect → S → S) (ready : Ready) (handling : Handling S) (candidates : List GoalInfo) →
         map decided_goal (drop (length handling.decisions) (fold (handle give ready) handling candidates).decisions) ≡ map (λ candidate. candidate.id) candidates }
-    ensures each { (give : Effect → S → S) (ready : Ready) (handling : Handling S) (candidates : List GoalInfo) →
-        All IsDecision (drop (length handling.decisions) (fold (handle give ready) handling candidates).decisions) }
 {}
 
 /// No two goals of one server have one identifier, after any rounds of a plan.

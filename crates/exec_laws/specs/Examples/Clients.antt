@@ -5,6 +5,7 @@ use Rattle.exec_plan.specs.declared.entity.EntityOf.TheVariants.{Timer, Server, 
 use Rattle.exec_plan.specs.Plan.{PlanData}
 use Rattle.exec_plan.specs.declared.order.Order.TheVariants as order
 use Rattle.exec_plan.specs.declared.plan.FedOf.TheVariants.{Goal, Cancel}
+use Rattle.exec_msg.specs.declared.goal.Decision.TheVariants as decision
 use Rattle.exec_msg.specs.declared.goal.GoalStatus.TheVariants as status
 use Rattle.exec_msg.specs.declared.goal.ReturnCode.TheVariants as code
 use Rattle.exec_msg.specs.declared.kind.Kind.TheVariants as kind
@@ -36,7 +37,7 @@ succeeded_while_canceling = record {
 abbrev pub succeeded_while_canceling_lines : List Line
 succeeded_while_canceling_lines =
     line.Round 1 10 ∷ line.Run 0 kind.Timer (pos 10) (pos 0) None ∷ line.Goal 2 (goal_id 0 1) (pos 5)
-    ∷ line.Round 2 11 ∷ line.Run 1 kind.Goal (pos 5) (pos 0) (Some (goal_id 0 1)) ∷ line.Decide 1 (goal_id 0 1) 2
+    ∷ line.Round 2 11 ∷ line.Run 1 kind.Goal (pos 5) (pos 0) (Some (goal_id 0 1)) ∷ line.Decide 1 (goal_id 0 1) decision.Execute
     ∷ line.State 1 (goal_id 0 1) status.Accepted ∷ line.State 1 (goal_id 0 1) status.Executing
     ∷ line.Round 3 12 ∷ line.Run 1 kind.Cancel (pos 0) (pos 1) (Some (goal_id 0 1)) ∷ line.State 1 (goal_id 0 1) status.Canceling
     ∷ line.Code 1 code.None 1 ∷ line.Run 1 kind.Poll (pos 5) (pos 0) (Some (goal_id 0 1)) ∷ line.State 1 (goal_id 0 1) status.Succeeded
@@ -66,7 +67,7 @@ awaited_result = record {
 abbrev pub awaited_result_lines : List Line
 awaited_result_lines =
     line.Round 1 10 ∷ line.Run 0 kind.Timer (pos 10) (pos 0) None ∷ line.Goal 2 (goal_id 0 1) (pos 5)
-    ∷ line.Round 2 11 ∷ line.Run 1 kind.Goal (pos 5) (pos 0) (Some (goal_id 0 1)) ∷ line.Decide 1 (goal_id 0 1) 2
+    ∷ line.Round 2 11 ∷ line.Run 1 kind.Goal (pos 5) (pos 0) (Some (goal_id 0 1)) ∷ line.Decide 1 (goal_id 0 1) decision.Execute
     ∷ line.State 1 (goal_id 0 1) status.Accepted ∷ line.State 1 (goal_id 0 1) status.Executing
     ∷ line.Round 3 12 ∷ line.Run 1 kind.Poll (pos 5) (pos 0) (Some (goal_id 0 1)) ∷ line.Run 2 kind.Response (pos 1) (pos 1) (Some (goal_id 0 1))
     ∷ line.Ask 2 (goal_id 0 1)
@@ -97,7 +98,7 @@ expired_result = record {
 abbrev pub expired_result_lines : List Line
 expired_result_lines =
     line.Round 1 10 ∷ line.Run 0 kind.Timer (pos 10) (pos 0) None ∷ line.Goal 2 (goal_id 0 1) (pos 5)
-    ∷ line.Round 2 11 ∷ line.Run 1 kind.Goal (pos 5) (pos 0) (Some (goal_id 0 1)) ∷ line.Decide 1 (goal_id 0 1) 2
+    ∷ line.Round 2 11 ∷ line.Run 1 kind.Goal (pos 5) (pos 0) (Some (goal_id 0 1)) ∷ line.Decide 1 (goal_id 0 1) decision.Execute
     ∷ line.State 1 (goal_id 0 1) status.Accepted ∷ line.State 1 (goal_id 0 1) status.Executing
     ∷ line.Round 3 12 ∷ line.Run 1 kind.Poll (pos 5) (pos 0) (Some (goal_id 0 1)) ∷ line.State 1 (goal_id 0 1) status.Succeeded
     ∷ line.Run 2 kind.Response (pos 1) (pos 1) (Some (goal_id 0 1)) ∷ line.Ask 2 (goal_id 0 1)
@@ -128,7 +129,7 @@ feedback = record {
 abbrev pub feedback_lines : List Line
 feedback_lines =
     line.Round 1 10 ∷ line.Run 0 kind.Timer (pos 10) (pos 0) None ∷ line.Goal 2 (goal_id 0 1) (pos 5)
-    ∷ line.Round 2 11 ∷ line.Run 1 kind.Goal (pos 5) (pos 0) (Some (goal_id 0 1)) ∷ line.Decide 1 (goal_id 0 1) 2
+    ∷ line.Round 2 11 ∷ line.Run 1 kind.Goal (pos 5) (pos 0) (Some (goal_id 0 1)) ∷ line.Decide 1 (goal_id 0 1) decision.Execute
     ∷ line.State 1 (goal_id 0 1) status.Accepted ∷ line.State 1 (goal_id 0 1) status.Executing
     ∷ line.Round 3 12 ∷ line.Run 1 kind.Poll (pos 5) (pos 0) (Some (goal_id 0 1)) ∷ line.Feedback 1 (goal_id 0 1) (pos 3)
     ∷ line.State 1 (goal_id 0 1) status.Succeeded ∷ line.Run 2 kind.Response (pos 1) (pos 1) (Some (goal_id 0 1)) ∷ line.Ask 2 (goal_id 0 1)
@@ -158,7 +159,7 @@ canceled_by_client = record {
 abbrev pub canceled_by_client_lines : List Line
 canceled_by_client_lines =
     line.Round 1 10 ∷ line.Run 0 kind.Timer (pos 10) (pos 0) None ∷ line.Goal 2 (goal_id 0 1) (pos 5)
-    ∷ line.Round 2 11 ∷ line.Run 1 kind.Goal (pos 5) (pos 0) (Some (goal_id 0 1)) ∷ line.Decide 1 (goal_id 0 1) 3
+    ∷ line.Round 2 11 ∷ line.Run 1 kind.Goal (pos 5) (pos 0) (Some (goal_id 0 1)) ∷ line.Decide 1 (goal_id 0 1) decision.Defer
     ∷ line.State 1 (goal_id 0 1) status.Accepted
     ∷ line.Round 3 12 ∷ line.Run 2 kind.Response (pos 1) (pos 1) (Some (goal_id 0 1)) ∷ line.Cancel 2 0 0
     ∷ line.Round 4 13 ∷ line.Run 1 kind.Cancel (pos 0) (pos 1) (Some 0) ∷ line.State 1 (goal_id 0 1) status.Canceling ∷ line.Code 1 code.None 1
@@ -186,7 +187,7 @@ deferred = record {
 
 abbrev pub deferred_lines : List Line
 deferred_lines =
-    line.Round 1 10 ∷ line.Run 1 kind.Goal (pos 5) (pos 0) (Some 1) ∷ line.Decide 1 1 3 ∷ line.State 1 1 status.Accepted
+    line.Round 1 10 ∷ line.Run 1 kind.Goal (pos 5) (pos 0) (Some 1) ∷ line.Decide 1 1 decision.Defer ∷ line.State 1 1 status.Accepted
     ∷ line.Round 2 20 ∷ line.Run 0 kind.Timer (pos 20) (pos 0) None ∷ line.State 1 1 status.Executing
     ∷ line.Round 3 30 ∷ line.Run 1 kind.Poll (pos 5) (pos 0) (Some 1) ∷ line.State 1 1 status.Succeeded
     ∷ line.End 3

@@ -6,6 +6,7 @@ use Rattle.exec_plan.specs.declared.entity.EntityOf.TheVariants.{Timer, Server, 
 use Rattle.exec_plan.specs.Plan.{PlanData}
 use Rattle.exec_plan.specs.declared.order.Order.TheVariants as order
 use Rattle.exec_plan.specs.declared.plan.FedOf.TheVariants.{Goal, Cancel}
+use Rattle.exec_msg.specs.declared.goal.Decision.TheVariants as decision
 use Rattle.exec_msg.specs.declared.goal.GoalStatus.TheVariants as status
 use Rattle.exec_msg.specs.declared.goal.ReturnCode.TheVariants as code
 use Rattle.exec_msg.specs.declared.kind.Kind.TheVariants as kind
@@ -39,27 +40,27 @@ abbrev pub cancel_forms_lines : List Line
 cancel_forms_lines =
     line.Round 1 1 ∷ line.Run 0 kind.Timer (pos 1) (pos 0) None ∷ line.Goal 3 (goal_id 0 1) (pos 1)
     ∷ line.Round 2 2 ∷ line.Run 0 kind.Timer (pos 2) (pos 0) None ∷ line.Goal 3 (goal_id 0 2) (pos 1)
-    ∷ line.Run 2 kind.Goal (pos 1) (pos 0) (Some (goal_id 0 1)) ∷ line.Decide 2 (goal_id 0 1) 3 ∷ line.State 2 (goal_id 0 1) status.Accepted
+    ∷ line.Run 2 kind.Goal (pos 1) (pos 0) (Some (goal_id 0 1)) ∷ line.Decide 2 (goal_id 0 1) decision.Defer ∷ line.State 2 (goal_id 0 1) status.Accepted
     ∷ line.Round 3 3 ∷ line.Run 0 kind.Timer (pos 3) (pos 0) None ∷ line.Goal 3 (goal_id 0 3) (pos 1) ∷ line.Run 1 kind.Timer (pos 3) (pos 0) None
     ∷ line.Cancel 3 (goal_id 0 3) 2 ∷ line.Cancel 3 (goal_id 0 2) 0 ∷ line.Cancel 3 0 3 ∷ line.Cancel 3 0 0
-    ∷ line.Run 2 kind.Goal (pos 1) (pos 0) (Some (goal_id 0 2)) ∷ line.Decide 2 (goal_id 0 2) 3 ∷ line.State 2 (goal_id 0 2) status.Accepted
+    ∷ line.Run 2 kind.Goal (pos 1) (pos 0) (Some (goal_id 0 2)) ∷ line.Decide 2 (goal_id 0 2) decision.Defer ∷ line.State 2 (goal_id 0 2) status.Accepted
     ∷ line.Run 3 kind.Response (pos 1) (pos 1) (Some (goal_id 0 1))
     ∷ line.Round 4 4 ∷ line.Run 0 kind.Timer (pos 4) (pos 0) None ∷ line.Goal 3 (goal_id 0 4) (pos 1)
-    ∷ line.Run 2 kind.Goal (pos 1) (pos 0) (Some (goal_id 0 3)) ∷ line.Decide 2 (goal_id 0 3) 2 ∷ line.State 2 (goal_id 0 3) status.Accepted
+    ∷ line.Run 2 kind.Goal (pos 1) (pos 0) (Some (goal_id 0 3)) ∷ line.Decide 2 (goal_id 0 3) decision.Execute ∷ line.State 2 (goal_id 0 3) status.Accepted
     ∷ line.State 2 (goal_id 0 3) status.Executing ∷ line.Run 2 kind.Cancel (pos 2) (pos 1) (Some (goal_id 0 3)) ∷ line.Code 2 code.Rejected 0
     ∷ line.Run 3 kind.Response (pos 1) (pos 2) (Some (goal_id 0 2))
     ∷ line.Round 5 5 ∷ line.Run 0 kind.Timer (pos 5) (pos 0) None ∷ line.Goal 3 (goal_id 0 5) (pos 1)
-    ∷ line.Run 2 kind.Goal (pos 1) (pos 0) (Some (goal_id 0 4)) ∷ line.Decide 2 (goal_id 0 4) 2 ∷ line.State 2 (goal_id 0 4) status.Accepted
+    ∷ line.Run 2 kind.Goal (pos 1) (pos 0) (Some (goal_id 0 4)) ∷ line.Decide 2 (goal_id 0 4) decision.Execute ∷ line.State 2 (goal_id 0 4) status.Accepted
     ∷ line.State 2 (goal_id 0 4) status.Executing ∷ line.Run 2 kind.Cancel (pos 0) (pos 1) (Some (goal_id 0 2)) ∷ line.Code 2 code.Rejected 0
     ∷ line.Run 2 kind.Poll (pos 1) (pos 0) (Some (goal_id 0 3)) ∷ line.Run 3 kind.Response (pos 1) (pos 3) (Some (goal_id 0 3))
     ∷ line.Run 3 kind.Code (pos 1) (pos 0) None ∷ line.Log 3 (pos 0) ∷ line.Log 3 (pos 1)
     ∷ line.Round 6 6 ∷ line.Run 0 kind.Timer (pos 6) (pos 0) None ∷ line.Goal 3 (goal_id 0 6) (pos 1) ∷ line.Run 1 kind.Timer (pos 6) (pos 0) None
     ∷ line.Cancel 3 (goal_id 0 3) 2 ∷ line.Cancel 3 (goal_id 0 2) 0 ∷ line.Cancel 3 0 3 ∷ line.Cancel 3 0 0
-    ∷ line.Run 2 kind.Goal (pos 1) (pos 0) (Some (goal_id 0 5)) ∷ line.Decide 2 (goal_id 0 5) 2 ∷ line.State 2 (goal_id 0 5) status.Accepted
+    ∷ line.Run 2 kind.Goal (pos 1) (pos 0) (Some (goal_id 0 5)) ∷ line.Decide 2 (goal_id 0 5) decision.Execute ∷ line.State 2 (goal_id 0 5) status.Accepted
     ∷ line.State 2 (goal_id 0 5) status.Executing ∷ line.Run 2 kind.Cancel (pos 3) (pos 2) (Some 0) ∷ line.Code 2 code.Rejected 0
     ∷ line.Run 2 kind.Poll (pos 1) (pos 0) (Some (goal_id 0 3)) ∷ line.Run 2 kind.Poll (pos 1) (pos 0) (Some (goal_id 0 4))
     ∷ line.Run 3 kind.Response (pos 1) (pos 4) (Some (goal_id 0 4)) ∷ line.Run 3 kind.Code (pos 1) (pos 0) None ∷ line.Log 3 (pos 0) ∷ line.Log 3 (pos 1)
-    ∷ line.Round 7 6 ∷ line.Run 2 kind.Goal (pos 1) (pos 0) (Some (goal_id 0 6)) ∷ line.Decide 2 (goal_id 0 6) 2
+    ∷ line.Round 7 6 ∷ line.Run 2 kind.Goal (pos 1) (pos 0) (Some (goal_id 0 6)) ∷ line.Decide 2 (goal_id 0 6) decision.Execute
     ∷ line.State 2 (goal_id 0 6) status.Accepted ∷ line.State 2 (goal_id 0 6) status.Executing ∷ line.Run 2 kind.Cancel (pos 0) (pos 5) (Some 0)
     ∷ line.State 2 (goal_id 0 3) status.Canceling ∷ line.State 2 (goal_id 0 4) status.Canceling ∷ line.State 2 (goal_id 0 5) status.Canceling
     ∷ line.Code 2 code.None 3 ∷ line.Run 2 kind.Poll (pos 1) (pos 0) (Some (goal_id 0 3)) ∷ line.Run 2 kind.Poll (pos 1) (pos 0) (Some (goal_id 0 4))
@@ -100,16 +101,16 @@ abbrev pub two_clients_lines : List Line
 two_clients_lines =
     line.Round 1 2 ∷ line.Run 0 kind.Timer (pos 2) (pos 0) None ∷ line.Goal 3 (goal_id 0 1) (pos 1) ∷ line.Goal 4 (goal_id 1 1) (pos 2)
     ∷ line.Run 1 kind.Timer (pos 2) (pos 0) None ∷ line.Goal 5 (goal_id 2 1) (pos 3) ∷ line.Cancel 5 (goal_id 2 1) 0
-    ∷ line.Round 2 3 ∷ line.Run 2 kind.Goal (pos 1) (pos 0) (Some (goal_id 0 1)) ∷ line.Decide 2 (goal_id 0 1) 2
+    ∷ line.Round 2 3 ∷ line.Run 2 kind.Goal (pos 1) (pos 0) (Some (goal_id 0 1)) ∷ line.Decide 2 (goal_id 0 1) decision.Execute
     ∷ line.State 2 (goal_id 0 1) status.Accepted ∷ line.State 2 (goal_id 0 1) status.Executing
     ∷ line.Run 2 kind.Cancel (pos 0) (pos 0) (Some (goal_id 2 1)) ∷ line.Code 2 code.UnknownGoalId 0
     ∷ line.Round 3 4 ∷ line.Run 0 kind.Timer (pos 4) (pos 0) None ∷ line.Goal 3 (goal_id 0 2) (pos 1) ∷ line.Goal 4 (goal_id 1 2) (pos 2)
     ∷ line.Run 1 kind.Timer (pos 4) (pos 0) None ∷ line.Goal 5 (goal_id 2 2) (pos 3) ∷ line.Cancel 5 (goal_id 2 1) 0
-    ∷ line.Run 2 kind.Goal (pos 2) (pos 0) (Some (goal_id 1 1)) ∷ line.Decide 2 (goal_id 1 1) 2 ∷ line.State 2 (goal_id 1 1) status.Accepted
+    ∷ line.Run 2 kind.Goal (pos 2) (pos 0) (Some (goal_id 1 1)) ∷ line.Decide 2 (goal_id 1 1) decision.Execute ∷ line.State 2 (goal_id 1 1) status.Accepted
     ∷ line.State 2 (goal_id 1 1) status.Executing ∷ line.Run 2 kind.Poll (pos 1) (pos 0) (Some (goal_id 0 1)) ∷ line.Feedback 2 (goal_id 0 1) (pos 1)
     ∷ line.Run 3 kind.Response (pos 1) (pos 1) (Some (goal_id 0 1)) ∷ line.Log 3 (pos 1) ∷ line.Ask 3 (goal_id 0 1)
     ∷ line.Run 5 kind.Code (pos 2) (pos 0) None ∷ line.Log 5 (pos 2)
-    ∷ line.Round 4 5 ∷ line.Run 2 kind.Goal (pos 3) (pos 0) (Some (goal_id 2 1)) ∷ line.Decide 2 (goal_id 2 1) 2
+    ∷ line.Round 4 5 ∷ line.Run 2 kind.Goal (pos 3) (pos 0) (Some (goal_id 2 1)) ∷ line.Decide 2 (goal_id 2 1) decision.Execute
     ∷ line.State 2 (goal_id 2 1) status.Accepted ∷ line.State 2 (goal_id 2 1) status.Executing
     ∷ line.Run 2 kind.Cancel (pos 0) (pos 0) (Some (goal_id 2 1)) ∷ line.Code 2 code.Rejected 0 ∷ line.Run 2 kind.Ask (pos 0) (pos 0) (Some (goal_id 0 1))
     ∷ line.Run 2 kind.Poll (pos 2) (pos 0) (Some (goal_id 1 1)) ∷ line.Feedback 2 (goal_id 1 1) (pos 2)
@@ -117,13 +118,13 @@ two_clients_lines =
     ∷ line.Run 3 kind.Feedback (pos 1) (pos 1) (Some (goal_id 0 1)) ∷ line.Cancel 3 (goal_id 0 1) 0
     ∷ line.Round 5 6 ∷ line.Run 0 kind.Timer (pos 6) (pos 0) None ∷ line.Goal 3 (goal_id 0 3) (pos 1) ∷ line.Goal 4 (goal_id 1 3) (pos 2)
     ∷ line.Run 1 kind.Timer (pos 6) (pos 0) None ∷ line.Goal 5 (goal_id 2 3) (pos 3) ∷ line.Cancel 5 (goal_id 2 1) 0
-    ∷ line.Run 2 kind.Goal (pos 1) (pos 0) (Some (goal_id 0 2)) ∷ line.Decide 2 (goal_id 0 2) 2 ∷ line.State 2 (goal_id 0 2) status.Accepted
+    ∷ line.Run 2 kind.Goal (pos 1) (pos 0) (Some (goal_id 0 2)) ∷ line.Decide 2 (goal_id 0 2) decision.Execute ∷ line.State 2 (goal_id 0 2) status.Accepted
     ∷ line.State 2 (goal_id 0 2) status.Executing ∷ line.Run 2 kind.Cancel (pos 0) (pos 1) (Some (goal_id 0 1))
     ∷ line.State 2 (goal_id 0 1) status.Canceling ∷ line.Code 2 code.None 1 ∷ line.Run 2 kind.Ask (pos 0) (pos 0) (Some (goal_id 1 1))
     ∷ line.Run 2 kind.Poll (pos 3) (pos 0) (Some (goal_id 2 1)) ∷ line.Feedback 2 (goal_id 2 1) (pos 3)
     ∷ line.Run 5 kind.Response (pos 1) (pos 1) (Some (goal_id 2 1)) ∷ line.Ask 5 (goal_id 2 1) ∷ line.Run 5 kind.Code (pos 1) (pos 0) None
     ∷ line.Log 5 (pos 1) ∷ line.Run 4 kind.Feedback (pos 2) (pos 1) (Some (goal_id 1 1))
-    ∷ line.Round 6 6 ∷ line.Run 2 kind.Goal (pos 2) (pos 0) (Some (goal_id 1 2)) ∷ line.Decide 2 (goal_id 1 2) 2
+    ∷ line.Round 6 6 ∷ line.Run 2 kind.Goal (pos 2) (pos 0) (Some (goal_id 1 2)) ∷ line.Decide 2 (goal_id 1 2) decision.Execute
     ∷ line.State 2 (goal_id 1 2) status.Accepted ∷ line.State 2 (goal_id 1 2) status.Executing
     ∷ line.Run 2 kind.Cancel (pos 0) (pos 1) (Some (goal_id 2 1)) ∷ line.State 2 (goal_id 2 1) status.Canceling ∷ line.Code 2 code.None 1
     ∷ line.Run 2 kind.Ask (pos 0) (pos 0) (Some (goal_id 2 1)) ∷ line.Run 2 kind.Poll (pos 1) (pos 1) (Some (goal_id 0 1))
@@ -131,7 +132,7 @@ two_clients_lines =
     ∷ line.Run 2 kind.Poll (pos 1) (pos 0) (Some (goal_id 0 2)) ∷ line.Feedback 2 (goal_id 0 2) (pos 1)
     ∷ line.Run 3 kind.Response (pos 1) (pos 2) (Some (goal_id 0 2)) ∷ line.Log 3 (pos 2) ∷ line.Ask 3 (goal_id 0 2)
     ∷ line.Run 3 kind.Code (pos 0) (pos 1) None ∷ line.Log 3 (pos 1) ∷ line.Run 5 kind.Feedback (pos 3) (pos 1) (Some (goal_id 2 1))
-    ∷ line.Round 7 7 ∷ line.Run 2 kind.Goal (pos 3) (pos 0) (Some (goal_id 2 2)) ∷ line.Decide 2 (goal_id 2 2) 2
+    ∷ line.Round 7 7 ∷ line.Run 2 kind.Goal (pos 3) (pos 0) (Some (goal_id 2 2)) ∷ line.Decide 2 (goal_id 2 2) decision.Execute
     ∷ line.State 2 (goal_id 2 2) status.Accepted ∷ line.State 2 (goal_id 2 2) status.Executing ∷ line.Run 2 kind.Ask (pos 0) (pos 0) (Some (goal_id 0 2))
     ∷ line.Run 2 kind.Poll (pos 3) (pos 1) (Some (goal_id 2 1)) ∷ line.State 2 (goal_id 2 1) status.Canceled
     ∷ line.Result 2 (goal_id 2 1) status.Canceled (pos 5) ∷ line.Run 2 kind.Poll (pos 2) (pos 0) (Some (goal_id 1 2))
@@ -140,7 +141,7 @@ two_clients_lines =
     ∷ line.Cancel 3 (goal_id 0 2) 0 ∷ line.Run 3 kind.Result (pos 5) (pos 5) (Some (goal_id 0 1)) ∷ line.Log 3 (pos 5)
     ∷ line.Round 8 8 ∷ line.Run 0 kind.Timer (pos 8) (pos 0) None ∷ line.Goal 3 (goal_id 0 4) (pos 1) ∷ line.Goal 4 (goal_id 1 4) (pos 2)
     ∷ line.Run 1 kind.Timer (pos 8) (pos 0) None ∷ line.Goal 5 (goal_id 2 4) (pos 3) ∷ line.Cancel 5 (goal_id 2 1) 0
-    ∷ line.Run 2 kind.Goal (pos 1) (pos 0) (Some (goal_id 0 3)) ∷ line.Decide 2 (goal_id 0 3) 2 ∷ line.State 2 (goal_id 0 3) status.Accepted
+    ∷ line.Run 2 kind.Goal (pos 1) (pos 0) (Some (goal_id 0 3)) ∷ line.Decide 2 (goal_id 0 3) decision.Execute ∷ line.State 2 (goal_id 0 3) status.Accepted
     ∷ line.State 2 (goal_id 0 3) status.Executing ∷ line.Run 2 kind.Cancel (pos 0) (pos 1) (Some (goal_id 0 2))
     ∷ line.State 2 (goal_id 0 2) status.Canceling ∷ line.Code 2 code.None 1 ∷ line.Run 2 kind.Ask (pos 0) (pos 0) (Some (goal_id 1 2))
     ∷ line.Run 2 kind.Poll (pos 2) (pos 0) (Some (goal_id 1 1)) ∷ line.State 2 (goal_id 1 1) status.Succeeded
@@ -174,12 +175,12 @@ accepted_anew = record {
 
 abbrev pub accepted_anew_lines : List Line
 accepted_anew_lines =
-    line.Round 1 1 ∷ line.Run 0 kind.Goal (pos 1) (pos 0) (Some 1) ∷ line.Decide 0 1 2 ∷ line.State 0 1 status.Accepted ∷ line.State 0 1 status.Executing
-    ∷ line.Round 2 2 ∷ line.Run 0 kind.Goal (pos 9) (pos 0) (Some 2) ∷ line.Decide 0 2 2 ∷ line.State 0 2 status.Accepted
+    line.Round 1 1 ∷ line.Run 0 kind.Goal (pos 1) (pos 0) (Some 1) ∷ line.Decide 0 1 decision.Execute ∷ line.State 0 1 status.Accepted ∷ line.State 0 1 status.Executing
+    ∷ line.Round 2 2 ∷ line.Run 0 kind.Goal (pos 9) (pos 0) (Some 2) ∷ line.Decide 0 2 decision.Execute ∷ line.State 0 2 status.Accepted
     ∷ line.State 0 2 status.Executing ∷ line.Run 0 kind.Poll (pos 1) (pos 0) (Some 1) ∷ line.State 0 1 status.Succeeded
-    ∷ line.Round 3 3 ∷ line.Expire 0 1 ∷ line.Run 0 kind.Goal (pos 2) (pos 0) (Some 1) ∷ line.Decide 0 1 2 ∷ line.State 0 1 status.Accepted
+    ∷ line.Round 3 3 ∷ line.Expire 0 1 ∷ line.Run 0 kind.Goal (pos 2) (pos 0) (Some 1) ∷ line.Decide 0 1 decision.Execute ∷ line.State 0 1 status.Accepted
     ∷ line.State 0 1 status.Executing ∷ line.Run 0 kind.Poll (pos 9) (pos 0) (Some 2) ∷ line.State 0 2 status.Succeeded
-    ∷ line.Round 4 3 ∷ line.Run 0 kind.Goal (pos 3) (pos 0) (Some 1) ∷ line.Decide 0 1 1 ∷ line.Run 0 kind.Poll (pos 2) (pos 0) (Some 1)
+    ∷ line.Round 4 3 ∷ line.Run 0 kind.Goal (pos 3) (pos 0) (Some 1) ∷ line.Decide 0 1 decision.Reject ∷ line.Run 0 kind.Poll (pos 2) (pos 0) (Some 1)
     ∷ line.State 0 1 status.Succeeded
     ∷ line.Round 5 4 ∷ line.Expire 0 2 ∷ line.Expire 0 1 ∷ line.Run 0 kind.Cancel (pos 0) (pos 0) (Some 1) ∷ line.Code 0 code.UnknownGoalId 0
     ∷ line.Round 6 5 ∷ line.Run 0 kind.Cancel (pos 0) (pos 0) (Some 1) ∷ line.Code 0 code.UnknownGoalId 0

@@ -5,6 +5,7 @@ use Rattle.exec_plan.specs.declared.entity.EntityOf.TheVariants.{Server}
 use Rattle.exec_plan.specs.Plan.{PlanData}
 use Rattle.exec_plan.specs.declared.order.Order.TheVariants as order
 use Rattle.exec_plan.specs.declared.plan.FedOf.TheVariants.{Goal}
+use Rattle.exec_msg.specs.declared.goal.Decision.TheVariants as decision
 use Rattle.exec_msg.specs.declared.goal.GoalStatus.TheVariants as status
 use Rattle.exec_msg.specs.declared.kind.Kind.TheVariants as kind
 use Rattle.exec_msg.specs.declared.line.Line.{Line}
@@ -95,70 +96,70 @@ full_table = record {
 
 abbrev pub full_table_lines : List Line
 full_table_lines =
-    line.Round 1 1 ∷ line.Run 0 kind.Goal (pos 1) (pos 0) (Some 1) ∷ line.Decide 0 1 3 ∷ line.State 0 1 status.Accepted
-    ∷ line.Round 2 2 ∷ line.Run 0 kind.Goal (pos 1) (pos 0) (Some 2) ∷ line.Decide 0 2 3 ∷ line.State 0 2 status.Accepted
-    ∷ line.Round 3 3 ∷ line.Run 0 kind.Goal (pos 1) (pos 0) (Some 3) ∷ line.Decide 0 3 3 ∷ line.State 0 3 status.Accepted
-    ∷ line.Round 4 4 ∷ line.Run 0 kind.Goal (pos 1) (pos 0) (Some 4) ∷ line.Decide 0 4 3 ∷ line.State 0 4 status.Accepted
-    ∷ line.Round 5 5 ∷ line.Run 0 kind.Goal (pos 1) (pos 0) (Some 5) ∷ line.Decide 0 5 3 ∷ line.State 0 5 status.Accepted
-    ∷ line.Round 6 6 ∷ line.Run 0 kind.Goal (pos 1) (pos 0) (Some 6) ∷ line.Decide 0 6 3 ∷ line.State 0 6 status.Accepted
-    ∷ line.Round 7 7 ∷ line.Run 0 kind.Goal (pos 1) (pos 0) (Some 7) ∷ line.Decide 0 7 3 ∷ line.State 0 7 status.Accepted
-    ∷ line.Round 8 8 ∷ line.Run 0 kind.Goal (pos 1) (pos 0) (Some 8) ∷ line.Decide 0 8 3 ∷ line.State 0 8 status.Accepted
-    ∷ line.Round 9 9 ∷ line.Run 0 kind.Goal (pos 1) (pos 0) (Some 9) ∷ line.Decide 0 9 3 ∷ line.State 0 9 status.Accepted
-    ∷ line.Round 10 10 ∷ line.Run 0 kind.Goal (pos 1) (pos 0) (Some 16) ∷ line.Decide 0 16 3 ∷ line.State 0 16 status.Accepted
-    ∷ line.Round 11 11 ∷ line.Run 0 kind.Goal (pos 1) (pos 0) (Some 17) ∷ line.Decide 0 17 3 ∷ line.State 0 17 status.Accepted
-    ∷ line.Round 12 12 ∷ line.Run 0 kind.Goal (pos 1) (pos 0) (Some 18) ∷ line.Decide 0 18 3 ∷ line.State 0 18 status.Accepted
-    ∷ line.Round 13 13 ∷ line.Run 0 kind.Goal (pos 1) (pos 0) (Some 19) ∷ line.Decide 0 19 3 ∷ line.State 0 19 status.Accepted
-    ∷ line.Round 14 14 ∷ line.Run 0 kind.Goal (pos 1) (pos 0) (Some 20) ∷ line.Decide 0 20 3 ∷ line.State 0 20 status.Accepted
-    ∷ line.Round 15 15 ∷ line.Run 0 kind.Goal (pos 1) (pos 0) (Some 21) ∷ line.Decide 0 21 3 ∷ line.State 0 21 status.Accepted
-    ∷ line.Round 16 16 ∷ line.Run 0 kind.Goal (pos 1) (pos 0) (Some 22) ∷ line.Decide 0 22 3 ∷ line.State 0 22 status.Accepted
-    ∷ line.Round 17 17 ∷ line.Run 0 kind.Goal (pos 1) (pos 0) (Some 23) ∷ line.Decide 0 23 3 ∷ line.State 0 23 status.Accepted
-    ∷ line.Round 18 18 ∷ line.Run 0 kind.Goal (pos 1) (pos 0) (Some 24) ∷ line.Decide 0 24 3 ∷ line.State 0 24 status.Accepted
-    ∷ line.Round 19 19 ∷ line.Run 0 kind.Goal (pos 1) (pos 0) (Some 25) ∷ line.Decide 0 25 3 ∷ line.State 0 25 status.Accepted
-    ∷ line.Round 20 20 ∷ line.Run 0 kind.Goal (pos 1) (pos 0) (Some 32) ∷ line.Decide 0 32 3 ∷ line.State 0 32 status.Accepted
-    ∷ line.Round 21 21 ∷ line.Run 0 kind.Goal (pos 1) (pos 0) (Some 33) ∷ line.Decide 0 33 3 ∷ line.State 0 33 status.Accepted
-    ∷ line.Round 22 22 ∷ line.Run 0 kind.Goal (pos 1) (pos 0) (Some 34) ∷ line.Decide 0 34 3 ∷ line.State 0 34 status.Accepted
-    ∷ line.Round 23 23 ∷ line.Run 0 kind.Goal (pos 1) (pos 0) (Some 35) ∷ line.Decide 0 35 3 ∷ line.State 0 35 status.Accepted
-    ∷ line.Round 24 24 ∷ line.Run 0 kind.Goal (pos 1) (pos 0) (Some 36) ∷ line.Decide 0 36 3 ∷ line.State 0 36 status.Accepted
-    ∷ line.Round 25 25 ∷ line.Run 0 kind.Goal (pos 1) (pos 0) (Some 37) ∷ line.Decide 0 37 3 ∷ line.State 0 37 status.Accepted
-    ∷ line.Round 26 26 ∷ line.Run 0 kind.Goal (pos 1) (pos 0) (Some 38) ∷ line.Decide 0 38 3 ∷ line.State 0 38 status.Accepted
-    ∷ line.Round 27 27 ∷ line.Run 0 kind.Goal (pos 1) (pos 0) (Some 39) ∷ line.Decide 0 39 3 ∷ line.State 0 39 status.Accepted
-    ∷ line.Round 28 28 ∷ line.Run 0 kind.Goal (pos 1) (pos 0) (Some 40) ∷ line.Decide 0 40 3 ∷ line.State 0 40 status.Accepted
-    ∷ line.Round 29 29 ∷ line.Run 0 kind.Goal (pos 1) (pos 0) (Some 41) ∷ line.Decide 0 41 3 ∷ line.State 0 41 status.Accepted
-    ∷ line.Round 30 30 ∷ line.Run 0 kind.Goal (pos 1) (pos 0) (Some 48) ∷ line.Decide 0 48 3 ∷ line.State 0 48 status.Accepted
-    ∷ line.Round 31 31 ∷ line.Run 0 kind.Goal (pos 1) (pos 0) (Some 49) ∷ line.Decide 0 49 3 ∷ line.State 0 49 status.Accepted
-    ∷ line.Round 32 32 ∷ line.Run 0 kind.Goal (pos 1) (pos 0) (Some 50) ∷ line.Decide 0 50 3 ∷ line.State 0 50 status.Accepted
-    ∷ line.Round 33 33 ∷ line.Run 0 kind.Goal (pos 1) (pos 0) (Some 51) ∷ line.Decide 0 51 3 ∷ line.State 0 51 status.Accepted
-    ∷ line.Round 34 34 ∷ line.Run 0 kind.Goal (pos 1) (pos 0) (Some 52) ∷ line.Decide 0 52 3 ∷ line.State 0 52 status.Accepted
-    ∷ line.Round 35 35 ∷ line.Run 0 kind.Goal (pos 1) (pos 0) (Some 53) ∷ line.Decide 0 53 3 ∷ line.State 0 53 status.Accepted
-    ∷ line.Round 36 36 ∷ line.Run 0 kind.Goal (pos 1) (pos 0) (Some 54) ∷ line.Decide 0 54 3 ∷ line.State 0 54 status.Accepted
-    ∷ line.Round 37 37 ∷ line.Run 0 kind.Goal (pos 1) (pos 0) (Some 55) ∷ line.Decide 0 55 3 ∷ line.State 0 55 status.Accepted
-    ∷ line.Round 38 38 ∷ line.Run 0 kind.Goal (pos 1) (pos 0) (Some 56) ∷ line.Decide 0 56 3 ∷ line.State 0 56 status.Accepted
-    ∷ line.Round 39 39 ∷ line.Run 0 kind.Goal (pos 1) (pos 0) (Some 57) ∷ line.Decide 0 57 3 ∷ line.State 0 57 status.Accepted
-    ∷ line.Round 40 40 ∷ line.Run 0 kind.Goal (pos 1) (pos 0) (Some 64) ∷ line.Decide 0 64 3 ∷ line.State 0 64 status.Accepted
-    ∷ line.Round 41 41 ∷ line.Run 0 kind.Goal (pos 1) (pos 0) (Some 65) ∷ line.Decide 0 65 3 ∷ line.State 0 65 status.Accepted
-    ∷ line.Round 42 42 ∷ line.Run 0 kind.Goal (pos 1) (pos 0) (Some 66) ∷ line.Decide 0 66 3 ∷ line.State 0 66 status.Accepted
-    ∷ line.Round 43 43 ∷ line.Run 0 kind.Goal (pos 1) (pos 0) (Some 67) ∷ line.Decide 0 67 3 ∷ line.State 0 67 status.Accepted
-    ∷ line.Round 44 44 ∷ line.Run 0 kind.Goal (pos 1) (pos 0) (Some 68) ∷ line.Decide 0 68 3 ∷ line.State 0 68 status.Accepted
-    ∷ line.Round 45 45 ∷ line.Run 0 kind.Goal (pos 1) (pos 0) (Some 69) ∷ line.Decide 0 69 3 ∷ line.State 0 69 status.Accepted
-    ∷ line.Round 46 46 ∷ line.Run 0 kind.Goal (pos 1) (pos 0) (Some 70) ∷ line.Decide 0 70 3 ∷ line.State 0 70 status.Accepted
-    ∷ line.Round 47 47 ∷ line.Run 0 kind.Goal (pos 1) (pos 0) (Some 71) ∷ line.Decide 0 71 3 ∷ line.State 0 71 status.Accepted
-    ∷ line.Round 48 48 ∷ line.Run 0 kind.Goal (pos 1) (pos 0) (Some 72) ∷ line.Decide 0 72 3 ∷ line.State 0 72 status.Accepted
-    ∷ line.Round 49 49 ∷ line.Run 0 kind.Goal (pos 1) (pos 0) (Some 73) ∷ line.Decide 0 73 3 ∷ line.State 0 73 status.Accepted
-    ∷ line.Round 50 50 ∷ line.Run 0 kind.Goal (pos 1) (pos 0) (Some 80) ∷ line.Decide 0 80 3 ∷ line.State 0 80 status.Accepted
-    ∷ line.Round 51 51 ∷ line.Run 0 kind.Goal (pos 1) (pos 0) (Some 81) ∷ line.Decide 0 81 3 ∷ line.State 0 81 status.Accepted
-    ∷ line.Round 52 52 ∷ line.Run 0 kind.Goal (pos 1) (pos 0) (Some 82) ∷ line.Decide 0 82 3 ∷ line.State 0 82 status.Accepted
-    ∷ line.Round 53 53 ∷ line.Run 0 kind.Goal (pos 1) (pos 0) (Some 83) ∷ line.Decide 0 83 3 ∷ line.State 0 83 status.Accepted
-    ∷ line.Round 54 54 ∷ line.Run 0 kind.Goal (pos 1) (pos 0) (Some 84) ∷ line.Decide 0 84 3 ∷ line.State 0 84 status.Accepted
-    ∷ line.Round 55 55 ∷ line.Run 0 kind.Goal (pos 1) (pos 0) (Some 85) ∷ line.Decide 0 85 3 ∷ line.State 0 85 status.Accepted
-    ∷ line.Round 56 56 ∷ line.Run 0 kind.Goal (pos 1) (pos 0) (Some 86) ∷ line.Decide 0 86 3 ∷ line.State 0 86 status.Accepted
-    ∷ line.Round 57 57 ∷ line.Run 0 kind.Goal (pos 1) (pos 0) (Some 87) ∷ line.Decide 0 87 3 ∷ line.State 0 87 status.Accepted
-    ∷ line.Round 58 58 ∷ line.Run 0 kind.Goal (pos 1) (pos 0) (Some 88) ∷ line.Decide 0 88 3 ∷ line.State 0 88 status.Accepted
-    ∷ line.Round 59 59 ∷ line.Run 0 kind.Goal (pos 1) (pos 0) (Some 89) ∷ line.Decide 0 89 3 ∷ line.State 0 89 status.Accepted
-    ∷ line.Round 60 60 ∷ line.Run 0 kind.Goal (pos 1) (pos 0) (Some 96) ∷ line.Decide 0 96 3 ∷ line.State 0 96 status.Accepted
-    ∷ line.Round 61 61 ∷ line.Run 0 kind.Goal (pos 1) (pos 0) (Some 97) ∷ line.Decide 0 97 3 ∷ line.State 0 97 status.Accepted
-    ∷ line.Round 62 62 ∷ line.Run 0 kind.Goal (pos 1) (pos 0) (Some 98) ∷ line.Decide 0 98 3 ∷ line.State 0 98 status.Accepted
-    ∷ line.Round 63 63 ∷ line.Run 0 kind.Goal (pos 1) (pos 0) (Some 99) ∷ line.Decide 0 99 3 ∷ line.State 0 99 status.Accepted
-    ∷ line.Round 64 64 ∷ line.Run 0 kind.Goal (pos 1) (pos 0) (Some 100) ∷ line.Decide 0 100 3 ∷ line.State 0 100 status.Accepted
-    ∷ line.Round 65 65 ∷ line.Run 0 kind.Goal (pos 1) (pos 0) (Some 101) ∷ line.Decide 0 101 1
+    line.Round 1 1 ∷ line.Run 0 kind.Goal (pos 1) (pos 0) (Some 1) ∷ line.Decide 0 1 decision.Defer ∷ line.State 0 1 status.Accepted
+    ∷ line.Round 2 2 ∷ line.Run 0 kind.Goal (pos 1) (pos 0) (Some 2) ∷ line.Decide 0 2 decision.Defer ∷ line.State 0 2 status.Accepted
+    ∷ line.Round 3 3 ∷ line.Run 0 kind.Goal (pos 1) (pos 0) (Some 3) ∷ line.Decide 0 3 decision.Defer ∷ line.State 0 3 status.Accepted
+    ∷ line.Round 4 4 ∷ line.Run 0 kind.Goal (pos 1) (pos 0) (Some 4) ∷ line.Decide 0 4 decision.Defer ∷ line.State 0 4 status.Accepted
+    ∷ line.Round 5 5 ∷ line.Run 0 kind.Goal (pos 1) (pos 0) (Some 5) ∷ line.Decide 0 5 decision.Defer ∷ line.State 0 5 status.Accepted
+    ∷ line.Round 6 6 ∷ line.Run 0 kind.Goal (pos 1) (pos 0) (Some 6) ∷ line.Decide 0 6 decision.Defer ∷ line.State 0 6 status.Accepted
+    ∷ line.Round 7 7 ∷ line.Run 0 kind.Goal (pos 1) (pos 0) (Some 7) ∷ line.Decide 0 7 decision.Defer ∷ line.State 0 7 status.Accepted
+    ∷ line.Round 8 8 ∷ line.Run 0 kind.Goal (pos 1) (pos 0) (Some 8) ∷ line.Decide 0 8 decision.Defer ∷ line.State 0 8 status.Accepted
+    ∷ line.Round 9 9 ∷ line.Run 0 kind.Goal (pos 1) (pos 0) (Some 9) ∷ line.Decide 0 9 decision.Defer ∷ line.State 0 9 status.Accepted
+    ∷ line.Round 10 10 ∷ line.Run 0 kind.Goal (pos 1) (pos 0) (Some 16) ∷ line.Decide 0 16 decision.Defer ∷ line.State 0 16 status.Accepted
+    ∷ line.Round 11 11 ∷ line.Run 0 kind.Goal (pos 1) (pos 0) (Some 17) ∷ line.Decide 0 17 decision.Defer ∷ line.State 0 17 status.Accepted
+    ∷ line.Round 12 12 ∷ line.Run 0 kind.Goal (pos 1) (pos 0) (Some 18) ∷ line.Decide 0 18 decision.Defer ∷ line.State 0 18 status.Accepted
+    ∷ line.Round 13 13 ∷ line.Run 0 kind.Goal (pos 1) (pos 0) (Some 19) ∷ line.Decide 0 19 decision.Defer ∷ line.State 0 19 status.Accepted
+    ∷ line.Round 14 14 ∷ line.Run 0 kind.Goal (pos 1) (pos 0) (Some 20) ∷ line.Decide 0 20 decision.Defer ∷ line.State 0 20 status.Accepted
+    ∷ line.Round 15 15 ∷ line.Run 0 kind.Goal (pos 1) (pos 0) (Some 21) ∷ line.Decide 0 21 decision.Defer ∷ line.State 0 21 status.Accepted
+    ∷ line.Round 16 16 ∷ line.Run 0 kind.Goal (pos 1) (pos 0) (Some 22) ∷ line.Decide 0 22 decision.Defer ∷ line.State 0 22 status.Accepted
+    ∷ line.Round 17 17 ∷ line.Run 0 kind.Goal (pos 1) (pos 0) (Some 23) ∷ line.Decide 0 23 decision.Defer ∷ line.State 0 23 status.Accepted
+    ∷ line.Round 18 18 ∷ line.Run 0 kind.Goal (pos 1) (pos 0) (Some 24) ∷ line.Decide 0 24 decision.Defer ∷ line.State 0 24 status.Accepted
+    ∷ line.Round 19 19 ∷ line.Run 0 kind.Goal (pos 1) (pos 0) (Some 25) ∷ line.Decide 0 25 decision.Defer ∷ line.State 0 25 status.Accepted
+    ∷ line.Round 20 20 ∷ line.Run 0 kind.Goal (pos 1) (pos 0) (Some 32) ∷ line.Decide 0 32 decision.Defer ∷ line.State 0 32 status.Accepted
+    ∷ line.Round 21 21 ∷ line.Run 0 kind.Goal (pos 1) (pos 0) (Some 33) ∷ line.Decide 0 33 decision.Defer ∷ line.State 0 33 status.Accepted
+    ∷ line.Round 22 22 ∷ line.Run 0 kind.Goal (pos 1) (pos 0) (Some 34) ∷ line.Decide 0 34 decision.Defer ∷ line.State 0 34 status.Accepted
+    ∷ line.Round 23 23 ∷ line.Run 0 kind.Goal (pos 1) (pos 0) (Some 35) ∷ line.Decide 0 35 decision.Defer ∷ line.State 0 35 status.Accepted
+    ∷ line.Round 24 24 ∷ line.Run 0 kind.Goal (pos 1) (pos 0) (Some 36) ∷ line.Decide 0 36 decision.Defer ∷ line.State 0 36 status.Accepted
+    ∷ line.Round 25 25 ∷ line.Run 0 kind.Goal (pos 1) (pos 0) (Some 37) ∷ line.Decide 0 37 decision.Defer ∷ line.State 0 37 status.Accepted
+    ∷ line.Round 26 26 ∷ line.Run 0 kind.Goal (pos 1) (pos 0) (Some 38) ∷ line.Decide 0 38 decision.Defer ∷ line.State 0 38 status.Accepted
+    ∷ line.Round 27 27 ∷ line.Run 0 kind.Goal (pos 1) (pos 0) (Some 39) ∷ line.Decide 0 39 decision.Defer ∷ line.State 0 39 status.Accepted
+    ∷ line.Round 28 28 ∷ line.Run 0 kind.Goal (pos 1) (pos 0) (Some 40) ∷ line.Decide 0 40 decision.Defer ∷ line.State 0 40 status.Accepted
+    ∷ line.Round 29 29 ∷ line.Run 0 kind.Goal (pos 1) (pos 0) (Some 41) ∷ line.Decide 0 41 decision.Defer ∷ line.State 0 41 status.Accepted
+    ∷ line.Round 30 30 ∷ line.Run 0 kind.Goal (pos 1) (pos 0) (Some 48) ∷ line.Decide 0 48 decision.Defer ∷ line.State 0 48 status.Accepted
+    ∷ line.Round 31 31 ∷ line.Run 0 kind.Goal (pos 1) (pos 0) (Some 49) ∷ line.Decide 0 49 decision.Defer ∷ line.State 0 49 status.Accepted
+    ∷ line.Round 32 32 ∷ line.Run 0 kind.Goal (pos 1) (pos 0) (Some 50) ∷ line.Decide 0 50 decision.Defer ∷ line.State 0 50 status.Accepted
+    ∷ line.Round 33 33 ∷ line.Run 0 kind.Goal (pos 1) (pos 0) (Some 51) ∷ line.Decide 0 51 decision.Defer ∷ line.State 0 51 status.Accepted
+    ∷ line.Round 34 34 ∷ line.Run 0 kind.Goal (pos 1) (pos 0) (Some 52) ∷ line.Decide 0 52 decision.Defer ∷ line.State 0 52 status.Accepted
+    ∷ line.Round 35 35 ∷ line.Run 0 kind.Goal (pos 1) (pos 0) (Some 53) ∷ line.Decide 0 53 decision.Defer ∷ line.State 0 53 status.Accepted
+    ∷ line.Round 36 36 ∷ line.Run 0 kind.Goal (pos 1) (pos 0) (Some 54) ∷ line.Decide 0 54 decision.Defer ∷ line.State 0 54 status.Accepted
+    ∷ line.Round 37 37 ∷ line.Run 0 kind.Goal (pos 1) (pos 0) (Some 55) ∷ line.Decide 0 55 decision.Defer ∷ line.State 0 55 status.Accepted
+    ∷ line.Round 38 38 ∷ line.Run 0 kind.Goal (pos 1) (pos 0) (Some 56) ∷ line.Decide 0 56 decision.Defer ∷ line.State 0 56 status.Accepted
+    ∷ line.Round 39 39 ∷ line.Run 0 kind.Goal (pos 1) (pos 0) (Some 57) ∷ line.Decide 0 57 decision.Defer ∷ line.State 0 57 status.Accepted
+    ∷ line.Round 40 40 ∷ line.Run 0 kind.Goal (pos 1) (pos 0) (Some 64) ∷ line.Decide 0 64 decision.Defer ∷ line.State 0 64 status.Accepted
+    ∷ line.Round 41 41 ∷ line.Run 0 kind.Goal (pos 1) (pos 0) (Some 65) ∷ line.Decide 0 65 decision.Defer ∷ line.State 0 65 status.Accepted
+    ∷ line.Round 42 42 ∷ line.Run 0 kind.Goal (pos 1) (pos 0) (Some 66) ∷ line.Decide 0 66 decision.Defer ∷ line.State 0 66 status.Accepted
+    ∷ line.Round 43 43 ∷ line.Run 0 kind.Goal (pos 1) (pos 0) (Some 67) ∷ line.Decide 0 67 decision.Defer ∷ line.State 0 67 status.Accepted
+    ∷ line.Round 44 44 ∷ line.Run 0 kind.Goal (pos 1) (pos 0) (Some 68) ∷ line.Decide 0 68 decision.Defer ∷ line.State 0 68 status.Accepted
+    ∷ line.Round 45 45 ∷ line.Run 0 kind.Goal (pos 1) (pos 0) (Some 69) ∷ line.Decide 0 69 decision.Defer ∷ line.State 0 69 status.Accepted
+    ∷ line.Round 46 46 ∷ line.Run 0 kind.Goal (pos 1) (pos 0) (Some 70) ∷ line.Decide 0 70 decision.Defer ∷ line.State 0 70 status.Accepted
+    ∷ line.Round 47 47 ∷ line.Run 0 kind.Goal (pos 1) (pos 0) (Some 71) ∷ line.Decide 0 71 decision.Defer ∷ line.State 0 71 status.Accepted
+    ∷ line.Round 48 48 ∷ line.Run 0 kind.Goal (pos 1) (pos 0) (Some 72) ∷ line.Decide 0 72 decision.Defer ∷ line.State 0 72 status.Accepted
+    ∷ line.Round 49 49 ∷ line.Run 0 kind.Goal (pos 1) (pos 0) (Some 73) ∷ line.Decide 0 73 decision.Defer ∷ line.State 0 73 status.Accepted
+    ∷ line.Round 50 50 ∷ line.Run 0 kind.Goal (pos 1) (pos 0) (Some 80) ∷ line.Decide 0 80 decision.Defer ∷ line.State 0 80 status.Accepted
+    ∷ line.Round 51 51 ∷ line.Run 0 kind.Goal (pos 1) (pos 0) (Some 81) ∷ line.Decide 0 81 decision.Defer ∷ line.State 0 81 status.Accepted
+    ∷ line.Round 52 52 ∷ line.Run 0 kind.Goal (pos 1) (pos 0) (Some 82) ∷ line.Decide 0 82 decision.Defer ∷ line.State 0 82 status.Accepted
+    ∷ line.Round 53 53 ∷ line.Run 0 kind.Goal (pos 1) (pos 0) (Some 83) ∷ line.Decide 0 83 decision.Defer ∷ line.State 0 83 status.Accepted
+    ∷ line.Round 54 54 ∷ line.Run 0 kind.Goal (pos 1) (pos 0) (Some 84) ∷ line.Decide 0 84 decision.Defer ∷ line.State 0 84 status.Accepted
+    ∷ line.Round 55 55 ∷ line.Run 0 kind.Goal (pos 1) (pos 0) (Some 85) ∷ line.Decide 0 85 decision.Defer ∷ line.State 0 85 status.Accepted
+    ∷ line.Round 56 56 ∷ line.Run 0 kind.Goal (pos 1) (pos 0) (Some 86) ∷ line.Decide 0 86 decision.Defer ∷ line.State 0 86 status.Accepted
+    ∷ line.Round 57 57 ∷ line.Run 0 kind.Goal (pos 1) (pos 0) (Some 87) ∷ line.Decide 0 87 decision.Defer ∷ line.State 0 87 status.Accepted
+    ∷ line.Round 58 58 ∷ line.Run 0 kind.Goal (pos 1) (pos 0) (Some 88) ∷ line.Decide 0 88 decision.Defer ∷ line.State 0 88 status.Accepted
+    ∷ line.Round 59 59 ∷ line.Run 0 kind.Goal (pos 1) (pos 0) (Some 89) ∷ line.Decide 0 89 decision.Defer ∷ line.State 0 89 status.Accepted
+    ∷ line.Round 60 60 ∷ line.Run 0 kind.Goal (pos 1) (pos 0) (Some 96) ∷ line.Decide 0 96 decision.Defer ∷ line.State 0 96 status.Accepted
+    ∷ line.Round 61 61 ∷ line.Run 0 kind.Goal (pos 1) (pos 0) (Some 97) ∷ line.Decide 0 97 decision.Defer ∷ line.State 0 97 status.Accepted
+    ∷ line.Round 62 62 ∷ line.Run 0 kind.Goal (pos 1) (pos 0) (Some 98) ∷ line.Decide 0 98 decision.Defer ∷ line.State 0 98 status.Accepted
+    ∷ line.Round 63 63 ∷ line.Run 0 kind.Goal (pos 1) (pos 0) (Some 99) ∷ line.Decide 0 99 decision.Defer ∷ line.State 0 99 status.Accepted
+    ∷ line.Round 64 64 ∷ line.Run 0 kind.Goal (pos 1) (pos 0) (Some 100) ∷ line.Decide 0 100 decision.Defer ∷ line.State 0 100 status.Accepted
+    ∷ line.Round 65 65 ∷ line.Run 0 kind.Goal (pos 1) (pos 0) (Some 101) ∷ line.Decide 0 101 decision.Reject
     ∷ line.End 65
     ∷ []

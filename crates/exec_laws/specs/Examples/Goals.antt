@@ -5,6 +5,7 @@ use Rattle.exec_plan.specs.declared.entity.EntityOf.TheVariants.{Server}
 use Rattle.exec_plan.specs.Plan.{PlanData}
 use Rattle.exec_plan.specs.declared.order.Order.TheVariants as order
 use Rattle.exec_plan.specs.declared.plan.FedOf.TheVariants.{Goal, Cancel}
+use Rattle.exec_msg.specs.declared.goal.Decision.TheVariants as decision
 use Rattle.exec_msg.specs.declared.goal.GoalStatus.TheVariants as status
 use Rattle.exec_msg.specs.declared.goal.ReturnCode.TheVariants as code
 use Rattle.exec_msg.specs.declared.kind.Kind.TheVariants as kind
@@ -35,9 +36,9 @@ cancel_all = record {
 
 abbrev pub cancel_all_lines : List Line
 cancel_all_lines =
-    line.Round 1 10 ∷ line.Run 0 kind.Goal (pos 5) (pos 0) (Some 1) ∷ line.Decide 0 1 3 ∷ line.State 0 1 status.Accepted
-    ∷ line.Round 2 20 ∷ line.Run 0 kind.Goal (pos 5) (pos 0) (Some 2) ∷ line.Decide 0 2 3 ∷ line.State 0 2 status.Accepted
-    ∷ line.Round 3 30 ∷ line.Run 0 kind.Goal (pos 5) (pos 0) (Some 3) ∷ line.Decide 0 3 3 ∷ line.State 0 3 status.Accepted
+    line.Round 1 10 ∷ line.Run 0 kind.Goal (pos 5) (pos 0) (Some 1) ∷ line.Decide 0 1 decision.Defer ∷ line.State 0 1 status.Accepted
+    ∷ line.Round 2 20 ∷ line.Run 0 kind.Goal (pos 5) (pos 0) (Some 2) ∷ line.Decide 0 2 decision.Defer ∷ line.State 0 2 status.Accepted
+    ∷ line.Round 3 30 ∷ line.Run 0 kind.Goal (pos 5) (pos 0) (Some 3) ∷ line.Decide 0 3 decision.Defer ∷ line.State 0 3 status.Accepted
     ∷ line.Round 4 40 ∷ line.Run 0 kind.Cancel (pos 0) (pos 3) (Some 0) ∷ line.State 0 1 status.Canceling ∷ line.State 0 2 status.Canceling
     ∷ line.State 0 3 status.Canceling ∷ line.Code 0 code.None 3
     ∷ line.End 4
@@ -65,9 +66,9 @@ cancel_before = record {
 
 abbrev pub cancel_before_lines : List Line
 cancel_before_lines =
-    line.Round 1 10 ∷ line.Run 0 kind.Goal (pos 5) (pos 0) (Some 1) ∷ line.Decide 0 1 3 ∷ line.State 0 1 status.Accepted
-    ∷ line.Round 2 20 ∷ line.Run 0 kind.Goal (pos 5) (pos 0) (Some 2) ∷ line.Decide 0 2 3 ∷ line.State 0 2 status.Accepted
-    ∷ line.Round 3 30 ∷ line.Run 0 kind.Goal (pos 5) (pos 0) (Some 3) ∷ line.Decide 0 3 3 ∷ line.State 0 3 status.Accepted
+    line.Round 1 10 ∷ line.Run 0 kind.Goal (pos 5) (pos 0) (Some 1) ∷ line.Decide 0 1 decision.Defer ∷ line.State 0 1 status.Accepted
+    ∷ line.Round 2 20 ∷ line.Run 0 kind.Goal (pos 5) (pos 0) (Some 2) ∷ line.Decide 0 2 decision.Defer ∷ line.State 0 2 status.Accepted
+    ∷ line.Round 3 30 ∷ line.Run 0 kind.Goal (pos 5) (pos 0) (Some 3) ∷ line.Decide 0 3 decision.Defer ∷ line.State 0 3 status.Accepted
     ∷ line.Round 4 40 ∷ line.Run 0 kind.Cancel (pos 20) (pos 2) (Some 0) ∷ line.State 0 1 status.Canceling ∷ line.State 0 2 status.Canceling
     ∷ line.Code 0 code.None 2
     ∷ line.End 4
@@ -95,9 +96,9 @@ cancel_goal_and_before = record {
 
 abbrev pub cancel_goal_and_before_lines : List Line
 cancel_goal_and_before_lines =
-    line.Round 1 10 ∷ line.Run 0 kind.Goal (pos 5) (pos 0) (Some 1) ∷ line.Decide 0 1 3 ∷ line.State 0 1 status.Accepted
-    ∷ line.Round 2 20 ∷ line.Run 0 kind.Goal (pos 5) (pos 0) (Some 2) ∷ line.Decide 0 2 3 ∷ line.State 0 2 status.Accepted
-    ∷ line.Round 3 30 ∷ line.Run 0 kind.Goal (pos 5) (pos 0) (Some 3) ∷ line.Decide 0 3 3 ∷ line.State 0 3 status.Accepted
+    line.Round 1 10 ∷ line.Run 0 kind.Goal (pos 5) (pos 0) (Some 1) ∷ line.Decide 0 1 decision.Defer ∷ line.State 0 1 status.Accepted
+    ∷ line.Round 2 20 ∷ line.Run 0 kind.Goal (pos 5) (pos 0) (Some 2) ∷ line.Decide 0 2 decision.Defer ∷ line.State 0 2 status.Accepted
+    ∷ line.Round 3 30 ∷ line.Run 0 kind.Goal (pos 5) (pos 0) (Some 3) ∷ line.Decide 0 3 decision.Defer ∷ line.State 0 3 status.Accepted
     ∷ line.Round 4 40 ∷ line.Run 0 kind.Cancel (pos 20) (pos 3) (Some 3) ∷ line.State 0 1 status.Canceling ∷ line.State 0 2 status.Canceling
     ∷ line.State 0 3 status.Canceling ∷ line.Code 0 code.None 3
     ∷ line.End 4
@@ -125,9 +126,9 @@ cancel_unknown = record {
 
 abbrev pub cancel_unknown_lines : List Line
 cancel_unknown_lines =
-    line.Round 1 10 ∷ line.Run 0 kind.Goal (pos 5) (pos 0) (Some 1) ∷ line.Decide 0 1 3 ∷ line.State 0 1 status.Accepted
-    ∷ line.Round 2 20 ∷ line.Run 0 kind.Goal (pos 5) (pos 0) (Some 2) ∷ line.Decide 0 2 3 ∷ line.State 0 2 status.Accepted
-    ∷ line.Round 3 30 ∷ line.Run 0 kind.Goal (pos 5) (pos 0) (Some 3) ∷ line.Decide 0 3 3 ∷ line.State 0 3 status.Accepted
+    line.Round 1 10 ∷ line.Run 0 kind.Goal (pos 5) (pos 0) (Some 1) ∷ line.Decide 0 1 decision.Defer ∷ line.State 0 1 status.Accepted
+    ∷ line.Round 2 20 ∷ line.Run 0 kind.Goal (pos 5) (pos 0) (Some 2) ∷ line.Decide 0 2 decision.Defer ∷ line.State 0 2 status.Accepted
+    ∷ line.Round 3 30 ∷ line.Run 0 kind.Goal (pos 5) (pos 0) (Some 3) ∷ line.Decide 0 3 decision.Defer ∷ line.State 0 3 status.Accepted
     ∷ line.Round 4 40 ∷ line.Run 0 kind.Cancel (pos 0) (pos 0) (Some 9) ∷ line.Code 0 code.UnknownGoalId 0
     ∷ line.End 4
     ∷ []
@@ -152,7 +153,7 @@ cancel_terminated = record {
 
 abbrev pub cancel_terminated_lines : List Line
 cancel_terminated_lines =
-    line.Round 1 10 ∷ line.Run 0 kind.Goal (pos 5) (pos 0) (Some 1) ∷ line.Decide 0 1 2 ∷ line.State 0 1 status.Accepted ∷ line.State 0 1 status.Executing
+    line.Round 1 10 ∷ line.Run 0 kind.Goal (pos 5) (pos 0) (Some 1) ∷ line.Decide 0 1 decision.Execute ∷ line.State 0 1 status.Accepted ∷ line.State 0 1 status.Executing
     ∷ line.Round 2 20 ∷ line.Run 0 kind.Poll (pos 5) (pos 0) (Some 1) ∷ line.State 0 1 status.Succeeded
     ∷ line.Round 3 30 ∷ line.Run 0 kind.Cancel (pos 0) (pos 0) (Some 1) ∷ line.Code 0 code.GoalTerminated 0
     ∷ line.End 3
@@ -179,7 +180,7 @@ cancel_again = record {
 
 abbrev pub cancel_again_lines : List Line
 cancel_again_lines =
-    line.Round 1 10 ∷ line.Run 0 kind.Goal (pos 5) (pos 0) (Some 1) ∷ line.Decide 0 1 3 ∷ line.State 0 1 status.Accepted
+    line.Round 1 10 ∷ line.Run 0 kind.Goal (pos 5) (pos 0) (Some 1) ∷ line.Decide 0 1 decision.Defer ∷ line.State 0 1 status.Accepted
     ∷ line.Round 2 20 ∷ line.Run 0 kind.Cancel (pos 0) (pos 1) (Some 1) ∷ line.State 0 1 status.Canceling ∷ line.Code 0 code.None 1
     ∷ line.Round 3 30 ∷ line.Run 0 kind.Cancel (pos 0) (pos 0) (Some 1) ∷ line.Code 0 code.Rejected 0 ∷ line.Run 0 kind.Poll (pos 5) (pos 1) (Some 1)
     ∷ line.End 3
@@ -205,7 +206,7 @@ cancel_refused = record {
 
 abbrev pub cancel_refused_lines : List Line
 cancel_refused_lines =
-    line.Round 1 10 ∷ line.Run 0 kind.Goal (pos 5) (pos 0) (Some 1) ∷ line.Decide 0 1 3 ∷ line.State 0 1 status.Accepted
+    line.Round 1 10 ∷ line.Run 0 kind.Goal (pos 5) (pos 0) (Some 1) ∷ line.Decide 0 1 decision.Defer ∷ line.State 0 1 status.Accepted
     ∷ line.Round 2 20 ∷ line.Run 0 kind.Cancel (pos 0) (pos 1) (Some 1) ∷ line.Code 0 code.Rejected 0
     ∷ line.End 2
     ∷ []
@@ -230,7 +231,7 @@ cancel_unknown_refused = record {
 
 abbrev pub cancel_unknown_refused_lines : List Line
 cancel_unknown_refused_lines =
-    line.Round 1 10 ∷ line.Run 0 kind.Goal (pos 5) (pos 0) (Some 1) ∷ line.Decide 0 1 3 ∷ line.State 0 1 status.Accepted
+    line.Round 1 10 ∷ line.Run 0 kind.Goal (pos 5) (pos 0) (Some 1) ∷ line.Decide 0 1 decision.Defer ∷ line.State 0 1 status.Accepted
     ∷ line.Round 2 20 ∷ line.Run 0 kind.Cancel (pos 20) (pos 1) (Some 9) ∷ line.Code 0 code.Rejected 0
     ∷ line.End 2
     ∷ []
@@ -255,7 +256,7 @@ canceled = record {
 
 abbrev pub canceled_lines : List Line
 canceled_lines =
-    line.Round 1 10 ∷ line.Run 0 kind.Goal (pos 5) (pos 0) (Some 1) ∷ line.Decide 0 1 3 ∷ line.State 0 1 status.Accepted
+    line.Round 1 10 ∷ line.Run 0 kind.Goal (pos 5) (pos 0) (Some 1) ∷ line.Decide 0 1 decision.Defer ∷ line.State 0 1 status.Accepted
     ∷ line.Round 2 20 ∷ line.Run 0 kind.Cancel (pos 0) (pos 1) (Some 1) ∷ line.State 0 1 status.Canceling ∷ line.Code 0 code.None 1
     ∷ line.Round 3 30 ∷ line.Run 0 kind.Poll (pos 5) (pos 1) (Some 1) ∷ line.State 0 1 status.Canceled
     ∷ line.End 3
@@ -281,7 +282,7 @@ woken_by_cancel = record {
 
 abbrev pub woken_by_cancel_lines : List Line
 woken_by_cancel_lines =
-    line.Round 1 10 ∷ line.Run 0 kind.Goal (pos 5) (pos 0) (Some 1) ∷ line.Decide 0 1 2 ∷ line.State 0 1 status.Accepted ∷ line.State 0 1 status.Executing
+    line.Round 1 10 ∷ line.Run 0 kind.Goal (pos 5) (pos 0) (Some 1) ∷ line.Decide 0 1 decision.Execute ∷ line.State 0 1 status.Accepted ∷ line.State 0 1 status.Executing
     ∷ line.Round 2 20 ∷ line.Run 0 kind.Poll (pos 5) (pos 0) (Some 1)
     ∷ line.Round 3 30 ∷ line.Run 0 kind.Cancel (pos 0) (pos 1) (Some 1) ∷ line.State 0 1 status.Canceling ∷ line.Code 0 code.None 1
     ∷ line.Round 4 40 ∷ line.Run 0 kind.Poll (pos 5) (pos 1) (Some 1) ∷ line.State 0 1 status.Canceled
@@ -307,7 +308,7 @@ canceled_unasked = record {
 
 abbrev pub canceled_unasked_lines : List Line
 canceled_unasked_lines =
-    line.Round 1 10 ∷ line.Run 0 kind.Goal (pos 5) (pos 0) (Some 1) ∷ line.Decide 0 1 2 ∷ line.State 0 1 status.Accepted ∷ line.State 0 1 status.Executing
+    line.Round 1 10 ∷ line.Run 0 kind.Goal (pos 5) (pos 0) (Some 1) ∷ line.Decide 0 1 decision.Execute ∷ line.State 0 1 status.Accepted ∷ line.State 0 1 status.Executing
     ∷ line.Round 2 20 ∷ line.Run 0 kind.Poll (pos 5) (pos 0) (Some 1) ∷ line.State 0 1 status.Aborted
     ∷ line.End 2
     ∷ []
@@ -332,7 +333,7 @@ held_id = record {
 
 abbrev pub held_id_lines : List Line
 held_id_lines =
-    line.Round 1 10 ∷ line.Run 0 kind.Goal (pos 5) (pos 0) (Some 1) ∷ line.Decide 0 1 3 ∷ line.State 0 1 status.Accepted
-    ∷ line.Round 2 20 ∷ line.Run 0 kind.Goal (pos 6) (pos 0) (Some 1) ∷ line.Decide 0 1 1
+    line.Round 1 10 ∷ line.Run 0 kind.Goal (pos 5) (pos 0) (Some 1) ∷ line.Decide 0 1 decision.Defer ∷ line.State 0 1 status.Accepted
+    ∷ line.Round 2 20 ∷ line.Run 0 kind.Goal (pos 6) (pos 0) (Some 1) ∷ line.Decide 0 1 decision.Reject
     ∷ line.End 2
     ∷ []

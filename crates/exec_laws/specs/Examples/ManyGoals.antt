@@ -5,6 +5,7 @@ use Rattle.exec_plan.specs.declared.entity.EntityOf.TheVariants.{Timer, Server}
 use Rattle.exec_plan.specs.Plan.{PlanData}
 use Rattle.exec_plan.specs.declared.order.Order.TheVariants as order
 use Rattle.exec_plan.specs.declared.plan.FedOf.TheVariants.{Goal}
+use Rattle.exec_msg.specs.declared.goal.Decision.TheVariants as decision
 use Rattle.exec_msg.specs.declared.goal.GoalStatus.TheVariants as status
 use Rattle.exec_msg.specs.declared.kind.Kind.TheVariants as kind
 use Rattle.exec_msg.specs.declared.line.Line.{Line}
@@ -56,36 +57,36 @@ many_goals = record {
 
 abbrev pub many_goals_lines : List Line
 many_goals_lines =
-    line.Round 1 1 ∷ line.Run 3 kind.Goal (pos 1) (pos 0) (Some 1) ∷ line.Decide 3 1 2 ∷ line.State 3 1 status.Accepted ∷ line.State 3 1 status.Executing
-    ∷ line.Round 2 2 ∷ line.Run 3 kind.Goal (pos 2) (pos 0) (Some 2) ∷ line.Decide 3 2 2 ∷ line.State 3 2 status.Accepted
+    line.Round 1 1 ∷ line.Run 3 kind.Goal (pos 1) (pos 0) (Some 1) ∷ line.Decide 3 1 decision.Execute ∷ line.State 3 1 status.Accepted ∷ line.State 3 1 status.Executing
+    ∷ line.Round 2 2 ∷ line.Run 3 kind.Goal (pos 2) (pos 0) (Some 2) ∷ line.Decide 3 2 decision.Execute ∷ line.State 3 2 status.Accepted
     ∷ line.State 3 2 status.Executing ∷ line.Run 3 kind.Poll (pos 1) (pos 0) (Some 1)
-    ∷ line.Round 3 3 ∷ line.Run 3 kind.Goal (pos 3) (pos 0) (Some 3) ∷ line.Decide 3 3 2 ∷ line.State 3 3 status.Accepted
+    ∷ line.Round 3 3 ∷ line.Run 3 kind.Goal (pos 3) (pos 0) (Some 3) ∷ line.Decide 3 3 decision.Execute ∷ line.State 3 3 status.Accepted
     ∷ line.State 3 3 status.Executing ∷ line.Run 3 kind.Poll (pos 2) (pos 0) (Some 2)
-    ∷ line.Round 4 4 ∷ line.Run 3 kind.Goal (pos 4) (pos 0) (Some 4) ∷ line.Decide 3 4 2 ∷ line.State 3 4 status.Accepted
+    ∷ line.Round 4 4 ∷ line.Run 3 kind.Goal (pos 4) (pos 0) (Some 4) ∷ line.Decide 3 4 decision.Execute ∷ line.State 3 4 status.Accepted
     ∷ line.State 3 4 status.Executing ∷ line.Run 3 kind.Poll (pos 3) (pos 0) (Some 3)
-    ∷ line.Round 5 5 ∷ line.Run 3 kind.Goal (pos 5) (pos 0) (Some 5) ∷ line.Decide 3 5 2 ∷ line.State 3 5 status.Accepted
+    ∷ line.Round 5 5 ∷ line.Run 3 kind.Goal (pos 5) (pos 0) (Some 5) ∷ line.Decide 3 5 decision.Execute ∷ line.State 3 5 status.Accepted
     ∷ line.State 3 5 status.Executing ∷ line.Run 3 kind.Poll (pos 4) (pos 0) (Some 4)
-    ∷ line.Round 6 6 ∷ line.Run 3 kind.Goal (pos 6) (pos 0) (Some 6) ∷ line.Decide 3 6 2 ∷ line.State 3 6 status.Accepted
+    ∷ line.Round 6 6 ∷ line.Run 3 kind.Goal (pos 6) (pos 0) (Some 6) ∷ line.Decide 3 6 decision.Execute ∷ line.State 3 6 status.Accepted
     ∷ line.State 3 6 status.Executing ∷ line.Run 3 kind.Poll (pos 5) (pos 0) (Some 5)
-    ∷ line.Round 7 7 ∷ line.Run 3 kind.Goal (pos 7) (pos 0) (Some 7) ∷ line.Decide 3 7 2 ∷ line.State 3 7 status.Accepted
+    ∷ line.Round 7 7 ∷ line.Run 3 kind.Goal (pos 7) (pos 0) (Some 7) ∷ line.Decide 3 7 decision.Execute ∷ line.State 3 7 status.Accepted
     ∷ line.State 3 7 status.Executing ∷ line.Run 3 kind.Poll (pos 6) (pos 0) (Some 6)
-    ∷ line.Round 8 8 ∷ line.Run 3 kind.Goal (pos 8) (pos 0) (Some 8) ∷ line.Decide 3 8 2 ∷ line.State 3 8 status.Accepted
+    ∷ line.Round 8 8 ∷ line.Run 3 kind.Goal (pos 8) (pos 0) (Some 8) ∷ line.Decide 3 8 decision.Execute ∷ line.State 3 8 status.Accepted
     ∷ line.State 3 8 status.Executing ∷ line.Run 3 kind.Poll (pos 7) (pos 0) (Some 7)
-    ∷ line.Round 9 9 ∷ line.Run 3 kind.Goal (pos 9) (pos 0) (Some 9) ∷ line.Decide 3 9 2 ∷ line.State 3 9 status.Accepted
+    ∷ line.Round 9 9 ∷ line.Run 3 kind.Goal (pos 9) (pos 0) (Some 9) ∷ line.Decide 3 9 decision.Execute ∷ line.State 3 9 status.Accepted
     ∷ line.State 3 9 status.Executing ∷ line.Run 3 kind.Poll (pos 8) (pos 0) (Some 8)
-    ∷ line.Round 10 10 ∷ line.Run 3 kind.Goal (pos 10) (pos 0) (Some 16) ∷ line.Decide 3 16 2 ∷ line.State 3 16 status.Accepted
+    ∷ line.Round 10 10 ∷ line.Run 3 kind.Goal (pos 10) (pos 0) (Some 16) ∷ line.Decide 3 16 decision.Execute ∷ line.State 3 16 status.Accepted
     ∷ line.State 3 16 status.Executing ∷ line.Run 3 kind.Poll (pos 9) (pos 0) (Some 9)
-    ∷ line.Round 11 11 ∷ line.Run 3 kind.Goal (pos 11) (pos 0) (Some 17) ∷ line.Decide 3 17 2 ∷ line.State 3 17 status.Accepted
+    ∷ line.Round 11 11 ∷ line.Run 3 kind.Goal (pos 11) (pos 0) (Some 17) ∷ line.Decide 3 17 decision.Execute ∷ line.State 3 17 status.Accepted
     ∷ line.State 3 17 status.Executing ∷ line.Run 3 kind.Poll (pos 10) (pos 0) (Some 16)
-    ∷ line.Round 12 12 ∷ line.Run 3 kind.Goal (pos 12) (pos 0) (Some 18) ∷ line.Decide 3 18 2 ∷ line.State 3 18 status.Accepted
+    ∷ line.Round 12 12 ∷ line.Run 3 kind.Goal (pos 12) (pos 0) (Some 18) ∷ line.Decide 3 18 decision.Execute ∷ line.State 3 18 status.Accepted
     ∷ line.State 3 18 status.Executing ∷ line.Run 3 kind.Poll (pos 11) (pos 0) (Some 17)
-    ∷ line.Round 13 13 ∷ line.Run 3 kind.Goal (pos 13) (pos 0) (Some 19) ∷ line.Decide 3 19 2 ∷ line.State 3 19 status.Accepted
+    ∷ line.Round 13 13 ∷ line.Run 3 kind.Goal (pos 13) (pos 0) (Some 19) ∷ line.Decide 3 19 decision.Execute ∷ line.State 3 19 status.Accepted
     ∷ line.State 3 19 status.Executing ∷ line.Run 3 kind.Poll (pos 12) (pos 0) (Some 18)
-    ∷ line.Round 14 14 ∷ line.Run 3 kind.Goal (pos 14) (pos 0) (Some 20) ∷ line.Decide 3 20 2 ∷ line.State 3 20 status.Accepted
+    ∷ line.Round 14 14 ∷ line.Run 3 kind.Goal (pos 14) (pos 0) (Some 20) ∷ line.Decide 3 20 decision.Execute ∷ line.State 3 20 status.Accepted
     ∷ line.State 3 20 status.Executing ∷ line.Run 3 kind.Poll (pos 13) (pos 0) (Some 19)
-    ∷ line.Round 15 15 ∷ line.Run 3 kind.Goal (pos 15) (pos 0) (Some 21) ∷ line.Decide 3 21 2 ∷ line.State 3 21 status.Accepted
+    ∷ line.Round 15 15 ∷ line.Run 3 kind.Goal (pos 15) (pos 0) (Some 21) ∷ line.Decide 3 21 decision.Execute ∷ line.State 3 21 status.Accepted
     ∷ line.State 3 21 status.Executing ∷ line.Run 3 kind.Poll (pos 14) (pos 0) (Some 20)
-    ∷ line.Round 16 16 ∷ line.Run 3 kind.Goal (pos 16) (pos 0) (Some 22) ∷ line.Decide 3 22 2 ∷ line.State 3 22 status.Accepted
+    ∷ line.Round 16 16 ∷ line.Run 3 kind.Goal (pos 16) (pos 0) (Some 22) ∷ line.Decide 3 22 decision.Execute ∷ line.State 3 22 status.Accepted
     ∷ line.State 3 22 status.Executing ∷ line.Run 3 kind.Poll (pos 15) (pos 0) (Some 21)
     ∷ line.Round 17 17 ∷ line.Run 3 kind.Poll (pos 16) (pos 0) (Some 22)
     ∷ line.Round 18 18

@@ -5,6 +5,7 @@ use Rattle.exec_plan.specs.declared.entity.EntityOf.TheVariants.{Timer, Server, 
 use Rattle.exec_plan.specs.Plan.{PlanData}
 use Rattle.exec_plan.specs.declared.order.Order.TheVariants as order
 use Rattle.exec_plan.specs.declared.plan.FedOf.TheVariants.{Goal}
+use Rattle.exec_msg.specs.declared.goal.Decision.TheVariants as decision
 use Rattle.exec_msg.specs.declared.goal.GoalStatus.TheVariants as status
 use Rattle.exec_msg.specs.declared.goal.ReturnCode.TheVariants as code
 use Rattle.exec_msg.specs.declared.kind.Kind.TheVariants as kind
@@ -39,12 +40,12 @@ full_goal_queue_lines =
     line.Round 1 0
     ∷ line.Round 2 1 ∷ line.Run 0 kind.Timer (pos 1) (pos 0) None ∷ line.Goal 2 (goal_id 0 1) (pos 1) ∷ line.Goal 3 (goal_id 1 1) (pos 2)
     ∷ line.Drop 1 kind.Goal (pos 1) ∷ line.Goal 2 (goal_id 0 2) (pos 3) ∷ line.Drop 1 kind.Goal (pos 2)
-    ∷ line.Round 3 1 ∷ line.Run 1 kind.Goal (pos 3) (pos 0) (Some (goal_id 0 2)) ∷ line.Decide 1 (goal_id 0 2) 2
+    ∷ line.Round 3 1 ∷ line.Run 1 kind.Goal (pos 3) (pos 0) (Some (goal_id 0 2)) ∷ line.Decide 1 (goal_id 0 2) decision.Execute
     ∷ line.State 1 (goal_id 0 2) status.Accepted ∷ line.State 1 (goal_id 0 2) status.Executing
     ∷ line.Round 4 2 ∷ line.Run 0 kind.Timer (pos 2) (pos 0) None ∷ line.Goal 2 (goal_id 0 3) (pos 1) ∷ line.Goal 3 (goal_id 1 2) (pos 2)
     ∷ line.Drop 1 kind.Goal (pos 1) ∷ line.Goal 2 (goal_id 0 4) (pos 3) ∷ line.Drop 1 kind.Goal (pos 2)
     ∷ line.Run 1 kind.Poll (pos 3) (pos 0) (Some (goal_id 0 2)) ∷ line.Run 2 kind.Response (pos 1) (pos 2) (Some (goal_id 0 2)) ∷ line.Log 2 (pos 2)
-    ∷ line.Round 5 2 ∷ line.Run 1 kind.Goal (pos 3) (pos 0) (Some (goal_id 0 4)) ∷ line.Decide 1 (goal_id 0 4) 2
+    ∷ line.Round 5 2 ∷ line.Run 1 kind.Goal (pos 3) (pos 0) (Some (goal_id 0 4)) ∷ line.Decide 1 (goal_id 0 4) decision.Execute
     ∷ line.State 1 (goal_id 0 4) status.Accepted ∷ line.State 1 (goal_id 0 4) status.Executing ∷ line.Run 1 kind.Poll (pos 3) (pos 0) (Some (goal_id 0 2))
     ∷ line.Round 6 3 ∷ line.Run 0 kind.Timer (pos 3) (pos 0) None ∷ line.Goal 2 (goal_id 0 5) (pos 1) ∷ line.Goal 3 (goal_id 1 3) (pos 2)
     ∷ line.Drop 1 kind.Goal (pos 1) ∷ line.Goal 2 (goal_id 0 6) (pos 3) ∷ line.Drop 1 kind.Goal (pos 2)
@@ -77,12 +78,12 @@ full_cancel_queue = record {
 
 abbrev pub full_cancel_queue_lines : List Line
 full_cancel_queue_lines =
-    line.Round 1 1 ∷ line.Run 1 kind.Goal (pos 1) (pos 0) (Some 1) ∷ line.Decide 1 1 2 ∷ line.State 1 1 status.Accepted ∷ line.State 1 1 status.Executing
+    line.Round 1 1 ∷ line.Run 1 kind.Goal (pos 1) (pos 0) (Some 1) ∷ line.Decide 1 1 decision.Execute ∷ line.State 1 1 status.Accepted ∷ line.State 1 1 status.Executing
     ∷ line.Round 2 2 ∷ line.Run 0 kind.Timer (pos 2) (pos 0) None ∷ line.Cancel 2 0 0 ∷ line.Cancel 3 0 2 ∷ line.Drop 1 kind.Cancel (pos 0)
     ∷ line.Cancel 2 (goal_id 0 1) 3 ∷ line.Drop 1 kind.Cancel (pos 2) ∷ line.Run 1 kind.Goal (pos 2) (pos 0) (Some (goal_id 0 1))
-    ∷ line.Decide 1 (goal_id 0 1) 2 ∷ line.State 1 (goal_id 0 1) status.Accepted ∷ line.State 1 (goal_id 0 1) status.Executing
+    ∷ line.Decide 1 (goal_id 0 1) decision.Execute ∷ line.State 1 (goal_id 0 1) status.Accepted ∷ line.State 1 (goal_id 0 1) status.Executing
     ∷ line.Run 1 kind.Poll (pos 1) (pos 0) (Some 1)
-    ∷ line.Round 3 3 ∷ line.Run 1 kind.Goal (pos 3) (pos 0) (Some 3) ∷ line.Decide 1 3 2 ∷ line.State 1 3 status.Accepted
+    ∷ line.Round 3 3 ∷ line.Run 1 kind.Goal (pos 3) (pos 0) (Some 3) ∷ line.Decide 1 3 decision.Execute ∷ line.State 1 3 status.Accepted
     ∷ line.State 1 3 status.Executing ∷ line.Run 1 kind.Cancel (pos 3) (pos 2) (Some (goal_id 0 1)) ∷ line.State 1 1 status.Canceling
     ∷ line.State 1 (goal_id 0 1) status.Canceling ∷ line.Code 1 code.None 2 ∷ line.Run 1 kind.Poll (pos 1) (pos 0) (Some 1)
     ∷ line.Run 1 kind.Poll (pos 2) (pos 0) (Some (goal_id 0 1))
@@ -118,13 +119,13 @@ abbrev pub full_feedback_queue_lines : List Line
 full_feedback_queue_lines =
     line.Round 1 9 ∷ line.Run 0 kind.Timer (pos 9) (pos 0) None ∷ line.Goal 2 (goal_id 0 1) (pos 1) ∷ line.Goal 2 (goal_id 0 2) (pos 2)
     ∷ line.Goal 3 (goal_id 1 1) (pos 3)
-    ∷ line.Round 2 10 ∷ line.Run 1 kind.Goal (pos 1) (pos 0) (Some (goal_id 0 1)) ∷ line.Decide 1 (goal_id 0 1) 2
+    ∷ line.Round 2 10 ∷ line.Run 1 kind.Goal (pos 1) (pos 0) (Some (goal_id 0 1)) ∷ line.Decide 1 (goal_id 0 1) decision.Execute
     ∷ line.State 1 (goal_id 0 1) status.Accepted ∷ line.State 1 (goal_id 0 1) status.Executing
-    ∷ line.Round 3 11 ∷ line.Run 1 kind.Goal (pos 2) (pos 0) (Some (goal_id 0 2)) ∷ line.Decide 1 (goal_id 0 2) 2
+    ∷ line.Round 3 11 ∷ line.Run 1 kind.Goal (pos 2) (pos 0) (Some (goal_id 0 2)) ∷ line.Decide 1 (goal_id 0 2) decision.Execute
     ∷ line.State 1 (goal_id 0 2) status.Accepted ∷ line.State 1 (goal_id 0 2) status.Executing ∷ line.Run 1 kind.Poll (pos 1) (pos 0) (Some (goal_id 0 1))
     ∷ line.Feedback 1 (goal_id 0 1) (pos 1) ∷ line.Feedback 1 (goal_id 0 1) (pos 11) ∷ line.Drop 2 kind.Feedback (pos 1)
     ∷ line.Run 2 kind.Response (pos 1) (pos 1) (Some (goal_id 0 1))
-    ∷ line.Round 4 12 ∷ line.Run 1 kind.Goal (pos 3) (pos 0) (Some (goal_id 1 1)) ∷ line.Decide 1 (goal_id 1 1) 2
+    ∷ line.Round 4 12 ∷ line.Run 1 kind.Goal (pos 3) (pos 0) (Some (goal_id 1 1)) ∷ line.Decide 1 (goal_id 1 1) decision.Execute
     ∷ line.State 1 (goal_id 1 1) status.Accepted ∷ line.State 1 (goal_id 1 1) status.Executing ∷ line.Run 1 kind.Poll (pos 1) (pos 0) (Some (goal_id 0 1))
     ∷ line.Feedback 1 (goal_id 0 1) (pos 3) ∷ line.State 1 (goal_id 0 1) status.Succeeded ∷ line.Run 1 kind.Poll (pos 2) (pos 0) (Some (goal_id 0 2))
     ∷ line.Feedback 1 (goal_id 0 2) (pos 2) ∷ line.Drop 2 kind.Feedback (pos 3) ∷ line.Feedback 1 (goal_id 0 2) (pos 12)
@@ -162,15 +163,15 @@ abbrev pub full_result_queue_lines : List Line
 full_result_queue_lines =
     line.Round 1 9 ∷ line.Run 0 kind.Timer (pos 9) (pos 0) None ∷ line.Goal 2 (goal_id 0 1) (pos 1) ∷ line.Goal 2 (goal_id 0 2) (pos 2)
     ∷ line.Goal 2 (goal_id 0 3) (pos 3) ∷ line.Goal 3 (goal_id 1 1) (pos 4)
-    ∷ line.Round 2 10 ∷ line.Run 1 kind.Goal (pos 1) (pos 0) (Some (goal_id 0 1)) ∷ line.Decide 1 (goal_id 0 1) 2
+    ∷ line.Round 2 10 ∷ line.Run 1 kind.Goal (pos 1) (pos 0) (Some (goal_id 0 1)) ∷ line.Decide 1 (goal_id 0 1) decision.Execute
     ∷ line.State 1 (goal_id 0 1) status.Accepted ∷ line.State 1 (goal_id 0 1) status.Executing
-    ∷ line.Round 3 11 ∷ line.Run 1 kind.Goal (pos 2) (pos 0) (Some (goal_id 0 2)) ∷ line.Decide 1 (goal_id 0 2) 2
+    ∷ line.Round 3 11 ∷ line.Run 1 kind.Goal (pos 2) (pos 0) (Some (goal_id 0 2)) ∷ line.Decide 1 (goal_id 0 2) decision.Execute
     ∷ line.State 1 (goal_id 0 2) status.Accepted ∷ line.State 1 (goal_id 0 2) status.Executing ∷ line.Run 1 kind.Poll (pos 1) (pos 0) (Some (goal_id 0 1))
     ∷ line.Run 2 kind.Response (pos 1) (pos 1) (Some (goal_id 0 1)) ∷ line.Ask 2 (goal_id 0 1)
-    ∷ line.Round 4 12 ∷ line.Run 1 kind.Goal (pos 3) (pos 0) (Some (goal_id 0 3)) ∷ line.Decide 1 (goal_id 0 3) 2
+    ∷ line.Round 4 12 ∷ line.Run 1 kind.Goal (pos 3) (pos 0) (Some (goal_id 0 3)) ∷ line.Decide 1 (goal_id 0 3) decision.Execute
     ∷ line.State 1 (goal_id 0 3) status.Accepted ∷ line.State 1 (goal_id 0 3) status.Executing ∷ line.Run 1 kind.Ask (pos 0) (pos 0) (Some (goal_id 0 1))
     ∷ line.Run 1 kind.Poll (pos 2) (pos 0) (Some (goal_id 0 2)) ∷ line.Run 2 kind.Response (pos 1) (pos 2) (Some (goal_id 0 2)) ∷ line.Ask 2 (goal_id 0 2)
-    ∷ line.Round 5 13 ∷ line.Run 1 kind.Goal (pos 4) (pos 0) (Some (goal_id 1 1)) ∷ line.Decide 1 (goal_id 1 1) 2
+    ∷ line.Round 5 13 ∷ line.Run 1 kind.Goal (pos 4) (pos 0) (Some (goal_id 1 1)) ∷ line.Decide 1 (goal_id 1 1) decision.Execute
     ∷ line.State 1 (goal_id 1 1) status.Accepted ∷ line.State 1 (goal_id 1 1) status.Executing ∷ line.Run 1 kind.Ask (pos 0) (pos 0) (Some (goal_id 0 2))
     ∷ line.Run 1 kind.Poll (pos 3) (pos 0) (Some (goal_id 0 3)) ∷ line.Run 2 kind.Response (pos 1) (pos 3) (Some (goal_id 0 3)) ∷ line.Ask 2 (goal_id 0 3)
     ∷ line.Round 6 14 ∷ line.Run 1 kind.Ask (pos 0) (pos 0) (Some (goal_id 0 3)) ∷ line.Run 1 kind.Poll (pos 4) (pos 0) (Some (goal_id 1 1))
