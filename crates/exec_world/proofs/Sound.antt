@@ -59,7 +59,7 @@ module _ (plan : PlanData) where
   pub sound : KeptByRounds (IsSound plan)
   sound = record {
     basic = basic_sound;
-    accepts_kept = λ server moment decision request world room p. record { shape = shapes.accepts_kept server moment decision request world room p.shape; kinds = kinds_kept.accepts_kept server moment decision request world room p.kinds; identifiers = distinct_kept.accepts_kept server moment decision request world room p.identifiers };
+    accepts_kept = λ server moment how request world room p. record { shape = shapes.accepts_kept server moment how request world room p.shape; kinds = kinds_kept.accepts_kept server moment how request world room p.kinds; identifiers = distinct_kept.accepts_kept server moment how request world room p.identifiers };
     expiry_kept = λ moment world p. record { shape = shapes.expiry_kept moment world p.shape; kinds = kinds_kept.expiry_kept moment world p.kinds; identifiers = distinct_kept.expiry_kept moment world p.identifiers };
     snapshot_kept = λ moment world p. record { shape = shapes.snapshot_kept moment world p.shape; kinds = kinds_kept.snapshot_kept moment world p.kinds; identifiers = distinct_kept.snapshot_kept moment world p.identifiers };
   }

@@ -5,12 +5,15 @@ ghost use Rattle.exec_rules.specs.Close.{reply_in};
 use super::State;
 use exec_entity::GoalRequest;
 use exec_goal::{Asked, CancelRequest};
-use exec_msg::{EntityNo, Event, GoalId, GoalStatus, Line, Lines, Memory, Moment};
+use exec_msg::{
+    Acceptance, CancelDecision, Decision, EntityNo, Event, GoalId, GoalStatus, Line, Lines, Memory,
+    Moment,
+};
 use exec_rules::{Cause, Item, Ready, decision_in};
 use exec_script::Close;
 
 impl<L: Lines> State<L> {
-    ghost use Rattle.std.specs.Prelude.{◌≡◌, ◌⊎◌, ℕ, true, map, OnErr, OnOk};
+    ghost use Rattle.std.specs.Prelude.{◌≡◌, ℕ, true, map, OnErr, OnOk};
     ghost use Rattle.std.specs.List.{fold};
     ghost use Rattle.std.specs.Option.{is_some};
     ghost use Rattle.exec_goal.specs.Calls.{askers_in, end_state};
@@ -89,7 +92,7 @@ impl<L: Lines> State<L> {
         &mut self,
         server: EntityNo,
         moment: Moment,
-        decision: u8,
+        decision: Decision,
         request: &GoalRequest,
     ) -> Result<(), Memory>
         ensures { OnOk result (self.new ≡ answer_goal server moment decision request.now self.old) }
@@ -97,7 +100,7 @@ impl<L: Lines> State<L> {
         if self.servers.has_room_for(server, request.id) {
             self.decide(server, moment, decision, request)
         } else {
-            self.decide(server, moment, 1, request)
+            self.decide(server, moment, Decision::Reject, request)
         }
     }
 
@@ -105,7 +108,7 @@ impl<L: Lines> State<L> {
         &mut self,
         server: EntityNo,
         moment: Moment,
-        decision: u8,
+        decision: Decision,
         request: &GoalRequest,
     ) -> Result<(), Memory>
         requires { is_accepting decision ≡ true → has_room_for request.now.id (goals_of server self.old) ≡ true }
@@ -116,15 +119,15 @@ impl<L: Lines> State<L> {
             id: request.id,
             decision,
         })?;
-        let accepted = decision == 2 || decision == 3;
-        if accepted {
-            self.accept(server, moment, decision, request)?;
+        let acceptance = decision.acceptance();
+        if let Some(how) = acceptance {
+            self.accept(server, moment, how, request)?;
         }
         self.push_any(
             request.client,
             Item::Response {
                 id: request.id,
-                accepted,
+                accepted: acceptance.is_some(),
             },
         )
     }
@@ -133,19 +136,18 @@ impl<L: Lines> State<L> {
         &mut self,
         server: EntityNo,
         moment: Moment,
-        decision: u8,
+        how: Acceptance,
         request: &GoalRequest,
     ) -> Result<(), Memory>
-        requires decision { (decision ≡ 2) ⊎ (decision ≡ 3) }
-        requires room { has_room_for request.now.id (goals_of server self.old) ≡ true }
-        ensures { OnOk result (self.new ≡ accept server moment decision request.now self.old) }
+        requires { has_room_for request.now.id (goals_of server self.old) ≡ true }
+        ensures { OnOk result (self.new ≡ accept server moment how request.now self.old) }
     {
-        self.servers.accept(server, moment, decision, request)?;
+        self.servers.accept(server, moment, how, request)?;
         self.add_state(server, request.id, GoalStatus::Accepted)?;
-        if decision == 2 {
-            self.add_state(server, request.id, GoalStatus::Executing)?;
+        match how {
+            Acceptance::Execute => self.add_state(server, request.id, GoalStatus::Executing),
+            Acceptance::Defer => Ok(()),
         }
-        Ok(())
     }
 
     fn add_state(&mut self, server: EntityNo, id: GoalId, status: GoalStatus) -> Result<(), Memory>
@@ -176,7 +178,7 @@ impl<L: Lines> State<L> {
         server: EntityNo,
         request: &CancelRequest,
         client: Option<EntityNo>,
-        decisions: &[(GoalId, u8)],
+        decisions: &[(GoalId, CancelDecision)],
     ) -> Result<(), Memory>
         ensures { OnOk result (self.new ≡ cancel server request.now client decisions.now self.old) }
     {
