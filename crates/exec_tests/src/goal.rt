@@ -3,7 +3,9 @@ mod refusals;
 use crate::shared::{moment, same};
 use exec_goal::{Accepted, Asked, CancelRequest, GoalInfo, Goals, Illegal, Reject, State};
 use exec_msg::limits::GOALS;
-use exec_msg::{EntityNo, Event, GoalId, GoalStatus, Memory, ReturnCode};
+use exec_msg::{
+    Acceptance, CancelDecision, EntityNo, Event, GoalId, GoalStatus, Memory, ReturnCode,
+};
 use std::process::Abort;
 use std::test::Fail;
 
@@ -89,20 +91,24 @@ fn accepts_three(rt: &impl Abort, goals: &mut Goals) {
     let (deferred, executed) = (State::Accepted, State::Executing);
     same(
         rt,
-        goals.accept(id(1), 5, moment(10), 3),
+        goals.accept(id(1), 5, moment(10), Acceptance::Defer),
         Ok(Accepted { state: deferred }),
     );
     same(
         rt,
-        goals.accept(id(2), 5, moment(20), 3),
+        goals.accept(id(2), 5, moment(20), Acceptance::Defer),
         Ok(Accepted { state: deferred }),
     );
     same(
         rt,
-        goals.accept(id(3), 5, moment(30), 2),
+        goals.accept(id(3), 5, moment(30), Acceptance::Execute),
         Ok(Accepted { state: executed }),
     );
-    same(rt, goals.accept(id(2), 6, moment(31), 3), Err(Reject::Held));
+    same(
+        rt,
+        goals.accept(id(2), 6, moment(31), Acceptance::Defer),
+        Err(Reject::Held),
+    );
     same(rt, goals.count_working(), 1);
 }
 
@@ -124,7 +130,7 @@ fn answered(
     goals: &mut Goals,
     number: u128,
     stamp: u64,
-    decisions: &[(GoalId, u8)],
+    decisions: &[(GoalId, CancelDecision)],
 ) -> Result<Answered, Memory> {
     let answer = goals.answer(&request(number, stamp), decisions)?;
     let moved = answer.moved.as_slice();
@@ -133,7 +139,15 @@ fn answered(
 
 fn cancels_until_20(rt: &impl Abort, goals: &mut Goals) -> Result<(), Fail> {
     same(rt, selected(goals, 0, 20)?, [true, true, false]);
-    let answer = answered(goals, 0, 20, &[(id(1), 2), (id(2), 1)])?;
+    let answer = answered(
+        goals,
+        0,
+        20,
+        &[
+            (id(1), CancelDecision::Accept),
+            (id(2), CancelDecision::Reject),
+        ],
+    )?;
     same(rt, answer, (ReturnCode::None, Some(id(1)), 1));
     same(rt, goals.count_working(), 2);
     Ok(())
@@ -230,11 +244,20 @@ fn answers_move_what_still_may_move(rt: HostRuntime) -> Result<(), Fail> {
 fn answers_behind_an_end(rt: &impl Abort, goals: &mut Goals) -> Result<(), Fail> {
     accepts_three(rt, goals);
     goals.end(id(3), Event::Succeed, 1, moment(31))?;
-    let answer = answered(goals, 3, 0, &[(id(3), 2)])?;
+    let answer = answered(goals, 3, 0, &[(id(3), CancelDecision::Accept)])?;
     same(rt, answer, (ReturnCode::GoalTerminated, None, 0));
-    let answer = answered(goals, 0, 0, &[(id(3), 2)])?;
+    let answer = answered(goals, 0, 0, &[(id(3), CancelDecision::Accept)])?;
     same(rt, answer, (ReturnCode::Rejected, None, 0));
-    let answer = answered(goals, 0, 0, &[(id(1), 1), (id(2), 2), (id(3), 2)])?;
+    let answer = answered(
+        goals,
+        0,
+        0,
+        &[
+            (id(1), CancelDecision::Reject),
+            (id(2), CancelDecision::Accept),
+            (id(3), CancelDecision::Accept),
+        ],
+    )?;
     same(rt, answer, (ReturnCode::None, Some(id(2)), 1));
     Ok(())
 }
@@ -249,7 +272,7 @@ fn a_full_table(rt: HostRuntime) -> Result<(), Fail> {
 fn fills(rt: &impl Abort, goals: &mut Goals) -> Result<(), Fail> {
     for number in 0..GOALS as u64 {
         same(rt, goals.is_full(), false);
-        goals.accept(id(number as u128 + 1), 0, moment(0), 2)?;
+        goals.accept(id(number as u128 + 1), 0, moment(0), Acceptance::Execute)?;
     }
     same(rt, goals.is_full(), true);
     Ok(())
@@ -261,13 +284,21 @@ fn frees_a_place(rt: &impl Abort, goals: &mut Goals) -> Result<(), Fail> {
     goals.end(id(7), Event::Succeed, 1, moment(1))?;
     refuses_more(rt, goals);
     same(rt, goals.expire(moment(1), 0), Some(id(7)));
-    goals.accept(id(65), 0, moment(2), 3)?;
+    goals.accept(id(65), 0, moment(2), Acceptance::Defer)?;
     Ok(())
 }
 
 fn refuses_more(rt: &impl Abort, goals: &mut Goals) {
-    same(rt, goals.accept(id(1), 0, moment(0), 3), Err(Reject::Held));
-    same(rt, goals.accept(id(65), 0, moment(0), 3), Err(Reject::Full));
+    same(
+        rt,
+        goals.accept(id(1), 0, moment(0), Acceptance::Defer),
+        Err(Reject::Held),
+    );
+    same(
+        rt,
+        goals.accept(id(65), 0, moment(0), Acceptance::Defer),
+        Err(Reject::Full),
+    );
     same(rt, goals.len(), GOALS);
     same(rt, goals.holds(id(65)), false);
 }

@@ -3,8 +3,8 @@ ghost use Rattle.std.specs.Prelude.{◌≡◌};
 use crate::shared::{moment, same};
 use exec_msg::limits::TICKS;
 use exec_msg::{
-    EntityNo, GoalId, GoalStatus, KeepLast, Kind, LazyQueue, Line, LineList, Lines, Memory, Moment,
-    Names, ReturnCode, Timer, Transcript, write_line,
+    Decision, EntityNo, GoalId, GoalStatus, KeepLast, Kind, LazyQueue, Line, LineList, Lines,
+    Memory, Moment, Names, ReturnCode, Timer, Transcript, write_line,
 };
 use std::alloc::{AllocError, Global};
 use std::process::Abort;
@@ -155,7 +155,7 @@ fn goal_lines(id: GoalId) -> [Line; 6] {
         Line::Decide {
             server: SERVER,
             id,
-            decision: 3,
+            decision: Decision::Defer,
         },
         Line::State {
             server: SERVER,

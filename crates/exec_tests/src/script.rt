@@ -7,7 +7,7 @@ ghost use Rattle.std.specs.Prelude.{◌≤◌, ◌^◌};
 use crate::shared::{moment, same, same_at};
 use arithmetic::RESULTS;
 use decoding::decoded;
-use exec_msg::{EntityNo, Event, Memory};
+use exec_msg::{CancelDecision, EntityNo, Event, Memory};
 use exec_script::{
     Bank, Close, Destination, Effect, EffectList, Effects, Input, Instr, Operand, Operation, Place,
     Regs, Role, ScriptFault, Slot, Stop, WordText, check, run_call, run_call_into, run_from,
@@ -204,14 +204,22 @@ fn calls_into_one_list(rt: HostRuntime) -> Result<(), Fail> {
 
 fn decides_thrice(rt: &impl Abort, effects: &mut EffectList) -> Result<(), Fail> {
     let mut bank = Bank::new();
-    for (candidate, wanted) in [(1, 1), (2, 2), (3, 1)] {
+    for (candidate, wanted) in [
+        (1, CancelDecision::Reject),
+        (2, CancelDecision::Accept),
+        (3, CancelDecision::Reject),
+    ] {
         same(rt, decides(&mut bank, candidate, effects)?, wanted);
     }
     Ok(())
 }
 
 // Counts and logs the calls in `g0`, and decides by what comes in.
-fn decides(bank: &mut Bank, candidate: i64, effects: &mut EffectList) -> Result<u8, Fail> {
+fn decides(
+    bank: &mut Bank,
+    candidate: i64,
+    effects: &mut EffectList,
+) -> Result<CancelDecision, Fail> {
     let script = [
         Instr::set(
             Destination::Variable(slot_0()),
@@ -224,7 +232,7 @@ fn decides(bank: &mut Bank, candidate: i64, effects: &mut EffectList) -> Result<
     ];
     let input = input(candidate, 0, 0);
     match run_call_into(&script, Role::CancelHandler, bank, &input, effects)? {
-        Close::Decide(decision) => Ok(decision),
+        Close::DecideCancel(decision) => Ok(decision),
         _ => Err(Fail::new("no decision")),
     }
 }
@@ -235,16 +243,16 @@ const CLOSES: &[(Role, &str, &str)] = &[
     (Role::Service, "log 1", "Reply(0)"),
     (Role::Service, "reply in\nreply aux", "Reply(6)"),
     (Role::Service, "reply 9\nskip 1 1\nreply 1", "Reply(9)"),
-    (Role::GoalHandler, "log 1", "Decide(1)"),
-    (Role::GoalHandler, "decide 2", "Decide(2)"),
-    (Role::GoalHandler, "decide 2\ndecide 3", "Decide(3)"),
-    (Role::GoalHandler, "decide 4", "Decide(1)"),
-    (Role::GoalHandler, "decide 0", "Decide(1)"),
-    (Role::GoalHandler, "decide 258", "Decide(1)"),
-    (Role::CancelHandler, "log 1", "Decide(1)"),
-    (Role::CancelHandler, "decide 2", "Decide(2)"),
-    (Role::CancelHandler, "decide 3", "Decide(1)"),
-    (Role::CancelHandler, "decide -2", "Decide(1)"),
+    (Role::GoalHandler, "log 1", "Decide(Reject)"),
+    (Role::GoalHandler, "decide 2", "Decide(Execute)"),
+    (Role::GoalHandler, "decide 2\ndecide 3", "Decide(Defer)"),
+    (Role::GoalHandler, "decide 4", "Decide(Reject)"),
+    (Role::GoalHandler, "decide 0", "Decide(Reject)"),
+    (Role::GoalHandler, "decide 258", "Decide(Reject)"),
+    (Role::CancelHandler, "log 1", "DecideCancel(Reject)"),
+    (Role::CancelHandler, "decide 2", "DecideCancel(Accept)"),
+    (Role::CancelHandler, "decide 3", "DecideCancel(Reject)"),
+    (Role::CancelHandler, "decide -2", "DecideCancel(Reject)"),
 ];
 
 #[test]

@@ -4,7 +4,7 @@
 use super::{id, request};
 use crate::shared::{moment, same};
 use exec_goal::{Asked, GoalInfo, Goals, Reject};
-use exec_msg::{EntityNo, Memory};
+use exec_msg::{Acceptance, CancelDecision, EntityNo, Memory};
 use std::process::Abort;
 use std::test::Fail;
 
@@ -22,10 +22,10 @@ fn read_all(goals: &Goals) -> [Reading; 3] {
 
 fn accept(rt: &impl Abort, goals: &mut Goals, number: u128) -> Result<(), Fail> {
     let before = read_all(goals);
-    if let Err(reject) = goals.accept(id(number), 5, moment(10), 2) {
+    if let Err(reject) = goals.accept(id(number), 5, moment(10), Acceptance::Execute) {
         same(rt, reject, Reject::Memory);
         same(rt, read_all(goals), before);
-        goals.accept(id(number), 5, moment(10), 2)?;
+        goals.accept(id(number), 5, moment(10), Acceptance::Execute)?;
     }
     Ok(())
 }
@@ -56,7 +56,11 @@ fn look(rt: &impl Abort, goals: &Goals) -> Result<(), Fail> {
 
 // How many goals an answer moves.
 fn moved(goals: &mut Goals) -> Result<usize, Memory> {
-    let decisions = [(id(1), 2), (id(2), 1), (id(3), 2)];
+    let decisions = [
+        (id(1), CancelDecision::Accept),
+        (id(2), CancelDecision::Reject),
+        (id(3), CancelDecision::Accept),
+    ];
     let answer = goals.answer(&request(0, 0), &decisions)?;
     Ok(answer.moved.as_slice().len())
 }
