@@ -83,7 +83,7 @@ swept_refused lane quantum a b free was = subst (IsSwept quantum a) (sym was.is)
   holds = free;
   sized = length-seen_at lane was.word a;
   ran = ([], sym (append-nil a.segments), All-nil (IsShort quantum));
-  asked = (record { lane = lane; word = was.word } ∷ [], refl, All-cons IsBusy (record { lane = lane; word = was.word }) [] (dite (ℕ_discrete was.word 1) (λ one. (omega (arith, one), omega (arith, one))) (λ apart. let two = was.known apart in (omega (arith, two), omega (arith, two)))) (All-nil IsBusy));
+  asked = (record { lane = lane; word = was.word } ∷ [], refl, All-cons IsBusy (record { lane = lane; word = was.word }) [] (dite (ℕ_discrete was.word 1) (λ one. inl one) (λ apart. inr (was.known apart))) (All-nil IsBusy));
 })
 
 -- ---- a visit

@@ -8,6 +8,7 @@ use Rattle.exec_board.specs.Rule.{covered, in_range}
 use Rattle.exec_board.specs.Seats.{Hold, Holds, SeatView}
 use Rattle.exec_board.specs.declared.claim.Busy.{Busy}
 use Rattle.exec_board.specs.declared.claim.Busy.TheVariants as busy
+use Rattle.exec_board.specs.declared.rule.TheConstants.{FINISHED, HELD}
 
 -- a pass: its board, and what its caller knows
 pub record PassView : Type 0 where
@@ -44,8 +45,8 @@ pub record IsSized (board : TableId) (view : SeatView) : Type 0 where
 
 -- the word for a refusal
 abbrev pub busy_word : Busy → ℕ
-busy_word busy.Held = 1
-busy_word busy.Finished = 2
+busy_word busy.Held = HELD
+busy_word busy.Finished = FINISHED
 
 -- a claim was won: it is of the lane, with its box
 pub record IsClaimOf (view : SeatView) (number : ℕ) (claim : ClaimView) : Type 0 where

@@ -6,6 +6,7 @@ use Rattle.atomic_table.specs.Table.{Me, Step, rest}
 use Rattle.exec_lane.specs.Lane.{Lane}
 use Rattle.exec_lane.specs.Opening.{IsLaneOf, opened_lane}
 use Rattle.exec_board.specs.Rule.{covered, held, in_range, tally}
+use Rattle.exec_board.specs.declared.rule.TheConstants.{FINISHED, HELD, OPEN}
 use Rattle.exec_board.specs.Seats.{IsLast, SeatView, holding, let_go, refused}
 
 -- a lane was whole up to a count: over all passes that there were, this one among them, each callback from the opening's count
@@ -31,11 +32,11 @@ Won lane before after = (box : Lane) × (after ≡ (holding lane box.done before
 -- the seat was refused with this word: the last pass isn't told that a lane is held, but where it holds the lane itself, and no
 -- pass is told that a lane which it holds is finished
 abbrev pub Lost : ℕ → ℕ → Me (Option Lane) SeatView → Me (Option Lane) SeatView → Type 0
-Lost lane word before after = (word ≤ 2) × (after ≡ (refused lane word before.0, before.1)) × (word ≡ 1 → IsLast before.0 → held lane before.0 ≡ 1) × (word ≡ 2 → held lane before.0 ≡ 0)
+Lost lane word before after = (word ≤ FINISHED) × (after ≡ (refused lane word before.0, before.1)) × (word ≡ HELD → IsLast before.0 → held lane before.0 ≡ 1) × (word ≡ FINISHED → held lane before.0 ≡ 0)
 
--- a claim: it is won where the word was 0
+-- a claim: it is won if the lane was open
 abbrev pub claimed : Step (Option Lane) → Me (Option Lane) SeatView → ℕ → Me (Option Lane) SeatView → Type 0
-claimed step before word after = (word ≡ 0 → Won step.word before after) × (word ≢ 0 → Lost step.word word before after)
+claimed step before word after = (word ≡ OPEN → Won step.word before after) × (word ≢ OPEN → Lost step.word word before after)
 
 -- the count of the box in the slot that a seat took last
 abbrev pub done_in : List (ℕ × Option Lane) → ℕ

@@ -6,6 +6,7 @@ use lib.ListN.{get_elem?}
 use Rattle.atomic_table.specs.Table.{State}
 use Rattle.exec_lane.specs.Lane.{Lane}
 use Rattle.exec_lane.specs.Opening.{IsLaneOf, opened_lane}
+use Rattle.exec_board.specs.declared.rule.TheConstants.{FINISHED, HELD, OPEN}
 use Rattle.exec_board.specs.Seats.{Hold, SeatView, Segment, nobody}
 
 -- ---- counting, by sums of numbers that are 0 or 1
@@ -54,20 +55,20 @@ Home = place.Option (place.Option (Option Lane))
 abbrev pub IsHome : Lane → ℕ → Home → Type 0
 IsHome first count home = (box : Lane) × (home ≡ some (some (Some box))) × IsLaneOf first box × (box.done ≡ count)
 
--- A lane, by what it was when the board was opened and how many of its callbacks have run: its word is 0 where it is open, 1
--- where it is held and 2 where it is finished. While its word is 1, one pass holds it, once, and its slot is out; otherwise none
--- does, and its box lies in its slot. Each callback that ran since the board was opened is of exactly one segment of all passes,
--- and no other callback of the lane is of any.
+-- A lane, by what it was when the board was opened and how many of its callbacks have run: its word says whether it is open, held
+-- or finished. While it is held, one pass holds it, once, and its slot is out; otherwise none does, and its box lies in its slot.
+-- Each callback that ran since the board was opened is of exactly one segment of all passes, and no other callback of the lane is
+-- of any.
 pub record LaneOk (first : Lane) (count word : ℕ) (home : Home) (holders : ℕ) (cover : ℕ → ℕ) : Type 0 where
-  pub known : word ≤ 2
+  pub known : word ≤ FINISHED
   pub since : first.done ≤ count
   pub within : count ≤ length first.entries
-  pub at_home : word ≢ 1 → IsHome first count home
-  pub out : word ≡ 1 → home ≡ some none
-  pub unfinished : word ≡ 0 → count < length first.entries
-  pub finished : word ≡ 2 → count ≡ length first.entries
-  pub one_holder : word ≡ 1 → holders ≡ 1
-  pub no_holder : word ≢ 1 → holders ≡ 0
+  pub at_home : word ≢ HELD → IsHome first count home
+  pub out : word ≡ HELD → home ≡ some none
+  pub unfinished : word ≡ OPEN → count < length first.entries
+  pub finished : word ≡ FINISHED → count ≡ length first.entries
+  pub one_holder : word ≡ HELD → holders ≡ 1
+  pub no_holder : word ≢ HELD → holders ≡ 0
   pub whole : (callback : ℕ) → cover callback ≡ in_range first.done count callback
 
 -- ---- passes

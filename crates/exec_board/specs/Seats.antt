@@ -2,6 +2,7 @@
 use Rattle.std.specs.Prelude.{◌≡◌, ℕ, ◌+◌, ◌/◌, ◌-◌, max, List, [], ◌∷◌, ◌++◌, length, map, Option, None, Some, if◌then◌else◌, ◌==◌, slice_set, unwrap_or}
 use Rattle.exec_lane.specs.Lane.{Lane}
 use Rattle.exec_lane.specs.Opening.{opened_lane}
+use Rattle.exec_board.specs.declared.rule.TheConstants.{FINISHED}
 
 -- a lane that a pass holds, and how many of its callbacks had run when it was claimed
 pub record Hold : Type 0 where
@@ -14,7 +15,7 @@ pub record Segment : Type 0 where
   pub first : ℕ
   pub end : ℕ
 
--- a claim that was refused, and the word that it found: 1 where the lane was held, 2 where it was finished
+-- a claim that was refused, and the word that it found: that of a lane that is held, or finished
 pub record Refusal : Type 0 where
   pub lane : ℕ
   pub word : ℕ
@@ -52,7 +53,7 @@ holding lane count view = record view { holds = record { lane = lane; start = co
 
 -- how many callbacks of a lane a caller has seen to have run when it found this word: all of them where it is finished
 abbrev pub seen_at : ℕ → ℕ → SeatView → List ℕ
-seen_at lane word view = if word == 2 then slice_set view.seen lane (length (opened_lane view.opening lane).entries) else view.seen
+seen_at lane word view = if word == FINISHED then slice_set view.seen lane (length (opened_lane view.opening lane).entries) else view.seen
 
 -- a claim was refused with this word
 abbrev pub refused : ℕ → ℕ → SeatView → SeatView

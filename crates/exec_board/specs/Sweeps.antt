@@ -1,7 +1,8 @@
 -- What a caller that goes over the lanes of a board again and again comes to know.
-use Rattle.std.specs.Prelude.{◌≡◌, ℕ, zero, suc, ◌+◌, ◌<◌, ◌≤◌, List, [], ◌∷◌, ◌++◌, All, length, map, slice_index}
+use Rattle.std.specs.Prelude.{◌≡◌, ◌⊎◌, ℕ, zero, suc, ◌+◌, ◌<◌, ◌≤◌, List, [], ◌∷◌, ◌++◌, All, length, map, slice_index}
 use Rattle.exec_lane.specs.Opening.{opened_lane}
 use Rattle.exec_board.specs.Seats.{IsLast, Refusal, SeatView, Segment}
+use Rattle.exec_board.specs.declared.rule.TheConstants.{FINISHED, HELD}
 
 -- a segment has at most so many callbacks
 abbrev pub IsShort : ℕ → Segment → Type 0
@@ -13,7 +14,7 @@ HasSome segment = segment.first < segment.end
 
 -- a refused claim found its lane held or finished
 abbrev pub IsBusy : Refusal → Type 0
-IsBusy refusal = (1 ≤ refusal.word) × (refusal.word ≤ 2)
+IsBusy refusal = (refusal.word ≡ HELD) ⊎ (refusal.word ≡ FINISHED)
 
 -- a pass kept its share and holds no lane, and to what it had it added segments, each of at most so many callbacks, and refusals
 pub record IsSwept (quantum : ℕ) (before after : SeatView) : Type 0 where

@@ -7,11 +7,12 @@ ghost use Rattle.exec_board.specs.inner.Homes.{AreBoxes, AreWithin, word_at};
 ghost use Rattle.exec_board.specs.Rule.{held};
 ghost use Rattle.exec_board.specs.Seats.{IsLast, back_half, front_half, holding, let_go, opener, refused, together};
 ghost use Rattle.exec_board.specs.Sweeps.{AllSeen};
+ghost use Rattle.exec_board.specs.declared.rule.TheConstants.{FINISHED, HELD};
 
 use crate::bring::bring;
 use crate::claim::{Busy, Claim};
 use crate::pass::Pass;
-use crate::rule::{Claims, GoHome, Halves, Opening, Together, Try, View};
+use crate::rule::{Claims, FINISHED, GoHome, HELD, Halves, OPEN, Opening, Together, Try, View};
 use atomic_table::{Closed, Table};
 use exec_lane::LaneBox;
 use exec_msg::Memory;
@@ -88,18 +89,18 @@ impl Board {
         ensures held { IfOk result (λ claim. pass.new.view ≡ holding lane claim.start pass.old.view) }
         ensures refused { IfErr result (λ busy. pass.new.view ≡ refused lane (busy_word busy) pass.old.view) }
         ensures free { IfOk result (λ _. held lane pass.old.view ≡ 0) }
-        ensures last { IfErr result (λ busy. busy_word busy ≡ 1 → IsLast pass.old.view → held lane pass.old.view ≡ 1) }
-        ensures finished { IfErr result (λ busy. busy_word busy ≡ 2 → held lane pass.old.view ≡ 0) }
+        ensures last { IfErr result (λ busy. busy_word busy ≡ HELD → IsLast pass.old.view → held lane pass.old.view ≡ 1) }
+        ensures finished { IfErr result (λ busy. busy_word busy ≡ FINISHED → held lane pass.old.view ≡ 0) }
         ensures sized { IsSized self.now pass.old.view }
     {
         let word = self
             .table
             .shared
-            .compare_exchange::<Try>(&mut pass.seat, lane, 0, 1);
-        if word == 1 {
+            .compare_exchange::<Try>(&mut pass.seat, lane, OPEN, HELD);
+        if word == HELD {
             return Err(Busy::Held);
         }
-        if word != 0 {
+        if word != OPEN {
             return Err(Busy::Finished);
         }
         let Some(work) = self.table.shared.exchange(&mut pass.seat, lane, None) else {
@@ -211,12 +212,12 @@ impl Board {
     }
 }
 
-// A lane's word while it is at home: 2 where all its callbacks ran, else 0.
+// A lane's word while it is at home.
 fn home_word(lane: &LaneBox) -> u64
     ensures value { result ≡ word_at lane.now }
     ensures within { lane.now.done ≤ length lane.now.entries }
 {
-    if lane.is_finished() { 2 } else { 0 }
+    if lane.is_finished() { FINISHED } else { OPEN }
 }
 
 fn home_words(alloc: Global, boxes: &[LaneBox]) -> Result<Vec<u64>, Memory>

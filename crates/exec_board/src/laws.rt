@@ -6,6 +6,7 @@ ghost use Rattle.exec_board.specs.Board.{ClaimView, IsClaimOf, MayRelease};
 ghost use Rattle.exec_board.specs.Rule.{covered, has_number, held, in_segment, is_same, in_range};
 ghost use Rattle.exec_board.specs.Seats.{IsLast, SeatView, Segment, back_half, front_half, holding, let_go, refused, together};
 ghost use Rattle.exec_board.specs.Sweeps.{FirstSeen};
+ghost use Rattle.exec_board.specs.declared.rule.TheConstants.{FINISHED, HELD};
 
 /// A number is counted once where it is at least the first and less than the end, and not at all elsewhere.
 pub fn a_number_is_within_from_the_first_to_the_end()
@@ -51,5 +52,5 @@ pub fn a_claim_may_be_released()
 /// seen all their callbacks to have run.
 pub fn the_last_pass_is_refused_finished_lanes()
     ensures { (view : SeatView) (lane word : ℕ) → lane < length view.opening → length view.seen ≡ length view.opening → view.holds ≡ [] → IsLast view →
-        (word ≡ 1) ⊎ (word ≡ 2) → (word ≡ 1 → held lane view ≡ 1) → FirstSeen lane view → FirstSeen (lane + 1) (refused lane word view) }
+        (word ≡ HELD) ⊎ (word ≡ FINISHED) → (word ≡ HELD → held lane view ≡ 1) → FirstSeen lane view → FirstSeen (lane + 1) (refused lane word view) }
 {}

@@ -22,8 +22,16 @@ pub struct Opening {
     pub passes: usize,
 }
 
-/// The rule: a lane's word is 0 where it is open, 1 where it is held and 2 where it is finished, and its box lies in its slot
-/// unless it is held.
+/// The word of a lane that is open: a caller may claim it.
+pub const OPEN: u64 = 0;
+
+/// The word of a lane that a pass holds.
+pub const HELD: u64 = 1;
+
+/// The word of a lane that is finished: all its callbacks ran.
+pub const FINISHED: u64 = 2;
+
+/// The rule: a lane's word says whether it is open, held or finished, and its box lies in its slot unless it is held.
 pub struct Claims;
 
 impl TableRule<Option<LaneBox>, View, Opening> for Claims {

@@ -1,10 +1,11 @@
 -- Boxes that are at home.
 use Rattle.std.specs.Prelude.{⊤, ℕ, ◌≤◌, List, [], ◌∷◌, length, Option, None, Some, if◌then◌else◌, ◌==◌}
 use Rattle.exec_lane.specs.Lane.{Lane}
+use Rattle.exec_board.specs.declared.rule.TheConstants.{FINISHED, OPEN}
 
 -- a lane's word while its box is at home
 abbrev pub word_at : Lane → ℕ
-word_at lane = if lane.done == length lane.entries then 2 else 0
+word_at lane = if lane.done == length lane.entries then FINISHED else OPEN
 
 -- no lane has run more callbacks than it has
 abbrev pub AreWithin : List Lane → Type 0

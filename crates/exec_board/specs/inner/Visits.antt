@@ -5,6 +5,7 @@ use Rattle.std.specs.declared.result.Result.TheVariants.{Ok, Err}
 use Rattle.exec_lane.specs.Lane.{Lane}
 use Rattle.exec_lane.specs.Opening.{IsLaneOf, opened_lane}
 use Rattle.exec_msg.specs.declared.memory.Memory.{Memory}
+use Rattle.exec_board.specs.declared.rule.TheConstants.{FINISHED, HELD}
 use Rattle.exec_board.specs.Rule.{held}
 use Rattle.exec_board.specs.Seats.{IsLast, Refusal, SeatView, refused}
 use Rattle.exec_board.specs.Sweeps.{FirstSeen, GotOn, IsSwept, numbers}
@@ -47,8 +48,8 @@ pub record HasStopped (lane quantum : ℕ) (before after : SeatView) : Type 0 wh
 pub record WasRefused (lane : ℕ) (before after : SeatView) : Type 0 where
   pub word : ℕ
   pub is : after ≡ refused lane word before
-  pub known : (word ≡ 1 → ⊥) → word ≡ 2
-  pub held_so : word ≡ 1 → IsLast before → held lane before ≡ 1
+  pub known : (word ≡ HELD → ⊥) → word ≡ FINISHED
+  pub held_so : word ≡ HELD → IsLast before → held lane before ≡ 1
 
 -- a visit, by what it answered
 abbrev pub Visited : ℕ → ℕ → SeatView → SeatView → Result Bool Memory → Type 0

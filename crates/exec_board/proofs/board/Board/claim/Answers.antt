@@ -17,4 +17,4 @@ compare_exchange-word-requires c =
 pub exchange-requires : goal.exchange-requires
 exchange-requires c =
     let table : c.pass.inside.seat.table_id ≡ c.self.inside.table.shared.table_id = ap (λ x. x.board) c.pass.view_is ∙ c.requires.board ∙ sym c.self.view_is in
-    (c.compare_exchange-word.ensures.0 ∙ table, taken_lane c.args.lane c.pass.inside.seat.me c.compare_exchange-word.new.seat.me (c.compare_exchange-word.ensures.2.0 c.if-word-ne0.false))
+    (c.compare_exchange-word.ensures.0 ∙ table, taken_lane c.args.lane c.pass.inside.seat.me c.compare_exchange-word.new.seat.me (c.compare_exchange-word.ensures.2.0 c.if-word-ne-OPEN.false))
