@@ -1,10 +1,12 @@
 -- The numbers of a client's pending calls are the keys of its map, and each call is new.
 use Rattle.std.proofs.Common.{◌≡◌, ℕ, ◌+◌, ◌<◌, ◌≤◌, ◌==◌, Bool, true, false, cond, List, [], ◌∷◌, ◌++◌, Option, Some, None, refl, sym, ap, ◌∙◌, arith}
-use Rattle.std.specs.List.{All}
+use Rattle.std.specs.List.{All, list_any}
+use Rattle.std.specs.Option.{is_some}
 use Rattle.std.specs.Prelude.{unwrap_or}
 use Rattle.std.specs.Map.{keys_of, lookup, remove_entry}
-use Rattle.std.proofs.lemmas.Bool.{eqb-true, eq-eqb}
+use Rattle.std.proofs.lemmas.Bool.{eqb-true}
 use Rattle.std.proofs.lemmas.List.Elements.{All-nil, All-cons, All-head, All-tail}
+use Rattle.std.proofs.lemmas.Map.Made.{is_some-lookup}
 use Rattle.exec_msg.specs.Lists.{drop_first}
 use Rattle.exec_rules.proofs.Identifiers.{eq_turned}
 use Rattle.exec_task.specs.Call.{PendingCallState, new_call}
@@ -87,3 +89,8 @@ found_new number (entry ∷ entries) call news found = by (number == entry.0) re
     by : (b : Bool) → (number == entry.0) ≡ b → (lookup (λ key. number == key) entries ≡ Some call → call.call ≡ new_call number) → cond b (Some entry.1) (lookup (λ key. number == key) entries) ≡ Some call → call.call ≡ new_call number
     by true e rest here = sym (ap (λ (one : PendingCallState). one.call) (ap (λ (one : Option PendingCallState). unwrap_or one call) here)) ∙ All-head IsNew entry entries news ∙ ap new_call (sym (eqb-true number entry.0 e))
     by false e rest there = rest there
+
+-- a call is found by its number exactly if it pends
+pub pended : {V : Type 0} (number : ℕ) (entries : List (ℕ × V)) (found : Option V) → found ≡ lookup (λ key. number == key) entries → is_some found ≡ list_any (λ call. call == number) (keys_of entries)
+pended number entries found is =
+    ap is_some is ∙ is_some-lookup (λ key. number == key) entries ∙ (λ i. list_any (λ call. eq_turned number call i) (keys_of entries))

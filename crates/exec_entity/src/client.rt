@@ -32,7 +32,9 @@ impl Model for Client {
 }
 
 impl Client {
+    ghost use Rattle.std.specs.Option.{is_some};
     ghost use Rattle.std.specs.Prelude.{◌≡◌, ◌+◌, [], length, OnOk, OnErr, IfOk, IfSome};
+    ghost use Rattle.exec_entity.specs.Calls.{has_pending};
     ghost use Rattle.exec_rules.specs.Ready.{call_answered};
     ghost use Rattle.exec_rules.specs.World.{client_called};
     ghost use Rattle.exec_task.specs.Call.{new_call, completed};
@@ -69,9 +71,10 @@ impl Client {
         Ok(number)
     }
 
-    // Gives a call its reply, after which it pends no more, and hands it out. A call that doesn't pend stays answered.
+    // Gives a call its reply, after which it pends no more, and hands it out. Answers `None` exactly if no such call pended.
     pub(crate) fn complete(&mut self, number: u64, value: i64) -> Option<PendingCall>
         ensures answered { self.new ≡ call_answered number self.old }
+        ensures pended { is_some result ≡ has_pending number self.old }
         ensures call { IfSome result (λ pending. pending.call ≡ completed value (new_call number)) }
     {
         let mut call = self.pending.shift_remove(&number)?;
@@ -98,7 +101,8 @@ impl Numbered for Client {
 
 impl ByNumber<Client> {
     ghost use Rattle.std.specs.Prelude.{◌≡◌, ◌+◌, find, None, OnOk, IfOk, IfSome};
-    ghost use Rattle.std.specs.Option.{option_map};
+    ghost use Rattle.std.specs.Option.{is_some, option_map};
+    ghost use Rattle.exec_entity.specs.Calls.{is_pending_in};
     ghost use Rattle.exec_msg.specs.Lists.{change_first};
     ghost use Rattle.exec_rules.specs.Ready.{call_answered};
     ghost use Rattle.exec_rules.specs.World.{client_called, is_client_at};
@@ -122,10 +126,11 @@ impl ByNumber<Client> {
         Ok(Some((entry.service(), number)))
     }
 
-    /// A client's call is given its reply, after which it pends no more. Answers the call with its reply, or `None` if no such
-    /// call pended.
+    /// A client's call is given its reply, after which it pends no more. Answers the call with its reply, or `None` exactly if no
+    /// such call pended.
     pub fn complete(&mut self, client: EntityNo, number: u64, value: i64) -> Option<PendingCall>
         ensures answered { self.new ≡ change_first (is_client_at client) (call_answered number) self.old }
+        ensures pended { is_some result ≡ is_pending_in client number self.old }
         ensures call { IfSome result (λ pending. pending.call ≡ completed value (new_call number)) }
     {
         let place = self.place(client);

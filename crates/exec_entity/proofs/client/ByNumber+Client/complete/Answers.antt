@@ -1,5 +1,7 @@
-use Rattle.std.proofs.Common.{ap}
-use Rattle.exec_entity.proofs.FoundByNumber.{unchanged, changed_at, finds_set}
+use Rattle.std.proofs.Common.{false, ap, sym, ◌∙◌}
+use Rattle.std.specs.Option.{option_map_or}
+use Rattle.exec_entity.proofs.FoundByNumber.{unfound, unchanged, found_at, changed_at, finds_set}
+use Rattle.exec_entity.specs.Calls.{has_pending}
 use Rattle.exec_rules.specs.Ready.{call_answered}
 use Rattle.exec_rules.specs.World.{ClientEntry, is_client_at}
 use Rattle.exec_entity.proofs.client.ByNumber+Client.complete.Goals as goal
@@ -17,3 +19,12 @@ pub returns-clause-answered : goal.returns-clause-answered
 returns-clause-answered c =
     changed_at (is_client_at c.args.client) c.self.inside.entries.items c.args.self.now c.place-place.result c.self.view_is c.place-place.ensures (call_answered c.args.number) c.in-Some.entry.now c.complete.new.self c.in-Some.ensures.item.0 c.in-Some.ensures.value
     c.complete.ensures.answered
+
+pub returns-in_default-clause-pended : goal.returns-in_default-clause-pended
+returns-in_default-clause-pended c =
+    sym (ap (λ found. option_map_or (has_pending c.args.number) found false) (unfound (is_client_at c.args.client) c.self.inside.entries.items c.args.self.now c.place-place.result c.self.view_is c.place-place.ensures c.in_default.ensures.item.0))
+
+pub returns-clause-pended : goal.returns-clause-pended
+returns-clause-pended c =
+    c.complete.ensures.pended ∙ sym (ap (λ found. option_map_or (has_pending c.args.number) found false)
+    (found_at (is_client_at c.args.client) c.self.inside.entries.items c.args.self.now c.place-place.result c.self.view_is c.place-place.ensures c.in-Some.entry.now c.in-Some.ensures.item.0 c.in-Some.ensures.value))
