@@ -66,15 +66,19 @@ is_topic (Entity entity) = false
 abbrev pub is_a : EntityKind → Declared → Bool
 is_a kind = of_entity false (is_of kind)
 
+-- whether a name is declared as a timer
 abbrev pub is_timer : Declared → Bool
 is_timer = is_a entity_kind.Timer
 
+-- whether a name is declared as a service client
 abbrev pub is_client : Declared → Bool
 is_client = is_a entity_kind.Client
 
+-- whether a name is declared as an action server
 abbrev pub is_server : Declared → Bool
 is_server = is_a entity_kind.Server
 
+-- whether a name is declared as an action client
 abbrev pub is_action_client : Declared → Bool
 is_action_client = is_a entity_kind.ActionClient
 

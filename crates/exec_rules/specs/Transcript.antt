@@ -65,6 +65,7 @@ timer_for graph number entity = record {
   timer = record { next = period_in entity.is; period = period_in entity.is };
 }
 
+-- the timer that a graph has at a number, made at moment 0
 abbrev pub new_timer : GraphData → EntityNo → TimerEntry
 new_timer graph number = timer_for graph number (entity_at graph number)
 
@@ -83,6 +84,7 @@ queue_for graph kind number entity = record {
   items = [];
 }
 
+-- the queue of an entity's callbacks of a kind, before anything is sent to it
 abbrev pub new_queue : GraphData → Waitable → Queue
 new_queue graph waitable = queue_for graph waitable.kind waitable.entity (entity_at graph waitable.entity)
 
@@ -96,6 +98,7 @@ abbrev pub server_for : GraphData → EntityNo → GraphEntity → ServerEntry
 server_for graph number entity =
     record { handler = handler_for graph kind.Poll number entity; timeout = timeout_in entity.is; goals = []; held = [] }
 
+-- the action server that a graph has at a number, before it accepts a goal
 abbrev pub new_server : GraphData → EntityNo → ServerEntry
 new_server graph number = server_for graph number (entity_at graph number)
 
@@ -108,6 +111,7 @@ service_in _ = 0
 abbrev pub client_for : EntityNo → GraphEntity → ClientEntry
 client_for number entity = record { entity = number; service = service_in entity.is; calls = 0; pending = [] }
 
+-- the service client that a graph has at a number, before its first call
 abbrev pub new_client : GraphData → EntityNo → ClientEntry
 new_client graph number = client_for number (entity_at graph number)
 
