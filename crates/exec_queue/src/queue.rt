@@ -20,7 +20,8 @@ ghost use Rattle.exec_queue.specs.inner.Queues.{slot_of, has_item, is_filled_at,
 mod entry;
 mod filled;
 
-use entry::{Entry, list_plain_at};
+pub use entry::EntityQueue;
+use entry::list_plain_at;
 use exec_msg::{EntityNo, Kind, LazyQueue, Memory, Moment, PlaceTable};
 use exec_plan::Script;
 use exec_rules::{Handler, Home, Item, ReadyList};
@@ -32,7 +33,7 @@ use std::marker::Model;
 #[derive(Drop)]
 pub struct Queues {
     alloc: Global,
-    entries: Vec<Entry>,
+    entries: Vec<EntityQueue>,
     // By entity and kind. A round finds a queue by it, and walks over none.
     places: PlaceTable,
     // The places of the queues that have an item, and of no other.
@@ -86,7 +87,7 @@ impl Queues {
         let queue = LazyQueue::new(self.alloc, depth);
         self.settled = false;
         self.has_late = has_late_with(self.has_late, kind);
-        self.entries.push(Entry {
+        self.entries.push(EntityQueue {
             handler,
             kind,
             queue,
@@ -172,18 +173,11 @@ impl Queues {
         list_plain_at(&mut self.entries, alloc, moment, place, list, homes)
     }
 
-    /// Whose callback takes from the queue at a place.
-    pub fn handler(&self, place: usize) -> Option<&Handler>
-        ensures { option_copied result ≡ option_map (λ queue. queue.handler) (slice_get self.now place) }
+    /// The queue at a place.
+    pub fn at(&self, place: usize) -> Option<&EntityQueue>
+        ensures { option_copied result ≡ slice_get self.now place }
     {
-        handler_at(&self.entries, place)
-    }
-
-    /// Whose queue it is that stands at a place.
-    pub fn entity(&self, place: usize) -> Option<EntityNo>
-        ensures { result ≡ option_map (λ queue. queue.handler.entity) (slice_get self.now place) }
-    {
-        entity_at(&self.entries, place)
+        self.entries.get(place)
     }
 
     /// The script of the callback that takes from the queue at a place, which may be brought home.
@@ -203,13 +197,6 @@ impl Queues {
         ensures { self.new ≡ self.old }
     {
         bring_home_at(&mut self.entries, place, script);
-    }
-
-    /// The oldest item of the queue at a place.
-    pub fn front(&self, place: usize) -> Option<Item>
-        ensures { result ≡ option_map_or (λ queue. slice_get queue.items 0) (slice_get self.now place) None }
-    {
-        front_at(&self.entries, place)
     }
 }
 
@@ -235,25 +222,7 @@ fn bring_script_home(queues: &mut Queues, list: &mut ReadyList, home: &Home)
     }
 }
 
-fn handler_at(entries: &[Entry], place: usize) -> Option<&Handler>
-    ensures { option_copied result ≡ option_map (λ queue. queue.handler) (slice_get entries.now place) }
-{
-    match entries.get(place) {
-        None => None,
-        Some(entry) => Some(entry.handler()),
-    }
-}
-
-fn entity_at(entries: &[Entry], place: usize) -> Option<EntityNo>
-    ensures { result ≡ option_map (λ queue. queue.handler.entity) (slice_get entries.now place) }
-{
-    match entries.get(place) {
-        None => None,
-        Some(entry) => Some(entry.handler().entity),
-    }
-}
-
-fn take_script_at(entries: &mut Vec<Entry>, place: usize) -> Result<Option<Script>, Memory>
+fn take_script_at(entries: &mut Vec<EntityQueue>, place: usize) -> Result<Option<Script>, Memory>
     ensures script { IfOk result (λ script. script ≡ option_map (λ queue. queue.handler.script) (slice_get entries.old.items place)) }
     ensures same { entries.new.items ≡ entries.old.items }
 {
@@ -266,21 +235,12 @@ fn take_script_at(entries: &mut Vec<Entry>, place: usize) -> Result<Option<Scrip
     }
 }
 
-fn bring_home_at(entries: &mut Vec<Entry>, place: usize, script: Script)
+fn bring_home_at(entries: &mut Vec<EntityQueue>, place: usize, script: Script)
     requires { (queue : Queue) → slice_get entries.old.items place ≡ Some queue → script ≡ queue.handler.script }
     ensures { entries.new.items ≡ entries.old.items }
 {
     if let Some(entry) = entries.get_mut(place) {
         entry.bring_home(script);
-    }
-}
-
-fn front_at(entries: &[Entry], place: usize) -> Option<Item>
-    ensures { result ≡ option_map_or (λ queue. slice_get queue.items 0) (slice_get entries.now place) None }
-{
-    match entries.get(place) {
-        None => None,
-        Some(entry) => entry.front(),
     }
 }
 
@@ -313,13 +273,13 @@ fn has_late_with(has_late: bool, kind: Kind) -> bool
     has_late || !is_before_polls(kind)
 }
 
-fn count(entries: &[Entry]) -> usize
+fn count(entries: &[EntityQueue]) -> usize
     ensures { result ≡ length entries.now }
 {
     entries.len()
 }
 
-fn send_at(entries: &mut Vec<Entry>, place: usize, item: Item) -> Result<Option<Item>, Memory>
+fn send_at(entries: &mut Vec<EntityQueue>, place: usize, item: Item) -> Result<Option<Item>, Memory>
     ensures ok { OnOk result (entries.new.items ≡ change_at place (queue_after item) entries.old.items) }
     ensures filled { OnOk result (place < length entries.old.items → is_filled_at entries.new.items place ≡ true) }
     ensures lost { IfOk result (λ lost. lost ≡ option_map_or (λ queue. slice_get (displaced queue.depth item queue.items) 0) (slice_get entries.old.items place) None) }
@@ -335,7 +295,7 @@ fn send_at(entries: &mut Vec<Entry>, place: usize, item: Item) -> Result<Option<
     }
 }
 
-fn take_at(entries: &mut Vec<Entry>, place: usize)
+fn take_at(entries: &mut Vec<EntityQueue>, place: usize)
     ensures { entries.new.items ≡ change_at place queue_taken entries.old.items }
 {
     if let Some(entry) = entries.get_mut(place) {
@@ -343,7 +303,7 @@ fn take_at(entries: &mut Vec<Entry>, place: usize)
     }
 }
 
-fn take_each(entries: &mut Vec<Entry>, places: &[usize])
+fn take_each(entries: &mut Vec<EntityQueue>, places: &[usize])
     ensures { entries.new.items ≡ change_each places.now queue_taken entries.old.items }
 {
     for &place in places {

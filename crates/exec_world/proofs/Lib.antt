@@ -4,8 +4,8 @@ pub mod Giving
 pub mod Grouped
 mod KeptBanks
 pub mod ListedFronts
-pub mod Plain
 pub mod Polled
+pub mod ScriptsFrom
 pub mod Snapshots
 pub mod Sound
 pub mod Wired

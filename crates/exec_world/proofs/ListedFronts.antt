@@ -3,7 +3,7 @@ use Rattle.std.proofs.Common.{◌≡◌, Bool, true, false, List, [], ◌∷◌,
 use Rattle.std.proofs.lemmas.Option.{none-some, same_Some}
 use Rattle.std.specs.Option.{option_and_then, option_map, option_map_or}
 use Rattle.exec_goal.specs.Table.{GoalRecord}
-use Rattle.exec_msg.specs.Numbers.{EntityNo, Moment}
+use Rattle.exec_msg.specs.Numbers.{Moment}
 use Rattle.exec_script.specs.Instruction.{Script}
 use Rattle.exec_rules.specs.Ready.{candidates_for, item_ready, ready_for, script_to_take}
 use Rattle.exec_rules.specs.World.{Handler, Queue, ServerEntry, has_room_for, goals_in}
@@ -21,19 +21,17 @@ first_ready moment handler goals one (other ∷ items) first =
     ap (λ (it : Item). ready_for moment handler (cause.Took it) (candidates_for it goals) (script_to_take it goals handler.script) ∷ []) (same_Some one other first)
 
 -- what was read of the queue at a place makes the callback that takes from it
-pub front_listed : (moment : Moment) (servers : List ServerEntry) (found : Option Queue) (one : Item) (entity : EntityNo) (handler : Handler) (goals : List GoalRecord) (script : Option Script) (ready : Ready) →
-    Some one ≡ option_map_or (λ queue. slice_get queue.items 0) found None → Some entity ≡ option_map (λ queue. queue.handler.entity) found → goals ≡ goals_in entity servers →
-    script ≡ option_and_then (λ queue. script_to_take one goals queue.handler.script) found → Some handler ≡ option_map (λ queue. queue.handler) found →
+pub front_listed : (moment : Moment) (servers : List ServerEntry) (found : Option Queue) (queue : Queue) (one : Item) (handler : Handler) (goals : List GoalRecord) (script : Option Script) (ready : Ready) →
+    Some queue ≡ found → Some one ≡ slice_get queue.items 0 → goals ≡ goals_in queue.handler.entity servers →
+    script ≡ option_and_then (λ queue. script_to_take one goals queue.handler.script) found → handler ≡ queue.handler →
     ready ≡ ready_for moment handler (cause.Took one) (candidates_for one goals) script → ready ∷ [] ≡ option_map_or (front_of moment servers) found []
-front_listed moment servers None one entity handler goals script ready first whose held run by is = absurd (none-some one (sym first))
-front_listed moment servers (Some queue) one entity handler goals script ready first whose held run by is =
-    let own : handler ≡ queue.handler = same_Some handler queue.handler by in
-    let its : goals ≡ goals_in queue.handler.entity servers = held ∙ ap (λ (number : EntityNo). goals_in number servers) (same_Some entity queue.handler.entity whose) in
+front_listed moment servers found queue one handler goals script ready there first held run own is =
+    let taken = run ∙ ap (λ (it : Option Queue). option_and_then (λ queue. script_to_take one goals queue.handler.script) it) (sym there) in
     ap (λ (it : Ready). it ∷ []) is
-    ∙ ap (λ (it : Handler). ready_for moment it (cause.Took one) (candidates_for one goals) script ∷ []) own
-    ∙ ap (λ (it : Option Script). ready_for moment queue.handler (cause.Took one) (candidates_for one goals) it ∷ []) run
-    ∙ ap (λ (it : List GoalRecord). ready_for moment queue.handler (cause.Took one) (candidates_for one it) (script_to_take one it queue.handler.script) ∷ []) its
+    ∙ (λ i. ready_for moment (own i) (cause.Took one) (candidates_for one goals) (taken i) ∷ [])
+    ∙ ap (λ (it : List GoalRecord). ready_for moment queue.handler (cause.Took one) (candidates_for one it) (script_to_take one it queue.handler.script) ∷ []) held
     ∙ first_ready moment queue.handler (goals_in queue.handler.entity servers) one queue.items first
+    ∙ ap (λ (it : Option Queue). option_map_or (front_of moment servers) it []) there
 
 -- the script that runs for an item is that of the callback
 script_taken : (one : Item) (goals : List GoalRecord) (own taken : Script) → script_to_take one goals own ≡ Some taken → taken ≡ own

@@ -15,10 +15,9 @@ use Rattle.exec_rules.specs.declared.item.Item.{Item}
 use Rattle.exec_rules.specs.declared.item.Item.TheVariants as item
 use Rattle.exec_rules.specs.declared.ready.Ready.{Ready}
 use Rattle.exec_rules.specs.inner.Listing.{listed_behind}
-use Rattle.exec_world.specs.inner.Mail.{MailState, mail_of}
 use Rattle.exec_rules.specs.inner.Places.{places_from, places_where}
 use Rattle.exec_queue.specs.inner.Queues.{has_item, is_in_part}
-use Rattle.exec_world.specs.inner.Snapshots.{fronts_at, replies_at, with_reply_at}
+use Rattle.exec_world.specs.inner.Snapshots.{filled_places, fronts_at, queues_in_part, replies_at, with_reply_at}
 
 has_one : (item : Item) (items : List Item) → not (length (item ∷ items) == 0) ≡ false → ⊥
 has_one item items is = let none = eqb-true (length (item ∷ items)) 0 (no (length (item ∷ items) == 0) is) in omega arith
@@ -33,12 +32,10 @@ none_ready : (moment : Moment) (handler : Handler) (goals : List GoalRecord) (it
 none_ready moment handler goals [] is = refl
 none_ready moment handler goals (item ∷ items) is = absurd (has_one item items is)
 
-module _ (moment : Moment) (world : WorldState) where
-  pub ready_before : fronts_at moment world.servers world.queues (places_where (λ queue. has_item queue && is_in_part true queue) world.queues) ≡ flat_map (queue_ready moment world) (queues_before_polls world)
-  ready_before = given_each (is_in_part true) (queue_ready moment world) (λ queue is. none_ready moment queue.handler _ queue.items is) world.queues
-
-  pub ready_behind : fronts_at moment world.servers world.queues (places_where (λ queue. has_item queue && is_in_part false queue) world.queues) ≡ flat_map (queue_ready moment world) (queues_behind_polls world)
-  ready_behind = given_each (is_in_part false) (queue_ready moment world) (λ queue is. none_ready moment queue.handler _ queue.items is) world.queues
+pub ready_in_part : (moment : Moment) (world : WorldState) (before_polls : Bool)
+    → fronts_at moment world.servers world.queues (filled_places before_polls world.queues) ≡ flat_map (queue_ready moment world) (queues_in_part before_polls world)
+ready_in_part moment world before_polls =
+    given_each (is_in_part before_polls) (queue_ready moment world) (λ queue is. none_ready moment queue.handler _ queue.items is) world.queues
 
 -- ---- the calls that they answer
 
@@ -101,26 +98,24 @@ none_to_answer queues clients list places is none =
 
 -- ---- what a world's snapshot makes of them
 
-module _ {inner held : WorldState} (same : inner ≡ held) (read : List Queue) (places : List ℕ) where
-  -- the callbacks that are listed before polls
-  pub listed_before : (moment : Moment) (before after : List Ready) → read ≡ inner.queues → places ≡ places_where (λ queue. has_item queue && is_in_part true queue) inner.queues
-      → after ≡ listed_behind before (fronts_at moment inner.servers read places) → after ≡ listed_behind before (flat_map (queue_ready moment held) (queues_before_polls held))
-  listed_before moment before after reads at is =
-      is ∙ ap (listed_behind before) ((λ i. fronts_at moment inner.servers (reads i) (at i)) ∙ ready_before moment inner ∙ ap (λ (world : WorldState). flat_map (queue_ready moment world) (queues_before_polls world)) same)
+-- the callbacks that take from the queues of a part
+pub listed_in_part : {inner held : WorldState} (before_polls : Bool) (read : List Queue) (places : List ℕ) (moment : Moment) (before after : List Ready)
+    → inner ≡ held → read ≡ inner.queues → places ≡ filled_places before_polls inner.queues
+    → after ≡ listed_behind before (fronts_at moment inner.servers read places)
+    → after ≡ listed_behind before (flat_map (queue_ready moment held) (queues_in_part before_polls held))
+listed_in_part {inner} before_polls read places moment before after same reads at is =
+    is
+    ∙ ap (listed_behind before) ((λ i. fronts_at moment inner.servers (reads i) (at i))
+    ∙ ready_in_part moment inner before_polls
+    ∙ ap (λ (world : WorldState). flat_map (queue_ready moment world) (queues_in_part before_polls world)) same)
 
-  -- those that are listed behind them
-  pub listed_after : (moment : Moment) (before after : List Ready) → read ≡ inner.queues → places ≡ places_where (λ queue. has_item queue && is_in_part false queue) inner.queues
-      → after ≡ listed_behind before (fronts_at moment inner.servers read places) → after ≡ listed_behind before (flat_map (queue_ready moment held) (queues_behind_polls held))
-  listed_after moment before after reads at is =
-      is ∙ ap (listed_behind before) ((λ i. fronts_at moment inner.servers (reads i) (at i)) ∙ ready_behind moment inner ∙ ap (λ (world : WorldState). flat_map (queue_ready moment world) (queues_behind_polls world)) same)
-
-  -- the calls that are answered
-  pub answered : (mail : MailState) (clients : List ClientEntry) → mail ≡ mail_of inner → read ≡ inner.queues → places ≡ places_where (λ queue. has_item queue && is_in_part true queue) inner.queues
-      → clients ≡ replies_at read inner.clients places
-      → record inner { queues = mail.queues; lines = mail.lines; clients = clients } ≡ record held { clients = fold reply_taken held.clients (queues_before_polls held) }
-  answered mail clients mail_is reads at is =
-      (λ i. record inner { queues = (mail_is i).queues; lines = (mail_is i).lines; clients = (is ∙ (λ j. replies_at (reads j) inner.clients (at j)) ∙ answered_before inner) i })
-      ∙ ap (λ (world : WorldState). record world { clients = fold reply_taken world.clients (queues_before_polls world) }) same
+-- the calls that are answered, in a world that has other timers
+pub answered : {inner : WorldState} (held : WorldState) (timers : List TimerEntry) (read : List Queue) (places : List ℕ) (clients : List ClientEntry)
+    → inner ≡ record held { timers = timers } → read ≡ inner.queues → places ≡ filled_places true inner.queues → clients ≡ replies_at read inner.clients places
+    → record inner { clients = clients } ≡ record held { timers = timers; clients = fold reply_taken held.clients (queues_before_polls held) }
+answered {inner} held timers read places clients same reads at is =
+    (λ i. record inner { clients = (is ∙ (λ j. replies_at (reads j) inner.clients (at j)) ∙ answered_before inner) i })
+    ∙ ap (λ (world : WorldState). record world { clients = fold reply_taken world.clients (queues_before_polls world) }) same
 
 -- ---- the whole
 

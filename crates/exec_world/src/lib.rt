@@ -7,6 +7,7 @@ mod fault;
 mod first_world;
 mod fronts;
 mod mail;
+mod scratch;
 mod state;
 mod taken;
 mod world;

@@ -1,9 +1,8 @@
-use crate::fronts::list_fronts;
+use crate::fronts::Fronts;
 use exec_entity::Servers;
 use exec_msg::{EntityNo, Line, Lines, Memory, Moment};
 use exec_queue::{Queues, bring_home_to_queues};
 use exec_rules::{Home, Item, ReadyList};
-use std::alloc::Global;
 use std::marker::Model;
 
 // Where goes what callbacks send: the queues of entities, and the lines of the transcript.
@@ -79,26 +78,17 @@ impl<L: Lines> Mail<L> {
     // Lists the callbacks that take from the queues at these places.
     pub(crate) fn list_fronts(
         &mut self,
-        alloc: Global,
-        moment: Moment,
+        fronts: &Fronts<'_>,
         places: &[usize],
-        servers: &Servers,
         list: &mut ReadyList,
         homes: &mut Vec<Home>,
     ) -> Result<(), Memory>
-        ensures list { OnOk result (list.new ≡ listed_behind list.old (fronts_at moment servers.now self.old.queues places.now)) }
+        ensures list { OnOk result (list.new ≡ listed_behind list.old (fronts_at fronts.now.moment fronts.now.servers.now self.old.queues places.now)) }
         ensures same { self.new ≡ self.old }
-        ensures homes { OnOk result (AreHomes (handlers_of self.old.queues) list.old homes.old.items → AreHomes (handlers_of self.old.queues) list.new homes.new.items) }
+        ensures homes { OnOk result (AreHomes (handlers_of self.old.queues) list.old homes.old.items
+            → AreHomes (handlers_of self.old.queues) list.new homes.new.items) }
     {
-        list_fronts(
-            alloc,
-            moment,
-            places,
-            &mut self.queues,
-            servers,
-            list,
-            homes,
-        )
+        fronts.list_all(places, &mut self.queues, list, homes)
     }
 
     // Brings home the scripts that come from queues.

@@ -1,5 +1,5 @@
 //! What changes while a plan is run.
-mod act;
+mod callback;
 mod close;
 mod give;
 mod lend;
@@ -17,7 +17,6 @@ use exec_entity::{ActionClients, Clients, Servers, Topics};
 use exec_msg::{Line, Lines, Memory};
 use exec_plan::{GroupNo, Order, Plan};
 use exec_queue::EntityTimer;
-use exec_rules::AwakeGoal;
 use exec_script::Bank;
 use std::alloc::Global;
 use std::marker::Model;
@@ -35,10 +34,6 @@ pub(crate) struct State<L: Lines> {
     action_clients: ActionClients,
     banks: Banks,
     mail: Mail<L>,
-    // The places of queues that a snapshot takes from; room that is used again.
-    places: Vec<usize>,
-    // The goals that are awake at a snapshot; room that is used again.
-    awake: Vec<AwakeGoal>,
 }
 
 impl<L: Lines> Model for State<L> {
@@ -80,8 +75,6 @@ impl<L: Lines> State<L> {
             action_clients: new_action_clients(alloc, graph)?,
             banks: Banks::new(alloc, graph.groups().len())?,
             mail: Mail::new(new_queues(alloc, graph)?, lines),
-            places: Vec::new(alloc),
-            awake: Vec::new(alloc),
         })
     }
 

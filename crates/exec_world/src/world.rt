@@ -3,11 +3,12 @@ ghost use Rattle.std.specs.Arc.{arc_value};
 ghost use Rattle.exec_rules.specs.Transcript.{lines_of};
 
 use crate::fault::WorldFault;
+use crate::scratch::Scratch;
 use crate::state::State;
 use exec_msg::{EntityNo, GoalId, Line, LineList, Lines, Memory};
 use exec_plan::{FeedByRound, GroupNo, Plan};
-use exec_rules::{Homes, Ready, ReadyList};
-use exec_script::{Bank, EffectList, Effects};
+use exec_rules::Ready;
+use exec_script::{Bank, Effects};
 use exec_task::{GoalTask, Poller};
 use std::alloc::Global;
 use std::marker::Model;
@@ -26,10 +27,7 @@ pub struct World<L: Lines = LineList> {
     round: usize,
     left: usize,
     failed: bool,
-    // Room that is used again.
-    list: ReadyList,
-    homes: Homes,
-    effects: EffectList,
+    scratch: Scratch,
 }
 
 impl<L: Lines> Model for World<L> {
@@ -100,9 +98,7 @@ impl<L: Lines> World<L> {
             round: 0,
             left: 0,
             failed: false,
-            list: ReadyList::new(alloc),
-            homes: Homes::new(alloc),
-            effects: EffectList::new(alloc),
+            scratch: Scratch::new(alloc),
         })
     }
 
@@ -175,21 +171,20 @@ impl<L: Lines> World<L> {
     {
         self.check()?;
         let moment = self.plan.moments()[round - 1];
-        let mut list = ReadyList::new(self.alloc);
         let begun = self.state.begin_round(
             round as u64,
             moment,
             self.feed.fed_in(round),
-            &mut list,
-            &mut self.homes,
+            &mut self.scratch,
         );
         if begun.is_err() {
             self.failed = true;
             return Err(WorldFault::Memory);
         }
         self.round = round;
-        self.left = list.as_slice().len();
-        Ok(list.into_vec())
+        let list = self.scratch.take_list(self.alloc);
+        self.left = list.len();
+        Ok(list)
     }
 
     /// Gives to the world what the next of the last snapshot's callbacks did: its line, its effects and what closes it.
@@ -227,7 +222,9 @@ impl<L: Lines> World<L> {
     {
         self.check()?;
         let mut context = self.poller.begin();
-        let ran = self.state.run_all(list, &mut self.effects, &mut context);
+        let ran = self
+            .state
+            .run_all(list, &mut self.scratch.effects, &mut context);
         context.cancel();
         if ran.is_err() {
             self.failed = true;
@@ -295,9 +292,7 @@ impl<L: Lines> World<L> {
             round as u64,
             moment,
             self.feed.fed_in(round),
-            &mut self.list,
-            &mut self.homes,
-            &mut self.effects,
+            &mut self.scratch,
             &mut context,
         );
         context.cancel();

@@ -16,15 +16,15 @@ use exec_rules::{Cause, Handler, Home, Item, ReadyList};
 use std::alloc::Global;
 use std::marker::Model;
 
-// The queue of an entity from which its callback of a kind takes.
+/// The queue of an entity from which its callback of a kind takes.
 #[derive(Drop)]
-pub(super) struct Entry {
+pub struct EntityQueue {
     pub(super) handler: Handler,
     pub(super) kind: Kind,
     pub(super) queue: LazyQueue<Item>,
 }
 
-impl Model for Entry {
+impl Model for EntityQueue {
     ghost use Rattle.std.specs.Prelude.{◌≤◌};
     ghost use Rattle.exec_rules.specs.World.{Queue};
 
@@ -35,7 +35,7 @@ impl Model for Entry {
     ghost invariant = { λ entry. 1 ≤ entry.queue.depth };
 }
 
-impl Entry {
+impl EntityQueue {
     pub(super) fn send(&mut self, item: Item) -> Result<Option<Item>, Memory>
         ensures ok { OnOk result (self.new ≡ queue_after item self.old) }
         ensures has { OnOk result (has_item self.new ≡ true) }
@@ -53,7 +53,8 @@ impl Entry {
         self.queue.take();
     }
 
-    pub(super) fn front(&self) -> Option<Item>
+    /// Its oldest item.
+    pub fn front(&self) -> Option<Item>
         ensures { result ≡ slice_get self.now.items 0 }
     {
         match self.queue.front() {
@@ -69,7 +70,8 @@ impl Entry {
         self.queue.len() == 0
     }
 
-    pub(super) fn handler(&self) -> &Handler
+    /// Whose callback takes from it.
+    pub fn handler(&self) -> &Handler
         ensures { result.now ≡ self.now.handler }
     {
         &self.handler
@@ -127,7 +129,7 @@ impl Entry {
 // Lists the callback that takes from the queue at a place, where there is one, as `list_plain` does.
 #[inline(always)]
 pub(super) fn list_plain_at(
-    entries: &mut Vec<Entry>,
+    entries: &mut Vec<EntityQueue>,
     alloc: Global,
     moment: Moment,
     place: usize,

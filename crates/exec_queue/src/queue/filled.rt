@@ -6,10 +6,10 @@ ghost use Rattle.std.specs.Ordering.{nat_cmp};
 ghost use Rattle.exec_rules.specs.inner.Places.{places_where};
 ghost use Rattle.exec_queue.specs.inner.Queues.{AreBeforePolls, has_item, is_filled_at, is_in_part, is_in_part_at};
 
-use super::entry::Entry;
+use super::entry::EntityQueue;
 use exec_msg::Memory;
 
-fn is_filled(entries: &[Entry], place: usize) -> bool
+fn is_filled(entries: &[EntityQueue], place: usize) -> bool
     ensures value { result ≡ is_filled_at entries.now place }
     ensures bound { IfSome (slice_get entries.now place) (λ queue. length queue.items ≤ queue.depth) }
 {
@@ -22,7 +22,7 @@ fn is_filled(entries: &[Entry], place: usize) -> bool
 // Notes a place at which an item is about to stand.
 pub(super) fn note_filled(
     filled: &mut Vec<usize>,
-    entries: &[Entry],
+    entries: &[EntityQueue],
     place: usize,
 ) -> Result<(), Memory>
     ensures noted { OnOk result (filled.new.items ≡ (if is_filled_at entries.now place then filled.old.items else filled.old.items ++ place ∷ [])) }
@@ -50,7 +50,7 @@ pub(super) fn settle(settled: &mut bool, places: &mut Vec<usize>)
 }
 
 // Leaves the places of queues that have an item.
-pub(super) fn keep_filled(places: &mut Vec<usize>, entries: &[Entry])
+pub(super) fn keep_filled(places: &mut Vec<usize>, entries: &[EntityQueue])
     ensures { places.new.items ≡ filter (λ place. is_filled_at entries.now place) places.old.items }
 {
     places.retain(|place| is_filled(entries, *place));
@@ -79,7 +79,7 @@ fn sort(places: &mut Vec<usize>)
 // none.
 pub(super) fn leave_part(
     places: &mut Vec<usize>,
-    entries: &[Entry],
+    entries: &[EntityQueue],
     has_late: bool,
     before_polls: bool,
 )
@@ -95,13 +95,13 @@ pub(super) fn leave_part(
 }
 
 // Leaves the places of the queues of one part.
-fn keep_part(places: &mut Vec<usize>, entries: &[Entry], before_polls: bool)
+fn keep_part(places: &mut Vec<usize>, entries: &[EntityQueue], before_polls: bool)
     ensures { places.new.items ≡ filter (λ place. is_in_part_at before_polls entries.now place) places.old.items }
 {
     places.retain(|place| is_in_part(entries, *place, before_polls));
 }
 
-fn is_in_part(entries: &[Entry], place: usize, before_polls: bool) -> bool
+fn is_in_part(entries: &[EntityQueue], place: usize, before_polls: bool) -> bool
     ensures { result ≡ is_in_part_at before_polls entries.now place }
 {
     match entries.get(place) {

@@ -84,8 +84,11 @@ impl<L: Lines> State<L> {
     ) -> Result<(), Memory>
         ensures { OnOk result (self.new ≡ reply_to service client number value self.old) }
     {
-        self.add_line(Line::Reply { service, value })?;
-        self.push(client, Item::Reply { number, value })
+        self.send(
+            Line::Reply { service, value },
+            client,
+            Item::Reply { number, value },
+        )
     }
 
     fn answer_goal(
@@ -229,36 +232,30 @@ impl<L: Lines> State<L> {
     ) -> Result<(), Memory>
         ensures { OnOk result (self.new ≡ tell server id status value client self.old) }
     {
-        self.add_line(Line::Result {
-            server,
-            id,
-            status,
-            value,
-        })?;
-        self.push(client, Item::Result { id, status, value })
+        self.send(
+            Line::Result {
+                server,
+                id,
+                status,
+                value,
+            },
+            client,
+            Item::Result { id, status, value },
+        )
     }
 
     fn respond(&mut self, client: EntityNo, id: GoalId, accepted: bool) -> Result<(), Memory>
         ensures responded { OnOk result (self.new ≡ respond (action_client_at client self.old) id accepted self.old) }
         ensures memory { OnErr result (response_adds (action_client_at client self.old) accepted ≡ true) }
     {
-        match self.action_clients.find(client) {
-            None => Ok(()),
-            Some(found) => {
-                if accepted && found.asks() {
-                    let server = found.server();
-                    self.ask_for(client, server, id)?;
-                }
-                Ok(())
-            }
+        let Some(found) = self.action_clients.find(client) else {
+            return Ok(());
+        };
+        if accepted && found.asks() {
+            let server = found.server();
+            return self.send(Line::Ask { client, id }, server, Item::Ask { id, client });
         }
-    }
-
-    fn ask_for(&mut self, client: EntityNo, server: EntityNo, id: GoalId) -> Result<(), Memory>
-        ensures { OnOk result (self.new ≡ push server (item.Ask id client) (add_line (line.Ask client id) self.old)) }
-    {
-        self.add_line(Line::Ask { client, id })?;
-        self.push(server, Item::Ask { id, client })
+        Ok(())
     }
 
     // Closes a poll. Most pend, and are closed with no call.

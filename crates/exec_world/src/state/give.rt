@@ -58,12 +58,11 @@ impl<L: Lines> State<L> {
     pub(super) fn publish(&mut self, topic: EntityNo, value: i64) -> Result<(), Memory>
         ensures { OnOk result (self.new ≡ publish topic value self.old) }
     {
-        match self.topics.find(topic) {
-            None => Ok(()),
-            Some(found) => self
-                .mail
-                .send_each(found.subscribers(), &Item::Message { value }),
-        }
+        let Some(found) = self.topics.find(topic) else {
+            return Ok(());
+        };
+        self.mail
+            .send_each(found.subscribers(), &Item::Message { value })
     }
 
     // An item is sent to an entity: what its queue loses by it is dropped with a line.
@@ -80,30 +79,28 @@ impl<L: Lines> State<L> {
         self.mail.send_any(entity, item)
     }
 
+    // An item is sent to an entity, after its line.
+    #[inline(always)]
+    pub(super) fn send(&mut self, line: Line, entity: EntityNo, item: Item) -> Result<(), Memory>
+        ensures { OnOk result (self.new ≡ push entity item (add_line line self.old)) }
+    {
+        self.add_line(line)?;
+        self.push(entity, item)
+    }
+
     fn call(&mut self, client: EntityNo, value: i64) -> Result<(), Memory>
         ensures { OnOk result (self.new ≡ call_by (client_at client self.old) value self.old) }
     {
-        match self.clients.call(client)? {
-            None => Ok(()),
-            Some(made) => self.send_call(client, made.0, made.1, value),
-        }
-    }
-
-    fn send_call(
-        &mut self,
-        client: EntityNo,
-        service: EntityNo,
-        number: u64,
-        value: i64,
-    ) -> Result<(), Memory>
-        ensures { OnOk result (self.new ≡ push service (item.Request client number value) (add_line (line.Call client number value) self.old)) }
-    {
-        self.add_line(Line::Call {
-            client,
-            number,
-            value,
-        })?;
-        self.push(
+        let Some(made) = self.clients.call(client)? else {
+            return Ok(());
+        };
+        let (service, number) = made;
+        self.send(
+            Line::Call {
+                client,
+                number,
+                value,
+            },
             service,
             Item::Request {
                 client,
@@ -116,27 +113,17 @@ impl<L: Lines> State<L> {
     fn send_goal(&mut self, client: EntityNo, value: i64) -> Result<(), Memory>
         ensures { OnOk result (self.new ≡ send_goal_by (action_client_at client self.old) value self.old) }
     {
-        match self.action_clients.send_goal(client)? {
-            None => Ok(()),
-            Some(made) => self.send_request(client, made.0, made.1, value),
-        }
-    }
-
-    fn send_request(
-        &mut self,
-        client: EntityNo,
-        server: EntityNo,
-        id: GoalId,
-        value: i64,
-    ) -> Result<(), Memory>
-        ensures { OnOk result (self.new ≡ push server (item.Goal id (Some client) value) (add_line (line.Goal client id value) self.old)) }
-    {
-        self.add_line(Line::Goal { client, id, value })?;
-        self.push(
+        let Some(made) = self.action_clients.send_goal(client)? else {
+            return Ok(());
+        };
+        let (server, id) = made;
+        let sender = Some(client);
+        self.send(
+            Line::Goal { client, id, value },
             server,
             Item::Goal {
                 id,
-                client: Some(client),
+                client: sender,
                 value,
             },
         )
@@ -145,26 +132,22 @@ impl<L: Lines> State<L> {
     fn cancel_all(&mut self, client: EntityNo, stamp: u64) -> Result<(), Memory>
         ensures { OnOk result (self.new ≡ cancel_all_by (action_client_at client self.old) stamp self.old) }
     {
-        match self.action_clients.find(client) {
-            None => Ok(()),
-            Some(found) => {
-                let server = found.server();
-                self.send_cancel(client, server, GoalId::new(0), stamp)
-            }
-        }
+        let Some(found) = self.action_clients.find(client) else {
+            return Ok(());
+        };
+        let server = found.server();
+        self.send_cancel(client, server, GoalId::new(0), stamp)
     }
 
     fn cancel_goal(&mut self, client: EntityNo, number: u64, stamp: u64) -> Result<(), Memory>
         ensures { OnOk result (self.new ≡ cancel_goal_by (action_client_at client self.old) number stamp self.old) }
     {
-        match self.action_clients.find(client) {
-            None => Ok(()),
-            Some(found) => {
-                let server = found.server();
-                let id = found.goal_id(number);
-                self.send_cancel(client, server, id, stamp)
-            }
-        }
+        let Some(found) = self.action_clients.find(client) else {
+            return Ok(());
+        };
+        let server = found.server();
+        let id = found.goal_id(number);
+        self.send_cancel(client, server, id, stamp)
     }
 
     fn send_cancel(
@@ -176,12 +159,14 @@ impl<L: Lines> State<L> {
     ) -> Result<(), Memory>
         ensures { OnOk result (self.new ≡ push server (item.Cancel (record { id = id; stamp = stamp }) (Some client)) (add_line (line.Cancel client id stamp) self.old)) }
     {
-        self.add_line(Line::Cancel { client, id, stamp })?;
-        self.push(
+        let request = CancelRequest { id, stamp };
+        let sender = Some(client);
+        self.send(
+            Line::Cancel { client, id, stamp },
             server,
             Item::Cancel {
-                request: CancelRequest { id, stamp },
-                client: Some(client),
+                request,
+                client: sender,
             },
         )
     }
@@ -189,28 +174,22 @@ impl<L: Lines> State<L> {
     fn execute(&mut self, server: EntityNo) -> Result<(), Memory>
         ensures { OnOk result (self.new ≡ execute server self.old) }
     {
-        match self.servers.execute_oldest(server) {
-            None => Ok(()),
-            Some(id) => self.add_line(Line::State {
-                server,
-                id,
-                status: GoalStatus::Executing,
-            }),
-        }
+        let Some(id) = self.servers.execute_oldest(server) else {
+            return Ok(());
+        };
+        self.add_line(Line::State {
+            server,
+            id,
+            status: GoalStatus::Executing,
+        })
     }
 
     fn give_feedback(&mut self, server: EntityNo, why: &Cause, value: i64) -> Result<(), Memory>
         ensures { OnOk result (self.new ≡ give_feedback server why.now value self.old) }
     {
-        match why {
-            Cause::Due | Cause::Took(_) => Ok(()),
-            Cause::Woke { id, .. } => self.give_goal_feedback(server, *id, value),
-        }
-    }
-
-    fn give_goal_feedback(&mut self, server: EntityNo, id: GoalId, value: i64) -> Result<(), Memory>
-        ensures { OnOk result (self.new ≡ push_any (client_of server id self.old) (item.Feedback id value) (add_line (line.Feedback server id value) self.old)) }
-    {
+        let Cause::Woke { id, .. } = *why else {
+            return Ok(());
+        };
         let client = self.servers.client_of(server, id);
         self.add_line(Line::Feedback { server, id, value })?;
         self.push_any(client, Item::Feedback { id, value })

@@ -1,63 +1,98 @@
-//! Callbacks that run their script once, that nothing closes, and whose line has no identifier.
+//! Callbacks that run their script once, that nothing closes, and whose line has no identifier: most callbacks are such.
 use super::State;
+use super::callback::Callback;
 use exec_msg::{Kind, Line, Lines, Memory};
 use exec_rules::{Ready, call_in};
-use exec_script::{Close, EffectList, Input, Role};
+use exec_script::{Close, Effect, EffectList, Input, Role};
+use futures::task::Context;
+use std::marker::Model;
 
-impl<L: Lines> State<L> {
-    ghost use Rattle.std.specs.Prelude.{◌≡◌, true, OnOk};
+// A callback of a timer, a subscription or a service client, with its kind and what it is handed. Its cause isn't looked at
+// again.
+#[derive(Drop)]
+pub(super) struct Plain<'a> {
+    one: &'a Ready,
+    kind: Kind,
+    input: Input,
+}
+
+impl<'a> Model for Plain<'a> {
+    ghost use Rattle.std.specs.Prelude.{◌≡◌, true};
     ghost use Rattle.exec_rules.specs.Ready.{input_of, kind_of};
-    ghost use Rattle.exec_rules.specs.Run.{apart, brought_home, run};
+    ghost use Rattle.exec_rules.specs.declared.ready.Ready.{Ready};
     ghost use Rattle.exec_world.specs.inner.Plain.{is_plain};
 
-    // Runs one of a kind that is handed these numbers: of its cause nothing is asked any more.
+    ghost Value = { Ready };
+
+    ghost view = { λ plain. plain.one.now };
+
+    ghost invariant = { λ plain. (is_plain plain.one.now.cause ≡ true) × (kind_of plain.one.now.cause ≡ plain.kind) × (input_of plain.one.now ≡ plain.input) };
+}
+
+impl<'a> Plain<'a> {
+    ghost use Rattle.std.specs.Prelude.{◌≡◌, true};
+    ghost use Rattle.exec_rules.specs.Ready.{input_of, kind_of};
+    ghost use Rattle.exec_world.specs.inner.Plain.{is_plain};
+
+    // A callback of this kind, which is handed these numbers.
     #[inline(always)]
-    pub(super) fn run_plain(
-        &mut self,
-        one: &Ready,
-        kind: Kind,
-        first: i64,
-        aux: i64,
-        effects: &mut EffectList,
-    ) -> Result<(), Memory>
+    pub(super) fn of(one: &'a Ready, kind: Kind, first: i64, aux: i64) -> Plain<'a>
         requires plain { is_plain one.now.cause ≡ true }
         requires kind { kind_of one.now.cause ≡ kind }
         requires handed { input_of one.now ≡ record { first = first; aux = aux; moment = one.now.moment } }
-        ensures { OnOk result (self.new ≡ run one.now self.old) }
+        ensures { result ≡ one.now }
     {
         let input = Input {
             first,
             aux,
             moment: one.moment,
         };
-        self.run_script(one, &input, effects)?;
-        self.add_line(Line::Run {
-            entity: one.entity,
-            kind,
-            input: first,
-            aux,
-            id: None,
-        })?;
-        self.give_all(one, effects.as_slice())
+        Plain { one, kind, input }
     }
+}
 
-    // Runs its script apart from the world, with its group's variables where they stand, where this is what it is handed. The
-    // list then has its effects, and these alone.
+impl<'a, L: Lines> Callback<L> for Plain<'a> {
+    ghost ready = { λ one. one };
+
     #[inline(always)]
-    fn run_script(
-        &mut self,
-        one: &Ready,
-        input: &Input,
+    fn run_apart(
+        &self,
+        state: &mut State<L>,
         effects: &mut EffectList,
-    ) -> Result<(), Memory>
-        requires plain { is_plain one.now.cause ≡ true }
-        requires handed { input.now ≡ input_of one.now }
-        ensures effects { OnOk result (effects.new ≡ (apart one.now self.old).given) }
-        ensures home { OnOk result (self.new ≡ brought_home one.now (apart one.now self.old) self.old) }
-    {
+        _cx: &mut Context<'_>,
+    ) -> Result<Close, Memory> {
         effects.clear();
         let mut close = Close::Nothing;
-        let bank = self.banks.lend(one.exclusive, one.group);
-        call_in(Role::Callback, one, input, bank, effects, &mut close)
+        let bank = state.banks.lend(self.one.exclusive, self.one.group);
+        call_in(
+            Role::Callback,
+            self.one,
+            &self.input,
+            bank,
+            effects,
+            &mut close,
+        )?;
+        Ok(close)
+    }
+
+    #[inline(always)]
+    fn line(&self) -> Line {
+        Line::Run {
+            entity: self.one.entity,
+            kind: self.kind,
+            input: self.input.first,
+            aux: self.input.aux,
+            id: None,
+        }
+    }
+
+    #[inline(always)]
+    fn give_and_close(
+        &self,
+        state: &mut State<L>,
+        effects: &[Effect],
+        _closing: &Close,
+    ) -> Result<(), Memory> {
+        state.give_all(self.one, effects)
     }
 }

@@ -5,15 +5,14 @@ ghost use Rattle.exec_rules.specs.Transcript.{pending_by};
 
 use super::State;
 use crate::mail::Mail;
+use crate::scratch::Scratch;
 use exec_entity::{Client, Numbered};
 use exec_goal::CancelRequest;
 use exec_msg::{Line, Lines, Memory, Moment};
 use exec_plan::{Fed, Feed};
 use exec_queue::bring_home_to_timers;
-use exec_rules::{AwakeGoal, Homes, Item, Ready, ReadyList};
-use exec_script::EffectList;
+use exec_rules::Item;
 use futures::task::Context;
-use std::mem;
 
 impl<L: Lines> State<L> {
     ghost use Rattle.std.specs.Prelude.{◌≡◌, ◌≤◌, length, map, take, drop, OnOk};
@@ -22,7 +21,7 @@ impl<L: Lines> State<L> {
     ghost use Rattle.exec_rules.specs.World.{add_line};
     ghost use Rattle.exec_rules.specs.inner.Awake.{poll_at};
     ghost use Rattle.exec_rules.specs.inner.ByKind.{listed_by_kind, round_by_kind, taken_by_kind};
-    ghost use Rattle.exec_rules.specs.inner.Homes.{AreHomes, queue_handlers, timer_handlers};
+    ghost use Rattle.exec_world.specs.inner.Snapshots.{ScriptsComeFrom};
 
     // Begins the round of a number at a moment, and takes each input. The list then has the callbacks that are ready, and these
     // alone.
@@ -31,89 +30,63 @@ impl<L: Lines> State<L> {
         number: u64,
         moment: Moment,
         fed: &[Feed],
-        list: &mut ReadyList,
-        homes: &mut Homes,
+        scratch: &mut Scratch,
     ) -> Result<(), Memory>
-        ensures list { OnOk result (list.new ≡ listed_by_kind moment (feed fed.now (expire moment (add_line (line.Round number moment) self.old)))) }
+        ensures list { OnOk result (scratch.new.list ≡ listed_by_kind moment (feed fed.now (expire moment (add_line (line.Round number moment) self.old)))) }
         ensures taken { OnOk result (self.new ≡ taken_by_kind moment (feed fed.now (expire moment (add_line (line.Round number moment) self.old)))) }
-        ensures timers { OnOk result (AreHomes (timer_handlers self.new) list.new homes.new.timers.items) }
-        ensures queues { OnOk result (AreHomes (queue_handlers self.new) list.new homes.new.queues.items) }
     {
         self.open_round(number, moment, fed)?;
-        self.snapshot(moment, list, homes)?;
+        self.snapshot(moment, scratch)?;
         Ok(())
     }
 
-    // Runs the whole round of a number at a moment; goals are polled in a context that the caller has made. The lists have room
-    // that is used again.
+    // Runs the whole round of a number at a moment. Goals are polled in a context that the caller has made.
     pub(crate) fn run_round(
         &mut self,
         number: u64,
         moment: Moment,
         fed: &[Feed],
-        list: &mut ReadyList,
-        homes: &mut Homes,
-        effects: &mut EffectList,
+        scratch: &mut Scratch,
         cx: &mut Context<'_>,
     ) -> Result<(), Memory>
         ensures { OnOk result (self.new ≡ round_by_kind moment (feed fed.now (expire moment (add_line (line.Round number moment) self.old)))) }
     {
         self.open_round(number, moment, fed)?;
-        let mut goals = self.take_room();
-        let before = self.snapshot_in_parts(moment, list, &mut goals, homes)?;
-        self.run_parts(
-            moment,
-            list.as_slice(),
-            before,
-            goals.as_slice(),
-            effects,
-            cx,
-        )?;
-        self.put_room(goals);
-        self.bring_scripts_home(list, homes);
-        Ok(())
-    }
-
-    // The room for goals that are awake, which is used again.
-    pub(super) fn take_room(&mut self) -> Vec<AwakeGoal>
-        ensures { self.new ≡ self.old }
-    {
-        mem::replace(&mut self.awake, Vec::new(self.alloc))
-    }
-
-    pub(super) fn put_room(&mut self, goals: Vec<AwakeGoal>)
-        ensures { self.new ≡ self.old }
-    {
-        self.awake = goals;
-    }
-
-    // Runs so many callbacks of a list, polls these goals, and runs the others of the list, one after another.
-    fn run_parts(
-        &mut self,
-        moment: Moment,
-        list: &[Ready],
-        before: usize,
-        goals: &[AwakeGoal],
-        effects: &mut EffectList,
-        cx: &mut Context<'_>,
-    ) -> Result<(), Memory>
-        requires { before ≤ length list.now }
-        ensures { OnOk result (self.new ≡ run_all (drop before list.now) (run_all (map (poll_at moment) goals.now) (run_all (take before list.now) self.old))) }
-    {
-        self.run_all(&list[..before], effects, cx)?;
-        self.run_polls(moment, goals, effects, cx)?;
-        self.run_all(&list[before..], effects, cx)?;
+        let before = self.snapshot_in_parts(moment, scratch)?;
+        self.run_parts(moment, before, scratch, cx)?;
+        self.bring_scripts_home(scratch);
         Ok(())
     }
 
     // Brings home the scripts of callbacks that ran.
-    fn bring_scripts_home(&mut self, list: &mut ReadyList, homes: &Homes)
-        requires timers { AreHomes (timer_handlers self.old) list.old homes.now.timers.items }
-        requires queues { AreHomes (queue_handlers self.old) list.old homes.now.queues.items }
+    fn bring_scripts_home(&mut self, scratch: &mut Scratch)
+        requires { ScriptsComeFrom self.old scratch.old.list scratch.old.homes }
         ensures { self.new ≡ self.old }
     {
-        bring_home_to_timers(&mut self.timers, list, &homes.timers);
-        self.mail.bring_scripts_home(list, &homes.queues);
+        bring_home_to_timers(&mut self.timers, &mut scratch.list, &scratch.homes.timers);
+        self.mail
+            .bring_scripts_home(&mut scratch.list, &scratch.homes.queues);
+    }
+
+    // Runs the callbacks of the list that come before polls, polls the goals, and runs the others of the list, one after another.
+    fn run_parts(
+        &mut self,
+        moment: Moment,
+        before: usize,
+        scratch: &mut Scratch,
+        cx: &mut Context<'_>,
+    ) -> Result<(), Memory>
+        requires { before ≤ length scratch.old.list }
+        ensures ran { OnOk result (self.new ≡ run_all (drop before scratch.old.list)
+            (run_all (map (poll_at moment) scratch.old.goals.items) (run_all (take before scratch.old.list) self.old))) }
+        ensures list { scratch.new.list ≡ scratch.old.list }
+        ensures homes { scratch.new.homes ≡ scratch.old.homes }
+    {
+        let list = scratch.list.as_slice();
+        let effects = &mut scratch.effects;
+        self.run_all(&list[..before], effects, cx)?;
+        self.run_polls(moment, &scratch.goals, effects, cx)?;
+        self.run_all(&list[before..], effects, cx)
     }
 
     // Begins the round of a number at a moment: its line, expiry, and what is fed in it.
@@ -123,21 +96,6 @@ impl<L: Lines> State<L> {
         self.add_line(Line::Round { number, moment })?;
         self.expire(moment)?;
         self.feed(fed)?;
-        Ok(())
-    }
-
-    // Runs callbacks one after another, each where the one before it left the world.
-    pub(crate) fn run_all(
-        &mut self,
-        list: &[Ready],
-        effects: &mut EffectList,
-        cx: &mut Context<'_>,
-    ) -> Result<(), Memory>
-        ensures { OnOk result (self.new ≡ run_all list.now self.old) }
-    {
-        for one in list {
-            self.run(one, effects, cx)?;
-        }
         Ok(())
     }
 

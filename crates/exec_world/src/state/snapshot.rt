@@ -4,138 +4,114 @@ ghost use Rattle.exec_rules.specs.Ready.{answered_by_first};
 ghost use Rattle.exec_world.specs.inner.Snapshots.{replies_at, with_reply_at};
 
 use super::State;
+use crate::fronts::Fronts;
+use crate::scratch::Scratch;
 use exec_entity::Clients;
 use exec_msg::{EntityNo, Lines, Memory, Moment};
 use exec_queue::{Queues, take_due_into};
-use exec_rules::{AwakeGoal, Home, Homes, Item, ReadyList};
+use exec_rules::Item;
 
 impl<L: Lines> State<L> {
     ghost use Rattle.std.specs.Prelude.{◌≡◌, ◌+◌, ◌≤◌, length, map, take, drop, IfOk, OnOk};
     ghost use Rattle.std.specs.List.{flat_map, fold};
-    ghost use Rattle.exec_rules.specs.Ready.{placed_from, poll_ready, queue_ready, reply_taken, timer_taken};
-    ghost use Rattle.exec_rules.specs.inner.ByKind.{listed_by_kind, queues_before_polls, queues_behind_polls, taken_by_kind};
+    ghost use Rattle.exec_rules.specs.Ready.{placed_from, queue_ready, reply_taken, timer_taken};
+    ghost use Rattle.exec_rules.specs.inner.ByKind.{listed_by_kind, queues_before_polls, taken_by_kind};
     ghost use Rattle.exec_rules.specs.inner.Awake.{awake_goals};
     ghost use Rattle.exec_rules.specs.inner.ByKind.{ready_before, ready_behind};
-    ghost use Rattle.exec_rules.specs.inner.Homes.{AreHomes, queue_handlers, timer_handlers};
+    ghost use Rattle.exec_rules.specs.World.{WorldState};
+    ghost use Rattle.exec_rules.specs.inner.Homes.{queue_handlers};
     ghost use Rattle.exec_rules.specs.inner.Listing.{listed_behind};
+    ghost use Rattle.exec_world.specs.inner.Snapshots.{ScriptsComeFrom, filled_places, queues_in_part};
 
     // Takes each input at a moment. The list then has the callbacks that are ready, and these alone.
-    pub(crate) fn snapshot(
-        &mut self,
-        moment: Moment,
-        list: &mut ReadyList,
-        homes: &mut Homes,
-    ) -> Result<(), Memory>
-        ensures list { OnOk result (list.new ≡ listed_by_kind moment self.old) }
+    pub(super) fn snapshot(&mut self, moment: Moment, scratch: &mut Scratch) -> Result<(), Memory>
+        ensures list { OnOk result (scratch.new.list ≡ listed_by_kind moment self.old) }
         ensures taken { OnOk result (self.new ≡ taken_by_kind moment self.old) }
-        ensures timers { OnOk result (AreHomes (timer_handlers self.old) list.new homes.new.timers.items) }
-        ensures queues { OnOk result (AreHomes (queue_handlers self.old) list.new homes.new.queues.items) }
     {
-        self.list_first(moment, list, homes)?;
-        self.list_polls(moment, list)?;
-        self.list_behind_polls(moment, list, &mut homes.queues)?;
+        self.list_first(moment, scratch)?;
+        self.servers
+            .list_polls(self.alloc, moment, &mut scratch.goals, &mut scratch.list)?;
+        self.list_queues(false, moment, scratch)?;
         self.mail.take_first();
         Ok(())
     }
 
-    // Takes each input at a moment, and makes a list of the goals that are awake. The other list then has the callbacks that are
-    // ready but for polls, and these alone; so many of them are ready before polls.
-    pub(crate) fn snapshot_in_parts(
+    // Takes each input at a moment, and lists the goals that are awake. The ready list then has the other callbacks that are
+    // ready, and these alone. The answer is how many of them come before polls.
+    pub(super) fn snapshot_in_parts(
         &mut self,
         moment: Moment,
-        list: &mut ReadyList,
-        goals: &mut Vec<AwakeGoal>,
-        homes: &mut Homes,
+        scratch: &mut Scratch,
     ) -> Result<usize, Memory>
-        ensures within { IfOk result (λ before. before ≤ length list.new) }
-        ensures first { IfOk result (λ before. take before list.new ≡ placed_from 1 (ready_before moment self.old)) }
-        ensures goals { OnOk result (goals.new.items ≡ flat_map (awake_goals moment) self.old.servers) }
-        ensures last { IfOk result (λ before. drop before list.new ≡ placed_from (before + 1) (ready_behind moment self.old)) }
+        ensures within { IfOk result (λ before. before ≤ length scratch.new.list) }
+        ensures first { IfOk result (λ before. take before scratch.new.list ≡ placed_from 1 (ready_before moment self.old)) }
+        ensures goals { OnOk result (scratch.new.goals.items ≡ flat_map (awake_goals moment) self.old.servers) }
+        ensures last { IfOk result (λ before. drop before scratch.new.list ≡ placed_from (before + 1) (ready_behind moment self.old)) }
         ensures taken { OnOk result (self.new ≡ taken_by_kind moment self.old) }
-        ensures timers { OnOk result (AreHomes (timer_handlers self.old) list.new homes.new.timers.items) }
-        ensures queues { OnOk result (AreHomes (queue_handlers self.old) list.new homes.new.queues.items) }
+        ensures homes { OnOk result (ScriptsComeFrom self.old scratch.new.list scratch.new.homes) }
     {
-        self.list_first(moment, list, homes)?;
-        let before = list.as_slice().len();
-        self.servers.awake_goals(moment, goals)?;
-        self.list_behind_polls(moment, list, &mut homes.queues)?;
+        self.list_first(moment, scratch)?;
+        let before = scratch.list.as_slice().len();
+        self.list_queues(false, moment, scratch)?;
+        self.servers.awake_goals(moment, &mut scratch.goals)?;
         self.mail.take_first();
         Ok(before)
     }
 
-    // Lists the callbacks that are ready before polls, and these alone. Timers are called, and calls have the replies that are
-    // taken.
-    fn list_first(
-        &mut self,
-        moment: Moment,
-        list: &mut ReadyList,
-        homes: &mut Homes,
-    ) -> Result<(), Memory>
-        ensures list { OnOk result (list.new ≡ placed_from 1 (ready_before moment self.old)) }
-        ensures taken { OnOk result (self.new ≡ record self.old { timers = map (timer_taken moment) self.old.timers; clients = fold reply_taken self.old.clients (queues_before_polls self.old) }) }
-        ensures timers { OnOk result (AreHomes (timer_handlers self.old) list.new homes.new.timers.items) }
-        ensures queues { OnOk result (AreHomes (queue_handlers self.old) list.new homes.new.queues.items) }
+    // Lists the callbacks that come before polls, and these alone. Timers are called, and calls have the replies that are taken.
+    fn list_first(&mut self, moment: Moment, scratch: &mut Scratch) -> Result<(), Memory>
+        ensures list { OnOk result (scratch.new.list ≡ placed_from 1 (ready_before moment self.old)) }
+        ensures taken { OnOk result (self.new ≡ record self.old {
+          timers = map (timer_taken moment) self.old.timers;
+          clients = fold reply_taken self.old.clients (queues_before_polls self.old);
+        }) }
+        ensures homes { OnOk result (ScriptsComeFrom self.old scratch.new.list scratch.new.homes) }
     {
-        list.clear();
-        homes.clear();
+        scratch.list.clear();
+        scratch.homes.clear();
         take_due_into(
             self.alloc,
             &mut self.timers,
             moment,
-            list,
-            &mut homes.timers,
+            &mut scratch.list,
+            &mut scratch.homes.timers,
         )?;
-        self.list_before_polls(moment, list, &mut homes.queues)?;
+        self.list_queues(true, moment, scratch)?;
+        answer_calls(&mut self.clients, self.mail.queues(), &scratch.places);
         Ok(())
     }
 
-    // Lists the callbacks that take from queues and are ready before polls, and gives calls the replies that are taken.
-    fn list_before_polls(
+    // Lists the callbacks that take from the queues of kinds before polls, or of the other kinds. The places are then those of
+    // the queues with an item.
+    fn list_queues(
         &mut self,
+        before_polls: bool,
         moment: Moment,
-        list: &mut ReadyList,
-        homes: &mut Vec<Home>,
+        scratch: &mut Scratch,
     ) -> Result<(), Memory>
-        ensures list { OnOk result (list.new ≡ listed_behind list.old (flat_map (queue_ready moment self.old) (queues_before_polls self.old))) }
-        ensures taken { OnOk result (self.new ≡ record self.old { clients = fold reply_taken self.old.clients (queues_before_polls self.old) }) }
-        ensures homes { OnOk result (AreHomes (queue_handlers self.old) list.old homes.old.items → AreHomes (queue_handlers self.old) list.new homes.new.items) }
-    {
-        self.mail.list_filled(true, &mut self.places)?;
-        self.mail.list_fronts(self.alloc, moment, &self.places, &self.servers, list, homes)?;
-        answer_calls(&mut self.clients, self.mail.queues(), &self.places);
-        Ok(())
-    }
-
-    // Lists a poll for each goal that is awake.
-    fn list_polls(&mut self, moment: Moment, list: &mut ReadyList) -> Result<(), Memory>
-        ensures list { OnOk result (list.new ≡ listed_behind list.old (flat_map (poll_ready moment) self.old.servers)) }
+        ensures list { OnOk result (scratch.new.list
+            ≡ listed_behind scratch.old.list (flat_map (queue_ready moment self.old) (queues_in_part before_polls self.old))) }
+        ensures places { OnOk result (scratch.new.places.items ≡ filled_places before_polls self.old.queues) }
         ensures same { self.new ≡ self.old }
+        ensures homes { OnOk result ((world : WorldState) → queue_handlers world ≡ queue_handlers self.old
+            → ScriptsComeFrom world scratch.old.list scratch.old.homes → ScriptsComeFrom world scratch.new.list scratch.new.homes) }
     {
-        let mut room = self.take_room();
-        self.servers
-            .list_polls(self.alloc, moment, &mut room, list)?;
-        self.put_room(room);
-        Ok(())
-    }
-
-    // Lists the callbacks that take from queues and are ready behind polls.
-    fn list_behind_polls(
-        &mut self,
-        moment: Moment,
-        list: &mut ReadyList,
-        homes: &mut Vec<Home>,
-    ) -> Result<(), Memory>
-        ensures list { OnOk result (list.new ≡ listed_behind list.old (flat_map (queue_ready moment self.old) (queues_behind_polls self.old))) }
-        ensures same { self.new ≡ self.old }
-        ensures homes { OnOk result (AreHomes (queue_handlers self.old) list.old homes.old.items → AreHomes (queue_handlers self.old) list.new homes.new.items) }
-    {
-        self.mail.list_filled(false, &mut self.places)?;
-        self.mail.list_fronts(self.alloc, moment, &self.places, &self.servers, list, homes)?;
-        Ok(())
+        self.mail.list_filled(before_polls, &mut scratch.places)?;
+        let fronts = Fronts {
+            alloc: self.alloc,
+            moment,
+            servers: &self.servers,
+        };
+        self.mail.list_fronts(
+            &fronts,
+            &scratch.places,
+            &mut scratch.list,
+            &mut scratch.homes.queues,
+        )
     }
 }
 
-// Gives calls the replies that stand first in the queues at these places. Where there is no client, it looks at no queue.
+// Gives calls the replies that are the oldest items of the queues at these places. If there is no client, it looks at no queue.
 fn answer_calls(clients: &mut Clients, queues: &Queues, places: &[usize])
     ensures { clients.new ≡ replies_at queues.now clients.old places.now }
 {
@@ -147,17 +123,17 @@ fn answer_calls(clients: &mut Clients, queues: &Queues, places: &[usize])
     }
 }
 
-// Gives a call the reply that stands first in the queue at a place, if one does.
+// Gives a call the reply that is the oldest item of the queue at a place, if it is one.
 fn answer_call(clients: &mut Clients, queues: &Queues, place: usize)
     ensures { clients.new ≡ with_reply_at queues.now clients.old place }
 {
-    let Some(handler) = queues.handler(place) else {
+    let Some(queue) = queues.at(place) else {
         return;
     };
-    let Some(item) = queues.front(place) else {
+    let Some(item) = queue.front() else {
         return;
     };
-    answer_by(clients, handler.entity, item);
+    answer_by(clients, queue.handler().entity, item);
 }
 
 // Gives a client's call the reply that this item is, if it is one.

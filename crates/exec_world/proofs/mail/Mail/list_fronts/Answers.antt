@@ -6,5 +6,5 @@ use Rattle.exec_world.proofs.mail.Mail.list_fronts.Goals as goal
 
 pub returns-clause-homes : goal.returns-clause-homes
 returns-clause-homes g c =
-    subst (λ (mail : MailState). OnOk c.list_fronts.result (AreHomes (handlers_of mail.queues) c.args.list.now c.args.homes.now.items → AreHomes (handlers_of mail.queues) c.list_fronts.new.list c.list_fronts.new.homes.items))
-    c.self.view_is c.list_fronts.ensures.homes
+    subst (λ (mail : MailState). OnOk c.list_all.result (AreHomes (handlers_of mail.queues) c.args.list.now c.args.homes.now.items → AreHomes (handlers_of mail.queues) c.list_all.new.list c.list_all.new.homes.items))
+    c.self.view_is c.list_all.ensures.homes

@@ -10,8 +10,8 @@ use Rattle.exec_rules.specs.World.{WorldState, add_line, goals_of}
 use Rattle.exec_entity.specs.inner.Servers.{executed_in}
 use Rattle.exec_world.proofs.state.State.execute.Goals as goal
 
-pub returns-in-Some : goal.returns-in-Some
-returns-in-Some g c =
+pub returns : goal.returns
+returns g c =
     let here = c.self.view_is in
     let servers = c.execute_oldest.ensures.executed ∙ ap (λ (world : WorldState). executed_in c.args.server (oldest_accepted c.args.server world) world.servers) here in
     let found = ap (λ (world : WorldState). option_map (λ (goal : GoalRecord). goal.id) (oldest_accepted c.args.server world)) (sym here) ∙ sym c.in-Some.ensures.found in

@@ -7,8 +7,8 @@ use Rattle.exec_rules.specs.declared.item.Item.TheVariants as item
 use Rattle.exec_world.specs.inner.Mail.{mail_of, sent_to_each, with_mail}
 use Rattle.exec_world.proofs.state.State.publish.Goals as goal
 
-pub returns-in-Some : goal.returns-in-Some
-returns-in-Some g c =
+pub returns : goal.returns
+returns g c =
     let here = c.self.view_is in
     let fits : SFits w64 c.args.value = search rules in
     let value = to_z-of_z w64 c.args.value fits in

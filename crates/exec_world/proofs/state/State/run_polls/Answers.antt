@@ -10,7 +10,7 @@ use Rattle.exec_world.proofs.state.State.run_polls.Goals as goal
 
 pub loop-goal-preserved : goal.loop-goal-preserved
 loop-goal-preserved g c =
-    c.in_ok-run_poll.ensures
+    c.in_ok-run_as.ensures
     ∙ ap (λ (world : WorldState). run (poll_at c.args.moment c.goal-item.result) world) c.loop-goal.invariant
     ∙ polls_more c.args.moment c.args.goals.now c.loop-goal.goal-index c.goal-item.result c.args.self.now c.loop-goal-test.true c.goal-item.is
 

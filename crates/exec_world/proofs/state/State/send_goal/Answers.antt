@@ -10,13 +10,13 @@ use Rattle.exec_rules.specs.World.{ActionClientEntry, WorldState, action_client_
 use Rattle.exec_rules.specs.declared.item.Item.TheVariants as item
 use Rattle.exec_world.proofs.state.State.send_goal.Goals as goal
 
-pub returns-in-Some : goal.returns-in-Some
-returns-in-Some g c =
+pub returns : goal.returns
+returns g c =
     let here = c.self.view_is in
     let fits : SFits w64 c.args.value = search rules in
     let value = to_z-of_z w64 c.args.value fits in
-    let clients = c.in_ok-send_goal.ensures.sent ∙ ap (λ (world : WorldState). change_first (is_action_client_at c.args.client) (λ (entry : ActionClientEntry). record entry { goals = entry.goals + 1 }) world.action_clients) here in
-    let made = ap (λ (world : WorldState). option_map {U = ℕ × ℕ} (λ (entry : ActionClientEntry). (entry.server, goal_id entry.place (entry.goals + 1))) (action_client_at c.args.client world)) (sym here) ∙ sym c.in_ok-send_goal.ensures.made ∙ c.in-Some.is in
-    on_ok_weaker c.send_request.result (λ sent. sent
+    let clients = c.in_ok-made.ensures.sent ∙ ap (λ (world : WorldState). change_first (is_action_client_at c.args.client) (λ (entry : ActionClientEntry). record entry { goals = entry.goals + 1 }) world.action_clients) here in
+    let made = ap (λ (world : WorldState). option_map {U = ℕ × ℕ} (λ (entry : ActionClientEntry). (entry.server, goal_id entry.place (entry.goals + 1))) (action_client_at c.args.client world)) (sym here) ∙ sym c.in_ok-made.ensures.made ∙ c.in-Some.is in
+    on_ok_weaker c.send.result (λ sent. sent
     ∙ (λ i. push c.in-Some.made.0 (item.Goal c.in-Some.made.1 (Some c.args.client) (value i)) (add_line (line.Goal c.args.client c.in-Some.made.1 (value i)) (record (here i) { action_clients = clients i })))
-    ∙ goal_sent c.args.client c.args.value c.args.self.now (action_client_at c.args.client c.args.self.now) refl c.in-Some.made.0 c.in-Some.made.1 made) c.send_request.ensures
+    ∙ goal_sent c.args.client c.args.value c.args.self.now (action_client_at c.args.client c.args.self.now) refl c.in-Some.made.0 c.in-Some.made.1 made) c.send.ensures

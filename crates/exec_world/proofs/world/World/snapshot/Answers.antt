@@ -20,7 +20,7 @@ invariant_of-self-2 g c =
     let told = sym c.is_err.ensures.value ∙ c.if-is_err.false in
     let before : WorldState = feed c.fed_in.result.now (expire c.index-moments-round.result (add_line (line.Round c.args.round c.index-moments-round.result) c.self.inside.state)) in
     let taken = not_refused _ _ told c.begin_round-begun.ensures.taken in
-    let begun : length c.as_slice.result.now == 0 ≡ false → 1 ≤ c.args.round = search rules in (
+    let begun : c.len-self-inside.result == 0 ≡ false → 1 ≤ c.args.round = search rules in (
       c.self.invariant.0,
       c.self.invariant.1,
       begun,
@@ -36,7 +36,7 @@ returns-clause-home g c =
     let fed = fed_sound plan c.args.round c.index-moments-round.result c.fed_in.result.now c.self.inside.state (c.self.invariant.3 unfailed) in
     let listed = not_refused _ _ told c.begin_round-begun.ensures.list ∙ sym (sound_listed plan c.index-moments-round.result before fed) in
     let taken = not_refused _ _ told c.begin_round-begun.ensures.taken ∙ sym (sound_taken plan c.index-moments-round.result before fed) in
-    subst (λ (list : List Ready). AreHome list c.begin_round-begun.new.self) (sym (c.into_vec.ensures ∙ listed))
+    subst (λ (list : List Ready). AreHome list c.begin_round-begun.new.self) (sym (c.take_list-list.ensures ∙ listed))
     (subst (λ (state : WorldState). AreHome (ready_list c.index-moments-round.result before) state) (sym taken) (snapshot_home plan c.index-moments-round.result before fed))
 
 pub returns-clause-variables : goal.returns-clause-variables
@@ -48,7 +48,7 @@ returns-clause-variables g c =
     let fed = fed_sound plan c.args.round c.index-moments-round.result c.fed_in.result.now c.self.inside.state (c.self.invariant.3 unfailed) in
     let listed = not_refused _ _ told c.begin_round-begun.ensures.list ∙ sym (sound_listed plan c.index-moments-round.result before fed) in
     let taken = not_refused _ _ told c.begin_round-begun.ensures.taken ∙ sym (sound_taken plan c.index-moments-round.result before fed) in
-    subst (λ (list : List Ready). HaveVariables list c.begin_round-begun.new.self) (sym (c.into_vec.ensures ∙ listed))
+    subst (λ (list : List Ready). HaveVariables list c.begin_round-begun.new.self) (sym (c.take_list-list.ensures ∙ listed))
     (subst (λ (state : WorldState). HaveVariables (ready_list c.index-moments-round.result before) state) (sym taken) (snapshot_variables plan c.index-moments-round.result before fed.shape))
 
 pub returns-clause-ready : goal.returns-clause-ready
@@ -63,8 +63,8 @@ returns-clause-ready g c =
     let next = c.requires c.in_ok-check.ensures.ok in
     let at = begun plan c.self.inside.state c.args.self.now number c.moments.result.now moment c.fed_in.result.now next (ap (λ (world : WorldData). world.plan) c.self.view_is) (ap (λ (world : WorldData). world.state) c.self.view_is)
     (c.moments.ensures ∙ ap (λ (one : PlanData). one.moments) c.deref.ensures) c.index-moments-round.is (c.fed_in.ensures plan c.self.invariant.0) in
-    let listed : c.begin_round-begun.new.list ≡ ready_in number c.args.self.now = not_refused _ _ told c.begin_round-begun.ensures.list ∙ sym (sound_listed plan moment before fed) ∙ (λ i. ready_list (at.0 i) (at.1 i)) in
-    c.into_vec.ensures ∙ listed
+    let listed : c.begin_round-begun.new.scratch.list ≡ ready_in number c.args.self.now = not_refused _ _ told c.begin_round-begun.ensures.list ∙ sym (sound_listed plan moment before fed) ∙ (λ i. ready_list (at.0 i) (at.1 i)) in
+    c.take_list-list.ensures ∙ listed
 
 pub returns-clause-taken : goal.returns-clause-taken
 returns-clause-taken g c =
@@ -78,8 +78,10 @@ returns-clause-taken g c =
     let next = c.requires c.in_ok-check.ensures.ok in
     let at = begun plan c.self.inside.state c.args.self.now number c.moments.result.now moment c.fed_in.result.now next (ap (λ (world : WorldData). world.plan) c.self.view_is) (ap (λ (world : WorldData). world.state) c.self.view_is)
     (c.moments.ensures ∙ ap (λ (one : PlanData). one.moments) c.deref.ensures) c.index-moments-round.is (c.fed_in.ensures plan c.self.invariant.0) in
-    let listed : c.begin_round-begun.new.list ≡ ready_in number c.args.self.now = not_refused _ _ told c.begin_round-begun.ensures.list ∙ sym (sound_listed plan moment before fed) ∙ (λ i. ready_list (at.0 i) (at.1 i)) in
+    let listed : c.begin_round-begun.new.scratch.list ≡ ready_in number c.args.self.now = not_refused _ _ told c.begin_round-begun.ensures.list ∙ sym (sound_listed plan moment before fed) ∙ (λ i. ready_list (at.0 i) (at.1 i)) in
     let taken : c.begin_round-begun.new.self ≡ take_inputs (moment_of number c.args.self.now.plan) (state_at number c.args.self.now) =
     not_refused _ _ told c.begin_round-begun.ensures.taken ∙ sym (sound_taken plan moment before fed) ∙ (λ i. take_inputs (at.0 i) (at.1 i)) in
-    (λ i. record { plan = (c.self.view_is i).plan; state = c.begin_round-begun.new.self; rounds = rounds_in number (length (c.as_slice.ensures i)); left = length (c.as_slice.ensures i); failed = (c.self.view_is i).failed })
-    ∙ snapshot_kept c.args.self.now number c.begin_round-begun.new.list c.begin_round-begun.new.self next.next listed taken
+    let sized : c.len-self-inside.result ≡ length c.take_list-list.result.items = search rules in
+    let count = sized ∙ ap length c.take_list-list.ensures in
+    (λ i. record { plan = (c.self.view_is i).plan; state = c.begin_round-begun.new.self; rounds = rounds_in number (count i); left = count i; failed = (c.self.view_is i).failed })
+    ∙ snapshot_kept c.args.self.now number c.begin_round-begun.new.scratch.list c.begin_round-begun.new.self next.next listed taken

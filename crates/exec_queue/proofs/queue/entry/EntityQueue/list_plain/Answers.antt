@@ -2,7 +2,7 @@ use Rattle.std.proofs.Common.{slice_get, ap, ◌∙◌}
 use Rattle.exec_rules.proofs.ScriptsHome.{has_script}
 use Rattle.exec_rules.specs.World.{Queue}
 use Rattle.exec_rules.specs.declared.ready.Ready.{Ready}
-use Rattle.exec_queue.proofs.queue.entry.Entry.list_plain.Goals as goal
+use Rattle.exec_queue.proofs.queue.entry.EntityQueue.list_plain.Goals as goal
 
 pub returns-clause-homes : goal.returns-clause-homes
 returns-clause-homes c handlers there are =

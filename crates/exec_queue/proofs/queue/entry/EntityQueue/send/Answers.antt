@@ -3,7 +3,7 @@ use Rattle.exec_msg.specs.KeepLast.{BoundedQueue}
 use Rattle.exec_rules.specs.declared.item.Item.{Item}
 use Rattle.exec_queue.proofs.Filled.{has_sent}
 use Rattle.exec_queue.specs.inner.Queues.{has_item}
-use Rattle.exec_queue.proofs.queue.entry.Entry.send.Goals as goal
+use Rattle.exec_queue.proofs.queue.entry.EntityQueue.send.Goals as goal
 
 pub returns-clause-has : goal.returns-clause-has
 returns-clause-has c =

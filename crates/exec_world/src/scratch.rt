@@ -1,0 +1,41 @@
+//! What a round works with.
+use exec_rules::{AwakeGoal, Homes, Ready, ReadyList};
+use exec_script::EffectList;
+use std::alloc::Global;
+use std::mem;
+
+// What a round lists, and what the callback that runs does. The next round uses the same memory again, and none of what is in it.
+#[derive(Drop)]
+pub(crate) struct Scratch {
+    // The callbacks that are ready, and where their scripts come from.
+    pub(crate) list: ReadyList,
+    pub(crate) homes: Homes,
+    // The goals that are awake.
+    pub(crate) goals: Vec<AwakeGoal>,
+    // The places of queues that have an item.
+    pub(crate) places: Vec<usize>,
+    // The effects of the callback that runs.
+    pub(crate) effects: EffectList,
+}
+
+impl Scratch {
+    ghost use Rattle.std.specs.Prelude.{◌≡◌};
+
+    // Nothing is listed. It takes no memory.
+    pub(crate) fn new(alloc: Global) -> Scratch {
+        Scratch {
+            list: ReadyList::new(alloc),
+            homes: Homes::new(alloc),
+            goals: Vec::new(alloc),
+            places: Vec::new(alloc),
+            effects: EffectList::new(alloc),
+        }
+    }
+
+    // The ready list, which is then empty.
+    pub(crate) fn take_list(&mut self, alloc: Global) -> Vec<Ready>
+        ensures { result.items ≡ self.old.list }
+    {
+        mem::replace(&mut self.list, ReadyList::new(alloc)).into_vec()
+    }
+}

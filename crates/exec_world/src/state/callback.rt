@@ -1,0 +1,229 @@
+//! How a ready callback runs: one body, over the steps that depend on what is known of the callback.
+ghost use Rattle.std.specs.Prelude.{◌≡◌, IfOk, OnOk};
+ghost use Rattle.exec_rules.specs.Close.{close_callback};
+ghost use Rattle.exec_rules.specs.Give.{give_all};
+ghost use Rattle.exec_rules.specs.Ready.{run_line};
+ghost use Rattle.exec_rules.specs.Run.{apart, brought_home};
+ghost use Rattle.exec_rules.specs.declared.ready.Ready.{Ready};
+
+use super::State;
+use super::plain::Plain;
+use exec_msg::{Kind, Line, Lines, Memory};
+use exec_rules::{Cause, Item, Ready, call_in, take_item};
+use exec_script::{Close, Effect, EffectList, Input, Role};
+use exec_task::Turn;
+use futures::task::Context;
+use std::marker::Model;
+
+// A ready callback, with what is known of it when it runs.
+pub(super) trait Callback<L: Lines> {
+    // The callback.
+    ghost ready: { Self → Ready };
+
+    // Runs it apart from the world, with its group's variables and its goal's task where the world keeps them, and answers what
+    // closes it. The list then has its effects, and these alone.
+    fn run_apart(
+        &self,
+        state: &mut State<L>,
+        effects: &mut EffectList,
+        cx: &mut Context<'_>,
+    ) -> Result<Close, Memory>
+        ensures effects { OnOk result (effects.new ≡ (apart (ready self.now) state.old).given) }
+        ensures close { IfOk result (λ close. close ≡ (apart (ready self.now) state.old).close) }
+        ensures home { OnOk result (state.new ≡ brought_home (ready self.now) (apart (ready self.now) state.old) state.old) };
+
+    // The line with which it begins.
+    fn line(&self) -> Line
+        ensures { result ≡ run_line (ready self.now) };
+
+    // Gives its effects to the world, and then closes it there.
+    fn give_and_close(
+        &self,
+        state: &mut State<L>,
+        effects: &[Effect],
+        closing: &Close,
+    ) -> Result<(), Memory>
+        ensures { OnOk result (state.new ≡ close_callback (ready self.now) closing.now (give_all (ready self.now) effects.now state.old)) };
+}
+
+impl<L: Lines> State<L> {
+    ghost use Rattle.std.specs.Prelude.{◌≡◌, OnOk};
+    ghost use Rattle.exec_rules.specs.Run.{commit, run};
+    ghost use Rattle.exec_rules.specs.Transcript.{run_all};
+
+    // Runs callbacks one after another, each in the world that the one before it left.
+    pub(crate) fn run_all(
+        &mut self,
+        list: &[Ready],
+        effects: &mut EffectList,
+        cx: &mut Context<'_>,
+    ) -> Result<(), Memory>
+        ensures { OnOk result (self.new ≡ run_all list.now self.old) }
+    {
+        for one in list {
+            self.run(one, effects, cx)?;
+        }
+        Ok(())
+    }
+
+    // Runs a ready callback. The causes that most callbacks have are distinguished here, once.
+    #[inline(always)]
+    fn run(
+        &mut self,
+        one: &Ready,
+        effects: &mut EffectList,
+        cx: &mut Context<'_>,
+    ) -> Result<(), Memory>
+        ensures { OnOk result (self.new ≡ run one.now self.old) }
+    {
+        match one.cause {
+            Cause::Due => {
+                let ticks = one.moment.ticks() as i64;
+                self.run_as(&Plain::of(one, Kind::Timer, ticks, 0), effects, cx)
+            }
+            Cause::Took(Item::Message { value }) => {
+                self.run_as(&Plain::of(one, Kind::Message, value, 0), effects, cx)
+            }
+            Cause::Took(Item::Reply { number, value }) => {
+                let call = number.cast_signed();
+                self.run_as(&Plain::of(one, Kind::Reply, value, call), effects, cx)
+            }
+            _ => self.run_as(&Handed::of(one), effects, cx),
+        }
+    }
+
+    // The same of any form of it. A goal is polled in a context that the caller has made. The list has room for effects, which is
+    // used again and again.
+    #[inline(always)]
+    pub(super) fn run_as<C: Callback<L>>(
+        &mut self,
+        callback: &C,
+        effects: &mut EffectList,
+        cx: &mut Context<'_>,
+    ) -> Result<(), Memory>
+        ensures { OnOk result (self.new ≡ run (C.ready callback.now) self.old) }
+    {
+        let close = callback.run_apart(self, effects, cx)?;
+        self.commit_as(callback, effects.as_slice(), &close)
+    }
+
+    // Gives to the world what a ready callback did apart from it.
+    pub(crate) fn commit(
+        &mut self,
+        one: &Ready,
+        effects: &[Effect],
+        close: &Close,
+    ) -> Result<(), Memory>
+        ensures { OnOk result (self.new ≡ commit one.now (record { list = effects.now; close = close.now }) self.old) }
+    {
+        self.commit_as(&Handed::of(one), effects, close)
+    }
+
+    // The same of any form of it.
+    #[inline(always)]
+    fn commit_as<C: Callback<L>>(
+        &mut self,
+        callback: &C,
+        effects: &[Effect],
+        close: &Close,
+    ) -> Result<(), Memory>
+        ensures { OnOk result (self.new ≡ commit (C.ready callback.now) (record { list = effects.now; close = close.now }) self.old) }
+    {
+        self.add_line(callback.line())?;
+        callback.give_and_close(self, effects, close)
+    }
+}
+
+// A ready callback of any kind, with what it is handed.
+#[derive(Drop)]
+struct Handed<'a> {
+    one: &'a Ready,
+    input: Input,
+}
+
+impl<'a> Model for Handed<'a> {
+    ghost use Rattle.std.specs.Prelude.{◌≡◌};
+    ghost use Rattle.exec_rules.specs.Ready.{input_of};
+    ghost use Rattle.exec_rules.specs.declared.ready.Ready.{Ready};
+
+    ghost Value = { Ready };
+
+    ghost view = { λ handed. handed.one.now };
+
+    ghost invariant = { λ handed. handed.input ≡ input_of handed.one.now };
+}
+
+impl<'a> Handed<'a> {
+    ghost use Rattle.std.specs.Prelude.{◌≡◌};
+
+    #[inline(always)]
+    fn of(one: &'a Ready) -> Handed<'a>
+        ensures { result ≡ one.now }
+    {
+        Handed {
+            one,
+            input: one.input(),
+        }
+    }
+}
+
+impl<'a, L: Lines> Callback<L> for Handed<'a> {
+    ghost ready = { λ one. one };
+
+    #[inline(always)]
+    fn run_apart(
+        &self,
+        state: &mut State<L>,
+        effects: &mut EffectList,
+        cx: &mut Context<'_>,
+    ) -> Result<Close, Memory> {
+        effects.clear();
+        let one = self.one;
+        let bank = state.banks.lend(one.exclusive, one.group);
+        match &one.cause {
+            Cause::Due => {
+                let mut close = Close::Nothing;
+                call_in(Role::Callback, one, &self.input, bank, effects, &mut close)?;
+                Ok(close)
+            }
+            Cause::Took(item) => {
+                let mut close = Close::Nothing;
+                take_item(
+                    state.alloc,
+                    item,
+                    one,
+                    &self.input,
+                    bank,
+                    effects,
+                    &mut close,
+                )?;
+                Ok(close)
+            }
+            Cause::Woke { id, canceling, .. } => {
+                let turn = Turn {
+                    moment: one.moment,
+                    canceling: *canceling,
+                };
+                state
+                    .servers
+                    .poll(one.entity, *id, &turn, bank, cx, effects)
+            }
+        }
+    }
+
+    #[inline(always)]
+    fn line(&self) -> Line {
+        self.one.run_line(&self.input)
+    }
+
+    #[inline(always)]
+    fn give_and_close(
+        &self,
+        state: &mut State<L>,
+        effects: &[Effect],
+        closing: &Close,
+    ) -> Result<(), Memory> {
+        state.give_all(self.one, effects)?;
+        state.close(self.one, closing)
+    }
+}
