@@ -22,7 +22,7 @@ use std::snapshot::Snapshot;
 
 type LaneTable = Table<Option<LaneBox>, View, Opening, Claims, Global>;
 
-/// Lanes that callers in any threads claim, each with a pass of its own, and run, one caller a lane at a time.
+/// Lanes that callers in any threads claim and run, one caller a lane at a time. Each caller has a pass of its own.
 #[derive(Drop)]
 pub struct Board {
     table: LaneTable,
@@ -40,10 +40,11 @@ impl Model for Board {
 }
 
 impl Board {
-    /// Opens a board with these lanes, for at most so many passes at once, and gives its first pass.
+    /// Opens a board with these lanes, at least one, and gives its first pass. There may be at most `passes` passes at once, 1
+    /// or more.
     ///
     /// # Errors
-    /// [`Memory`] where a growth was refused. The boxes are dropped.
+    /// [`Memory`] if a growth was refused. The boxes are dropped.
     pub fn open(alloc: Global, boxes: Vec<LaneBox>, passes: usize) -> Result<(Board, Pass), Memory>
         requires lanes { 0 < length boxes.items }
         requires passes { 0 < passes }
@@ -80,7 +81,7 @@ impl Board {
     /// Claims a lane, by one atomic exchange.
     ///
     /// # Errors
-    /// What the lane is, where it isn't open: [`Busy`].
+    /// [`Busy`] says what the lane is if it isn't open.
     pub fn claim(&self, pass: &mut Pass, lane: usize) -> Result<Claim, Busy>
         requires board { pass.old.board ≡ self.now }
         requires lane { lane < self.now.words }
@@ -115,7 +116,7 @@ impl Board {
         })
     }
 
-    /// Releases a lane that this pass has claimed: it is finished where all its callbacks ran, and open otherwise.
+    /// Releases a lane that this pass has claimed. The lane is finished if all its callbacks ran, and open otherwise.
     pub fn release(&self, pass: &mut Pass, claim: Claim)
         requires board { (pass.old.board ≡ self.now) × (claim.board ≡ self.now) }
         requires claim { MayRelease pass.old.view claim }
@@ -136,8 +137,8 @@ impl Board {
             .store::<GoHome>(&mut pass.seat, lane, word);
     }
 
-    /// Splits a pass, so that two callers may go on at once: the first pass has the front half of its share, rounded down, and
-    /// keeps what it released and was refused, and the second has the other half. Both have seen what it had.
+    /// Splits a pass, so that two callers may go on at once. The first pass has the front half of its share, rounded down, and
+    /// keeps what it released and was refused. The second has the other half. Both have seen what the pass had seen.
     pub fn split(&self, pass: Pass) -> (Pass, Pass)
         requires board { pass.board ≡ self.now }
         requires holds_none { pass.view.holds ≡ [] }
@@ -167,8 +168,8 @@ impl Board {
         )
     }
 
-    /// Joins two passes, the second of which has the share behind that of the first: what the first released and was refused
-    /// stands before what the second did.
+    /// Joins two passes. The share of the second begins at the end of the first one's share. The pass lists what the first
+    /// released and was refused, and then what the second did.
     pub fn join(&self, front: Pass, back: Pass) -> Pass
         requires board { (front.board ≡ self.now) × (back.board ≡ self.now) }
         requires holds_none { (front.view.holds ≡ []) × (back.view.holds ≡ []) }
@@ -190,10 +191,10 @@ impl Board {
         Pass { seat, start, stop }
     }
 
-    /// Takes the board apart, with its last pass, and gives the lanes' boxes in the order in which they were opened.
+    /// Takes the board apart, with its last pass. Gives the lanes' boxes in the order in which they were opened.
     ///
     /// # Errors
-    /// [`Memory`] where a growth was refused. The boxes are dropped.
+    /// [`Memory`] if a growth was refused. The boxes are dropped.
     pub fn close(self, alloc: Global, pass: Pass) -> Result<Vec<LaneBox>, Memory>
         requires board { pass.board ≡ self }
         requires last { IsLast pass.view }

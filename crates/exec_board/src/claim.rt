@@ -22,7 +22,7 @@ pub enum Busy {
 pub struct Claim {
     pub(crate) work: LaneBox,
     pub(crate) lane: usize,
-    // The count at which it was claimed, and the seat with which it was; no bytes.
+    // The count at which it was claimed, and the seat that claimed it. These have no bytes.
     pub(crate) start: Snapshot<usize>,
     pub(crate) seat: Snapshot<LaneSeat>,
 }

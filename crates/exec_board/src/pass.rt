@@ -24,7 +24,7 @@ impl Model for Pass {
 }
 
 impl Pass {
-    /// Where its share of the numbers of passes starts, and how many numbers it has. The first pass has all, from 0.
+    /// The first number of its share of the numbers of passes, and how many numbers it has. The first pass has all, from 0.
     pub fn share(&self) -> (usize, usize)
         ensures start { result.0 ≡ self.now.view.start }
         ensures length { result.1 ≡ self.now.view.stop - self.now.view.start }

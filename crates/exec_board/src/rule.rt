@@ -15,7 +15,7 @@ impl Model for View {
     ghost view = { λ _. nobody };
 }
 
-/// With what a board is opened.
+/// What a board is opened with.
 #[derive(Drop)]
 pub struct Opening {
     pub boxes: Snapshot<Vec<LaneBox>>,
@@ -31,7 +31,7 @@ pub const HELD: u64 = 1;
 /// The word of a lane that is finished: all its callbacks ran.
 pub const FINISHED: u64 = 2;
 
-/// The rule: a lane's word says whether it is open, held or finished, and its box lies in its slot unless it is held.
+/// The rule: the word of a lane says whether it is open, held or finished. The lane's box is in its slot unless it is held.
 pub struct Claims;
 
 impl TableRule<Option<LaneBox>, View, Opening> for Claims {

@@ -10,12 +10,12 @@ use exec_lane::{Gate, LaneBox};
 use exec_msg::Memory;
 
 impl Board {
-    /// Goes over the lanes, from the first on, again and again: it claims each that is open, runs at most `quantum` callbacks of
-    /// it and releases it. It ends once it has come round without a claim, each lane in turn being held or finished.
+    /// Goes over the lanes, from the first on, again and again. It claims each lane that is open, runs at most `quantum`
+    /// callbacks of it, and releases it. It ends after a turn without a claim, in which each lane was held or finished when it
+    /// was tried.
     ///
     /// # Errors
-    /// [`Memory`] where a callback was refused a growth, or had been before. Its lane is released as it stands, with callbacks
-    /// left.
+    /// [`Memory`] if a callback was refused a growth, now or before. Its lane is released with callbacks left.
     pub fn sweep<G: Gate>(&self, pass: &mut Pass, quantum: usize, gate: &G) -> Result<(), Memory>
         requires board { pass.old.board ≡ self.now }
         requires holds_none { pass.old.view.holds ≡ [] }
@@ -29,7 +29,7 @@ impl Board {
         Ok(())
     }
 
-    // Visits each lane once, and tells whether one was claimed.
+    // Visits each lane once, and answers whether one was claimed.
     fn turn<G: Gate>(&self, pass: &mut Pass, quantum: usize, gate: &G) -> Result<bool, Memory>
         requires board { pass.old.board ≡ self.now }
         requires holds_none { pass.old.view.holds ≡ [] }
@@ -49,7 +49,7 @@ impl Board {
         Ok(claimed)
     }
 
-    // Claims a lane, if it is open, runs callbacks of it and releases it. It tells whether it was claimed.
+    // Claims a lane, if it is open, runs callbacks of it and releases it. Answers whether it was claimed.
     fn visit<G: Gate>(
         &self,
         pass: &mut Pass,
@@ -74,7 +74,7 @@ impl Board {
     }
 }
 
-// Runs the next callbacks of a lane, at most so many.
+// Runs the next callbacks of a lane, at most `quantum` of them.
 fn run_some<G: Gate>(lane: &mut LaneBox, quantum: usize, gate: &G) -> Result<(), Memory>
     requires unfinished { lane.old.done < length lane.old.entries }
     requires quantum { 0 < quantum }

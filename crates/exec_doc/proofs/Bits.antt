@@ -1,5 +1,5 @@
 -- The identifiers of a document have 128 bits.
-use Rattle.std.proofs.Common.{◌≡◌, ℕ, ◌-◌, ◌^◌, Bool, true, false, nat_le, codes, List, [], ◌∷◌, Option, None, Some, option_map, refl, ap, sym, ◌∙◌, subst}
+use Rattle.std.proofs.Common.{◌≡◌, ℕ, ◌-◌, ◌^◌, ◌==◌, Bool, true, false, nat_le, codes, List, [], ◌∷◌, Option, None, Some, option_map, refl, ap, sym, ◌∙◌, subst}
 use Rattle.std.specs.List.{list_all}
 use Rattle.std.specs.Option.{unwrap_or}
 use Rattle.std.proofs.lemmas.Bool.{le-leb, and_parts, and_from}
@@ -8,7 +8,7 @@ use Rattle.serde_json.specs.Data.{Data}
 use Rattle.serde_json.specs.Find.{as_array, get}
 use Rattle.exec_doc.specs.Document.{resolved_fed, resolved_entry}
 use Rattle.exec_doc.specs.Draft.{DocumentDraft, EntryDraft, FedDraft}
-use Rattle.exec_doc.specs.Forms.{id_in_text, text, count, integer, identifier, values_of, list_of, field_value, or_default, required_field, list, Fields, entry_fields, message_in, goal_in, cancel_in, form_in, fed_draft_in, entry, declarations, draft_of}
+use Rattle.exec_doc.specs.Forms.{id_in_text, text, count, integer, identifier, values_of, list_of, field_value, or_default, required_field, list, has_order, order_in, Fields, entry_fields, message_in, goal_in, cancel_in, form_in, fed_draft_in, entry, declarations, draft_of}
 use Rattle.exec_plan.specs.Entity.{if_there}
 use Rattle.exec_graph.specs.declared.draft.GraphDraft.{GraphDraft}
 use Rattle.exec_plan.specs.Feeding.{has_128_bits}
@@ -100,11 +100,12 @@ field_small (Some values) feed e = given (list_of entry values) refl e where
 pub draft_small : (value : Data) (document : DocumentDraft) → draft_of value ≡ Some document → list_all (λ entry. has_bits entry.fed) document.feed ≡ true
 draft_small value document e =
     then_read _ (required_field count (codes "version") value) _ document e (λ version found e1.
-    then_read _ (declarations value) _ document e1 (λ graph is e2.
-    then_read _ (list count (codes "moments") value) _ document e2 (λ moments given e3.
-    then_read _ (list entry (codes "feed") value) _ document e3 (λ feed said e4.
-    subst (λ (document : DocumentDraft). AreSmall document.feed) (same_Some (record { version = version; graph = graph; moments = moments; feed = feed }) document e4)
-    (field_small (get (codes "feed") value) feed said)))))
+    then_read _ (order_in (has_order version) value) _ document e1 (λ under named e2.
+    then_read _ (declarations value) _ document e2 (λ graph is e3.
+    then_read _ (list count (codes "moments") value) _ document e3 (λ moments given e4.
+    then_read _ (list entry (codes "feed") value) _ document e4 (λ feed said e5.
+    subst (λ (document : DocumentDraft). AreSmall document.feed) (same_Some (record { version = version; order = under; graph = graph; moments = moments; feed = feed }) document e5)
+    (field_small (get (codes "feed") value) feed said))))))
 
 -- ---- what is fed
 

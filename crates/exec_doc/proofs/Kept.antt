@@ -1,10 +1,10 @@
 -- What a document keeps that no code refuses.
-use Rattle.std.proofs.Common.{◌≡◌, Bool, true, false, not, ◌&&◌, ◌||◌, ◌==◌, is_none, Option, None, Some, find}
+use Rattle.std.proofs.Common.{◌≡◌, Bool, true, false, not, ◌&&◌, ◌||◌, is_none, Option, None, Some, find}
 use Rattle.std.specs.List.{list_all}
 use Rattle.std.specs.Option.{option_map_or}
 use Rattle.std.proofs.lemmas.Bool.{and_parts, or_parts, not-false}
 use Rattle.exec_doc.specs.Draft.{DocumentDraft}
-use Rattle.exec_doc.specs.Refusals.{feeds, has_identifier, has_small_schedule, has_declared_names, is_clocked, has_fault_of, codes_in_order}
+use Rattle.exec_doc.specs.Refusals.{feeds, has_identifier, has_small_schedule, has_declared_names, is_clocked, has_fault_of, codes_in_order, is_version}
 use Rattle.exec_doc.specs.declared.refused.Refused.{Refused}
 use Rattle.exec_doc.specs.declared.refused.Refused.TheVariants as refused
 use Rattle.exec_graph.specs.Faults.{has_faulty_script, shares_variables, is_well_named, is_small}
@@ -38,7 +38,7 @@ kept document found =
     let fifth = has_faulty_script document.graph || sixth in
     let fourth = not limits || fifth in
     let third = not (has_declared_names document) || fourth in
-    let past_version = (or_parts (not (document.version == 1)) third (none_passes (holds_of (Some document)) codes_in_order found)).1 in
+    let past_version = (or_parts (not (is_version document.version)) third (none_passes (holds_of (Some document)) codes_in_order found)).1 in
     let past_names = (or_parts (not (has_declared_names document)) fourth past_version).1 in
     let past_limits = (or_parts (not limits) fifth past_names).1 in
     let past_scripts = (or_parts (has_faulty_script document.graph) sixth past_limits).1 in

@@ -19,7 +19,6 @@ use Rattle.exec_graph.specs.Refusals.{fault_in}
 use Rattle.exec_graph.specs.Resolved.{graph_in}
 use Rattle.exec_plan.specs.Schedule.{plan_fault_in}
 use Rattle.exec_plan.specs.declared.order.Order.{Order}
-use Rattle.exec_plan.specs.declared.order.Order.TheVariants as order
 use Rattle.exec_plan.proofs.Reading.{then_read, are_read}
 use Rattle.exec_doc.proofs.Bits.{has_bits, draft_small, feed_small}
 use Rattle.exec_doc.proofs.Feeding.{feed_of, feed_without_fault}
@@ -40,8 +39,8 @@ module _ (laws : Laws) where
       let read = feed_of document.graph made (λ name number found. laws.topic document.graph made name number is found) (λ name number found. laws.server document.graph made name number is found)
       document.feed feed (are_read (resolved_entry document.graph) document.feed feed fed) in
       let bits = feed_small document.graph document.feed feed small (are_read (resolved_entry document.graph) document.feed feed fed) in
-      subst IsLawfulPlan (same_Some (record { graph = made; order = order.Kind; moments = document.moments; feed = feed }) plan e2)
-      (laws.plan made order.Kind document.moments feed (laws.graph document.graph made keeps.graph is) read.goes bits (feed_without_fault made document feed read keeps))))
+      subst IsLawfulPlan (same_Some (record { graph = made; order = document.order; moments = document.moments; feed = feed }) plan e2)
+      (laws.plan made document.order document.moments feed (laws.graph document.graph made keeps.graph is) read.goes bits (feed_without_fault made document feed read keeps))))
 
   drafted_lawful : (drafted : Option DocumentDraft) (plan : PlanData) → ((document : DocumentDraft) → drafted ≡ Some document → list_all (λ entry. has_bits entry.fed) document.feed ≡ true) → find (holds_of drafted) codes_in_order ≡ None → (drafted >>= plan_of) ≡ Some plan → IsLawfulPlan plan
   drafted_lawful None plan small found e = absurd cc

@@ -5,7 +5,7 @@ use Rattle.exec_doc.specs.inner.Answering.{Answers, IsReady, draft_refusal, grap
 use Rattle.exec_doc.specs.Document.{resolved_entry, plan_of}
 use Rattle.exec_doc.specs.Draft.{DocumentDraft, EntryDraft}
 use Rattle.exec_doc.specs.inner.Placing.{entry_by, is_cancel_identified}
-use Rattle.exec_doc.specs.Refusals.{feeds, has_small_schedule, has_identifier, is_clocked}
+use Rattle.exec_doc.specs.Refusals.{feeds, has_small_schedule, has_identifier, is_clocked, is_version}
 use Rattle.exec_doc.specs.declared.refused.Refused.{Refused}
 use Rattle.exec_doc.specs.declared.refused.Refused.TheVariants as refused
 use Rattle.exec_graph.specs.declared.draft.GraphDraft.{GraphDraft}
@@ -17,7 +17,7 @@ use Rattle.exec_plan.specs.Schedule.{schedule_fits, numbers_fit, greatest, great
 use Rattle.exec_graph.specs.Refusals.{fault_in}
 use Rattle.exec_graph.specs.declared.fault.GraphFault.{GraphFault}
 use Rattle.exec_graph.specs.declared.fault.GraphFault.TheVariants as graph_fault
-use Rattle.exec_plan.specs.declared.order.Order.TheVariants as order
+use Rattle.exec_plan.specs.declared.order.Order.{Order}
 use Rattle.exec_plan.specs.declared.fault.PlanFault.{PlanFault}
 use Rattle.exec_msg.specs.declared.limits.TheConstants.{TICKS}
 use Rattle.exec_plan.proofs.Scheduled.{scheduled as scheduled_plan}
@@ -99,20 +99,20 @@ ready_scheduled document graph moments entries feed ready read none =
     let scheduled = is_scheduled (schedule_fits moments (length feed) (greatest (map (λ entry. stamp_of entry.fed) feed))) (is_in_order moments (map (λ entry. entry.round) feed)) (list_all (λ entry. is_identified Some entry.fed) feed) none in
     record { fits = sym fed.within ∙ scheduled.fits; ordered = sym fed.clocked ∙ scheduled.ordered }
 
-plan_is : (document : DocumentDraft) (graph : GraphData) (moments : List ℕ) (feed : List Feed) → graph_in document.graph ≡ Some graph → each (resolved_entry document.graph) document.feed ≡ Some feed → document.moments ≡ moments
-    → plan_of document ≡ Some (record { graph = graph; order = order.Kind; moments = moments; feed = feed })
-plan_is document graph moments feed made said ticks = rw (made, said) (ap (λ (ms : List ℕ). Some (record { graph = graph; order = order.Kind; moments = ms; feed = feed })) ticks)
+plan_is : (document : DocumentDraft) (graph : GraphData) (under : Order) (moments : List ℕ) (feed : List Feed) → graph_in document.graph ≡ Some graph → each (resolved_entry document.graph) document.feed ≡ Some feed → under ≡ document.order → document.moments ≡ moments
+    → plan_of document ≡ Some (record { graph = graph; order = under; moments = moments; feed = feed })
+plan_is document graph under moments feed made said same ticks = rw (made, said) (ap₂ (λ (o : Order) (ms : List ℕ). Some (record { graph = graph; order = o; moments = ms; feed = feed })) (sym same) ticks)
 
 -- without a fault it is a plan, where its identifiers are ones
-pub ready_plan : (document : DocumentDraft) (graph : GraphData) (moments : List ℕ) (entries : List EntryDraft) (feed : List Feed) (plan : PlanData) → IsReady document graph moments entries → each (entry_by graph) entries ≡ Some feed
-    → plan_fault_in moments feed ≡ None → plan ≡ record { graph = graph; order = order.Kind; moments = moments; feed = feed } → list_all (λ entry. has_identifier entry.fed) entries ≡ true
+pub ready_plan : (document : DocumentDraft) (graph : GraphData) (under : Order) (moments : List ℕ) (entries : List EntryDraft) (feed : List Feed) (plan : PlanData) → IsReady document graph moments entries → each (entry_by graph) entries ≡ Some feed
+    → under ≡ document.order → plan_fault_in moments feed ≡ None → plan ≡ record { graph = graph; order = under; moments = moments; feed = feed } → list_all (λ entry. has_identifier entry.fed) entries ≡ true
     → (draft_refusal document ≡ None) × (plan_of document ≡ Some plan)
-ready_plan document graph moments entries feed plan ready read none is ids =
+ready_plan document graph under moments entries feed plan ready read same none is ids =
     let fed = fed_ready document graph moments entries feed ready read in
     let keeps = ready_scheduled document graph moments entries feed ready read none in
     let all : list_all (λ entry. has_identifier entry.fed) document.feed ≡ true = ap (λ (es : List EntryDraft). list_all (λ entry. has_identifier entry.fed) es) ready.entries ∙ ids in (
       ready_refusal document graph moments entries feed ready read ∙ scheduled_by (has_small_schedule document) (is_clocked document) _ true true true keeps.fits keeps.ordered all,
-      plan_is document graph moments feed ready.made (fed.said all) ready.ticks ∙ ap (λ (p : PlanData). Some p) (sym is),
+      plan_is document graph under moments feed ready.made (fed.said all) same ready.ticks ∙ ap (λ (p : PlanData). Some p) (sym is),
     )
 
 -- and refused for its identifiers where not all are ones
@@ -147,7 +147,7 @@ within_is document moments feed ticks entries =
     ap₂ (λ (ms : List ℕ) (es : List EntryDraft). schedule_fits ms (length es) (greatest (map (λ entry. stamp_of entry.fed) es))) ticks entries
 
 -- the code of a graph's fault
-pub by_graph : (document : DocumentDraft) (within : Bool) (fault : GraphFault) (code : Refused) → document.version ≡ 1 → list_all (λ entry. feeds document.graph entry.fed) document.feed ≡ true → within ≡ has_small_schedule document
+pub by_graph : (document : DocumentDraft) (within : Bool) (fault : GraphFault) (code : Refused) → is_version document.version ≡ true → list_all (λ entry. feeds document.graph entry.fed) document.feed ≡ true → within ≡ has_small_schedule document
     → (fault ≡ graph_fault.Memory → code ≡ refused.Memory) → ((graph : GraphDraft) → fault_in graph ≡ Some fault → graph_refusal graph within ≡ Some code)
     → (fault ≡ graph_fault.Memory) ⊎ (fault_in document.graph ≡ Some fault) → (code ≡ refused.Memory) ⊎ (draft_refusal document ≡ Some code)
 by_graph document within fault code version fed same memory coded (inl is) = inl (memory is)

@@ -1,11 +1,11 @@
 -- The refusal of a document by what was found of it so far.
-use Rattle.std.proofs.Common.{◌≡◌, Bool, true, false, cond, not, ◌&&◌, ◌==◌, Option, None, Some, is_some, option_map, refl, ap, subst}
+use Rattle.std.proofs.Common.{◌≡◌, Bool, true, false, cond, not, ◌&&◌, Option, None, Some, is_some, option_map, refl, subst}
 use Rattle.std.proofs.lemmas.Option.{same_Some}
 use Rattle.std.specs.Bool.{then_some}
 use Rattle.std.specs.List.{list_all}
 use Rattle.exec_doc.specs.inner.Answering.{draft_refusal, graph_refusal, plan_refusal}
 use Rattle.exec_doc.specs.Draft.{DocumentDraft}
-use Rattle.exec_doc.specs.Refusals.{feeds, has_identifier, has_small_schedule, is_clocked}
+use Rattle.exec_doc.specs.Refusals.{feeds, has_identifier, has_small_schedule, is_clocked, is_version}
 use Rattle.exec_doc.specs.declared.refused.Refused.{Refused}
 use Rattle.exec_doc.specs.declared.refused.Refused.TheVariants as refused
 use Rattle.exec_graph.specs.Faults.{has_faulty_script, shares_variables, is_small, is_well_named}
@@ -58,14 +58,11 @@ names_by true true false s h c g o i version undeclared = refl
 names_by true false f s h c g o i version undeclared = refl
 names_by false w f s h c g o i version undeclared = absurd cc
 
-version_1 : (document : DocumentDraft) → document.version ≡ 1 → (document.version == 1) ≡ true
-version_1 document version = ap (λ n. n == 1) version
-
 -- something is fed to what isn't declared
-pub undeclared : (document : DocumentDraft) → document.version ≡ 1 → list_all (λ entry. feeds document.graph entry.fed) document.feed ≡ false → draft_refusal document ≡ Some refused.Name
+pub undeclared : (document : DocumentDraft) → is_version document.version ≡ true → list_all (λ entry. feeds document.graph entry.fed) document.feed ≡ false → draft_refusal document ≡ Some refused.Name
 undeclared document version missing = names_by
-    (document.version == 1) (is_well_named document.graph) (list_all (λ entry. feeds document.graph entry.fed) document.feed) (is_small document.graph) (has_small_schedule document) (has_faulty_script document.graph) (shares_variables document.graph) (is_clocked document) (list_all (λ entry. has_identifier entry.fed) document.feed)
-    (version_1 document version) missing
+    (is_version document.version) (is_well_named document.graph) (list_all (λ entry. feeds document.graph entry.fed) document.feed) (is_small document.graph) (has_small_schedule document) (has_faulty_script document.graph) (shares_variables document.graph) (is_clocked document) (list_all (λ entry. has_identifier entry.fed) document.feed)
+    version missing
 
 -- ---- the graph
 
@@ -81,12 +78,12 @@ graph_tests true true true s h c g o i code version fed found = limits (s && h) 
   limits true false false o i code found = absurd cc
 
 -- a code up to that of group variables holds
-pub of_graph : (document : DocumentDraft) (within : Bool) (code : Refused) → document.version ≡ 1 → list_all (λ entry. feeds document.graph entry.fed) document.feed ≡ true
+pub of_graph : (document : DocumentDraft) (within : Bool) (code : Refused) → is_version document.version ≡ true → list_all (λ entry. feeds document.graph entry.fed) document.feed ≡ true
     → within ≡ has_small_schedule document → graph_refusal document.graph within ≡ Some code → draft_refusal document ≡ Some code
 of_graph document within code version fed same found =
     graph_tests
-    (document.version == 1) (is_well_named document.graph) (list_all (λ entry. feeds document.graph entry.fed) document.feed) (is_small document.graph) (has_small_schedule document) (has_faulty_script document.graph) (shares_variables document.graph) (is_clocked document) (list_all (λ entry. has_identifier entry.fed) document.feed)
-    code (version_1 document version) fed (subst (λ (b : Bool). graph_refusal document.graph b ≡ Some code) same found)
+    (is_version document.version) (is_well_named document.graph) (list_all (λ entry. feeds document.graph entry.fed) document.feed) (is_small document.graph) (has_small_schedule document) (has_faulty_script document.graph) (shares_variables document.graph) (is_clocked document) (list_all (λ entry. has_identifier entry.fed) document.feed)
+    code version fed (subst (λ (b : Bool). graph_refusal document.graph b ≡ Some code) same found)
 
 -- ---- the schedule and identifiers
 
@@ -105,11 +102,11 @@ schedule_tests true true true true true false false o i version fed none = refl
 schedule_tests true true true true false false false o i version fed none = refl
 
 -- the graph has no fault, and what is fed goes to what is declared
-pub by_schedule : (document : DocumentDraft) → document.version ≡ 1 → list_all (λ entry. feeds document.graph entry.fed) document.feed ≡ true
+pub by_schedule : (document : DocumentDraft) → is_version document.version ≡ true → list_all (λ entry. feeds document.graph entry.fed) document.feed ≡ true
     → fault_in document.graph ≡ None → draft_refusal document ≡ scheduled (has_small_schedule document) (is_clocked document) (list_all (λ entry. has_identifier entry.fed) document.feed)
 by_schedule document version fed none = schedule_tests
-    (document.version == 1) (is_well_named document.graph) (list_all (λ entry. feeds document.graph entry.fed) document.feed) (is_small document.graph) (has_small_schedule document) (has_faulty_script document.graph) (shares_variables document.graph) (is_clocked document) (list_all (λ entry. has_identifier entry.fed) document.feed)
-    (version_1 document version) fed none
+    (is_version document.version) (is_well_named document.graph) (list_all (λ entry. feeds document.graph entry.fed) document.feed) (is_small document.graph) (has_small_schedule document) (has_faulty_script document.graph) (shares_variables document.graph) (is_clocked document) (list_all (λ entry. has_identifier entry.fed) document.feed)
+    version fed none
 
 -- a plan's fault is the refusal, where its goals are identified where the document's are
 pub plan_tests : (fits ordered these identified : Bool) (fault : PlanFault) → (identified ≡ true → these ≡ true) → plan_by fits ordered these ≡ Some fault → scheduled fits ordered identified ≡ Some (plan_refusal fault)

@@ -10,7 +10,6 @@ use Rattle.exec_msg.specs.Options.{◌>>=◌, each}
 use Rattle.exec_doc.specs.Refusals.{document_value, refusal_in}
 use Rattle.exec_doc.specs.declared.refused.Refused.{Refused}
 use Rattle.exec_plan.specs.Plan.{PlanData, Feed, Fed}
-use Rattle.exec_plan.specs.declared.order.Order.TheVariants as order
 use Rattle.exec_plan.specs.declared.plan.FedOf.TheVariants.{Message, Goal, Cancel}
 
 -- ---- the feed
@@ -37,12 +36,12 @@ resolved_entry drafted entry = do
 
 -- ---- the plan
 
--- the plan of a draft, where what is fed goes to what is declared and has identifiers; its order is that of kinds
+-- the plan of a draft, where what is fed goes to what is declared and has identifiers
 abbrev pub plan_of : DocumentDraft → Option PlanData
 plan_of document = do
   made ← graph_in document.graph
   feed ← each (resolved_entry document.graph) document.feed
-  Some (record { graph = made; order = order.Kind; moments = document.moments; feed = feed })
+  Some (record { graph = made; order = document.order; moments = document.moments; feed = feed })
 
 -- something where nothing is refused
 abbrev pub unless_refused : {A : Type 0} → Option Refused → Option A → Option A

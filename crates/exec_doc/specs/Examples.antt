@@ -1,3 +1,4 @@
 pub mod Goals
 pub mod Groups
+pub mod Orders
 pub mod Services

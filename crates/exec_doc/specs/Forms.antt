@@ -1,11 +1,13 @@
 -- The forms of a document: which JSON value is which draft, object by object.
-use Rattle.std.specs.Prelude.{ℕ, ℤ, List, [], ◌∷◌, ◌++◌, codes, Bool, true, false, is_some, Option, None, Some}
+use Rattle.std.specs.Prelude.{ℕ, ℤ, List, [], ◌∷◌, ◌++◌, codes, ◌==◌, Bool, true, false, is_some, Option, None, Some}
 use Rattle.std.specs.Int.{from_be_bytes, w128}
 use Rattle.std.specs.Map.{lookup}
 use Rattle.std.specs.Option.{option_map, unwrap_or}
 use Rattle.std.specs.Str.{bytes_eq}
 use Rattle.serde_json.specs.Data.{Data, number, string, Items, no_items, item}
 use Rattle.serde_json.specs.Find.{get, as_number, as_str, as_array, as_i64, as_u64}
+use Rattle.exec_plan.specs.declared.order.Order.{Order}
+use Rattle.exec_plan.specs.declared.order.Order.TheVariants as order
 use Rattle.exec_plan.specs.declared.plan.FedOf.TheVariants.{Message, Goal, Cancel}
 use Rattle.exec_doc.specs.Draft.{DocumentDraft, FedDraft, EntryDraft}
 use Rattle.exec_graph.specs.declared.draft.GroupDraft.{GroupDraft}
@@ -240,6 +242,25 @@ entry_draft_in fields = do
 abbrev pub entry : Data → Option EntryDraft
 entry value = entry_draft_in (entry_fields value)
 
+-- ---- the order of ready callbacks
+
+-- the order that a text names
+abbrev pub order_named : List ℕ → Option Order
+order_named name = lookup (bytes_eq name) ((codes "kind", order.Kind) ∷ (codes "arrival", order.Arrival) ∷ [])
+
+-- an order
+abbrev pub ready_order : Data → Option Order
+ready_order value = text value >>= order_named
+
+-- whether documents of a version say an order
+abbrev pub has_order : ℕ → Bool
+has_order version = version == 2
+
+-- the order that a document says: where it has no field `order`, or its version knows none, the order of kinds
+abbrev pub order_in : Bool → Data → Option Order
+order_in true value = or_default ready_order order.Kind (get (codes "order") value)
+order_in false value = Some order.Kind
+
 -- ---- the document
 
 -- what a document declares
@@ -253,7 +274,8 @@ declarations value = do
 abbrev pub draft_of : Data → Option DocumentDraft
 draft_of value = do
   version ← required_field count (codes "version") value
+  under ← order_in (has_order version) value
   graph ← declarations value
   moments ← list count (codes "moments") value
   feed ← list entry (codes "feed") value
-  Some (record { version = version; graph = graph; moments = moments; feed = feed })
+  Some (record { version = version; order = under; graph = graph; moments = moments; feed = feed })

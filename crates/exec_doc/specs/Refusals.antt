@@ -1,5 +1,5 @@
 -- Why a document is refused: the predicate of each code, and the least code whose predicate holds.
-use Rattle.std.specs.Prelude.{ℕ, List, [], ◌∷◌, length, map, Bool, false, not, ◌&&◌, ◌==◌, is_some, is_none, if◌then◌else◌, Option, None, find}
+use Rattle.std.specs.Prelude.{ℕ, List, [], ◌∷◌, length, map, Bool, false, not, ◌&&◌, ◌||◌, ◌==◌, is_some, is_none, if◌then◌else◌, Option, None, find}
 use Rattle.std.specs.List.{list_all}
 use Rattle.std.specs.Option.{option_map_or}
 use Rattle.std.specs.Str.{is_utf8}
@@ -8,7 +8,7 @@ use Rattle.serde_json.specs.Read.{read}
 use Rattle.exec_plan.specs.declared.plan.FedOf.TheVariants.{Message, Goal, Cancel}
 use Rattle.exec_doc.specs.Draft.{DocumentDraft, FedDraft}
 use Rattle.exec_graph.specs.declared.draft.GraphDraft.{GraphDraft}
-use Rattle.exec_doc.specs.Forms.{draft_of}
+use Rattle.exec_doc.specs.Forms.{draft_of, has_order}
 use Rattle.exec_graph.specs.Faults.{has_faulty_script, shares_variables, is_small, is_well_named}
 use Rattle.exec_msg.specs.Options.{◌>>=◌}
 use Rattle.exec_graph.specs.Numbers.{topic_named, server_named}
@@ -21,6 +21,12 @@ use Rattle.exec_plan.specs.Schedule.{schedule_fits, greatest_stamp, is_in_order,
 -- the value that bytes have: they are UTF-8, and JSON that nests at most 127 levels deep
 abbrev pub document_value : List ℕ → Option Data
 document_value bytes = if is_utf8 bytes then read bytes else None
+
+-- ---- 3: the version
+
+-- whether documents of a version are read
+abbrev pub is_version : ℕ → Bool
+is_version version = version == 1 || has_order version
 
 -- ---- 4: names
 
@@ -69,7 +75,7 @@ number_of refused.Memory = 10
 
 -- whether a draft has what a code refuses, each code being read on drafts that no lesser one refuses
 abbrev pub has_fault_of : Refused → DocumentDraft → Bool
-has_fault_of refused.Version document = not (document.version == 1)
+has_fault_of refused.Version document = not (is_version document.version)
 has_fault_of refused.Name document = not (has_declared_names document)
 has_fault_of refused.Limit document = not (is_small document.graph && has_small_schedule document)
 has_fault_of refused.Script document = has_faulty_script document.graph

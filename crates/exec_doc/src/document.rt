@@ -1,15 +1,15 @@
-ghost use Rattle.std.specs.Prelude.{◌≡◌, ◌⊎◌, None, Some, IfOk, IfErr};
+ghost use Rattle.std.specs.Prelude.{◌≡◌, ◌⊎◌, true, None, Some, IfOk, IfErr};
 ghost use Rattle.serde_json.specs.View.{view};
 ghost use Rattle.exec_doc.specs.inner.Answering.{Answers, IsReady, draft_refusal, graph_refusal};
 ghost use Rattle.exec_doc.specs.Draft.{DocumentDraft};
 ghost use Rattle.exec_doc.specs.Document.{plan_of, document_of};
-ghost use Rattle.exec_doc.specs.Refusals.{document_value, refusal_of};
+ghost use Rattle.exec_doc.specs.Refusals.{document_value, is_version, refusal_of};
 ghost use Rattle.exec_graph.specs.declared.draft.GraphDraft.{GraphDraft};
 ghost use Rattle.exec_graph.specs.Refusals.{fault_in};
 
 use crate::draft::{DocumentDraft, EntryDraft};
 use crate::fed::{are_cancels_identified, are_declared, feed_of};
-use crate::forms::draft_of;
+use crate::forms::{draft_of, has_order};
 use crate::refused::Refused;
 use crate::schedule::moments_of;
 use exec_graph::{Graph, GraphFault, NamedGraph, Order, Plan, greatest_stamp, schedule_fits};
@@ -45,18 +45,26 @@ fn plan_of(alloc: Global, draft: DocumentDraft) -> Result<Plan, Refused>
 {
     let DocumentDraft {
         version,
+        order,
         graph,
         moments,
         feed,
     } = draft;
-    if version != 1 {
+    if !is_version(version) {
         return Err(Refused::Version);
     }
     let named = graph.named_graph()?;
     match named.graph() {
-        Ok(graph) => plan_on(alloc, graph, &moments, &feed),
+        Ok(graph) => plan_on(alloc, graph, order, &moments, &feed),
         Err(fault) => Err(refusal_by(&named, fault, &moments, &feed)),
     }
+}
+
+// Whether documents of a version are read.
+fn is_version(version: u64) -> bool
+    ensures { result ≡ is_version version }
+{
+    version == 1 || has_order(version)
 }
 
 // Why a document is refused whose names are right and whose graph has this fault.
@@ -66,7 +74,7 @@ fn refusal_by(
     moments: &[u64],
     feed: &[EntryDraft],
 ) -> Refused
-    ensures { (document : DocumentDraft) → document.version ≡ 1 → named.now ≡ document.graph → moments.now ≡ document.moments → feed.now ≡ document.feed
+    ensures { (document : DocumentDraft) → is_version document.version ≡ true → named.now ≡ document.graph → moments.now ≡ document.moments → feed.now ≡ document.feed
         → (fault ≡ GraphFault.Memory) ⊎ (fault_in document.graph ≡ Some fault) → (result ≡ Refused.Memory) ⊎ (draft_refusal document ≡ Some result) }
 {
     if !are_declared(named, feed) {
@@ -97,16 +105,17 @@ fn code_of(fault: GraphFault, fits: bool) -> Refused
 fn plan_on(
     alloc: Global,
     graph: Graph,
+    order: Order,
     moments: &[u64],
     entries: &[EntryDraft],
 ) -> Result<Plan, Refused>
-    ensures { (document : DocumentDraft) → IsReady document graph moments.now entries.now → Answers (draft_refusal document) (plan_of document) result }
+    ensures { (document : DocumentDraft) → IsReady document graph moments.now entries.now → order ≡ document.order → Answers (draft_refusal document) (plan_of document) result }
 {
     let feed = feed_of(alloc, &graph, entries)?;
     let Some(moments) = moments_of(alloc, moments)? else {
         return Err(Refused::Limit);
     };
-    let plan = Plan::new(graph, Order::Kind, moments, feed)?;
+    let plan = Plan::new(graph, order, moments, feed)?;
     if are_cancels_identified(entries) {
         Ok(plan)
     } else {

@@ -1,4 +1,4 @@
-use exec_graph::{FedOf, FeedOf, GraphBuilder};
+use exec_graph::{FedOf, FeedOf, GraphBuilder, Order};
 use exec_msg::GoalId;
 use exec_script::WordText;
 use std::marker::Model;
@@ -14,6 +14,8 @@ pub type EntryDraft = FeedOf<WordText, Option<GoalId>>;
 pub struct DocumentDraft {
     /// Its version.
     pub version: u64,
+    /// The order in which ready callbacks are run.
+    pub order: Order,
     /// What it declares.
     pub graph: GraphBuilder,
     /// The moment of each round, in ticks.
@@ -29,6 +31,7 @@ impl Model for DocumentDraft {
 
     ghost view = { λ draft. record {
       version = draft.version;
+      order = draft.order;
       graph = draft.graph;
       moments = draft.moments.items;
       feed = draft.feed.items;

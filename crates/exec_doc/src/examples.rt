@@ -1,10 +1,11 @@
 //! Worked examples: each function's contract says which plan a document says.
 #![tactic(auto, unfolding(crate::proofs::OnLiterals::document_on_literals))]
 
-ghost use Rattle.std.specs.Prelude.{◌≡◌, Some};
+ghost use Rattle.std.specs.Prelude.{◌≡◌, ◌++◌, Some, codes};
 ghost use Rattle.exec_doc.specs.Document.{document_of};
 ghost use Rattle.exec_doc.specs.Examples.Services.{across_nodes_text, across_nodes};
 ghost use Rattle.exec_doc.specs.Examples.Goals.{feedback_text, feedback, cancel_forms_text, cancel_forms};
+ghost use Rattle.exec_doc.specs.Examples.Orders.{two_subscriptions_text, two_subscriptions, two_subscriptions_by_arrival};
 ghost use Rattle.exec_doc.specs.Examples.Groups.{many_goals_text, many_goals, unknown_fields_text, unknown_fields};
 
 /// A client of a service of a later node: services come before clients, and each node has a default group of its own.
@@ -30,4 +31,13 @@ pub fn many_goals()
 /// Fields that their object doesn't have are ignored, whatever they hold, and the last of two fields of one name counts.
 pub fn unknown_fields()
     ensures { document_of unknown_fields_text ≡ Some unknown_fields }
+{}
+
+/// A document of version 2 names its order, which is that of kinds if it names none. In version 1 `order` is a field that is
+/// ignored.
+pub fn orders()
+    ensures arrival { document_of (codes "{\"version\":2,\"order\":\"arrival\"," ++ two_subscriptions_text) ≡ Some two_subscriptions_by_arrival }
+    ensures kind { document_of (codes "{\"version\":2,\"order\":\"kind\"," ++ two_subscriptions_text) ≡ Some two_subscriptions }
+    ensures none { document_of (codes "{\"version\":2," ++ two_subscriptions_text) ≡ Some two_subscriptions }
+    ensures version_1 { document_of (codes "{\"version\":1,\"order\":\"arrival\"," ++ two_subscriptions_text) ≡ Some two_subscriptions }
 {}

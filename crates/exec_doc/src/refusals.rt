@@ -33,7 +33,7 @@ pub fn no_json()
 /// Of two faults the one with the lesser code counts, wherever the other stands.
 pub fn lesser_codes_come_first()
     ensures shape { refusal_of (codes "{\"version\":3,\"moments\":[null]}") ≡ Some Shape }
-    ensures version { refusal_of (codes "{\"topics\":[\"x\",\"x\"],\"version\":2}") ≡ Some Version }
+    ensures version { refusal_of (codes "{\"topics\":[\"x\",\"x\"],\"version\":3}") ≡ Some Version }
     ensures name { refusal_of (codes "{\"version\":1,\"moments\":[4611686018427387905],\"topics\":[\"\"]}") ≡ Some Name }
     ensures limit { refusal_of (codes "{\"version\":1,\"nodes\":[{\"name\":\"n\",\"timers\":[{\"name\":\"t\",\"period\":0,\"script\":[[\"pub\",\"x\",1]]}]}]}") ≡ Some Limit }
     ensures script { refusal_of (codes "{\"version\":1,\"nodes\":[{\"name\":\"n\",\"groups\":[{\"name\":\"r\",\"kind\":\"reentrant\"}],\"timers\":[{\"name\":\"t\",\"period\":1,\"group\":\"r\",\"script\":[[\"log\",\"g0\"]]},{\"name\":\"u\",\"period\":1,\"script\":[[\"reply\",0]]}]}]}") ≡ Some Script }
@@ -52,6 +52,21 @@ pub fn wrong_forms()
     ensures null_group { refusal_of (codes "{\"version\":1,\"nodes\":[{\"name\":\"n\",\"services\":[{\"name\":\"s\",\"group\":null}]}]}") ≡ Some Shape }
     ensures fraction_in_script { refusal_of (codes "{\"version\":1,\"nodes\":[{\"name\":\"n\",\"timers\":[{\"name\":\"t\",\"period\":1,\"script\":[[\"log\",1.5]]}]}]}") ≡ Some Shape }
     ensures no_list_of_words { refusal_of (codes "{\"version\":1,\"nodes\":[{\"name\":\"n\",\"timers\":[{\"name\":\"t\",\"period\":1,\"script\":[\"log\"]}]}]}") ≡ Some Shape }
+{}
+
+/// Documents of version 1 and 2 are read, and those of version 2 alone have an order.
+pub fn versions_and_orders()
+    ensures zero { refusal_of (codes "{\"version\":0}") ≡ Some Version }
+    ensures two { refusal_of (codes "{\"version\":2}") ≡ None }
+    ensures kind { refusal_of (codes "{\"version\":2,\"order\":\"kind\"}") ≡ None }
+    ensures arrival { refusal_of (codes "{\"order\":\"arrival\",\"version\":2}") ≡ None }
+    ensures age { refusal_of (codes "{\"version\":2,\"order\":\"age\"}") ≡ Some Shape }
+    ensures capital { refusal_of (codes "{\"version\":2,\"order\":\"Kind\"}") ≡ Some Shape }
+    ensures null { refusal_of (codes "{\"version\":2,\"order\":null}") ≡ Some Shape }
+    ensures number { refusal_of (codes "{\"version\":2,\"order\":7}") ≡ Some Shape }
+    ensures version_1 { refusal_of (codes "{\"version\":1,\"order\":7}") ≡ None }
+    ensures version_3 { refusal_of (codes "{\"version\":3,\"order\":7}") ≡ Some Version }
+    ensures shape_first { refusal_of (codes "{\"version\":3,\"moments\":[-1]}") ≡ Some Shape }
 {}
 
 /// An entry of the feed has one of `topic`, `goal` and `cancel`, also where that is `null`.

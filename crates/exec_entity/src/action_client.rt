@@ -61,7 +61,7 @@ impl ActionClient {
         GoalId::new((self.place as u128 + 1) * (1 << 64) + number as u128)
     }
 
-    // Counts its next goal, and gives the goal's number, from 1. Where that doesn't fit, the client stays as it was.
+    // Counts its next goal, and gives the goal's number, from 1. If the number doesn't fit, the client doesn't change.
     pub(crate) fn send_goal(&mut self) -> Result<u64, Memory>
         ensures number { IfOk result (λ number. number ≡ self.old.goals + 1) }
         ensures sent { OnOk result (self.new ≡ record self.old { goals = self.old.goals + 1 }) }
@@ -89,11 +89,10 @@ impl ByNumber<ActionClient> {
     ghost use Rattle.exec_rules.specs.Item.{goal_id};
     ghost use Rattle.exec_rules.specs.World.{is_action_client_at};
 
-    /// A client counts its next goal. Answers its server and the goal's identifier, or `None` where there is no such
-    /// client.
+    /// A client counts its next goal. Answers its server and the goal's identifier, or `None` if there is no such client.
     ///
     /// # Errors
-    /// [`Memory`] where the goal's number doesn't fit. The client stays as it was.
+    /// [`Memory`] if the goal's number doesn't fit into 64 bits.
     pub fn send_goal(&mut self, client: EntityNo) -> Result<Option<(EntityNo, GoalId)>, Memory>
         ensures made { IfOk result (λ made. made ≡ option_map (λ entry. (entry.server, goal_id entry.place (entry.goals + 1))) (find (is_action_client_at client) self.old)) }
         ensures sent { OnOk result (self.new ≡ change_first (is_action_client_at client) (λ entry. record entry { goals = entry.goals + 1 }) self.old) }

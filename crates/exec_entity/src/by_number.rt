@@ -13,7 +13,7 @@ pub trait Numbered: Drop {
         ensures { result ≡ number_of self.now };
 }
 
-/// Entries in the order in which they were declared, each found by its entity's number without a walk over others.
+/// Entries in the order in which they were declared. Each is found by its entity's number without a walk over the others.
 #[derive(Drop)]
 pub struct ByNumber<E: Numbered> {
     /// All of them.
@@ -47,10 +47,10 @@ impl<E: Numbered> ByNumber<E> {
         }
     }
 
-    /// Declares an entry behind the others.
+    /// Declares an entry after the others.
     ///
     /// # Errors
-    /// [`Memory`] where a growth was refused.
+    /// [`Memory`] if a growth was refused. The entries don't change.
     pub fn declare(&mut self, entry: E) -> Result<(), Memory>
         ensures declared { OnOk result (self.new ≡ self.old ++ entry ∷ []) }
         ensures unchanged { OnErr result (self.new ≡ self.old) }
@@ -63,7 +63,7 @@ impl<E: Numbered> ByNumber<E> {
         Ok(())
     }
 
-    /// The place of the first entry of an entity, from 0, or the number of entries where there is none.
+    /// The place of the first entry of an entity, from 0. If there is none, it is the number of entries.
     pub fn place(&self, entity: EntityNo) -> usize
         ensures { result ≡ place_in (λ entry. E.number_of entry == entity) self.now }
     {

@@ -39,7 +39,7 @@ impl Client {
     ghost use Rattle.exec_rules.specs.World.{client_called};
     ghost use Rattle.exec_task.specs.Call.{new_call, completed};
 
-    /// A client of a service that hasn't called yet. It takes no memory.
+    /// A client of a service. It hasn't called yet, and takes no memory.
     pub fn new(alloc: Global, entity: EntityNo, service: EntityNo) -> Client
         ensures { result ≡ record { entity = entity; service = service; calls = 0; pending = [] } }
     {
@@ -71,7 +71,7 @@ impl Client {
         Ok(number)
     }
 
-    // Gives a call its reply, after which it pends no more, and hands it out. Answers `None` exactly if no such call pended.
+    // Gives a call its reply. The call pends no more, and is handed out. Answers `None` exactly if no such call pended.
     pub(crate) fn complete(&mut self, number: u64, value: i64) -> Option<PendingCall>
         ensures answered { self.new ≡ call_answered number self.old }
         ensures pended { is_some result ≡ has_pending number self.old }
@@ -108,11 +108,11 @@ impl ByNumber<Client> {
     ghost use Rattle.exec_rules.specs.World.{client_called, is_client_at};
     ghost use Rattle.exec_task.specs.Call.{new_call, completed};
 
-    /// A client makes its next call, which pends. Answers its service and the call's number, from 1, or `None` where there
-    /// is no such client.
+    /// A client makes its next call, which pends. Answers its service and the call's number, from 1. The answer is `None` if
+    /// there is no such client.
     ///
     /// # Errors
-    /// [`Memory`] where a growth was refused. The client stays as it was.
+    /// [`Memory`] if a growth was refused or the call's number doesn't fit into 64 bits.
     pub fn call(&mut self, client: EntityNo) -> Result<Option<(EntityNo, u64)>, Memory>
         ensures made { IfOk result (λ made. made ≡ option_map (λ entry. (entry.service, entry.calls + 1)) (find (is_client_at client) self.old)) }
         ensures called { OnOk result (self.new ≡ change_first (is_client_at client) client_called self.old) }
@@ -126,8 +126,8 @@ impl ByNumber<Client> {
         Ok(Some((entry.service(), number)))
     }
 
-    /// A client's call is given its reply, after which it pends no more. Answers the call with its reply, or `None` exactly if no
-    /// such call pended.
+    /// A client's call is given its reply, and pends no more. Answers the call with its reply, or `None` exactly if no such
+    /// call pended.
     pub fn complete(&mut self, client: EntityNo, number: u64, value: i64) -> Option<PendingCall>
         ensures answered { self.new ≡ change_first (is_client_at client) (call_answered number) self.old }
         ensures pended { is_some result ≡ is_pending_in client number self.old }

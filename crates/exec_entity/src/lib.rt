@@ -1,4 +1,4 @@
-//! The topics, clients, action clients and action servers of a world, each found by its number; a server has its goals and
+//! The topics, clients, action clients and action servers of a world, each found by its number. A server has its goals and
 //! their tasks.
 #![tactic(auto)]
 

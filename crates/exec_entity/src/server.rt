@@ -20,7 +20,7 @@ use indexmap::IndexMap;
 use std::alloc::Global;
 use std::marker::Model;
 
-/// A request for a goal: its identifier, the action client that sent it, if one did, and its value.
+/// A request for a goal: its identifier, the action client that sent it, and its value.
 #[derive(Clone, Copy, Debug, PartialEq, Eq)]
 pub struct GoalRequest {
     /// The goal's identifier.
@@ -41,27 +41,28 @@ impl Model for GoalRequest {
     ghost inverse = { λ request. record { id = request.id; client = request.client; value = request.value } };
 }
 
-// What a server keeps beside a goal's record: its task, `None` while that is out, and the action client that sent the goal,
-// if one did.
+// What a server keeps with a goal's record: its task, the action client that sent the goal, if one did, and the number of the
+// goal's last arrival. The task is `None` while it is out.
 #[derive(Drop)]
 pub(crate) struct Held {
     pub(crate) task: Option<GoalTask>,
     pub(crate) client: Option<EntityNo>,
+    pub(crate) arrival: u64,
 }
 
-/// A server: the callback that polls its goals, for how many ticks it keeps a result (without end where there is none), its
-/// goals, and what it keeps beside each.
+/// A server: the callback that polls its goals, how long it keeps a result, its goals, and what it keeps with each. The time is
+/// in ticks. A server without one keeps results for ever.
 #[derive(Drop)]
 pub struct Server {
     handler: Handler,
     timeout: Option<u64>,
     goals: Goals,
     held: IndexMap<GoalId, Held>,
-    // For each entry of `held`, at its place, from when on in ticks its task is awake where its goal isn't being canceled. Each
-    // round asks it of every goal, and an entry is so large that each would cost a fetch from memory.
+    // For each entry of `held`, at its place, the moment from which on its task is awake if its goal isn't being canceled, in
+    // ticks. Each round reads it for every goal. An entry is so large that each would cost a fetch from memory.
     wakes: Vec<u64>,
-    // The place behind the goal that was polled last, or 0 where that was the last one: goals are polled in their order, so that
-    // the next one mostly stands there.
+    // The place after the goal that was polled last, or 0 if that was the last place. Goals are polled in their order, so the
+    // next one is mostly at this place.
     next: usize,
 }
 
@@ -80,7 +81,7 @@ impl Model for Server {
 }
 
 impl Server {
-    ghost use Rattle.std.specs.Prelude.{◌⊎◌, true, length, map, None, Some, slice_get, find, IfNone, IfOk, IfSome, OnErr, OnOk};
+    ghost use Rattle.std.specs.Prelude.{true, length, map, None, Some, slice_get, find, IfNone, IfOk, IfSome, OnErr, OnOk};
     ghost use Rattle.std.specs.Option.{option_map, option_map_or};
     ghost use Rattle.exec_goal.specs.Calls.{after_asking, askers_in, end_state};
     ghost use Rattle.exec_goal.specs.Cancel.{candidates, code_of, moved, table_after};
@@ -114,7 +115,7 @@ impl Server {
         self.handler.entity
     }
 
-    // How many goals are held, in whatever state.
+    // How many goals are held, in any state.
     fn len(&self) -> usize
         ensures { result ≡ length self.now.goals }
     {
@@ -129,7 +130,7 @@ impl Server {
         self.goals.at(index)
     }
 
-    /// Whether one more goal of this identifier can be held: none of it is, and there is room.
+    /// Whether one more goal of this identifier can be held: it isn't held yet, and there is room.
     pub fn has_room_for(&self, id: GoalId) -> bool
         ensures { result ≡ has_room_for id self.now.goals }
     {
@@ -143,33 +144,45 @@ impl Server {
         self.held.get(&id)?.client
     }
 
-    // The action client that asked for a goal's result at this place, from 0, in the order of asking, or `None` beyond them
-    // and where no such goal is held.
+    // The number of a goal's last arrival, and 0 if no such goal is held.
+    pub(crate) fn arrival(&self, id: GoalId) -> u64
+        ensures { result ≡ option_map_or (λ held. held.arrival) (find (is_for id) self.now.held) 0 }
+    {
+        match self.held.get(&id) {
+            None => 0,
+            Some(held) => held.arrival,
+        }
+    }
+
+    // The action client that asked for a goal's result at this place, from 0, in the order of asking. It is `None` at a place
+    // after the last one, and if no such goal is held.
     pub(crate) fn asker(&self, id: GoalId, index: usize) -> Option<EntityNo>
         ensures { result ≡ slice_get (askers_in id self.now.goals) index }
     {
         self.goals.asker(id, index)
     }
 
-    // Accepts a goal at a moment. Where memory is refused, the server stays as it was.
+    // Accepts a goal at a moment, with the number of its arrival. If memory is refused, the server doesn't change.
     pub(crate) fn accept(
         &mut self,
+        number: u64,
         moment: Moment,
         how: Acceptance,
         request: &GoalRequest,
     ) -> Result<(), Memory>
         requires room { has_room_for request.now.id self.old.goals ≡ true }
-        ensures accepted { OnOk result (self.new ≡ server_accepting moment how request.now self.old) }
+        ensures accepted { OnOk result (self.new ≡ server_accepting number moment how request.now self.old) }
         ensures unchanged { OnErr result (self.new ≡ self.old) }
     {
         let task = self.new_task(request.value)?;
         let held = Held {
             client: request.client,
             task: Some(task),
+            arrival: number,
         };
         self.held.reserve(1)?;
         self.wakes.reserve(1)?;
-        // Room and identifier are as they must be, so that memory alone may be refused.
+        // There is room and the identifier isn't held, so only memory may be refused.
         let Ok(_accepted) = self.goals.accept(request.id, request.value, moment, how) else {
             return Err(Memory);
         };
@@ -191,15 +204,15 @@ impl Server {
     /// The goals that a cancel request selects and that may be moved, in the order of acceptance.
     ///
     /// # Errors
-    /// [`Memory`] where a growth was refused.
+    /// [`Memory`] if a growth was refused.
     pub fn candidates(&self, request: &CancelRequest) -> Result<Items<GoalInfo>, Memory>
         ensures { IfOk result (λ infos. infos ≡ map info_of (candidates request.now self.now.goals)) }
     {
         self.goals.candidates(request)
     }
 
-    // Cancels by what was decided of a request's candidates, each by its identifier. Where memory is refused, the server
-    // stays as it was.
+    // Cancels by what was decided of a request's candidates, each by its identifier. If memory is refused, the server doesn't
+    // change.
     pub(crate) fn cancel(
         &mut self,
         request: &CancelRequest,
@@ -214,8 +227,8 @@ impl Server {
         Ok(answer)
     }
 
-    // What an action client is told that asks for a goal's result; where it comes later, the client is noted. Where memory
-    // is refused, the server stays as it was.
+    // What an action client is answered that asks for a goal's result. If the result comes later, the client is noted. If
+    // memory is refused, the server doesn't change.
     pub(crate) fn ask(&mut self, id: GoalId, client: EntityNo) -> Result<Asked, Memory>
         ensures told { IfOk result (λ told. told ≡ answer_of (asked_for id self.old.goals)) }
         ensures noted { OnOk result (self.new ≡ record self.old { goals = after_asking id client self.old.goals }) }
@@ -226,7 +239,7 @@ impl Server {
         Ok(told)
     }
 
-    // Executes the oldest goal that is accepted and not executed yet, and answers its identifier, or `None` where there is none.
+    // Executes the oldest goal that is accepted and not executed yet. Answers its identifier, or `None` if there is none.
     pub(crate) fn execute_oldest(&mut self) -> Option<GoalId>
         ensures found { result ≡ option_map (λ goal. goal.id) (find (λ goal. is_accepted goal.state) self.old.goals) }
         ensures executed { self.new ≡ record self.old { goals = executed (find (λ goal. is_accepted goal.state) self.old.goals) self.old.goals } }
@@ -248,8 +261,8 @@ impl Server {
         None
     }
 
-    // Ends a goal by an event at a moment with its result, and answers its terminal state. Where no such goal is held, or the
-    // event leads its state to no terminal one, nothing changes and there is no answer.
+    // Ends a goal by an event at a moment with its result, and answers its terminal state. Nothing changes if no such goal is
+    // held, or if the event leads its state to no terminal one. There is no answer then.
     pub(crate) fn end(
         &mut self,
         id: GoalId,
@@ -268,7 +281,7 @@ impl Server {
     }
 }
 
-// Puts work that is kept under a new identifier behind what is kept, where there is room for it.
+// Adds work after what is kept, under a new identifier. There is room for it.
 fn insert_new(held: &mut IndexMap<GoalId, Held>, id: GoalId, new: Held)
     requires room { 0 < spare held.old }
     requires new { list_any (is_for id) (held_goals_of held.old.entries) ≡ false }
@@ -277,7 +290,7 @@ fn insert_new(held: &mut IndexMap<GoalId, Held>, id: GoalId, new: Held)
     let _none = held.insert(id, new).unwrap();
 }
 
-// Drops what is kept under an identifier, if anything is, and from when on it is awake.
+// Drops what is kept under an identifier, if anything is, with the moment from which on it is awake.
 fn remove(held: &mut IndexMap<GoalId, Held>, wakes: &mut Vec<u64>, id: GoalId)
     requires { wakes.old.items ≡ wakes_of (held_goals_of held.old.entries) }
     ensures held { held_goals_of held.new.entries ≡ drop_first (is_for id) (held_goals_of held.old.entries) }

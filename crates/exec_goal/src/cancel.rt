@@ -11,14 +11,14 @@ use indexmap::IndexSet;
 use std::alloc::Global;
 use std::marker::Model;
 
-/// A request to cancel goals: `action_msgs/srv/CancelGoal`. With neither identifier nor stamp it
-/// selects all goals; with a stamp all goals accepted at or before it; with an identifier that
-/// goal, whenever accepted; with both that goal and all goals accepted at or before the stamp.
+/// A request to cancel goals: `action_msgs/srv/CancelGoal`. With neither identifier nor stamp it selects all goals. With a
+/// stamp it selects all goals accepted at or before it. With an identifier it selects that goal, whenever it was accepted. With
+/// both it selects that goal and all goals accepted at or before the stamp.
 #[derive(Clone, Copy, Debug, PartialEq, Eq)]
 pub struct CancelRequest {
-    /// The identifier of a goal, of which 0 is none.
+    /// The identifier of a goal. 0 is none.
     pub id: GoalId,
-    /// A stamp in ticks, of which 0 is none. It has no limit.
+    /// A stamp in ticks. 0 is none. It has no limit.
     pub stamp: u64,
 }
 
@@ -63,7 +63,7 @@ pub struct CancelAnswer {
     pub moved: Items<GoalId>,
 }
 
-// The identifiers that a cancel handler accepted, to be found in constant time.
+// The identifiers that a cancel handler accepted. One is found in constant time.
 #[derive(Debug, Drop)]
 pub(crate) struct AcceptedIds {
     ids: IndexSet<GoalId>,
@@ -94,7 +94,7 @@ impl AcceptedIds {
         Ok(AcceptedIds { ids })
     }
 
-    // Whether an accepted candidate moves: it does where it still may.
+    // Whether an accepted candidate moves. It does if it still may.
     pub(crate) fn moves(&self, info: &GoalInfo) -> bool
         ensures { (goal : GoalRecord) → info.now ≡ info_of goal → result ≡ moves_by (is_among self.now) goal }
     {

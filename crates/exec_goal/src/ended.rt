@@ -59,7 +59,7 @@ impl EndedPlaces {
         self.places.insert(at, place);
     }
 
-    // Forgets the goal at a place, which had ended: the goals behind it move up.
+    // Forgets the goal at a place, which had ended. The goals after it move up.
     pub(crate) fn forget(&mut self, place: usize)
         ensures { (flags : List Bool) → self.old ≡ flagged_places flags → slice_get flags place ≡ Some true → self.new ≡ flagged_places (remove flags place) }
     {
@@ -68,7 +68,7 @@ impl EndedPlaces {
     }
 }
 
-// A place once the goal at another one is forgotten.
+// A place after the goal at another one is forgotten.
 fn lower_place(place: u8, gone: usize) -> u8
     ensures { result ≡ lowered gone place }
 {
@@ -79,7 +79,8 @@ fn lower_place(place: u8, gone: usize) -> u8
     }
 }
 
-// Where a place is to stand among others. It looks from behind, since goals mostly end in the order of their acceptance.
+// The place among others at which a place is put. It looks from the end, because goals mostly end in the order of their
+// acceptance.
 fn position_for(places: &[u8], place: u8) -> usize
     ensures { StandsAt place places.now result }
 {
@@ -90,7 +91,7 @@ fn position_for(places: &[u8], place: u8) -> usize
     at
 }
 
-// Lowers the places behind one.
+// Lowers the places that are greater than one.
 fn lower(places: &mut [u8], gone: usize)
     ensures { places.new ≡ map (lowered gone) places.old }
 {

@@ -10,8 +10,8 @@ ghost use Rattle.exec_msg.specs.declared.goal.Event.TheVariants as event;
 ghost use Rattle.exec_msg.specs.declared.goal.GoalStatus.TheVariants as status;
 ghost use Rattle.exec_msg.specs.declared.goal.ReturnCode.TheVariants as code;
 
-/// A goal that isn't executed doesn't succeed, one that isn't being canceled isn't canceled, and one that is being
-/// canceled may succeed.
+/// A goal that isn't executed doesn't succeed. One that isn't being canceled isn't canceled. One that is being canceled may
+/// succeed.
 pub fn transitions()
     ensures accepted { after state.Accepted event.Succeed ≡ None }
     ensures executing { after state.Executing event.Canceled ≡ None }
@@ -33,7 +33,7 @@ pub fn accepted_goals()
     ensures other { holds_id 9 three_goals ≡ false }
 {}
 
-/// A stamp of 20 selects the goals that were accepted at 10 and 20, of which the first is accepted for cancelling.
+/// A stamp of 20 selects the goals that were accepted at 10 and 20. The first of them is accepted for cancelling.
 pub fn cancel_before_a_stamp()
     ensures candidates { map (λ goal. goal.id) (candidates cancel_until_20 three_goals) ≡ 1 ∷ 2 ∷ [] }
     ensures code { code_of cancel_until_20 one_accepted three_goals ≡ code.None }
@@ -61,7 +61,7 @@ pub fn terminated_goal()
     ensures code { code_of cancel_1 [] one_canceled ≡ code.GoalTerminated }
 {}
 
-/// What result requests are told for a goal that has ended, one that hasn't, and one that isn't held.
+/// What result requests are answered for a goal that has ended, one that hasn't, and one that isn't held.
 pub fn results()
     ensures ended { asked_for 1 one_canceled ≡ told status.Canceled (pos 7) }
     ensures active { asked_for 2 one_canceled ≡ later }
@@ -69,7 +69,7 @@ pub fn results()
     ensures noted { option_map (λ goal. (asked_by 4 goal).askers) (find (has_id 2) one_canceled) ≡ Some (4 ∷ []) }
 {}
 
-/// A goal that ended at 40 is forgotten from 50 on where results are kept for 10 ticks.
+/// A goal that ended at 40 is forgotten from 50 on, if results are kept for 10 ticks.
 pub fn forgotten_results()
     ensures early { expired 49 (Some 10) one_canceled ≡ [] }
     ensures late { map (λ goal. goal.id) (expired 50 (Some 10) one_canceled) ≡ 1 ∷ [] }

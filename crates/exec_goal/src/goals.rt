@@ -14,8 +14,7 @@ use indexmap::IndexMap;
 use std::alloc::Global;
 use std::marker::Model;
 
-/// The goals that a server holds, in the order in which it accepted them. No two have one
-/// identifier.
+/// The goals that a server holds, in the order in which it accepted them. No two have the same identifier.
 #[derive(Debug, Drop)]
 pub struct Goals {
     alloc: Global,
@@ -39,7 +38,7 @@ impl Model for Goals {
 /// The answer to a goal that is accepted.
 #[derive(Clone, Copy, Debug, PartialEq, Eq)]
 pub struct Accepted {
-    /// `State::Executing` if it is executed at once, and else `State::Accepted`.
+    /// `State::Executing` if the goal is executed at once, and else `State::Accepted`.
     pub state: State,
 }
 
@@ -61,14 +60,14 @@ impl Goals {
         }
     }
 
-    /// Whether a goal of this identifier is held, in whatever state.
+    /// Whether a goal of this identifier is held, in any state.
     pub fn holds(&self, id: GoalId) -> bool
         ensures { result ≡ holds_id id self.now }
     {
         self.held.contains_key(&id)
     }
 
-    /// How many goals are held, in whatever state.
+    /// How many goals are held, in any state.
     pub fn len(&self) -> usize
         ensures count { result ≡ length self.now }
         ensures distinct { HaveDistinctIds self.now }
@@ -76,22 +75,21 @@ impl Goals {
         self.held.len()
     }
 
-    /// Whether no room is left: [`GOALS`] goals are held, in whatever state.
+    /// Whether no room is left, because [`GOALS`] goals are held, in any state.
     pub fn is_full(&self) -> bool
         ensures { result ≡ is_full self.now }
     {
         self.len() >= GOALS
     }
 
-    /// How many of the goals the server works on: those that are EXECUTING or CANCELING. It looks
-    /// at no goal.
+    /// How many of the goals the server works on: those that are EXECUTING or CANCELING. It looks at no goal.
     pub fn count_working(&self) -> usize
         ensures { result ≡ working self.now }
     {
         self.tally.working
     }
 
-    /// The state of a goal, or `None` where it isn't held.
+    /// The state of a goal, or `None` if it isn't held.
     pub fn state(&self, id: GoalId) -> Option<State>
         ensures { result ≡ state_in id self.now }
     {
@@ -99,7 +97,7 @@ impl Goals {
         Some(held.state)
     }
 
-    /// What is told of all goals, in the order of acceptance.
+    /// What is known of all goals, in the order of acceptance.
     pub fn infos(&self) -> &[GoalInfo]
         ensures { result.now ≡ map info_of self.now }
     {
@@ -114,8 +112,11 @@ impl Goals {
         self.infos()[index]
     }
 
-    /// Accepts a goal of a value at a moment. It is refused where its identifier is held, else
-    /// where no room is left, else where memory is refused; the goals are then as they were.
+    /// Accepts a goal of a value at a moment.
+    ///
+    /// # Errors
+    /// [`Reject::Held`] if a goal of its identifier is held, else [`Reject::Full`] if no room is left, else [`Reject::Memory`]
+    /// if a growth was refused. No goal changes.
     pub fn accept(
         &mut self,
         id: GoalId,

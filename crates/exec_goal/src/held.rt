@@ -4,7 +4,7 @@ use crate::tally::has_passed;
 use exec_msg::{Acceptance, EntityNo, GoalId, Items, Moment};
 use std::alloc::Global;
 
-// A goal that a server holds, but for its identifier, by which the table finds it.
+// A goal that a server holds, without its identifier. The table finds it by that.
 #[derive(Debug, Drop)]
 pub(crate) struct GoalEntry {
     pub(crate) value: i64,
@@ -44,7 +44,7 @@ impl GoalEntry {
         }
     }
 
-    // What is told of the goal under its identifier.
+    // What is known of the goal, with its identifier.
     pub(crate) fn info(&self, id: GoalId) -> GoalInfo
         ensures { result ≡ info_of (record_of (id, self.now)) }
     {
@@ -56,7 +56,7 @@ impl GoalEntry {
         }
     }
 
-    // Cancels the goal where that is accepted and still possible.
+    // Cancels the goal, if that is accepted and still possible.
     pub(crate) fn cancel_where(&mut self, accepted: bool)
         ensures { (id : ℕ) → record_of (id, self.new) ≡ after_answer_by (λ _. accepted) (record_of (id, self.old)) }
     {
@@ -65,7 +65,7 @@ impl GoalEntry {
         }
     }
 
-    // Whether a server that keeps results for so many ticks forgets the goal at a moment.
+    // Whether a server that keeps results for `timeout` ticks forgets the goal at a moment.
     pub(crate) fn is_expired(&self, moment: Moment, timeout: u64) -> bool
         ensures { (id : ℕ) → result ≡ is_expired moment (Some timeout) (record_of (id, self.now)) }
     {

@@ -1,7 +1,7 @@
 use crate::state::State;
 use exec_msg::{GoalId, Moment};
 
-/// A goal as it is at the call that tells of it.
+/// A goal as it is at the call that gives this.
 #[derive(Clone, Copy, Debug, PartialEq, Eq)]
 pub struct GoalInfo {
     /// Its identifier.

@@ -1,4 +1,4 @@
-//! Laws of goals: each function's contract says one, and its body is empty. They hold for all states, tables and
+//! Laws of goals. The contract of each function says one law, and its body is empty. They hold for all states, tables and
 //! requests.
 
 ghost use Rattle.std.specs.Prelude.{◌≡◌, ◌≢◌, ◌↔◌, ◌⊎◌, ℕ, ◌+◌, ◌≤◌, ℤ, List, [], ◌∷◌, ◌++◌, length, map, take, drop, true, false, find, All, Any, Contains, IsPermutation, Option, None, Some};
@@ -21,7 +21,7 @@ ghost use Rattle.exec_msg.specs.declared.goal.Event.TheVariants as event;
 ghost use Rattle.exec_msg.specs.declared.goal.GoalStatus.{GoalStatus};
 ghost use Rattle.exec_msg.specs.declared.goal.ReturnCode.TheVariants as code;
 
-/// A goal moves from one state to another by an event exactly where the table has that transition.
+/// A goal moves from one state to another by an event exactly if the table has that transition.
 pub fn goals_move_by_the_table()
     ensures { (before : State) (by : Event) (next : State) → (after before by ≡ Some next) ↔ Transition before by next }
 {}
@@ -51,7 +51,7 @@ pub fn statuses_differ()
     ensures { (first second : State) → status_of first ≡ status_of second → first ≡ second }
 {}
 
-/// The status number of a goal that is held is never 0, which is that of an unknown goal.
+/// The status number of a goal that is held is never 0. That number says that a goal is unknown.
 pub fn held_goals_are_known()
     ensures { (held : State) → status_number (status_of held) ≢ 0 }
 {}
@@ -61,19 +61,18 @@ pub fn two_decisions_accept()
     ensures { (made : Decision) → (is_accepting made ≡ true) ↔ ((made ≡ decision.Execute) ⊎ (made ≡ decision.Defer)) }
 {}
 
-/// A server has no room where it holds 64 goals or more.
+/// A server has no room exactly if it holds 64 goals or more.
 pub fn servers_hold_64_goals()
     ensures { (goals : List GoalRecord) → (is_full goals ≡ true) ↔ (64 ≤ length goals) }
 {}
 
-/// Where no two goals have one identifier and that of a new goal isn't held, no two goals have one identifier once it is
-/// accepted.
+/// A new goal's identifier isn't held before it is accepted. If no two goals had the same identifier before, no two have after.
 pub fn accepting_keeps_identifiers_distinct()
     ensures { (id : ℕ) (value : ℤ) (moment : ℕ) (how : Acceptance) (goals : List GoalRecord) →
         HaveDistinctIds goals → holds_id id goals ≡ false → HaveDistinctIds (with_accepted id value moment how goals) }
 {}
 
-/// A goal that is accepted stands last, behind the goals that were held, and is held.
+/// A goal that is accepted is held, and comes last, after the goals that were held.
 pub fn accepted_goals_stand_last()
     ensures others { (id : ℕ) (value : ℤ) (moment : ℕ) (how : Acceptance) (goals : List GoalRecord) →
         take (length goals) (with_accepted id value moment how goals) ≡ goals }
@@ -89,25 +88,25 @@ pub fn accepted_goals_begin_by_their_decision()
     ensures deferred { (id : ℕ) (value : ℤ) (moment : ℕ) → (new_goal id value moment acceptance.Defer).state ≡ state.Accepted }
 {}
 
-/// A result request is told a status and a result exactly where the first goal of its identifier has ended with them.
+/// A result request is answered a status and a result exactly if the first goal of its identifier has ended with them.
 pub fn results_of_ended_goals_are_told()
     ensures { (id : ℕ) (status : GoalStatus) (result : ℤ) (goals : List GoalRecord) →
         (asked_for id goals ≡ told status result)
         ↔ ((goal : GoalRecord) × (find (has_id id) goals ≡ Some goal) × (is_terminal goal.state ≡ true) × (status_of goal.state ≡ status) × (goal.result ≡ result)) }
 {}
 
-/// A result request is answered later exactly where the first goal of its identifier hasn't ended.
+/// A result request is answered later exactly if the first goal of its identifier hasn't ended.
 pub fn results_of_active_goals_come_later()
     ensures { (id : ℕ) (goals : List GoalRecord) →
         (asked_for id goals ≡ later) ↔ ((goal : GoalRecord) × (find (has_id id) goals ≡ Some goal) × (is_terminal goal.state ≡ false)) }
 {}
 
-/// A result request is told that the goal is unknown exactly where its identifier isn't held.
+/// A result request is answered that the goal is unknown exactly if its identifier isn't held.
 pub fn other_goals_are_unknown()
     ensures { (id : ℕ) (goals : List GoalRecord) → (asked_for id goals ≡ unknown) ↔ (holds_id id goals ≡ false) }
 {}
 
-/// What is forgotten and what is kept are together the table, each in order of acceptance.
+/// What is forgotten and what is kept are together the table. Each is in the order of acceptance.
 pub fn expiry_parts_the_table()
     ensures together { (moment : ℕ) (timeout : Option ℕ) (goals : List GoalRecord) →
         IsPermutation goals (expired moment timeout goals ++ unexpired moment timeout goals) }
@@ -115,7 +114,7 @@ pub fn expiry_parts_the_table()
     ensures kept { (moment : ℕ) (timeout : Option ℕ) (goals : List GoalRecord) → IsSublist (unexpired moment timeout goals) goals }
 {}
 
-/// Each goal that is forgotten has expired and so has ended, and none that is kept has expired.
+/// Each goal that is forgotten has expired, and so has ended. No goal that is kept has expired.
 pub fn expired_goals_are_forgotten()
     ensures forgotten { (moment : ℕ) (timeout : Option ℕ) (goals : List GoalRecord) →
         All (λ goal. is_expired moment timeout goal ≡ true) (expired moment timeout goals) }
@@ -147,7 +146,7 @@ pub fn requests_select_by_the_policy()
         (selects id stamp goal ≡ true) ↔ ((goal.id ≡ id) ⊎ (goal.stamp ≤ stamp)) }
 {}
 
-/// The candidates are the goals that a request selects and that are ACCEPTED or EXECUTING, in order of acceptance.
+/// The candidates are the goals that a request selects and that are ACCEPTED or EXECUTING, in the order of acceptance.
 pub fn candidates_may_be_moved()
     ensures exactly { (request : CancelRequest) (goal : GoalRecord) →
         (is_candidate request goal ≡ true)
@@ -159,14 +158,14 @@ pub fn candidates_may_be_moved()
     ensures ordered { (request : CancelRequest) (goals : List GoalRecord) → IsSublist (candidates request goals) goals }
 {}
 
-/// A goal moves exactly where a decision that accepts names it and it is still ACCEPTED or EXECUTING.
+/// A goal moves exactly if a decision that accepts names it and it is still ACCEPTED or EXECUTING.
 pub fn accepted_candidates_move()
     ensures { (decisions : List Decided) (goal : GoalRecord) →
         (is_moved decisions goal ≡ true)
         ↔ (Contains decisions (goal.id, cancel_decision.Accept) × ((goal.state ≡ state.Accepted) ⊎ (goal.state ≡ state.Executing))) }
 {}
 
-/// The goals that move are all such goals of the table, in order of acceptance.
+/// The goals that move are all such goals of the table, in the order of acceptance.
 pub fn moved_goals_stand_in_order()
     ensures each { (decisions : List Decided) (goals : List GoalRecord) →
         All (λ goal. is_moved decisions goal ≡ true) (moved decisions goals) }
@@ -175,7 +174,7 @@ pub fn moved_goals_stand_in_order()
     ensures ordered { (decisions : List Decided) (goals : List GoalRecord) → IsSublist (moved decisions goals) goals }
 {}
 
-/// A goal that moves becomes CANCELING, and any other stays as it was.
+/// A goal that moves becomes CANCELING. Any other doesn't change.
 pub fn moved_goals_are_canceling()
     ensures moved { (decisions : List Decided) (goal : GoalRecord) →
         is_moved decisions goal ≡ true → after_answer decisions goal ≡ record goal { state = state.Canceling } }
@@ -189,33 +188,33 @@ pub fn answers_keep_the_order()
         map (λ goal. goal.id) (table_after decisions goals) ≡ map (λ goal. goal.id) goals }
 {}
 
-/// Goals that have ended stay as they were in every answer, and so do those that are CANCELING.
+/// No answer changes a goal that has ended, or one that is CANCELING.
 pub fn answers_leave_ended_goals()
     ensures ended { (decisions : List Decided) (goal : GoalRecord) → is_terminal goal.state ≡ true → after_answer decisions goal ≡ goal }
     ensures canceling { (decisions : List Decided) (goal : GoalRecord) → goal.state ≡ state.Canceling → after_answer decisions goal ≡ goal }
 {}
 
-/// Where the decisions are on the candidates of a request in an earlier table, each goal that moves has the identifier of
-/// a candidate.
+/// If the decisions are about the candidates of a request in an earlier table, each goal that moves has the identifier of one
+/// of these candidates.
 pub fn only_candidates_move()
     ensures { (request : CancelRequest) (decisions : List Decided) (before goals : List GoalRecord) →
         map decided_goal decisions ≡ map (λ goal. goal.id) (candidates request before) →
         All (λ goal. Any (λ candidate. candidate.id ≡ goal.id) (candidates request before)) (moved decisions goals) }
 {}
 
-/// The return code is ERROR_NONE exactly where a goal moved.
+/// The return code is ERROR_NONE exactly if a goal moved.
 pub fn code_is_none_where_a_goal_moved()
     ensures { (request : CancelRequest) (decisions : List Decided) (goals : List GoalRecord) →
         (code_of request decisions goals ≡ code.None) ↔ (moved decisions goals ≢ []) }
 {}
 
-/// Where no goal moved and all candidates were refused, of which there were some, the code is ERROR_REJECTED.
+/// If no goal moved and all candidates were refused, the code is ERROR_REJECTED. There must have been a candidate.
 pub fn code_is_rejected_where_all_were_refused()
     ensures { (request : CancelRequest) (decisions : List Decided) (goals : List GoalRecord) →
         moved decisions goals ≡ [] → AllRefused decisions → code_of request decisions goals ≡ code.Rejected }
 {}
 
-/// The code is ERROR_UNKNOWN_GOAL_ID exactly where no goal moved, not all candidates were refused, and the request names a
+/// The code is ERROR_UNKNOWN_GOAL_ID exactly if no goal moved, not all candidates were refused, and the request names a
 /// goal that isn't held.
 pub fn code_is_unknown_where_no_such_goal_is_held()
     ensures { (request : CancelRequest) (decisions : List Decided) (goals : List GoalRecord) →
@@ -223,7 +222,7 @@ pub fn code_is_unknown_where_no_such_goal_is_held()
         ↔ ((moved decisions goals ≡ []) × (AllRefused decisions → ⊥) × (request.id ≢ 0) × (holds_id request.id goals ≡ false)) }
 {}
 
-/// The code is ERROR_GOAL_TERMINATED exactly where no goal moved, not all candidates were refused, and the goal that the
+/// The code is ERROR_GOAL_TERMINATED exactly if no goal moved, not all candidates were refused, and the goal that the
 /// request names has ended.
 pub fn code_is_terminated_where_the_goal_has_ended()
     ensures { (request : CancelRequest) (decisions : List Decided) (goals : List GoalRecord) →
@@ -232,7 +231,7 @@ pub fn code_is_terminated_where_the_goal_has_ended()
         × ((goal : GoalRecord) × (find (has_id request.id) goals ≡ Some goal) × (is_terminal goal.state ≡ true))) }
 {}
 
-/// Where no goal moved and the request names none, or one that hasn't ended, the code is ERROR_REJECTED.
+/// If no goal moved, and the request names none or one that hasn't ended, the code is ERROR_REJECTED.
 pub fn code_is_rejected_else()
     ensures unnamed { (stamp : ℕ) (decisions : List Decided) (goals : List GoalRecord) →
         moved decisions goals ≡ [] → code_of (record { id = 0; stamp = stamp }) decisions goals ≡ code.Rejected }
@@ -241,8 +240,8 @@ pub fn code_is_rejected_else()
         code_of request decisions goals ≡ code.Rejected }
 {}
 
-/// A change that leaves its goal's identifier leaves all identifiers in their order, changes the goal of its identifier,
-/// and leaves the goals of all others.
+/// A change is given that leaves the identifier of its goal. It changes the goal of that identifier, and no other. All
+/// identifiers keep their order.
 pub fn changes_reach_one_goal()
     ensures order { (id : ℕ) (change : GoalRecord → GoalRecord) (goals : List GoalRecord) → ((goal : GoalRecord) → (change goal).id ≡ goal.id) →
         map (λ goal. goal.id) (change_first (has_id id) change goals) ≡ map (λ goal. goal.id) goals }

@@ -9,7 +9,7 @@ use thiserror::Error;
 /// Why a goal isn't accepted, each with its number.
 #[derive(Clone, Copy, Debug, PartialEq, Eq, Error)]
 pub enum Reject {
-    /// The server holds a goal of this identifier, in whatever state.
+    /// The server holds a goal of this identifier, in any state.
     #[error("a goal of this identifier is held")]
     Held = 1,
     /// The server holds as many goals as it may.

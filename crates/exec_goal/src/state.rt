@@ -22,7 +22,7 @@ pub enum State {
 }
 
 impl State {
-    /// The state after an event, or `None` where there is no such transition.
+    /// The state after an event, or `None` if there is no such transition.
     pub fn after(self, event: Event) -> Option<State>
         ensures { result ≡ after self event }
     {
@@ -34,7 +34,7 @@ impl State {
         }
     }
 
-    // The terminal state after an event, or `None` where there is no such transition.
+    // The terminal state after an event, or `None` if there is no such transition.
     pub(crate) fn end(self, event: Event) -> Option<State>
         ensures { result ≡ where_terminal (after self event) }
     {

@@ -9,17 +9,17 @@ use crate::state::State;
 use exec_msg::Moment;
 use std::alloc::Global;
 
-// What a table knows of its goals without a look at each.
+// What a table knows of its goals without looking at each.
 #[derive(Debug, Drop)]
 pub(crate) struct Tally {
     // How many goals are EXECUTING or CANCELING.
     pub(crate) working: usize,
-    // A moment before which no goal has ended, or `None` where none has.
+    // A moment before which no goal has ended, or `None` if none has.
     pub(crate) first_end: Option<Moment>,
     // Which goals have ended.
     pub(crate) ended: EndedPlaces,
-    // What is told of each goal, in the order of acceptance. A round looks at all of them where the server works on some, and an
-    // entry is so large that each look would be a fetch from memory.
+    // What is known of each goal, in the order of acceptance. If the server works on some goals, a round looks at all. An entry
+    // is so large that each look would be a fetch from memory.
     pub(crate) infos: Vec<GoalInfo>,
 }
 
@@ -39,7 +39,7 @@ impl Tally {
         }
     }
 
-    // Whether a goal may have ended so many ticks before a moment, or longer.
+    // Whether a goal may have ended `timeout` ticks before a moment, or earlier.
     pub(crate) fn may_expire(&self, moment: Moment, timeout: u64) -> bool
         ensures { result ≡ may_expire moment timeout self.now.first_end }
     {
@@ -49,8 +49,8 @@ impl Tally {
         }
     }
 
-    // Counts that the goal at a place which was of one state is of another, and ended at a moment
-    // where that one is terminal, and tells it so.
+    // Counts that the goal at a place has moved from one state to another. If the new state is terminal, the goal ended at a
+    // moment. What is known of the goal then has the new state.
     pub(crate) fn count_move(&mut self, place: usize, before: State, after: State, ended: Moment)
         requires counted { one_where (is_worked_on before) ≤ self.old.working }
         requires fits { self.old.working < 2 ^ 63 }
@@ -68,7 +68,7 @@ impl Tally {
     }
 }
 
-// How many goals are EXECUTING or CANCELING once one that was of one state is of another.
+// How many goals are EXECUTING or CANCELING after one has moved from one state to another.
 fn count_working(working: usize, before: State, after: State) -> usize
     requires counted { one_where (is_worked_on before) ≤ working }
     requires fits { working < 2 ^ 63 }
@@ -79,7 +79,7 @@ fn count_working(working: usize, before: State, after: State) -> usize
     working + entering - leaving
 }
 
-// Notes that the goal at a place has ended, where it was of a state in which it hadn't.
+// Notes that the goal at a place has ended, if it hadn't in its state before.
 fn note_end(ended: &mut EndedPlaces, place: usize, before: State, after: State)
     requires stays { is_terminal before ≡ true → is_terminal after ≡ true }
     requires room { is_terminal before ≡ false → (place < GOALS) × (length ended.old < GOALS) }
@@ -90,16 +90,16 @@ fn note_end(ended: &mut EndedPlaces, place: usize, before: State, after: State)
     }
 }
 
-// Whether a moment is so many ticks behind an end, or more.
+// Whether a moment is at least `timeout` ticks after an end.
 pub(crate) fn has_passed(ended: Moment, timeout: u64, moment: Moment) -> bool
     ensures { result ≡ nat_le (ended + timeout) moment }
 {
-    // A difference, since a sum might not fit.
+    // A difference, because a sum might not fit.
     let age = moment.ticks().checked_sub(ended.ticks());
     age.is_some_and(|age| timeout <= age)
 }
 
-// The first end that is known, once a goal has ended at a moment where it has.
+// The first end that is known, with that of a goal that may have ended at a moment.
 pub(crate) fn first_with(has_ended: bool, ended: Moment, first: Option<Moment>) -> Option<Moment>
     ensures { result ≡ first_with has_ended ended first }
 {
@@ -110,7 +110,7 @@ pub(crate) fn first_with(has_ended: bool, ended: Moment, first: Option<Moment>) 
     }
 }
 
-// The earlier of two moments, of which there may be the second alone.
+// The earlier of two moments. There may be only the second.
 fn earlier(first: Option<Moment>, ended: Moment) -> Moment
     ensures { result ≡ earlier first ended }
 {

@@ -21,11 +21,11 @@ use exec_script::WordText;
 pub struct GroupDraft {
     /// Its name.
     pub name: WordText,
-    /// Whether it is mutually exclusive, else it is reentrant.
+    /// Whether it is mutually exclusive. Otherwise it is reentrant.
     pub exclusive: bool,
 }
 
-/// What an entity is said to be: it refers to others by their names, of whatever node, and its scripts are spelled.
+/// What an entity is said to be. It refers to others by their names, in any node, and its scripts are spelled.
 pub type Drafted = EntityOf<WordText, Spelled>;
 
 /// An entity, as its node declares it.
@@ -33,7 +33,7 @@ pub type Drafted = EntityOf<WordText, Spelled>;
 pub struct EntityDraft {
     /// Its name.
     pub name: WordText,
-    /// The name of its callback group, of the same node; the node's default group where this is `None`.
+    /// The name of its callback group, which is of the same node. `None` is the node's default group.
     pub group: Option<WordText>,
     /// What it is.
     pub is: Drafted,

@@ -6,10 +6,10 @@ use exec_msg::Memory;
 use std::alloc::{AllocError, AllocFailed};
 use thiserror::Error;
 
-/// Why a draft is no graph, each with its number: the least that holds.
+/// Why a draft is no graph, each with its number. The least number that holds counts.
 #[derive(Clone, Copy, Debug, PartialEq, Eq, Error)]
 pub enum GraphFault {
-    /// A name isn't one, stands twice, or isn't declared.
+    /// A name isn't one, occurs twice, or isn't declared.
     #[error("a wrong name")]
     Name = 4,
     /// A number or a length is beyond its limit.

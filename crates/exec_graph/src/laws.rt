@@ -1,4 +1,4 @@
-//! Laws of drafts: each function's contract says one, and its body is empty.
+//! Laws of drafts. The contract of each function says one law, and its body is empty.
 ghost use Rattle.std.specs.Prelude.{◌≡◌, ℕ, List, true, None, Some, is_some, IsTrue};
 ghost use Rattle.exec_graph.specs.declared.draft.GraphDraft.{GraphDraft};
 ghost use Rattle.exec_plan.specs.Graph.{GraphData, is_topic, is_server, topic_at, server_at};
@@ -7,13 +7,13 @@ ghost use Rattle.exec_graph.specs.Numbers.{topic_named, server_named};
 ghost use Rattle.exec_graph.specs.Refusals.{fault_in};
 ghost use Rattle.exec_graph.specs.Resolved.{graph_in};
 
-/// A draft without a fault has a graph, and that is lawful.
+/// A draft without a fault has a graph, and the graph is lawful.
 pub fn drafts_without_faults_have_lawful_graphs()
     ensures graph { (draft : GraphDraft) → fault_in draft ≡ None → is_some (graph_in draft) ≡ true }
     ensures lawful { (draft : GraphDraft) (graph : GraphData) → fault_in draft ≡ None → graph_in draft ≡ Some graph → IsLawful graph }
 {}
 
-/// What a draft's names find stands at its number in the graph.
+/// What a draft's names find is at its number in the graph.
 pub fn names_find_what_they_are_declared_as()
     ensures topic { (draft : GraphDraft) (graph : GraphData) (name : List ℕ) (number : ℕ) → graph_in draft ≡ Some graph → topic_named draft name ≡ Some number →
         IsTrue (is_at is_topic graph number) }

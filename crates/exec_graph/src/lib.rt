@@ -1,4 +1,4 @@
-//! Drafts of graphs, and the builder that gives a graph or its least fault; graphs and plans are those of `exec_plan`.
+//! Drafts of graphs, and the builder that gives a graph or its least fault. Graphs and plans are those of `exec_plan`.
 #![tactic(auto)]
 
 mod draft;

@@ -1,7 +1,7 @@
 use exec_script::SpelledInstr;
 use std::marker::Model;
 
-/// A script as a document spells it, seen by contracts as a list of lists of words.
+/// A script as a document spells it. Contracts see it as a list of lists of words.
 #[derive(Debug, Drop)]
 pub struct Spelled {
     instrs: Vec<SpelledInstr>,

@@ -70,9 +70,13 @@ impl<R: Read> InputStream<R> {
     }
 }
 
-/// Reads a document: all that the reader has, up to its end. Each turn takes at least one byte, or
-/// ends the reading; an error of whatever kind ends it as a fault. The reader is asked for one byte
-/// more than a document may have, and for no byte after that. The room beyond the end is given back.
+/// Reads a document: all that the reader has, up to its end. Each turn takes at least one byte or ends the reading. An error of
+/// any kind ends it as a fault. The reader is asked for one byte more than a document may have, and for no byte after that. The
+/// room that the document doesn't need is given back.
+///
+/// # Errors
+/// [`ReadFault::Memory`] if a growth was refused, [`ReadFault::Failed`] if the reader failed, and [`ReadFault::TooLong`] if it
+/// has more bytes than a document may have.
 pub fn read_document<R: Read>(
     alloc: Global,
     input: &mut InputStream<R>,
@@ -101,8 +105,8 @@ pub fn read_document<R: Read>(
     Err(ReadFault::TooLong)
 }
 
-// Makes `buffer` longer than `filled`, by zeros: to twice its length, and to one byte more than a
-// document may have at most.
+// Makes `buffer` longer than `filled`, with zeros. It gets twice its length, but at most one byte more than a document may
+// have.
 fn make_room(buffer: &mut Vec<u8>, filled: usize) -> Result<(), AllocError>
     requires filled { filled ≤ vec_len buffer.old }
     requires fits { filled ≤ DOCUMENT }

@@ -1,4 +1,4 @@
-//! Where a text goes, and what notes whether that has failed.
+//! What a text goes to, and what notes whether that has failed.
 ghost use Rattle.std.specs.Prelude.{◌≡◌, ◌<◌, ◌≤◌, false, true, length, take, IfOk, OnErr, OnOk};
 ghost use Rattle.std.specs.Io.KnownBytes.{Appends, Keeps};
 
@@ -11,19 +11,19 @@ use thiserror::Error;
 #[error("the writer failed")]
 pub struct OutFailed;
 
-/// Where a text goes, some bytes at a time.
+/// What a text goes to, some bytes at a time.
 pub trait Out {
     ghost use Rattle.std.specs.Prelude.{◌≡◌, ◌<◌, ◌≤◌, true, length, take, IfOk, OnErr};
     ghost use Rattle.std.specs.Io.KnownBytes.{Appends, Keeps};
     ghost use Rattle.exec_io.specs.Streams.{Sink};
 
-    /// What it was given so far, where it tells that, and whether a `put` has failed.
+    /// What it was given so far, if it says that, and whether a `put` has failed.
     ghost sink: { Self → Sink };
 
     /// Takes the first bytes of a text, at least one, and answers how many.
     ///
     /// # Errors
-    /// [`OutFailed`] where none was taken.
+    /// [`OutFailed`] if none was taken.
     fn put(&mut self, text: &[u8]) -> Result<usize, OutFailed>
         requires { 0 < length text.now }
         ensures some { IfOk result (λ count. 0 < count) }
@@ -38,14 +38,14 @@ pub trait Out {
         ensures { result ≡ (sink self.now).failed };
 }
 
-/// A writer of std's as an [`Out`]: it notes whether a write or a flush has failed, and whether all that it took is flushed. A
+/// A writer of std's as an [`Out`]. It notes whether a write or a flush has failed, and whether all that it took is flushed. A
 /// write that takes nothing has failed.
 #[derive(Drop)]
 pub struct Through<W: Write> {
     /// The writer.
     pub writer: W,
     failed: bool,
-    // Whether a flush stands behind the last write.
+    // Whether the writer was flushed after the last write.
     flushed: bool,
 }
 
@@ -58,7 +58,7 @@ impl<W: Write> Model for Through<W> {
 }
 
 impl<W: Write> Through<W> {
-    /// A writer to which nothing was written yet.
+    /// A writer that nothing was written to yet.
     pub fn new(writer: W) -> Through<W>
         ensures { result ≡ record { sink = record { contents = W.contents writer; failed = false }; flushed = false } }
     {
@@ -72,7 +72,7 @@ impl<W: Write> Through<W> {
     /// Flushes the writer.
     ///
     /// # Errors
-    /// [`OutFailed`] where that failed.
+    /// [`OutFailed`] if that failed.
     pub fn flush(&mut self) -> Result<(), OutFailed>
         ensures kept { Keeps self.old.sink.contents self.new.sink.contents }
         ensures sound { OnOk result (self.new.sink.failed ≡ self.old.sink.failed) }

@@ -7,8 +7,8 @@ ghost use Rattle.std.specs.IoError.{error_kind};
 use std::io;
 use std::io::{ErrorKind, Read, Write};
 
-/// A reader or writer of std's, each of whose calls is made again as long as a signal interrupts it, as std's own loops over
-/// reads and writes do.
+/// A reader or writer of std's. If a signal interrupts one of its calls, the call is made again, as std's own loops over reads
+/// and writes do.
 #[derive(Drop)]
 pub struct Uninterrupted<S> {
     /// The reader or writer.

@@ -69,8 +69,11 @@ fn number_to(most: u16, word: &str) -> Option<u16>
     }
 }
 
-/// The words that the program was started with, without its own name. No clause can say what these are; what is made of
-/// the arguments is [`words_behind_the_name`]'s.
+/// The words that the program was started with, without its own name. No clause can say what these are. The contract of
+/// [`words_behind_the_name`] says what is made of the arguments.
+///
+/// # Errors
+/// [`WordsFault::Memory`] if a growth was refused, and [`WordsFault::NotText`] if a word isn't text.
 pub fn read_words<R: Env + AllocGlobal>(rt: &R) -> Result<Vec<String>, WordsFault> {
     let arguments = env::args(rt).map_err(|fault| words_fault(&fault))?;
     let arguments = arguments
@@ -79,7 +82,7 @@ pub fn read_words<R: Env + AllocGlobal>(rt: &R) -> Result<Vec<String>, WordsFaul
     Ok(words_behind_the_name(arguments))
 }
 
-/// The words of all arguments, of which the first is the program's own name.
+/// The words after the first argument, which is the program's own name.
 pub fn words_behind_the_name(mut arguments: Vec<String>) -> Vec<String>
     ensures { result.items ≡ drop 1 arguments.items }
 {

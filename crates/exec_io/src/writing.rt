@@ -7,14 +7,14 @@ use crate::out::{Out, OutFailed, Through};
 use exec_msg::TextReader;
 use std::io::Write;
 
-// A long text is written in blocks of so many bytes, which begin where a file's pages begin.
+// A long text is written in blocks of this many bytes. They begin where a file's pages begin.
 const BLOCK: usize = 65_536;
 
-/// Writes all of a text, and flushes the writer. Each turn takes at least one byte, or ends the writing; an error of whatever
-/// kind ends it as a fault, and so does a turn that takes nothing.
+/// Writes all of a text, and flushes the writer. Each turn takes at least one byte or ends the writing. An error of any kind
+/// ends it as a fault, and so does a turn that takes nothing.
 ///
 /// # Errors
-/// [`OutFailed`] where the writer failed. What it was given then is a front of the text.
+/// [`OutFailed`] if the writer failed. What it was given is then a front of the text.
 pub fn write_text<W: Write>(through: &mut Through<W>, text: &[u8]) -> Result<(), OutFailed>
     ensures ok { OnOk result (Appends through.old.sink.contents through.new.sink.contents text.now) }
     ensures flushed { OnOk result (through.new.flushed ≡ true) }
@@ -41,10 +41,10 @@ fn put_all<O: Out>(out: &mut O, text: &[u8]) -> Result<(), OutFailed>
     Ok(())
 }
 
-/// Puts the text of the lines that a reader has left, one filling of a buffer after another. The buffer has the room of a line.
+/// Puts the text of the lines that a reader has left. It fills a buffer again and again. The buffer has the room of a line.
 ///
 /// # Errors
-/// [`OutFailed`] where a `put` failed. What was put then is a front of the text.
+/// [`OutFailed`] if a `put` failed. What was put is then a front of the text.
 pub fn put_pieces<O: Out>(
     out: &mut O,
     reader: &mut TextReader<'_>,
@@ -65,7 +65,8 @@ pub fn put_pieces<O: Out>(
     put_all(out, &buffer[..at])
 }
 
-// How many of the bytes up to an end wait for the next block: those behind the last, where they leave a line its room.
+// How many of the bytes up to an end wait for the next block. These are the bytes after the last whole block, if they leave
+// room for a line, and else none.
 fn bytes_behind(reader: &TextReader<'_>, buffer: &[u8], end: usize) -> usize
     requires { line_room reader.now.names ≤ length buffer.now }
     ensures within { result ≤ end }
@@ -79,7 +80,7 @@ fn bytes_behind(reader: &TextReader<'_>, buffer: &[u8], end: usize) -> usize
     }
 }
 
-// Puts the bytes up to an end but for the last, so many, which are moved to the front.
+// Puts the bytes up to an end, except the last `behind` ones. Those are moved to the front.
 fn put_front<O: Out>(
     out: &mut O,
     buffer: &mut [u8],

@@ -6,7 +6,7 @@ use exec_plan::GroupNo;
 use std::alloc::Global;
 use std::marker::Model;
 
-// The slots of a round, cut into lanes: the lane of a mutually exclusive group is found without a walk over others.
+// The slots of a round, cut into lanes. The lane of a mutually exclusive group is found without a walk over others.
 #[derive(Drop)]
 pub(crate) struct Cut {
     alloc: Global,
@@ -42,7 +42,7 @@ impl Cut {
         }
     }
 
-    // Adds a slot to the lane of its group, or begins one where there is none.
+    // Adds a slot to the lane of its group. If there is none, it begins one.
     pub(crate) fn push(&mut self, slot: Slot) -> Result<(), Memory>
         ensures { OnOk result (self.new ≡ with_slot self.old slot) }
     {
@@ -69,7 +69,7 @@ impl Cut {
         self.of_group.get(number_of(&slot.ready.group))
     }
 
-    // Adds a slot to the lane at this place, into which it goes.
+    // Adds a slot to the lane at this place. It is the lane that the slot belongs to.
     fn join(&mut self, place: usize, slot: Slot) -> Result<(), Memory>
         requires { place_for slot self.old ≡ Some place }
         ensures { OnOk result (self.new ≡ change_at place (lane_with slot) self.old) }
@@ -78,7 +78,7 @@ impl Cut {
         Ok(())
     }
 
-    // Begins a lane behind the others.
+    // Begins a lane after the others.
     fn begin(&mut self, slot: Slot) -> Result<(), Memory>
         requires { place_for slot self.old ≡ None }
         ensures { OnOk result (self.new ≡ self.old ++ (slot ∷ []) ∷ []) }
@@ -97,7 +97,7 @@ impl Cut {
     }
 }
 
-// Under which number a group's place stands.
+// The number under which a group's place is noted.
 fn number_of(group: &GroupNo) -> usize
     ensures value { result ≡ group.now }
     ensures bound { result < 65536 }

@@ -1,15 +1,15 @@
 ghost use Rattle.std.specs.Prelude.{◌≡◌};
 
-/// Watches a round from outside: it is told which callback a worker comes to, and may hold it there. Both calls return, and
-/// neither may wait for ever.
+/// Watches a round from outside. A worker reports to it which callback it comes to, and the gate may hold the worker there.
+/// Each call returns, and none may wait for ever.
 pub trait Gate: Sync {
     /// A worker is about to run the callback at this position of the ready list, from 1.
     fn pass(&self, position: usize);
 
-    /// What the callback at this position did has come to the collector of a streamed round, by the queue.
+    /// What the callback at this position did has come to the collector of a streamed round through the queue.
     fn took(&self, position: usize);
 
-    /// Whether nobody watches, so that a round may run in any way that gives its transcript.
+    /// Whether nobody watches. The round may then run in any way that gives its transcript.
     fn is_open(&self) -> bool {
         false
     }
@@ -29,14 +29,15 @@ impl Gate for Open {
     }
 }
 
-// That a worker has told a gate to which callback it comes. Only `tell` makes one, so that no callback runs before.
+// A sign that a worker has reported to a gate which callback it comes to. Only `tell` makes one, so that no callback runs
+// before.
 #[derive(Drop)]
 pub(crate) struct Passed {
     position: usize,
 }
 
 impl Passed {
-    // Tells a gate the position of the callback to which a worker comes.
+    // Reports to a gate the position of the callback that a worker comes to.
     #[inline(always)]
     pub(crate) fn tell<G: Gate>(gate: &G, position: usize) -> Passed
         ensures { result.position ≡ position }

@@ -28,10 +28,10 @@ pub struct Ran {
 pub type Gathered = Vec<Ran>;
 
 /// Brings home what [`split`](crate::split) took: the variables of each lane's group, and the tasks of its goals. Gives the
-/// callbacks that ran, each with what it did, in ready order, so that each may be committed.
+/// callbacks that ran, each with what it did, in ready order. Each may then be committed.
 ///
 /// # Errors
-/// [`Memory`] where a growth was refused. The lanes are dropped, and the world has failed.
+/// [`Memory`] if a growth was refused. The lanes are dropped, and the world has failed.
 pub fn gather<L: Lines>(
     alloc: Global,
     lanes: Vec<LaneBox>,
@@ -97,7 +97,7 @@ fn bring_lane_home<L: Lines>(
     Ok(())
 }
 
-// Each callback of a reentrant group begins with no variables, so those of such a lane are dropped.
+// Each callback of a reentrant group begins with variables of 0, so those of such a lane are dropped.
 fn bring_bank_home<L: Lines>(slots: &[Slot], bank: Bank, world: &mut World<L>)
     ensures { world.new ≡ record world.old { state = variables_home (entries_of slots.now) bank world.old.state } }
 {
@@ -108,7 +108,7 @@ fn bring_bank_home<L: Lines>(slots: &[Slot], bank: Bank, world: &mut World<L>)
     }
 }
 
-// Brings home the tasks of the callbacks' goals, in their order, and lists the first of them, those that ran.
+// Brings home the tasks of the callbacks' goals, in their order. Lists the first `done` callbacks, which are those that ran.
 fn bring_slots_home<L: Lines>(
     slots: Vec<Slot>,
     done: usize,
@@ -128,7 +128,7 @@ fn bring_slots_home<L: Lines>(
     Ok(())
 }
 
-// The same of a callback, which ran if there are still some that did.
+// The same of one callback. It ran if there are still some that did.
 fn bring_slot_home<L: Lines>(
     slot: Slot,
     still: usize,
@@ -148,7 +148,7 @@ fn bring_slot_home<L: Lines>(
     Ok(())
 }
 
-// Where the callback polls no goal, nothing changes.
+// If the callback polls no goal, nothing changes.
 fn bring_task_home<L: Lines>(
     server: EntityNo,
     cause: &Cause,

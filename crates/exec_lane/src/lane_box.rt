@@ -17,7 +17,7 @@ use std::alloc::Global;
 use std::marker::Model;
 use std::snapshot::Snapshot;
 
-// A callback of a lane, the task of the goal that it polls, and what it did once it ran.
+// A callback of a lane, the task of the goal that it polls, and what it did if it ran.
 #[derive(Drop)]
 pub(crate) struct Slot {
     pub(crate) ready: Ready,
@@ -36,8 +36,8 @@ impl Model for Slot {
 }
 
 impl Slot {
-    // Runs the callback, of which a gate was told, apart from the world, with its group's variables. Where memory is refused, all
-    // stays as it was.
+    // Runs the callback apart from the world, with its group's variables. It was reported to a gate before. If memory is
+    // refused, nothing changes.
     fn run(
         &mut self,
         _passed: Passed,
@@ -57,14 +57,14 @@ impl Slot {
     }
 }
 
-/// The callbacks of one lane, with the variables of their group and the tasks of the goals that they poll. However often it is
-/// moved, its variables, its tasks and what its callbacks did are those of the first [`done`](LaneBox::done) callbacks, run
-/// one after another from where the lane was opened.
+/// The callbacks of one lane, with the variables of their group and the tasks of the goals that they poll. The first
+/// [`done`](LaneBox::done) callbacks have run, one after another, from the state in which the lane was opened. The variables,
+/// the tasks and what the callbacks did are those of that run, however often the lane is moved.
 #[derive(Drop)]
 pub struct LaneBox {
     alloc: Global,
     poller: Poller,
-    // With what the lane was opened; no bytes.
+    // What the lane was opened with. These have no bytes.
     first_bank: Snapshot<Bank>,
     first_slots: Snapshot<Vec<Slot>>,
     bank: Bank,
@@ -89,7 +89,7 @@ impl Model for LaneBox {
 }
 
 impl LaneBox {
-    // A lane of these callbacks, none of which ran.
+    // A lane of these callbacks. None of them ran.
     pub(crate) fn open(alloc: Global, bank: Bank, slots: Vec<Slot>) -> Result<LaneBox, Memory>
         ensures { IfOk result (λ lane. lane ≡ record { variables = bank; entries = entries_of slots.items; done = 0; failed = false }) }
     {
@@ -105,7 +105,7 @@ impl LaneBox {
         })
     }
 
-    // The variables of its group and its callbacks, as they stand, and how many of these ran.
+    // The variables of its group, its callbacks, and how many of these ran.
     pub(crate) fn into_parts(self) -> (Bank, Vec<Slot>, usize)
         ensures home { (world : _) → slots_home result.1.items (variables_home (entries_of result.1.items) result.0 world) ≡ lane_home world self }
         ensures ran { ran_first result.2 result.1.items ≡ ran_in self }
@@ -137,10 +137,10 @@ impl LaneBox {
         self.done == self.slots.as_slice().len()
     }
 
-    /// A copy of what a callback did that ran, by its place in the lane, from 0.
+    /// A copy of what a callback did. The callback is at this place in the lane, from 0, and has run.
     ///
     /// # Errors
-    /// [`Memory`] where a growth was refused.
+    /// [`Memory`] if a growth was refused.
     pub fn outcome(&self, index: usize) -> Result<Outcome, Memory>
         requires { index < self.now.done }
         ensures { IfOk result (λ outcome. slice_get (outcomes_in self.now) index ≡ Some outcome) }
@@ -153,10 +153,10 @@ impl LaneBox {
         })
     }
 
-    /// Tells the gate the position of the lane's next callback, and runs that.
+    /// Reports the position of the lane's next callback to the gate, and runs that callback.
     ///
     /// # Errors
-    /// [`Memory`] where a growth was refused. The lane is marked as failed and answers [`Memory`] from then on; nothing else of
+    /// [`Memory`] if a growth was refused. The lane is marked as failed, and answers [`Memory`] from then on. Nothing else of
     /// it changes.
     pub fn run_next<G: Gate>(&mut self, gate: &G) -> Result<(), Memory>
         requires { self.old.done < length self.old.entries }

@@ -1,4 +1,4 @@
-//! Lanes: the ready callbacks of a round, cut apart by callback groups, so that they may run in any threads and in any order.
+//! Lanes: the ready callbacks of a round, divided by callback groups, so that they may run in any threads and in any order.
 #![tactic(auto)]
 
 mod cut;

@@ -15,12 +15,12 @@ use exec_task::GoalTask;
 use exec_world::{Cause, Ready, World};
 use std::alloc::Global;
 
-/// Cuts the ready list of the last snapshot into lanes, each with the variables of its group and the tasks of the goals that its
-/// callbacks poll, which are out of the world until [`gather`](crate::gather) brings them home. None of the list is committed
-/// before.
+/// Cuts the ready list of the last snapshot into lanes. Each has the variables of its group and the tasks of the goals that its
+/// callbacks poll. These are out of the world until [`gather`](crate::gather) brings them home. No callback of the list is
+/// committed before that.
 ///
 /// # Errors
-/// [`Memory`] where a growth was refused. The world has failed then.
+/// [`Memory`] if a growth was refused. The world has failed then.
 pub fn split<L: Lines>(
     alloc: Global,
     list: Vec<Ready>,
@@ -110,7 +110,7 @@ fn open_all<L: Lines>(
     Ok(opened)
 }
 
-// Opens a lane with the variables of its first callback's group, or with none where that is reentrant.
+// Opens a lane with the variables of its first callback's group, or with none if the group is reentrant.
 fn open<L: Lines>(alloc: Global, lane: Vec<Slot>, world: &mut World<L>) -> Result<LaneBox, Memory>
     ensures lane { IfOk result (λ opened. opened ≡ opened_slots world.old.state lane.items) }
     ensures same { world.new ≡ world.old }

@@ -20,7 +20,7 @@ use Rattle.exec_rules.specs.Item.{taker_of}
 use Rattle.exec_rules.specs.Lines.{is_loss}
 use Rattle.exec_rules.specs.Shape.{shape_of}
 use Rattle.exec_rules.specs.Transcript.{entity_at, first_world, server_in}
-use Rattle.exec_rules.specs.World.{WorldState, Queue, ServerEntry, add_line, drop_line, is_queue, lost_by, push, push_any}
+use Rattle.exec_rules.specs.World.{WorldState, Queue, ServerEntry, add_line, drop_line, is_queue, lost_by, push, push_any, next_arrival}
 use Rattle.exec_rules.specs.declared.item.Item.{Item}
 use Rattle.exec_rules.specs.declared.item.Item.TheVariants as item
 
@@ -224,7 +224,7 @@ module _ (plan : PlanData) (client : EntityNo) where
               let d = many_more (is_result_taken client id) world.lines drops in
               let e = many_none (is_result_taken client id) drops (drops_untaken id entity lost) in
               let f = among_append id a.lost (flat_map (result_for entity) lost) in
-              let g = flying_sent (weight id) entity new world.queues in
+              let g = flying_sent (weight id) entity (next_arrival world) new world.queues in
               let h = lost_weigh id entity lost in
               let i = both_sides found (weight id entity new) in
               let j = due id in

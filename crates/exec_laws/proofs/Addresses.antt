@@ -4,6 +4,7 @@ use Rattle.std.specs.List.{AllByRecursion, find}
 use Rattle.std.specs.Option.{unwrap_or}
 use Rattle.std.proofs.lemmas.Bool.{eqb-true, eq-eqb, and_parts}
 use Rattle.exec_msg.specs.Numbers.{EntityNo}
+use Rattle.exec_plan.specs.declared.order.Order.{Order}
 use Rattle.exec_plan.specs.Graph.{GraphData, Waitable, entities_where, is_client, is_action_client}
 use Rattle.exec_plan.specs.Plan.{PlanData}
 use Rattle.exec_msg.specs.Kind.{ready_number}
@@ -74,11 +75,11 @@ module _ (P : EntityNo → Item → Type 0) where
   abbrev pub Holds : Queue → Type 0
   Holds queue = AllByRecursion (P queue.handler.entity) queue.items
 
-  pub held_after : (entity : EntityNo) (new : Item) (queues : List Queue) → P entity new → AllByRecursion Holds queues → AllByRecursion Holds (change_first (is_queue entity (taker_of new)) (queue_after new) queues)
-  held_after entity new [] well p = tt
-  held_after entity new (queue ∷ queues) well p = by (is_queue entity (taker_of new) queue) refl (held_after entity new queues well p.1)
+  pub held_after : (entity : EntityNo) (number : ℕ) (new : Item) (queues : List Queue) → P entity new → AllByRecursion Holds queues → AllByRecursion Holds (change_first (is_queue entity (taker_of new)) (queue_after number new) queues)
+  held_after entity number new [] well p = tt
+  held_after entity number new (queue ∷ queues) well p = by (is_queue entity (taker_of new) queue) refl (held_after entity number new queues well p.1)
     where
-      by : (b : Bool) → is_queue entity (taker_of new) queue ≡ b → AllByRecursion Holds (change_first (is_queue entity (taker_of new)) (queue_after new) queues) → AllByRecursion Holds (change_first (is_queue entity (taker_of new)) (queue_after new) (queue ∷ queues))
+      by : (b : Bool) → is_queue entity (taker_of new) queue ≡ b → AllByRecursion Holds (change_first (is_queue entity (taker_of new)) (queue_after number new) queues) → AllByRecursion Holds (change_first (is_queue entity (taker_of new)) (queue_after number new) (queue ∷ queues))
       by true e rest =
           let here : queue.handler.entity ≡ entity = eqb-true queue.handler.entity entity (and_parts (queue.handler.entity == entity) (ready_number queue.kind == ready_number (taker_of new)) e).0 in
           rw e (
@@ -92,19 +93,19 @@ module _ (P : EntityNo → Item → Type 0) where
   held_taken [] p = tt
   held_taken (queue ∷ queues) p = (all_dropped (P queue.handler.entity) 1 queue.items p.0, held_taken queues p.1)
 
-  pub held_first : (graph : GraphData) (waitables : List Waitable) → AllByRecursion Holds (map (new_queue graph) waitables)
-  held_first graph [] = tt
-  held_first graph (waitable ∷ waitables) = (tt, held_first graph waitables)
+  pub held_first : (under : Order) (graph : GraphData) (waitables : List Waitable) → AllByRecursion Holds (map (new_queue under graph) waitables)
+  held_first under graph [] = tt
+  held_first under graph (waitable ∷ waitables) = (tt, held_first under graph waitables)
 
 -- a queue holds what may be sent to its entity
 abbrev pub IsAddressed : Routes → Queue → Type 0
 IsAddressed routes queue = AllByRecursion (λ one. is_sent_well routes queue.handler.entity one ≡ true) queue.items
 
-pub addressed_after : (routes : Routes) (entity : EntityNo) (new : Item) (queues : List Queue) → is_sent_well routes entity new ≡ true → AllByRecursion (IsAddressed routes) queues → AllByRecursion (IsAddressed routes) (change_first (is_queue entity (taker_of new)) (queue_after new) queues)
+pub addressed_after : (routes : Routes) (entity : EntityNo) (number : ℕ) (new : Item) (queues : List Queue) → is_sent_well routes entity new ≡ true → AllByRecursion (IsAddressed routes) queues → AllByRecursion (IsAddressed routes) (change_first (is_queue entity (taker_of new)) (queue_after number new) queues)
 addressed_after routes = held_after (λ entity one. is_sent_well routes entity one ≡ true)
 
 pub addressed_taken : (routes : Routes) (queues : List Queue) → AllByRecursion (IsAddressed routes) queues → AllByRecursion (IsAddressed routes) (map queue_taken queues)
 addressed_taken routes = held_taken (λ entity one. is_sent_well routes entity one ≡ true)
 
-pub addressed_first : (routes : Routes) (graph : GraphData) (waitables : List Waitable) → AllByRecursion (IsAddressed routes) (map (new_queue graph) waitables)
+pub addressed_first : (routes : Routes) (under : Order) (graph : GraphData) (waitables : List Waitable) → AllByRecursion (IsAddressed routes) (map (new_queue under graph) waitables)
 addressed_first routes = held_first (λ entity one. is_sent_well routes entity one ≡ true)

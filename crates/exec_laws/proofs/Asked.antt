@@ -18,13 +18,13 @@ use Rattle.exec_msg.specs.declared.goal.GoalStatus.{GoalStatus}
 use Rattle.exec_msg.specs.declared.line.Line.{Line}
 use Rattle.exec_msg.specs.declared.line.Line.TheVariants as line
 use Rattle.exec_laws.proofs.Channels.{weigh}
-use Rattle.exec_rules.proofs.Identifiers.{Distinct, HasDistinct, Makes, OldOrNew, old_or_new, changing, tasking, distinct_kept, filter_all}
+use Rattle.exec_rules.proofs.Identifiers.{Distinct, HasDistinct, Makes, OldOrNew, old_or_new, changing, tasking, distinct_kept, filter_all, goal_arriving}
 use Rattle.exec_rules.proofs.Keeping.{ids, Moves, publish_kept, moves_kept, anywhere, is_plain}
 use Rattle.exec_rules.proofs.Pairs.{all_weaker}
 use Rattle.exec_laws.proofs.Views.{turned}
 use Rattle.exec_rules.specs.Close.{accepted_lines, moved_lines, tell}
 use Rattle.exec_laws.specs.Exchanges.{is_ask_taken, is_result_told, waiting_for, waiting_in}
-use Rattle.exec_rules.specs.World.{WorldState, ServerEntry, is_server_at, add_line, add_lines, drop_line, lost_by, queued, push, goals_of, with_call, goals_in}
+use Rattle.exec_rules.specs.World.{WorldState, ServerEntry, is_server_at, add_line, add_lines, drop_line, lost_by, queued, push, goals_of, with_call, goals_in, next_arrival}
 use Rattle.exec_rules.specs.declared.item.Item.{Item}
 use Rattle.exec_rules.specs.declared.item.Item.TheVariants as item
 
@@ -239,6 +239,7 @@ module _ (server : EntityNo) (id : GoalId) where
           (same_wait owed world.lines (goals_of server world) _ (served (changing (table_after decisions)) other world (λ is. answered_waits decisions (goals_of server world))) p.1),
     );
     tasks_kept = λ other goal task world p. (distinct_kept.basic.tasks_kept other goal task world p.0, same_wait owed world.lines (goals_of server world) _ (served (tasking goal task) other world (λ is. refl)) p.1);
+    arrivals_kept = λ other goal world p. (distinct_kept.basic.arrivals_kept other goal world p.0, same_wait owed world.lines (goals_of server world) _ (served (goal_arriving goal (next_arrival world)) other world (λ is. refl)) p.1);
     sending_kept = λ client world p. p;
     variables_kept = λ group variables world p. p;
   }

@@ -385,7 +385,7 @@ told_once plan lawful number client found = record {
     accounts = (all_fair plan client.entity).1
 
     kinds : AreOfTheirKinds world
-    kinds = rounds_keep kinds_kept plan 1 plan.moments (first_world plan) (kinds_first plan.graph (filter (λ waitable. takes_from_queue waitable.kind) (wait_set plan.graph)))
+    kinds = rounds_keep kinds_kept plan 1 plan.moments (first_world plan) (kinds_first plan.order plan.graph (filter (λ waitable. takes_from_queue waitable.kind) (wait_set plan.graph)))
 
     its : server_in (entity_at plan.graph client.entity).is ≡ client.server
     its = eqb-true _ client.server (action_client_knows plan world shape number client found)

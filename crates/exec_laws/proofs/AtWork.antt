@@ -12,7 +12,7 @@ use Rattle.exec_msg.specs.Lists.{change_first}
 use Rattle.exec_msg.specs.declared.goal.Event.{Event}
 use Rattle.exec_msg.specs.declared.goal.Event.TheVariants as event
 use Rattle.exec_msg.specs.declared.line.Line.TheVariants as line
-use Rattle.exec_rules.proofs.Identifiers.{HasDistinct, Makes, OldOrNew, old_or_new, changing, tasking, accepting, distinct_kept}
+use Rattle.exec_rules.proofs.Identifiers.{HasDistinct, Makes, OldOrNew, old_or_new, changing, tasking, accepting, distinct_kept, goal_arriving}
 use Rattle.exec_rules.proofs.Keeping.{Moves, Tells, publish_kept, moves_kept, tells_kept, state_said, anywhere}
 use Rattle.exec_rules.proofs.Running.{ended, end_kept, ends_told, asks_told, run_keeps, unclosed_keeps}
 use Rattle.exec_laws.proofs.Statuses.{state_left, state_of_other, state_moved}
@@ -21,7 +21,7 @@ use Rattle.exec_laws.specs.Goals.{may_be_polled}
 use Rattle.exec_rules.specs.Run.{unclosed}
 use Rattle.exec_rules.specs.Run.{run}
 use Rattle.exec_rules.specs.Transcript.{run_all}
-use Rattle.exec_rules.specs.World.{WorldState, ServerEntry, is_server_at, add_line, goals_of, goals_in}
+use Rattle.exec_rules.specs.World.{WorldState, ServerEntry, is_server_at, add_line, goals_of, goals_in, next_arrival}
 use Rattle.exec_rules.specs.declared.ready.Cause.TheVariants as cause
 use Rattle.exec_rules.specs.declared.ready.Ready.{Ready}
 
@@ -139,6 +139,7 @@ module _ (server : EntityNo) (id : GoalId) (canceling : Bool) where
       changed (changing (table_after decisions)) other world p.1 (λ is. after_answers canceling id decisions (goals_of server world) p.1),
     );
     tasks_kept = λ other goal task world p. (distinct_kept.basic.tasks_kept other goal task world p.0, changed (tasking goal task) other world p.1 (λ is. p.1));
+    arrivals_kept = λ other goal world p. (distinct_kept.basic.arrivals_kept other goal world p.0, changed (goal_arriving goal (next_arrival world)) other world p.1 (λ is. p.1));
     sending_kept = λ client world p. p;
     variables_kept = λ group variables world p. p;
   }
@@ -173,7 +174,7 @@ module _ (server : EntityNo) (id : GoalId) (canceling : Bool) where
       run_keeps at_work_moves one (λ before none q. q)
       (λ request how before same room q. (
         distinct_kept.accepts_kept one.entity one.moment how request before room q.0,
-        changed (accepting one.moment how request) one.entity before q.1 (λ is. after_acceptance canceling id (goals_of server before) (new_goal request.id request.value one.moment how) q.1),
+        changed (accepting (next_arrival before) one.moment how request) one.entity before q.1 (λ is. after_acceptance canceling id (goals_of server before) (new_goal request.id request.value one.moment how) q.1),
       ))
       (ends_told at_work_moves at_work_tells one (λ goal value asked by result reached before same leads q. ended_at_work one other goal value asked by result before same q))
       (asks_told at_work_moves at_work_tells one (λ before q. q))

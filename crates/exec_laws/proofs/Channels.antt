@@ -121,12 +121,12 @@ weigh_more true m n few = omega (arith, few)
 weigh_more false m n few = omega arith
 
 module _ (routes : Routes) (channel : Channel) where
-  pub total_after : (entity : EntityNo) (new : Item) (queues : List Queue) → total routes channel (change_first (is_queue entity (taker_of new)) (queue_after new) queues) ≤ total routes channel queues + weigh (takes routes channel entity (taker_of new)) 1
-  total_after entity new [] = omega arith
-  total_after entity new (queue ∷ queues) = by (is_queue entity (taker_of new) queue) refl (total_after entity new queues)
+  pub total_after : (entity : EntityNo) (number : ℕ) (new : Item) (queues : List Queue) → total routes channel (change_first (is_queue entity (taker_of new)) (queue_after number new) queues) ≤ total routes channel queues + weigh (takes routes channel entity (taker_of new)) 1
+  total_after entity number new [] = omega arith
+  total_after entity number new (queue ∷ queues) = by (is_queue entity (taker_of new) queue) refl (total_after entity number new queues)
     where
-      by : (b : Bool) → is_queue entity (taker_of new) queue ≡ b → total routes channel (change_first (is_queue entity (taker_of new)) (queue_after new) queues) ≤ total routes channel queues + weigh (takes routes channel entity (taker_of new)) 1 →
-          total routes channel (change_first (is_queue entity (taker_of new)) (queue_after new) (queue ∷ queues)) ≤ total routes channel (queue ∷ queues) + weigh (takes routes channel entity (taker_of new)) 1
+      by : (b : Bool) → is_queue entity (taker_of new) queue ≡ b → total routes channel (change_first (is_queue entity (taker_of new)) (queue_after number new) queues) ≤ total routes channel queues + weigh (takes routes channel entity (taker_of new)) 1 →
+          total routes channel (change_first (is_queue entity (taker_of new)) (queue_after number new) (queue ∷ queues)) ≤ total routes channel (queue ∷ queues) + weigh (takes routes channel entity (taker_of new)) 1
       by true e rest =
           let parts = and_parts (queue.handler.entity == entity) (ready_number queue.kind == ready_number (taker_of new)) e in
           let here : queue.handler.entity ≡ entity = eqb-true queue.handler.entity entity parts.0 in

@@ -1,6 +1,6 @@
 -- What each change makes of the messages that were published to a topic: those that left a subscription's queue, those that a
 -- callback will take, and those that the queue holds.
-use Rattle.std.proofs.Common.{◌≡◌, ℤ, Bool, true, false, ◌==◌, List, [], ◌∷◌, ◌++◌, map, take, drop, refl, sym, ap, subst, ◌∙◌, true≢false, append_assoc}
+use Rattle.std.proofs.Common.{◌≡◌, ℤ, Bool, true, false, ◌==◌, List, [], ◌∷◌, ◌++◌, map, take, drop, refl, sym, ap, subst, ◌∙◌, true≢false, append_assoc, ℕ}
 use Rattle.std.specs.List.{AllByRecursion, find, flat_map, list_any}
 use Rattle.std.specs.Option.{option_map_or}
 use Rattle.std.proofs.lemmas.Bool.{eqb-true, eq-eqb, and_parts}
@@ -22,7 +22,7 @@ use Rattle.exec_rules.proofs.Pairs.{all_weaker}
 use Rattle.exec_laws.proofs.Subscribed.{brought}
 use Rattle.exec_laws.specs.Exchanges.{taken_at, dropped_at, Leaving, taken, dropped, leaving_value, taken_by, dropped_by}
 use Rattle.exec_rules.specs.Item.{taker_of, first_of}
-use Rattle.exec_rules.specs.World.{WorldState, Queue, is_queue, drop_line, lost_by, queue_after, push}
+use Rattle.exec_rules.specs.World.{WorldState, Queue, is_queue, drop_line, lost_by, queue_after, push, next_arrival}
 use Rattle.exec_rules.specs.declared.item.Item.{Item}
 use Rattle.exec_rules.specs.declared.item.Item.TheVariants as item
 
@@ -110,12 +110,12 @@ module _ (subscription : EntityNo) where
 
   -- ---- an item that is sent to another queue
 
-  held_apart : (entity : EntityNo) (new : Item) → ((queue : Queue) → is_queue entity (taker_of new) queue ≡ true → is_queue subscription kind.Message queue ≡ false) → (queues : List Queue) → held_in subscription (change_first (is_queue entity (taker_of new)) (queue_after new) queues) ≡ held_in subscription queues
-  held_apart entity new apart [] = refl
-  held_apart entity new apart (queue ∷ queues) = by (is_queue entity (taker_of new) queue) (is_queue subscription kind.Message queue) refl refl (held_apart entity new apart queues)
+  held_apart : (entity : EntityNo) (number : ℕ) (new : Item) → ((queue : Queue) → is_queue entity (taker_of new) queue ≡ true → is_queue subscription kind.Message queue ≡ false) → (queues : List Queue) → held_in subscription (change_first (is_queue entity (taker_of new)) (queue_after number new) queues) ≡ held_in subscription queues
+  held_apart entity number new apart [] = refl
+  held_apart entity number new apart (queue ∷ queues) = by (is_queue entity (taker_of new) queue) (is_queue subscription kind.Message queue) refl refl (held_apart entity number new apart queues)
     where
-      by : (b c : Bool) → is_queue entity (taker_of new) queue ≡ b → is_queue subscription kind.Message queue ≡ c → held_in subscription (change_first (is_queue entity (taker_of new)) (queue_after new) queues) ≡ held_in subscription queues →
-          held_in subscription (change_first (is_queue entity (taker_of new)) (queue_after new) (queue ∷ queues)) ≡ held_in subscription (queue ∷ queues)
+      by : (b c : Bool) → is_queue entity (taker_of new) queue ≡ b → is_queue subscription kind.Message queue ≡ c → held_in subscription (change_first (is_queue entity (taker_of new)) (queue_after number new) queues) ≡ held_in subscription queues →
+          held_in subscription (change_first (is_queue entity (taker_of new)) (queue_after number new) (queue ∷ queues)) ≡ held_in subscription (queue ∷ queues)
       by true true e f rest = absurd (true≢false (sym f ∙ apart queue e))
       by true false e f rest = rw (e, f) refl
       by false true e f rest = rw (e, f) refl
@@ -127,7 +127,7 @@ module _ (subscription : EntityNo) where
       flow_lines sent hand (push entity new world).queues world.lines (map (drop_line entity) (lost_by entity new world)) mute
       (record {
         left = f.left;
-        in_order = f.in_order ∙ ap (λ (some : List ℤ). map leaving_value f.left ++ some) (sym (held_apart entity new apart world.queues));
+        in_order = f.in_order ∙ ap (λ (some : List ℤ). map leaving_value f.left ++ some) (sym (held_apart entity (next_arrival world) new apart world.queues));
         takings = f.takings;
         losses = f.losses;
       })
@@ -195,17 +195,17 @@ module _ (subscription : EntityNo) where
       mute (first ∷ lost) = ((refl, elsewhere (taker_of first) entity (first_of first) differs), mute lost)
 
   -- to the subscription
-  held_more : (value : ℤ) (queues : List Queue) → list_any (is_queue subscription kind.Message) queues ≡ true →
-      map first_of (option_map_or (λ queue. displaced queue.depth (item.Message value) queue.items) (find (is_queue subscription kind.Message) queues) []) ++ held_in subscription (change_first (is_queue subscription kind.Message) (queue_after (item.Message value)) queues)
+  held_more : (number : ℕ) (value : ℤ) (queues : List Queue) → list_any (is_queue subscription kind.Message) queues ≡ true →
+      map first_of (option_map_or (λ queue. displaced queue.depth (item.Message value) queue.items) (find (is_queue subscription kind.Message) queues) []) ++ held_in subscription (change_first (is_queue subscription kind.Message) (queue_after number (item.Message value)) queues)
       ≡ held_in subscription queues ++ value ∷ []
-  held_more value [] there = absurd (true≢false (sym there))
-  held_more value (queue ∷ queues) there = by (is_queue subscription kind.Message queue) refl (held_more value queues)
+  held_more number value [] there = absurd (true≢false (sym there))
+  held_more number value (queue ∷ queues) there = by (is_queue subscription kind.Message queue) refl (held_more number value queues)
     where
       by : (b : Bool) → is_queue subscription kind.Message queue ≡ b →
           (list_any (is_queue subscription kind.Message) queues ≡ true →
-          map first_of (option_map_or (λ one. displaced one.depth (item.Message value) one.items) (find (is_queue subscription kind.Message) queues) []) ++ held_in subscription (change_first (is_queue subscription kind.Message) (queue_after (item.Message value)) queues)
+          map first_of (option_map_or (λ one. displaced one.depth (item.Message value) one.items) (find (is_queue subscription kind.Message) queues) []) ++ held_in subscription (change_first (is_queue subscription kind.Message) (queue_after number (item.Message value)) queues)
           ≡ held_in subscription queues ++ value ∷ []) →
-          map first_of (option_map_or (λ one. displaced one.depth (item.Message value) one.items) (find (is_queue subscription kind.Message) (queue ∷ queues)) []) ++ held_in subscription (change_first (is_queue subscription kind.Message) (queue_after (item.Message value)) (queue ∷ queues))
+          map first_of (option_map_or (λ one. displaced one.depth (item.Message value) one.items) (find (is_queue subscription kind.Message) (queue ∷ queues)) []) ++ held_in subscription (change_first (is_queue subscription kind.Message) (queue_after number (item.Message value)) (queue ∷ queues))
           ≡ held_in subscription (queue ∷ queues) ++ value ∷ []
       by true e rest =
           rw (e, e)
@@ -233,7 +233,7 @@ module _ (subscription : EntityNo) where
         in_order =
             ap (λ (some : List ℤ). some ++ value ∷ []) f.in_order
             ∙ append_assoc (map leaving_value f.left) (held_in subscription world.queues) (value ∷ [])
-            ∙ ap (λ (some : List ℤ). map leaving_value f.left ++ some) (sym (held_more value world.queues there))
+            ∙ ap (λ (some : List ℤ). map leaving_value f.left ++ some) (sym (held_more (next_arrival world) value world.queues there))
             ∙ sym (append_assoc (map leaving_value f.left) values after)
             ∙ ap (λ (some : List ℤ). (map leaving_value f.left ++ some) ++ after) (sym (dropped_values values))
             ∙ ap (λ (some : List ℤ). some ++ after) (sym (map-append leaving_value f.left (map (λ one. dropped one) values)));

@@ -98,6 +98,7 @@ module _ (plan : PlanData) (topic subscription : EntityNo) (among : Contains (su
     queues_kept = λ entity new world p. (kinds_kept.basic.queues_kept entity new world p.0, shapes.basic.queues_kept entity new world p.1);
     goals_kept = λ server change world same p. (kinds_kept.basic.goals_kept server change world same p.0, shapes.basic.goals_kept server change world same p.1);
     tasks_kept = λ server id task world p. (kinds_kept.basic.tasks_kept server id task world p.0, shapes.basic.tasks_kept server id task world p.1);
+    arrivals_kept = λ server id world p. (kinds_kept.basic.arrivals_kept server id world p.0, shapes.basic.arrivals_kept server id world p.1);
     calls_kept = λ client world p. (kinds_kept.basic.calls_kept client world p.0, shapes.basic.calls_kept client world p.1);
     sending_kept = λ client world p. (kinds_kept.basic.sending_kept client world p.0, shapes.basic.sending_kept client world p.1);
     variables_kept = λ group variables world p. (kinds_kept.basic.variables_kept group variables world p.0, shapes.basic.variables_kept group variables world p.1);
@@ -207,6 +208,7 @@ module _ (plan : PlanData) (topic subscription : EntityNo) (among : Contains (su
     answer_kept = λ server decisions returned count world d.
         kept hand world _ (moved_lines server (moved decisions _) ++ line.Code server returned count ∷ []) ((moves_kept base_kept).answer_kept server decisions returned count world d.base) refl refl (moved_silent server _ (line.Code server returned count ∷ []) ((refl, (refl, refl)), tt)) d;
     tasks_kept = λ server id task world d. same hand world _ (base_kept.tasks_kept server id task world d.base) refl refl d;
+    arrivals_kept = λ server id world d. same hand world _ (base_kept.arrivals_kept server id world d.base) refl refl d;
     sending_kept = λ client world d. same hand world _ (base_kept.sending_kept client world d.base) refl refl d;
     variables_kept = λ group variables world d. same hand world _ (base_kept.variables_kept group variables world d.base) refl refl d;
   }
@@ -315,7 +317,7 @@ module _ (plan : PlanData) (topic subscription : EntityNo) (among : Contains (su
 
   first_delivers : Delivers [] (first_world plan)
   first_delivers = record {
-    base = (kinds_first plan.graph _, refl);
+    base = (kinds_first plan.order plan.graph _, refl);
     flow = record { left = []; in_order = sym (none_held (first_world plan).queues (all_map (λ queue. queue.items ≡ []) _ (λ waitable. refl) _)); takings = refl; losses = refl };
     says = refl;
   }

@@ -88,5 +88,5 @@ module _ (plan : PlanData) (lawful : IsLawful plan.graph) where
 
   pub deep_first : AllByRecursion (λ queue. 1 ≤ queue.depth) (first_world plan).queues
   deep_first =
-      all_mapped (λ waitable. 1 ≤ queue_depth (entity_at plan.graph waitable.entity).is) (λ queue. 1 ≤ queue.depth) (new_queue plan.graph) (λ waitable p. p) _
+      all_mapped (λ waitable. 1 ≤ queue_depth (entity_at plan.graph waitable.entity).is) (λ queue. 1 ≤ queue.depth) (new_queue plan.order plan.graph) (λ waitable p. p) _
       (queued_deep (wait_set plan.graph) (all_flat IsDeep (λ of. map (λ entity. record { kind = of; entity = entity }) (entities_where (has_kind of) plan.graph)) waits_deep kinds))

@@ -31,7 +31,7 @@ use Rattle.exec_rules.proofs.Sorting.{sum_sorted}
 use Rattle.exec_rules.proofs.Running.{Answers, ends_told, asks_told, run_keeps, KeptByRounds}
 use Rattle.exec_rules.proofs.Shapes.{shape_kept}
 use Rattle.exec_rules.proofs.Wiring.{wired}
-use Rattle.exec_rules.specs.Close.{accepted_lines, moved_lines, accept, with_ended, goal_at}
+use Rattle.exec_rules.specs.Close.{accepted_lines, moved_lines, accept, with_ended, goal_at, goal_arrived}
 use Rattle.exec_rules.specs.Item.{taker_of}
 use Rattle.exec_rules.specs.Shape.{queue_shape, shape_of}
 use Rattle.exec_rules.specs.Ready.{is_callback_of}
@@ -40,7 +40,7 @@ use Rattle.exec_rules.specs.Ready.{all_ready, due_ready, item_ready, placed_from
 use Rattle.exec_rules.specs.Sorting.{sorted_by}
 use Rattle.exec_rules.specs.Run.{run}
 use Rattle.exec_rules.specs.Transcript.{takes_from_queue, first_world, expire_lines, expire, at_snapshot, run_all, round, rounds, pending_by, closing_lines, lines_of, new_queue}
-use Rattle.exec_rules.specs.World.{WorldState, Queue, TimerEntry, ServerEntry, ClientEntry, add_line, is_queue, drop_line, lost_by, push, goals_of, change_goals, add_lines, with_task, with_call, with_goal_sent, with_variables}
+use Rattle.exec_rules.specs.World.{WorldState, Queue, TimerEntry, ServerEntry, ClientEntry, add_line, is_queue, drop_line, lost_by, push, goals_of, change_goals, add_lines, with_task, with_call, with_goal_sent, with_variables, next_arrival}
 use Rattle.exec_rules.specs.declared.item.Item.{Item}
 use Rattle.exec_rules.specs.declared.item.Item.TheVariants as item
 use Rattle.exec_rules.specs.declared.ready.Ready.{Ready}
@@ -146,9 +146,9 @@ module _ (plan : PlanData) (deep_first : AllByRecursion (λ queue. 1 ≤ queue.d
   pushed before rest entity new world well s lighter none = record {
     shape = push_kept (shape_kept (shape_of (first_world plan))).basic entity new world s.shape;
     kinds = push_kept kinds_kept.basic entity new world s.kinds;
-    addressed = addressed_after (routes_of plan.graph) entity new world.queues well s.addressed;
+    addressed = addressed_after (routes_of plan.graph) entity (next_arrival world) new world.queues well s.addressed;
     light = λ channel.
-        let after = total_after (routes_of plan.graph) channel entity new world.queues in
+        let after = total_after (routes_of plan.graph) channel entity (next_arrival world) new world.queues in
         let less = lighter channel in
         let was = s.light channel in
         omega (arith, after, less, was);
@@ -221,6 +221,7 @@ module _ (plan : PlanData) (deep_first : AllByRecursion (λ queue. 1 ≤ queue.d
         kept rest world (canceled server decisions returned many world) (moved_lines server (moved decisions (goals_of server world)) ++ line.Code server returned many ∷ []) s ((moves_kept shapes.basic).answer_kept server decisions returned many world s.shape) refl refl
         (lossless_more (moved_lines server (moved decisions (goals_of server world))) (line.Code server returned many ∷ []) (moved_lossless server (moved decisions (goals_of server world))) refl);
     tasks_kept = λ server id task world s. same_lines rest world (with_task server id task world) s (shapes.basic.tasks_kept server id task world s.shape) refl refl;
+    arrivals_kept = λ server id world s. same_lines rest world (goal_arrived server id world) s (shapes.basic.arrivals_kept server id world s.shape) refl refl;
     sending_kept = λ client world s. same_lines rest world (with_goal_sent client world) s (shapes.basic.sending_kept client world s.shape) refl refl;
     variables_kept = λ group variables world s. same_lines rest world (with_variables group variables world) s (shapes.basic.variables_kept group variables world s.shape) refl refl;
   }
@@ -321,8 +322,8 @@ module _ (routes : Routes) (server : EntityNo) where
       let timers : List Ready = flat_map (due_ready moment) world.timers in
       let took : List Ready = flat_map (queue_ready moment world) world.queues in
       let polls : List Ready = flat_map (poll_ready moment) world.servers in
-      let placed = count_placed 1 (sorted_by (rank_under world.order) (all_ready moment world)) in
-      let sorted = sum_sorted (λ one. weigh (test one) 1) (count test) (λ one list. refl) (rank_under world.order) (all_ready moment world) in
+      let placed = count_placed 1 (sorted_by (rank_under world.order world) (all_ready moment world)) in
+      let sorted = sum_sorted (λ one. weigh (test one) 1) (count test) (λ one list. refl) (rank_under world.order world) (all_ready moment world) in
       let a = count_append test (timers ++ took) polls in
       let b = count_append test timers took in
       let none_due = count_none test timers (all_flat (λ one. test one ≡ false) (due_ready moment) (λ entry. others entry.handler.entity kind.Timer refl (due_ready moment entry) (due_of moment entry)) world.timers) in
@@ -409,19 +410,19 @@ module _ (plan : PlanData) (deep_first : AllByRecursion (λ queue. 1 ≤ queue.d
       rounds_light (suc number) moments (round plan number moment world)
       (run_all_light plan deep_first (ready_list moment before) (take_inputs moment before) (list_well (routes_of plan.graph) moment before taken.addressed) (taken_light moment before taken))
 
-  total_first : (channel : Channel) (waitables : List Waitable) → total (routes_of plan.graph) channel (map (new_queue plan.graph) waitables) ≡ 0
+  total_first : (channel : Channel) (waitables : List Waitable) → total (routes_of plan.graph) channel (map (new_queue plan.order plan.graph) waitables) ≡ 0
   total_first channel [] = refl
   total_first channel (waitable ∷ waitables) = by (takes (routes_of plan.graph) channel waitable.entity waitable.kind) (total_first channel waitables)
     where
-      by : (b : Bool) → total (routes_of plan.graph) channel (map (new_queue plan.graph) waitables) ≡ 0 → weigh b 0 + total (routes_of plan.graph) channel (map (new_queue plan.graph) waitables) ≡ 0
+      by : (b : Bool) → total (routes_of plan.graph) channel (map (new_queue plan.order plan.graph) waitables) ≡ 0 → weigh b 0 + total (routes_of plan.graph) channel (map (new_queue plan.order plan.graph) waitables) ≡ 0
       by true rest = omega (arith, rest)
       by false rest = omega (arith, rest)
 
   first_light : Light [] (first_world plan)
   first_light = record {
     shape = refl;
-    kinds = kinds_first plan.graph (filter (λ waitable. takes_from_queue waitable.kind) (wait_set plan.graph));
-    addressed = addressed_first (routes_of plan.graph) plan.graph (filter (λ waitable. takes_from_queue waitable.kind) (wait_set plan.graph));
+    kinds = kinds_first plan.order plan.graph (filter (λ waitable. takes_from_queue waitable.kind) (wait_set plan.graph));
+    addressed = addressed_first (routes_of plan.graph) plan.order plan.graph (filter (λ waitable. takes_from_queue waitable.kind) (wait_set plan.graph));
     light = λ channel. let none = total_first channel (filter (λ waitable. takes_from_queue waitable.kind) (wait_set plan.graph)) in omega (arith, none);
     lossless = refl;
   }

@@ -40,14 +40,14 @@ module _ (weight : EntityNo → Item → ℕ) where
   items_parted entity (suc many) (one ∷ items) = let rest = items_parted entity many items in omega (arith, rest)
 
   -- what an item that is sent leaves in queues, and what they lose by it, where there is a queue for it
-  pub flying_sent : (entity : EntityNo) (new : Item) (queues : List Queue) →
-      flying (change_first (is_queue entity (taker_of new)) (queue_after new) queues) + in_items entity (lost_from entity new queues) ≡ flying queues + weigh (list_any (is_queue entity (taker_of new)) queues) (weight entity new)
-  flying_sent entity new [] = refl
-  flying_sent entity new (queue ∷ queues) = by (is_queue entity (taker_of new) queue) refl (flying_sent entity new queues)
+  pub flying_sent : (entity : EntityNo) (number : ℕ) (new : Item) (queues : List Queue) →
+      flying (change_first (is_queue entity (taker_of new)) (queue_after number new) queues) + in_items entity (lost_from entity new queues) ≡ flying queues + weigh (list_any (is_queue entity (taker_of new)) queues) (weight entity new)
+  flying_sent entity number new [] = refl
+  flying_sent entity number new (queue ∷ queues) = by (is_queue entity (taker_of new) queue) refl (flying_sent entity number new queues)
     where
       by : (b : Bool) → is_queue entity (taker_of new) queue ≡ b →
-          flying (change_first (is_queue entity (taker_of new)) (queue_after new) queues) + in_items entity (lost_from entity new queues) ≡ flying queues + weigh (list_any (is_queue entity (taker_of new)) queues) (weight entity new) →
-          flying (change_first (is_queue entity (taker_of new)) (queue_after new) (queue ∷ queues)) + in_items entity (lost_from entity new (queue ∷ queues)) ≡ flying (queue ∷ queues) + weigh (list_any (is_queue entity (taker_of new)) (queue ∷ queues)) (weight entity new)
+          flying (change_first (is_queue entity (taker_of new)) (queue_after number new) queues) + in_items entity (lost_from entity new queues) ≡ flying queues + weigh (list_any (is_queue entity (taker_of new)) queues) (weight entity new) →
+          flying (change_first (is_queue entity (taker_of new)) (queue_after number new) (queue ∷ queues)) + in_items entity (lost_from entity new (queue ∷ queues)) ≡ flying (queue ∷ queues) + weigh (list_any (is_queue entity (taker_of new)) (queue ∷ queues)) (weight entity new)
       by true e rest =
           let here : queue.handler.entity ≡ entity = eqb-true queue.handler.entity entity (and_parts (queue.handler.entity == entity) (ready_number queue.kind == ready_number (taker_of new)) e).0 in
           let parts = items_parted entity (length (queue.items ++ new ∷ []) - queue.depth) (queue.items ++ new ∷ []) in
@@ -57,9 +57,9 @@ module _ (weight : EntityNo → Item → ℕ) where
           rw e (omega (arith, parts, more, before, after))
       by false e rest = rw e (omega (arith, rest))
 
-  pub flying_after : (entity : EntityNo) (new : Item) (queues : List Queue) → flying (change_first (is_queue entity (taker_of new)) (queue_after new) queues) ≤ flying queues + weight entity new
-  flying_after entity new queues =
-      let all = flying_sent entity new queues in
+  pub flying_after : (entity : EntityNo) (number : ℕ) (new : Item) (queues : List Queue) → flying (change_first (is_queue entity (taker_of new)) (queue_after number new) queues) ≤ flying queues + weight entity new
+  flying_after entity number new queues =
+      let all = flying_sent entity number new queues in
       let most = by (list_any (is_queue entity (taker_of new)) queues) in
       omega (arith, all, most)
     where
@@ -141,8 +141,8 @@ module _ (weight : EntityNo → Item → ℕ) where
         let timers : List Ready = flat_map (due_ready moment) world.timers in
         let took : List Ready = flat_map (queue_ready moment world) world.queues in
         let polls : List Ready = flat_map (poll_ready moment) world.servers in
-        let placed = hands_placed 1 (sorted_by (rank_under world.order) (all_ready moment world)) in
-        let sorted = sum_sorted (λ one. hand_by one.entity one.cause) hands (λ one list. refl) (rank_under world.order) (all_ready moment world) in
+        let placed = hands_placed 1 (sorted_by (rank_under world.order world) (all_ready moment world)) in
+        let sorted = sum_sorted (λ one. hand_by one.entity one.cause) hands (λ one list. refl) (rank_under world.order world) (all_ready moment world) in
         let a = hands_append (timers ++ took) polls in
         let b = hands_append timers took in
         let none_due = hands_none timers (all_flat (λ one. hand_by one.entity one.cause ≡ 0) (due_ready moment) due_hands world.timers) in

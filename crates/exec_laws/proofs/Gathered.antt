@@ -73,7 +73,7 @@ list_gathered {B} f entity of alone graph moment world wires kinds =
     flat_none f timers (all_flat (λ one. f one ≡ []) (due_ready moment) (λ entry. all_weaker (IsOf entry.handler.entity kind.Timer) (λ one. f one ≡ []) (λ one is. none_of_kind f entity of kind.Timer alone alone.no_timer one is.0) _ (due_of moment entry)) world.timers) in
     let no_polls : AllByRecursion (λ one. f one ≡ []) polls =
     all_flat (λ one. f one ≡ []) (poll_ready moment) (λ entry. all_weaker (IsOf entry.handler.entity kind.Poll) (λ one. f one ≡ []) (λ one is. none_of_kind f entity of kind.Poll alone alone.no_poll one is.0) _ (poll_of moment entry)) world.servers in
-    flat_placed f alone.placed 1 (sorted_by (rank_under world.order) (all_ready moment world))
-    ∙ flat_sorted f (rank_under world.order) (all_ready moment world)
+    flat_placed f alone.placed 1 (sorted_by (rank_under world.order world) (all_ready moment world))
+    ∙ flat_sorted f (rank_under world.order world) (all_ready moment world)
     (pairs_weaker (Apart of) (Commute f) (apart_commute f entity of alone) (all_ready moment world) (ready_apart of (λ e. alone.no_poll (sym e)) graph moment world wires kinds))
     ∙ flat_more f (timers ++ took) polls no_polls ∙ flat_map-append f timers took ∙ ap (λ (first : List B). first ++ flat_map f took) no_timers ∙ flat_twice f (queue_ready moment world) world.queues

@@ -24,6 +24,7 @@ begins_kept before = record {
     queues_kept = λ entity new world p. p;
     goals_kept = λ server change world same p. p;
     tasks_kept = λ server id task world p. p;
+    arrivals_kept = λ server id world p. p;
     calls_kept = λ client world p. p;
     sending_kept = λ client world p. p;
     variables_kept = λ group variables world p. p;

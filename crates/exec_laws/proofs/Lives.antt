@@ -21,7 +21,7 @@ use Rattle.exec_msg.specs.declared.goal.GoalStatus.{GoalStatus}
 use Rattle.exec_msg.specs.declared.goal.ReturnCode.{ReturnCode}
 use Rattle.exec_msg.specs.declared.line.Line.{Line}
 use Rattle.exec_msg.specs.declared.line.Line.TheVariants as line
-use Rattle.exec_rules.proofs.Identifiers.{Distinct, Makes, changing, tasking, accepting, goals_apart, goals_here, expired_goals, first_goals, room_without}
+use Rattle.exec_rules.proofs.Identifiers.{Distinct, Makes, changing, tasking, accepting, goals_apart, goals_here, expired_goals, first_goals, room_without, goal_arriving}
 use Rattle.exec_rules.proofs.Keeping.{ids_changed, Moves, Tells, publish_kept, canceled, state_said, feed_keeps, anywhere}
 use Rattle.exec_rules.proofs.ReadyLists.{IsListed, list_listed}
 use Rattle.exec_rules.proofs.Running.{ended, ends_told, asks_told, run_keeps, snapshot_keeps, round_keeps}
@@ -38,7 +38,7 @@ use Rattle.exec_rules.specs.Lines.{statuses_of}
 use Rattle.exec_rules.specs.Ready.{kind_of, ready_list, run_line, take_inputs}
 use Rattle.exec_rules.specs.Run.{run}
 use Rattle.exec_rules.specs.Transcript.{takes_from_queue, first_world, server_expired, expire_lines, expire, at_snapshot, run_all, round, rounds, pending_by, closing_lines, lines_of}
-use Rattle.exec_rules.specs.World.{WorldState, drop_line, lost_by, queued, push, ServerEntry, ClientEntry, is_server_at, add_line, add_lines, goals_of, change_goals, has_room_for, with_call, goals_in}
+use Rattle.exec_rules.specs.World.{WorldState, drop_line, lost_by, queued, push, ServerEntry, ClientEntry, is_server_at, add_line, add_lines, goals_of, change_goals, has_room_for, with_call, goals_in, next_arrival}
 use Rattle.exec_rules.specs.declared.item.Item.{Item}
 use Rattle.exec_rules.specs.declared.item.Item.TheVariants as item
 use Rattle.exec_rules.specs.declared.ready.Cause.{Cause}
@@ -114,6 +114,7 @@ module _ (server : EntityNo) (id : GoalId) (listed : List EntityNo) where
     execution_kept = execution_view;
     answer_kept = answer_view;
     tasks_kept = λ other goal task world v. changed (tasking goal task) other world.lines world (λ is. v.0) (λ differs. v.0) (λ is. inr refl) v.1;
+    arrivals_kept = λ other goal world v. changed (goal_arriving goal (next_arrival world)) other world.lines world (λ is. v.0) (λ differs. v.0) (λ is. inr refl) v.1;
     sending_kept = λ client world v. v;
     variables_kept = λ group variables world v. v;
   }
@@ -129,7 +130,7 @@ module _ (server : EntityNo) (id : GoalId) (listed : List EntityNo) where
 
   accept_view : (other : EntityNo) (moment : Moment) (how : Acceptance) (request : GoalRequest) (world : WorldState) → is_listed listed other ≡ true → has_room_for request.id (goals_of other world) ≡ true → View world → View (accept other moment how request world)
   accept_view other moment how request world there room v =
-      changed (accepting moment how request) other (world.lines ++ accepted_lines other request.id how) world
+      changed (accepting (next_arrival world) moment how request) other (world.lines ++ accepted_lines other request.id how) world
       (λ is. subst (λ (n : EntityNo). Fits server id (world.lines ++ accepted_lines n request.id how) (goals_of server world ++ new_goal request.id request.value moment how ∷ [])) (sym is)
       (fits_accepted server id world.lines (goals_of server world) v.0 request moment how
       (subst (λ (n : EntityNo). holds_id request.id (goals_of n world) ≡ false) is (room_without request.id (goals_of other world) room))))
@@ -234,7 +235,7 @@ module _ (moves : (before : State) (by : Event) (reached : State) → after befo
   first_view : IsOfRun (first_world plan)
   unfolding IsDistinct
   first_view = record {
-    kinds = kinds_first plan.graph (filter (λ waitable. takes_from_queue waitable.kind) (wait_set plan.graph));
+    kinds = kinds_first plan.order plan.graph (filter (λ waitable. takes_from_queue waitable.kind) (wait_set plan.graph));
     shape = refl;
     view = (
       subst (λ (some : List GoalRecord). Fits server id [] some) (sym (first_goals plan.graph server (entities_where is_server plan.graph))) (record { told = (tt, tt); distinct = tt }),

@@ -1,4 +1,6 @@
 -- Through rounds, an action client asks for the result of a goal once at most: it sends one request for it, which has one answer.
+use Rattle.exec_plan.specs.declared.order.Order.TheVariants as order
+use Rattle.exec_plan.specs.declared.order.Order.{Order}
 use Rattle.std.proofs.Common.{◌≡◌, ℕ, zero, suc, ℤ, pos, ◌+◌, ◌≤◌, nat_le, Bool, true, false, ◌&&◌, ◌==◌, if◌then◌else◌, List, [], ◌∷◌, ◌++◌, length, map, Option, None, Some, refl, sym, ap, ◌∙◌, true≢false, arith}
 use Rattle.std.specs.List.{filter, find, flat_map}
 use Rattle.std.specs.Option.{option_map}
@@ -38,7 +40,7 @@ use Rattle.exec_rules.proofs.Keeping.{callback_keeps, fold_keeps, publish_kept}
 use Rattle.exec_rules.proofs.Pairs.{all_append, all_flat, all_map}
 use Rattle.exec_rules.proofs.Running.{found_test}
 use Rattle.exec_rules.specs.Callback.{Outcome}
-use Rattle.exec_rules.specs.Close.{GoalRequest, reply_in, decision_in, decisions_in, accepted_lines, moved_lines, accept_where, answer_goal, cancel, tell, tell_end, answer_ask, ask_where, respond, with_ended, goal_at, end_in, close_item, close_poll, close_cause}
+use Rattle.exec_rules.specs.Close.{GoalRequest, reply_in, decision_in, decisions_in, accepted_lines, moved_lines, accept_where, answer_goal, cancel, tell, tell_end, answer_ask, ask_where, respond, with_ended, goal_at, end_in, close_item, close_poll, close_cause, pend}
 use Rattle.exec_laws.specs.Exchanges.{is_asked}
 use Rattle.exec_rules.specs.Give.{publish, call_by, send_goal_by, send_cancel, cancel_all_by, cancel_goal_by, oldest_accepted, execute_goal, client_of, give_feedback, give}
 use Rattle.exec_rules.specs.Item.{goal_id}
@@ -46,7 +48,7 @@ use Rattle.exec_rules.specs.Ready.{ready_list, run_line, take_inputs}
 use Rattle.exec_rules.specs.Run.{outcome_in, run, unclosed, variables_for, with_polled, with_variables_for, work_for}
 use Rattle.exec_rules.specs.Transcript.{takes_from_queue, first_world, new_queue, expire_lines, expire, feed_one, at_snapshot, run_all, round, rounds, pending_by, closing_lines, lines_of}
 use Rattle.exec_script.specs.Script.{Variables}
-use Rattle.exec_rules.specs.World.{WorldState, Queue, ClientEntry, ActionClientEntry, add_line, drop_line, lost_by, goals_of, has_room_for, push, push_any, with_call, with_goal_sent, with_variables, client_at, action_client_at, is_action_client_at}
+use Rattle.exec_rules.specs.World.{WorldState, Queue, ClientEntry, ActionClientEntry, add_line, drop_line, lost_by, goals_of, has_room_for, push, push_any, with_call, with_goal_sent, with_variables, client_at, action_client_at, is_action_client_at, next_arrival}
 use Rattle.exec_rules.specs.declared.item.Item.{Item}
 use Rattle.exec_rules.specs.declared.item.Item.TheVariants as item
 use Rattle.exec_rules.specs.declared.ready.Cause.{Cause}
@@ -137,7 +139,7 @@ module _ (client : EntityNo) (id : GoalId) where
   -- an item is sent that was owed
   sent : (owed less : ℕ) (entity : EntityNo) (new : Item) (world : WorldState) → weight entity new + less ≤ owed → IsOnce owed world → IsOnce less (push entity new world)
   sent owed less entity new world few p =
-      let after = flying_after weight entity new world.queues in
+      let after = flying_after weight entity (next_arrival world) new world.queues in
       more_lines less (push entity new world).queues world.action_clients world.lines (map (drop_line entity) (lost_by entity new world)) (drops_none entity (lost_by entity new world)) (omega (arith, after, few, p))
 
   -- what isn't owed
@@ -234,13 +236,17 @@ module _ (client : EntityNo) (id : GoalId) where
   ended_once owed server goal by value moment None world p = p
   ended_once owed server goal by value moment (Some reached) world p = end_once owed server (goal_at server goal (with_ended server goal by value moment world)) (with_ended server goal by value moment world) p
 
+  pend_once : (owed : ℕ) (under : Order) (server : EntityNo) (goal : GoalId) (world : WorldState) → IsOnce owed world → IsOnce owed (pend under server goal world)
+  pend_once owed order.Kind server goal world p = p
+  pend_once owed order.Arrival server goal world p = p
+
   poll_once : (owed : ℕ) (server : EntityNo) (goal : GoalId) (moment : Moment) (closing : Close) (world : WorldState) → IsOnce owed world → IsOnce owed (close_poll server goal moment closing world)
   poll_once owed server goal moment close.Nothing world p = p
   poll_once owed server goal moment (close.Reply value) world p = p
   poll_once owed server goal moment (close.Decide decision) world p = p
   poll_once owed server goal moment (close.DecideCancel decision) world p = p
   poll_once owed server goal moment (close.Decisions decisions) world p = p
-  poll_once owed server goal moment close.Pending world p = p
+  poll_once owed server goal moment close.Pending world p = pend_once owed world.order server goal world p
   poll_once owed server goal moment (close.Ended by value) world p = ended_once owed server goal by value moment (end_state goal by (goals_of server world)) world p
 
   answer_ask_once : (owed : ℕ) (server : EntityNo) (goal : GoalId) (asker : EntityNo) (asked : Asked) (world : WorldState) → IsOnce owed world → IsOnce owed (answer_ask server goal asker asked world)
@@ -368,12 +374,12 @@ module _ (client : EntityNo) (id : GoalId) where
       let before : WorldState = at_snapshot plan number moment world in
       rounds_once plan (suc number) moments (round plan number moment world) (all_run (ready_list moment before) (take_inputs moment before) (taken_once moment before (snapshot_once plan number moment world p)))
 
-  none_flying : (graph : GraphData) (waitables : List Waitable) → flying weight (map (new_queue graph) waitables) ≡ 0
-  none_flying graph [] = refl
-  none_flying graph (waitable ∷ waitables) = let rest = none_flying graph waitables in omega (arith, rest)
+  none_flying : (under : Order) (graph : GraphData) (waitables : List Waitable) → flying weight (map (new_queue under graph) waitables) ≡ 0
+  none_flying under graph [] = refl
+  none_flying under graph (waitable ∷ waitables) = let rest = none_flying under graph waitables in omega (arith, rest)
 
   first_once : (plan : PlanData) → IsOnce 0 (first_world plan)
-  first_once plan = let none = none_flying plan.graph (filter (λ waitable. takes_from_queue waitable.kind) (wait_set plan.graph)) in omega (arith, none)
+  first_once plan = let none = none_flying plan.order plan.graph (filter (λ waitable. takes_from_queue waitable.kind) (wait_set plan.graph)) in omega (arith, none)
 
   pending_none : (other count : ℕ) → HasNone (is_asked client id) (pending_by other count)
   pending_none other zero = tt

@@ -17,7 +17,7 @@ use Rattle.exec_msg.specs.declared.goal.GoalStatus.{GoalStatus}
 use Rattle.exec_msg.specs.declared.goal.GoalStatus.TheVariants as status
 use Rattle.exec_msg.specs.declared.line.Line.TheVariants as line
 use Rattle.exec_laws.proofs.Addresses.{Holds, action_client_knows, held_after, held_first, held_taken}
-use Rattle.exec_rules.proofs.Identifiers.{Makes, changing, tasking, accepting}
+use Rattle.exec_rules.proofs.Identifiers.{Makes, changing, tasking, accepting, goal_arriving}
 use Rattle.exec_rules.proofs.Keeping.{Moves, anywhere, feed_keeps, fold_keeps, ids_answered, ids_changed, publish_kept, push_kept}
 use Rattle.exec_rules.proofs.Pairs.{all_append, all_filter, all_flat, all_flat_where, all_map}
 use Rattle.exec_rules.proofs.ReadyLists.{all_listed}
@@ -30,7 +30,7 @@ use Rattle.exec_rules.specs.Ready.{due_ready, item_ready, poll_ready, queue_read
 use Rattle.exec_rules.specs.Run.{run}
 use Rattle.exec_rules.specs.Shape.{shape_of}
 use Rattle.exec_rules.specs.Transcript.{entity_at, first_world, new_server, server_expired, server_in, takes_from_queue, at_snapshot, last_world, run_all, round, rounds}
-use Rattle.exec_rules.specs.World.{WorldState, Queue, ServerEntry, TimerEntry, add_line, goals_of, is_server_at, push}
+use Rattle.exec_rules.specs.World.{WorldState, Queue, ServerEntry, TimerEntry, add_line, goals_of, is_server_at, push, next_arrival}
 use Rattle.exec_rules.specs.declared.item.Item.{Item}
 use Rattle.exec_rules.specs.declared.item.Item.TheVariants as item
 use Rattle.exec_rules.specs.declared.ready.Cause.{Cause}
@@ -105,7 +105,7 @@ module _ (plan : PlanData) where
   -- ---- what is sent
 
   own_sent : (entity : EntityNo) (new : Item) (world : WorldState) → IsAtItsServer entity new → AreOwned world → AreOwned (push entity new world)
-  own_sent entity new world its p = record { shape = push_kept shapes.basic entity new world p.shape; asks = held_after IsAtItsServer entity new world.queues its p.asks; notes = p.notes }
+  own_sent entity new world its p = record { shape = push_kept shapes.basic entity new world p.shape; asks = held_after IsAtItsServer entity (next_arrival world) new world.queues its p.asks; notes = p.notes }
 
   no_ask : (entity : EntityNo) (new : Item) → is_answer (taker_of new) ≡ false → IsAtItsServer entity new
   no_ask entity (item.Message value) e = tt
@@ -150,6 +150,7 @@ module _ (plan : PlanData) where
       notes = served (changing (table_after decisions)) server (λ some q. answered_notes server decisions some q) world.servers p.notes;
     };
     tasks_kept = λ server goal task world p. record { shape = shapes.basic.tasks_kept server goal task world p.shape; asks = p.asks; notes = served (tasking goal task) server (λ some q. q) world.servers p.notes };
+    arrivals_kept = λ server goal world p. record { shape = shapes.basic.arrivals_kept server goal world p.shape; asks = p.asks; notes = served (goal_arriving goal (next_arrival world)) server (λ some q. q) world.servers p.notes };
     sending_kept = λ from world p. record { shape = shapes.basic.sending_kept from world p.shape; asks = p.asks; notes = p.notes };
     variables_kept = λ group variables world p. record { shape = shapes.basic.variables_kept group variables world p.shape; asks = p.asks; notes = p.notes };
   }
@@ -187,7 +188,7 @@ module _ (plan : PlanData) where
       (λ request how before same room q. record {
         shape = shapes.accepts_kept one.entity one.moment how request before room q.shape;
         asks = q.asks;
-        notes = served (accepting one.moment how request) one.entity (λ some r. all_append (AreItsClients one.entity) some (new_goal request.id request.value one.moment how ∷ []) r (tt, tt)) before.servers q.notes;
+        notes = served (accepting (next_arrival before) one.moment how request) one.entity (λ some r. all_append (AreItsClients one.entity) some (new_goal request.id request.value one.moment how ∷ []) r (tt, tt)) before.servers q.notes;
       })
       (λ goal value canceling by result reached before same leads q. own_end one.entity (goal_at one.entity goal (with_ended one.entity goal by result one.moment before)) _ (own_ended one.entity goal by result one.moment before q))
       (λ goal from before same q. own_answered one.entity goal from (asked_for goal (goals_of one.entity before)) before (subst (λ (why : Cause). IsTakenThere one.entity why) same its) q)
@@ -245,7 +246,7 @@ module _ (plan : PlanData) where
   first_notes (number ∷ numbers) = (tt, first_notes numbers)
 
   first_owned : AreOwned (first_world plan)
-  first_owned = record { shape = refl; asks = held_first IsAtItsServer plan.graph (filter (λ waitable. takes_from_queue waitable.kind) (wait_set plan.graph)); notes = first_notes (entities_where is_server plan.graph) }
+  first_owned = record { shape = refl; asks = held_first IsAtItsServer plan.order plan.graph (filter (λ waitable. takes_from_queue waitable.kind) (wait_set plan.graph)); notes = first_notes (entities_where is_server plan.graph) }
 
 -- at a plan's end
 pub all_owned : (plan : PlanData) → AreOwned plan (last_world plan)

@@ -21,7 +21,7 @@ use Rattle.exec_laws.specs.Exchanges.{call_at, reply_at, numbers_to}
 use Rattle.exec_rules.specs.Give.{call_by}
 use Rattle.exec_rules.specs.Item.{as_value, taker_of}
 use Rattle.exec_rules.specs.Lines.{is_answer}
-use Rattle.exec_rules.specs.World.{WorldState, Queue, ClientEntry, add_line, client_at, client_called, is_client_at, drop_line, lost_by, push, with_call}
+use Rattle.exec_rules.specs.World.{WorldState, Queue, ClientEntry, add_line, client_at, client_called, is_client_at, drop_line, lost_by, push, with_call, next_arrival}
 use Rattle.exec_rules.specs.declared.item.Item.{Item}
 use Rattle.exec_rules.specs.declared.item.Item.TheVariants as item
 
@@ -95,7 +95,7 @@ module _ (client : EntityNo) where
         made = k.made;
         replies = k.replies;
         each = k.each;
-        flies = λ n. let after = flying_after (weight client n) entity new world.queues in let was = k.flies n in let less_now = few n in omega (arith, after, was, less_now);
+        flies = λ n. let after = flying_after (weight client n) entity (next_arrival world) new world.queues in let was = k.flies n in let less_now = few n in omega (arith, after, was, less_now);
       })
 
   -- what is no request and no answer

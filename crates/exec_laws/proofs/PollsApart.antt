@@ -205,8 +205,8 @@ module _ (graph : GraphData) (moment : Moment) (world : WorldState) (wires : IsW
       let no_timers : AllByRecursion NoPoll timers = all_flat NoPoll (due_ready moment) (none_due moment) world.timers in
       let none_took : AllByRecursion NoPoll took = all_flat NoPoll (queue_ready moment world) (none_taken moment world) world.queues in
       let none_first : AllByRecursion NoPoll (timers ++ took) = all_append NoPoll timers took no_timers none_took in
-      pairs_placed 1 (sorted_by (rank_under world.order) (all_ready moment world))
-      (pairs_sorted PollApart (rank_under world.order) (all_ready moment world) turned
+      pairs_placed 1 (sorted_by (rank_under world.order world) (all_ready moment world))
+      (pairs_sorted PollApart (rank_under world.order world) (all_ready moment world) turned
       (pairs_append PollApart (timers ++ took) polls (apart_all (timers ++ took) none_first) (polls_apart world.servers all_own servers_apart) (apart_before (timers ++ took) polls none_first)))
 
   pub list_at_work : AllByRecursion PollsAtWork (ready_list moment world)

@@ -65,6 +65,7 @@ module _ (client : EntityNo) where
     execution_kept = λ server goal world found k. more_lines client hand owed world.queues world.clients world.lines (line.State server goal.id (status_of (after_event event.Execute goal).state) ∷ []) ((refl, refl), tt) k;
     answer_kept = λ server decisions returned count world k. more_lines client hand owed world.queues world.clients world.lines (moved_lines server (moved decisions (goals_of server world)) ++ line.Code server returned count ∷ []) (moved_mute server (moved decisions (goals_of server world)) (line.Code server returned count ∷ []) ((refl, refl), tt)) k;
     tasks_kept = λ server id task world k. k;
+    arrivals_kept = λ server id world k. k;
     sending_kept = λ from world k. k;
     variables_kept = λ group variables world k. k;
   }
@@ -220,7 +221,7 @@ module _ (client : EntityNo) where
         by true e rest = rw e refl
         by false e rest = rw e rest
 
-    none_flying : (n : ℕ) (waitables : List Waitable) → flying (weight client n) (map (new_queue plan.graph) waitables) ≡ 0
+    none_flying : (n : ℕ) (waitables : List Waitable) → flying (weight client n) (map (new_queue plan.order plan.graph) waitables) ≡ 0
     none_flying n [] = refl
     none_flying n (waitable ∷ waitables) = let rest = none_flying n waitables in omega (arith, rest)
 
@@ -229,7 +230,7 @@ module _ (client : EntityNo) where
         let calls = no_calls (entities_where is_client plan.graph) in
         let pends = none_pending (entities_where is_client plan.graph) in
         record {
-          kinds = kinds_first plan.graph _;
+          kinds = kinds_first plan.order plan.graph _;
           answered = [];
           made = ap (λ (m : ℕ). numbers_to m) (sym calls);
           replies = refl;

@@ -29,7 +29,7 @@ use Rattle.exec_laws.specs.Exchanges.{is_ask_taken, is_result_told, waiting_in}
 use Rattle.exec_rules.specs.Ready.{ready_list, run_line, line_of, input_of, take_inputs}
 use Rattle.exec_rules.specs.Run.{run}
 use Rattle.exec_rules.specs.Transcript.{first_world, expire_lines, expire, at_snapshot, round, rounds, pending_by, closing_lines, lines_of, last_world}
-use Rattle.exec_rules.specs.World.{WorldState, is_server_at, add_line, goals_of, has_room_for, goals_in}
+use Rattle.exec_rules.specs.World.{WorldState, is_server_at, add_line, goals_of, has_room_for, goals_in, next_arrival}
 use Rattle.exec_rules.specs.declared.item.Item.{Item}
 use Rattle.exec_rules.specs.declared.item.Item.TheVariants as item
 use Rattle.exec_rules.specs.declared.ready.Cause.{Cause}
@@ -209,7 +209,7 @@ module _ (server : EntityNo) (id : GoalId) where
     distinct_kept.accepts_kept other moment how request world room p.0,
     others_balanced server id owed world.lines (accepted_lines other request.id how) _ (accepted_other server id other request.id how)
         (same_wait server id owed world.lines (goals_of server world) _
-        (served server id (accepting moment how request) other world (λ is_here. accepted_waits server id (new_goal request.id request.value moment how) refl (goals_of server world))) p.1),
+        (served server id (accepting (next_arrival world) moment how request) other world (λ is_here. accepted_waits server id (new_goal request.id request.value moment how) refl (goals_of server world))) p.1),
   )
 
   -- a callback that runs

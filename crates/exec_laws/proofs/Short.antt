@@ -28,7 +28,7 @@ use Rattle.exec_rules.proofs.Running.{KeptByRounds}
 use Rattle.exec_rules.specs.Close.{GoalRequest, held_goal, server_accepting}
 use Rattle.exec_rules.specs.Ready.{queue_taken, timer_taken}
 use Rattle.exec_rules.specs.Transcript.{as_entity, entity_at, first_world, handler_for, new_queue, new_server, new_timer, server_expired, takes_from_queue}
-use Rattle.exec_rules.specs.World.{GoalWork, ServerEntry, TimerEntry, WorldState, has_room_for, is_for, is_server_at, goals_in}
+use Rattle.exec_rules.specs.World.{GoalWork, ServerEntry, TimerEntry, WorldState, has_room_for, is_for, is_server_at, goals_in, next_arrival}
 
 -- a script of no more instructions than one may have
 abbrev pub IsShort : Script → Type 0
@@ -77,6 +77,13 @@ server_tasked id task entry p = record {
   works = all_changed (λ held. IsShortWork held.work) (is_for id) _ (λ held q. work_tasked task held.work q) entry.held p.works;
 }
 
+server_arrived : (id : GoalId) (number : ℕ) (entry : ServerEntry) → IsSmallServer entry → IsSmallServer (record entry { held = change_first (is_for id) (λ held. record held { arrival = number }) entry.held })
+server_arrived id number entry p = record {
+  script = p.script;
+  goals = p.goals;
+  works = all_changed (λ held. IsShortWork held.work) (is_for id) _ (λ held q. q) entry.held p.works;
+}
+
 server_changed : (change : List GoalRecord → List GoalRecord) → ((goals : List GoalRecord) → ids (change goals) ≡ ids goals) → (entry : ServerEntry) → IsSmallServer entry → IsSmallServer (record entry { goals = change entry.goals })
 server_changed change same entry p =
     let long : length (change entry.goals) ≡ length entry.goals =
@@ -84,23 +91,23 @@ server_changed change same entry p =
     record { script = p.script; goals = omega (arith, long, p.goals); works = p.works }
 
 -- a server accepts a goal where it has room for one more
-server_accepted : (server : EntityNo) (moment : Moment) (how : Acceptance) (request : GoalRequest) (servers : List ServerEntry) → has_room_for request.id (goals_in server servers) ≡ true → AllByRecursion IsSmallServer servers →
-    AllByRecursion IsSmallServer (change_first (is_server_at server) (server_accepting moment how request) servers)
-server_accepted server moment how request [] room p = tt
-server_accepted server moment how request (entry ∷ servers) room p = by (is_server_at server entry) refl (server_accepted server moment how request servers)
+server_accepted : (server : EntityNo) (number : ℕ) (moment : Moment) (how : Acceptance) (request : GoalRequest) (servers : List ServerEntry) → has_room_for request.id (goals_in server servers) ≡ true → AllByRecursion IsSmallServer servers →
+    AllByRecursion IsSmallServer (change_first (is_server_at server) (server_accepting number moment how request) servers)
+server_accepted server number moment how request [] room p = tt
+server_accepted server number moment how request (entry ∷ servers) room p = by (is_server_at server entry) refl (server_accepted server number moment how request servers)
   where
     by : (b : Bool) → is_server_at server entry ≡ b →
-        (has_room_for request.id (goals_in server servers) ≡ true → AllByRecursion IsSmallServer servers → AllByRecursion IsSmallServer (change_first (is_server_at server) (server_accepting moment how request) servers)) →
-        AllByRecursion IsSmallServer (change_first (is_server_at server) (server_accepting moment how request) (entry ∷ servers))
+        (has_room_for request.id (goals_in server servers) ≡ true → AllByRecursion IsSmallServer servers → AllByRecursion IsSmallServer (change_first (is_server_at server) (server_accepting number moment how request) servers)) →
+        AllByRecursion IsSmallServer (change_first (is_server_at server) (server_accepting number moment how request) (entry ∷ servers))
     by true e rest =
         let here : has_room_for request.id entry.goals ≡ true = rw e at room in
         let few : nat_le 64 (length entry.goals) ≡ false = (or_parts (holds_id request.id entry.goals) (is_full entry.goals) (not-true (holds_id request.id entry.goals || is_full entry.goals) here)).1 in
         let one_more : List GoalRecord = new_goal request.id request.value moment how ∷ [] in
         let fits : length (entry.goals ++ one_more) ≤ 64 = omega (arith, leb-false 64 (length entry.goals) few, length-append entry.goals one_more) in
-        let accepted : IsSmallServer (server_accepting moment how request entry) = record {
+        let accepted : IsSmallServer (server_accepting number moment how request entry) = record {
           script = p.0.script;
           goals = fits;
-          works = all_append (λ held. IsShortWork held.work) entry.held (held_goal entry.handler.script request ∷ []) p.0.works (p.0.script, tt);
+          works = all_append (λ held. IsShortWork held.work) entry.held (held_goal number entry.handler.script request ∷ []) p.0.works (p.0.script, tt);
         } in
         rw e (accepted, p.1)
     by false e rest = let behind : has_room_for request.id (goals_in server servers) ≡ true = rw e at room in rw e (p.0, rest behind p.1)
@@ -126,11 +133,12 @@ small_kept = record {
     queues_kept = λ entity new world p. record { timers = p.timers; queues = all_changed (λ queue. IsShort queue.handler.script) _ _ (λ queue q. q) world.queues p.queues; servers = p.servers };
     goals_kept = λ server change world same p. record { timers = p.timers; queues = p.queues; servers = all_changed IsSmallServer _ _ (server_changed change same) world.servers p.servers };
     tasks_kept = λ server id task world p. record { timers = p.timers; queues = p.queues; servers = all_changed IsSmallServer _ _ (server_tasked id task) world.servers p.servers };
+    arrivals_kept = λ server id world p. record { timers = p.timers; queues = p.queues; servers = all_changed IsSmallServer _ _ (server_arrived id (next_arrival world)) world.servers p.servers };
     calls_kept = λ client world p. record { timers = p.timers; queues = p.queues; servers = p.servers };
     sending_kept = λ client world p. record { timers = p.timers; queues = p.queues; servers = p.servers };
     variables_kept = λ group variables world p. record { timers = p.timers; queues = p.queues; servers = p.servers };
   };
-  accepts_kept = λ server moment how request world room p. record { timers = p.timers; queues = p.queues; servers = server_accepted server moment how request world.servers room p.servers };
+  accepts_kept = λ server moment how request world room p. record { timers = p.timers; queues = p.queues; servers = server_accepted server (next_arrival world) moment how request world.servers room p.servers };
   expiry_kept = λ moment world p. record { timers = p.timers; queues = p.queues; servers = all_mapped IsSmallServer IsSmallServer _ (server_left moment) world.servers p.servers };
   snapshot_kept = λ moment world p. record {
     timers = all_mapped (λ entry. IsShort entry.handler.script) (λ entry. IsShort entry.handler.script) _ (timer_called moment) world.timers p.timers;
@@ -250,6 +258,6 @@ first_small plan lawful =
     let short : (of : Kind) (number : EntityNo) → IsShort (handler_for plan.graph of number (entity_at plan.graph number)).script = λ of number. declared_short plan.graph of (declared_at plan.graph number) (lawful_at plan.graph plan.graph.entities number (recursion_from_All (λ entity. IsLawfulDeclared plan.graph entity.is) plan.graph.entities lawful.entities)) in
     record {
       timers = all_map (λ entry. IsShort entry.handler.script) (new_timer plan.graph) (λ number. short kind.Timer number) (entities_where is_timer plan.graph);
-      queues = all_map (λ queue. IsShort queue.handler.script) (new_queue plan.graph) (λ waitable. short waitable.kind waitable.entity) (filter (λ (waitable : Waitable). takes_from_queue waitable.kind) (wait_set plan.graph));
+      queues = all_map (λ queue. IsShort queue.handler.script) (new_queue plan.order plan.graph) (λ waitable. short waitable.kind waitable.entity) (filter (λ (waitable : Waitable). takes_from_queue waitable.kind) (wait_set plan.graph));
       servers = all_map IsSmallServer (new_server plan.graph) (λ number. record { script = short kind.Poll number; goals = omega arith; works = tt }) (entities_where is_server plan.graph);
     }

@@ -92,12 +92,12 @@ module _ (plan : PlanData) (of : Kind) (queued : takes_from_queue of ≡ true) (
   abbrev waits_here : Waitable → Bool
   waits_here waitable = (waitable.entity == entity) && (ready_number waitable.kind == ready_number of)
 
-  queues_there : (waitables : List Waitable) → list_any waits_here waitables ≡ true → list_any (is_queue entity of) (map (new_queue plan.graph) (filter (λ waitable. takes_from_queue waitable.kind) waitables)) ≡ true
+  queues_there : (waitables : List Waitable) → list_any waits_here waitables ≡ true → list_any (is_queue entity of) (map (new_queue plan.order plan.graph) (filter (λ waitable. takes_from_queue waitable.kind) waitables)) ≡ true
   queues_there [] e = e
   queues_there (waitable ∷ waitables) e = by (takes_from_queue waitable.kind) (waits_here waitable) refl refl (queues_there waitables)
     where
       by : (b c : Bool) → takes_from_queue waitable.kind ≡ b → waits_here waitable ≡ c →
-          (list_any waits_here waitables ≡ true → list_any (is_queue entity of) (map (new_queue plan.graph) (filter (λ one. takes_from_queue one.kind) waitables)) ≡ true) → list_any (is_queue entity of) (map (new_queue plan.graph) (filter (λ one. takes_from_queue one.kind) (waitable ∷ waitables))) ≡ true
+          (list_any waits_here waitables ≡ true → list_any (is_queue entity of) (map (new_queue plan.order plan.graph) (filter (λ one. takes_from_queue one.kind) waitables)) ≡ true) → list_any (is_queue entity of) (map (new_queue plan.order plan.graph) (filter (λ one. takes_from_queue one.kind) (waitable ∷ waitables))) ≡ true
       by true true f g rest = rw (f, g) refl
       by true false f g rest = let there : list_any waits_here waitables ≡ true = rw g at e in rw (f, g) (rest there)
       by false c f g rest = let there : list_any waits_here waitables ≡ true = rw (nothing (ready_number waitable.kind == ready_number of) refl) at e in rw f (rest there)

@@ -1,6 +1,8 @@
 -- Through rounds, an action client's asks for the result of a goal are those that were answered, those that are on their way, and
 -- those for which it is noted.
-use Rattle.std.proofs.Common.{◌≡◌, inr, ℕ, zero, suc, ℤ, pos, ◌+◌, ◌≤◌, Bool, true, false, not, ◌&&◌, ◌==◌, if◌then◌else◌, is_some, List, [], ◌∷◌, ◌++◌, length, map, Option, None, Some, refl, sym, ap, subst, ◌∙◌, arith}
+use Rattle.exec_plan.specs.declared.order.Order.{Order}
+use Rattle.std.proofs.Common.{◌≡◌, inr, ℕ, zero, suc, ℤ, pos, ◌+◌, ◌≤◌, Bool, true, false, not, ◌&&◌, ◌==◌, if◌then◌else◌, List, [], ◌∷◌, ◌++◌, length, map, Option, None, Some, refl, sym, ap, subst, ◌∙◌, arith, is_some}
+use Rattle.exec_plan.specs.declared.order.Order.TheVariants as order
 use Rattle.std.specs.List.{AllByRecursion, filter, find, flat_map, fold, list_any}
 use Rattle.std.proofs.lemmas.Bool.{eqb-true}
 use Rattle.exec_goal.specs.Calls.{end_state}
@@ -38,7 +40,7 @@ use Rattle.exec_laws.proofs.Asked.{many, many_more, one_line, comes_later}
 use Rattle.exec_laws.proofs.Called.{among}
 use Rattle.exec_laws.proofs.Channels.{weigh, weighs_nothing}
 use Rattle.exec_laws.proofs.Flying.{flying, flying_taken, hand_by, hands, list_hands}
-use Rattle.exec_rules.proofs.Identifiers.{changing, tasking, accepting, goals_here}
+use Rattle.exec_rules.proofs.Identifiers.{changing, tasking, accepting, goals_here, goal_arriving}
 use Rattle.exec_rules.proofs.Keeping.{callback_keeps, fold_keeps, ids_answered, ids_changed, publish_kept}
 use Rattle.exec_laws.proofs.Noted.{noted_by, notes, notes_executed, notes_answered, notes_accepted, notes_asked, notes_ended, noted_changed, noted_expired}
 use Rattle.exec_rules.proofs.Pairs.{all_append, all_flat, all_map}
@@ -46,7 +48,7 @@ use Rattle.exec_rules.proofs.Running.{found_test}
 use Rattle.exec_laws.proofs.Standing.{has_queue}
 use Rattle.exec_laws.proofs.Views.{ended_found}
 use Rattle.exec_rules.specs.Callback.{Outcome}
-use Rattle.exec_rules.specs.Close.{GoalRequest, reply_in, decision_in, decisions_in, accepted_lines, moved_lines, accept_where, answer_goal, cancel, tell, tell_end, answer_ask, ask_where, respond, with_ended, goal_at, end_in, close_item, close_poll, close_cause}
+use Rattle.exec_rules.specs.Close.{GoalRequest, reply_in, decision_in, decisions_in, accepted_lines, moved_lines, accept_where, answer_goal, cancel, tell, tell_end, answer_ask, ask_where, respond, with_ended, goal_at, end_in, close_item, close_poll, close_cause, pend}
 use Rattle.exec_laws.specs.Exchanges.{is_asked, is_result_taken, is_result_lost}
 use Rattle.exec_rules.specs.Give.{publish, call_by, send_goal_by, send_cancel, cancel_all_by, cancel_goal_by, oldest_accepted, execute_goal, client_of, give_feedback, give}
 use Rattle.exec_rules.specs.Item.{goal_id}
@@ -56,7 +58,7 @@ use Rattle.exec_rules.specs.Run.{outcome_in, run, unclosed, variables_for, with_
 use Rattle.exec_rules.specs.Shape.{shape_of}
 use Rattle.exec_rules.specs.Transcript.{entity_at, takes_from_queue, first_world, new_queue, new_server, server_in, expire_lines, expire, feed_one, at_snapshot, run_all, round, rounds, pending_by, closing_lines, lines_of, last_world}
 use Rattle.exec_script.specs.Script.{Variables}
-use Rattle.exec_rules.specs.World.{WorldState, ClientEntry, ActionClientEntry, add_line, is_queue, goals_of, has_room_for, with_call, with_goal_sent, with_variables, change_goals, client_at, action_client_at}
+use Rattle.exec_rules.specs.World.{WorldState, ClientEntry, ActionClientEntry, add_line, is_queue, goals_of, has_room_for, with_call, with_goal_sent, with_variables, change_goals, client_at, action_client_at, next_arrival}
 use Rattle.exec_rules.specs.declared.item.Item.{Item}
 use Rattle.exec_rules.specs.declared.item.Item.TheVariants as item
 use Rattle.exec_rules.specs.declared.ready.Cause.{Cause}
@@ -194,13 +196,20 @@ module _ (plan : PlanData) (client : EntityNo) where
                 noted_changed client id (changing ending) refl server world.servers (weigh (goal == id) (among client one.askers) + owed id) (owed id) (omega (arith, gone))) p.1),
           ))
 
+  pend_fair : (owed : GoalId → ℕ) (under : Order) (server : EntityNo) (goal : GoalId) (world : WorldState) → IsFair plan client owed world → IsFair plan client owed (pend under server goal world)
+  pend_fair owed order.Kind server goal world p = p
+  pend_fair owed order.Arrival server goal world p = (
+    (shapes plan client).basic.arrivals_kept server goal world p.0,
+    renoted plan client owed owed world.queues world.servers _ world.lines (λ id. noted_changed client id (goal_arriving goal (next_arrival world)) refl server world.servers (owed id) (owed id) refl) p.1,
+  )
+
   poll_fair : (owed : GoalId → ℕ) (server : EntityNo) (goal : GoalId) (moment : Moment) (closing : Close) (world : WorldState) → IsFair plan client owed world → IsFair plan client owed (close_poll server goal moment closing world)
   poll_fair owed server goal moment close.Nothing world p = p
   poll_fair owed server goal moment (close.Reply value) world p = p
   poll_fair owed server goal moment (close.Decide decision) world p = p
   poll_fair owed server goal moment (close.DecideCancel decision) world p = p
   poll_fair owed server goal moment (close.Decisions decisions) world p = p
-  poll_fair owed server goal moment close.Pending world p = p
+  poll_fair owed server goal moment close.Pending world p = pend_fair owed world.order server goal world p
   poll_fair owed server goal moment (close.Ended by value) world p = ended owed server goal by value moment (end_state goal by (goals_of server world)) world refl p
 
   -- a goal is accepted that nobody asked for yet
@@ -214,7 +223,7 @@ module _ (plan : PlanData) (client : EntityNo) where
     (shapes plan client).accepts_kept server moment how request world (room refl) p.0,
     more_lines plan client owed world.queues _ world.lines (accepted_lines server request.id how) (accepted_silent server request.id how)
         (renoted plan client owed owed world.queues world.servers _ world.lines
-        (λ id. noted_changed client id (accepting moment how request) (notes_accepted client id [] (new_goal request.id request.value moment how) refl) server world.servers (owed id) (owed id)
+        (λ id. noted_changed client id (accepting (next_arrival world) moment how request) (notes_accepted client id [] (new_goal request.id request.value moment how) refl) server world.servers (owed id) (owed id)
         (ap (λ (n : ℕ). n + owed id) (notes_accepted client id (goals_of server world) (new_goal request.id request.value moment how) refl))) p.1),
   )
 
@@ -422,7 +431,7 @@ module _ (plan : PlanData) (client : EntityNo) where
       let before : WorldState = at_snapshot plan number moment world in
       rounds_fair (suc number) moments (round plan number moment world) (all_run (ready_list moment before) (take_inputs moment before) (taken_fair moment before (snapshot_fair number moment world p)))
 
-  none_flying : (id : GoalId) (waitables : List Waitable) → flying (weight plan client id) (map (new_queue plan.graph) waitables) ≡ 0
+  none_flying : (id : GoalId) (waitables : List Waitable) → flying (weight plan client id) (map (new_queue plan.order plan.graph) waitables) ≡ 0
   none_flying id [] = refl
   none_flying id (waitable ∷ waitables) = let rest = none_flying id waitables in omega (arith, rest)
 

@@ -1,3 +1,4 @@
+pub mod Arrivals
 pub mod Clients
 pub mod Forms
 pub mod FullTable

@@ -1,3 +1,4 @@
+pub mod Arrivals
 pub mod Documents
 pub mod Examples
 pub mod Exchanges

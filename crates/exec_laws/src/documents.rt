@@ -1,4 +1,4 @@
-//! Worked documents: each function's contract says that a document says the plan of the worked transcript of its name.
+//! Worked documents. The contract of each function says that a document says the plan of the worked transcript of its name.
 #![tactic(auto, unfolding(exec_doc::proofs::OnLiterals::document_on_literals))]
 
 ghost use Rattle.std.specs.Prelude.{◌≡◌, Some};
@@ -7,6 +7,7 @@ ghost use Rattle.exec_laws.specs.Documents.Timers.{empty_text, late_text, repeat
 ghost use Rattle.exec_laws.specs.Documents.Services.{doubled_text, unscripted_text, displaced_request_text};
 ghost use Rattle.exec_laws.specs.Documents.Goals.{cancel_all_text, cancel_before_text, cancel_goal_and_before_text, cancel_unknown_text, cancel_terminated_text, cancel_again_text, cancel_refused_text, cancel_unknown_refused_text, canceled_text, woken_by_cancel_text, canceled_unasked_text, held_id_text};
 ghost use Rattle.exec_laws.specs.Documents.Clients.{succeeded_while_canceling_text, awaited_result_text, expired_result_text, feedback_text, canceled_by_client_text, deferred_text};
+ghost use Rattle.exec_laws.specs.Documents.Arrivals.{succeeded_before_canceling_text, pended_behind_message_text};
 ghost use Rattle.exec_laws.specs.Documents.Forms.{cancel_forms_text, two_clients_text, accepted_anew_text, arithmetic_text};
 ghost use Rattle.exec_laws.specs.Documents.Queues.{full_goal_queue_text, full_cancel_queue_text, full_feedback_queue_text, full_result_queue_text};
 ghost use Rattle.exec_laws.specs.Documents.Large.{many_goals_text, full_table_text};
@@ -14,6 +15,7 @@ ghost use Rattle.exec_laws.specs.Examples.Timers.{empty, late, repeated, shared,
 ghost use Rattle.exec_laws.specs.Examples.Services.{doubled, unscripted, displaced_request};
 ghost use Rattle.exec_laws.specs.Examples.Goals.{cancel_all, cancel_before, cancel_goal_and_before, cancel_unknown, cancel_terminated, cancel_again, cancel_refused, cancel_unknown_refused, canceled, woken_by_cancel, canceled_unasked, held_id};
 ghost use Rattle.exec_laws.specs.Examples.Clients.{succeeded_while_canceling, awaited_result, expired_result, feedback, canceled_by_client, deferred};
+ghost use Rattle.exec_laws.specs.Examples.Arrivals.{succeeded_before_canceling, pended_behind_message};
 ghost use Rattle.exec_laws.specs.Examples.Forms.{cancel_forms, two_clients, accepted_anew, arithmetic};
 ghost use Rattle.exec_laws.specs.Examples.Queues.{full_goal_queue, full_cancel_queue, full_feedback_queue, full_result_queue};
 ghost use Rattle.exec_laws.specs.Examples.ManyGoals.{many_goals};
@@ -39,7 +41,7 @@ pub fn shared()
     ensures { document_of shared_text ≡ Some shared }
 {}
 
-/// A sum beyond the greatest value.
+/// A sum greater than the greatest value.
 pub fn wrapped()
     ensures { document_of wrapped_text ≡ Some wrapped }
 {}
@@ -69,42 +71,42 @@ pub fn displaced_request()
     ensures { document_of displaced_request_text ≡ Some displaced_request }
 {}
 
-/// A cancel request of neither identifier nor stamp.
+/// A cancel request with neither identifier nor stamp.
 pub fn cancel_all()
     ensures { document_of cancel_all_text ≡ Some cancel_all }
 {}
 
-/// One of a stamp.
+/// A cancel request with a stamp.
 pub fn cancel_before()
     ensures { document_of cancel_before_text ≡ Some cancel_before }
 {}
 
-/// One of an identifier and a stamp.
+/// A cancel request with an identifier and a stamp.
 pub fn cancel_goal_and_before()
     ensures { document_of cancel_goal_and_before_text ≡ Some cancel_goal_and_before }
 {}
 
-/// One of an identifier that no goal has.
+/// A cancel request with an identifier that no goal has.
 pub fn cancel_unknown()
     ensures { document_of cancel_unknown_text ≡ Some cancel_unknown }
 {}
 
-/// One of a goal that has ended.
+/// A cancel request for a goal that has ended.
 pub fn cancel_terminated()
     ensures { document_of cancel_terminated_text ≡ Some cancel_terminated }
 {}
 
-/// Two of one goal.
+/// Two cancel requests for one goal.
 pub fn cancel_again()
     ensures { document_of cancel_again_text ≡ Some cancel_again }
 {}
 
-/// One that the handler refuses.
+/// A cancel request that the handler refuses.
 pub fn cancel_refused()
     ensures { document_of cancel_refused_text ≡ Some cancel_refused }
 {}
 
-/// One of an unknown identifier and a stamp, whose candidate the handler refuses.
+/// A cancel request with an unknown identifier and a stamp. The handler refuses its candidate.
 pub fn cancel_unknown_refused()
     ensures { document_of cancel_unknown_refused_text ≡ Some cancel_unknown_refused }
 {}
@@ -129,7 +131,7 @@ pub fn held_id()
     ensures { document_of held_id_text ≡ Some held_id }
 {}
 
-/// A cancel request of a client's goal, by its identifier.
+/// A cancel request for a client's goal, by its identifier.
 pub fn succeeded_while_canceling()
     ensures { document_of succeeded_while_canceling_text ≡ Some succeeded_while_canceling }
 {}
@@ -139,7 +141,7 @@ pub fn awaited_result()
     ensures { document_of awaited_result_text ≡ Some awaited_result }
 {}
 
-/// One whose goal ends at once.
+/// A server that keeps results for no tick, and whose goal ends at once.
 pub fn expired_result()
     ensures { document_of expired_result_text ≡ Some expired_result }
 {}
@@ -164,7 +166,7 @@ pub fn cancel_forms()
     ensures { document_of cancel_forms_text ≡ Some cancel_forms }
 {}
 
-/// Clients of two nodes; a server of a later node.
+/// Clients of two nodes, and a server of a later node.
 pub fn two_clients()
     ensures { document_of two_clients_text ≡ Some two_clients }
 {}
@@ -184,7 +186,7 @@ pub fn full_goal_queue()
     ensures { document_of full_goal_queue_text ≡ Some full_goal_queue }
 {}
 
-/// A server that keeps one cancel request; identifiers without hyphens, in braces and as a URN.
+/// A server that keeps one cancel request. Identifiers are without hyphens, in braces and as a URN.
 pub fn full_cancel_queue()
     ensures { document_of full_cancel_queue_text ≡ Some full_cancel_queue }
 {}
@@ -199,7 +201,7 @@ pub fn full_result_queue()
     ensures { document_of full_result_queue_text ≡ Some full_result_queue }
 {}
 
-/// Sixteen goals of a server in a reentrant group, beside timers of two exclusive ones.
+/// Sixteen goals of a server in a reentrant group, and timers of two exclusive ones.
 pub fn many_goals()
     ensures { document_of many_goals_text ≡ Some many_goals }
 {}
@@ -207,4 +209,14 @@ pub fn many_goals()
 /// 65 goals of one server.
 pub fn full_table()
     ensures { document_of full_table_text ≡ Some full_table }
+{}
+
+/// A cancel request for a client's goal, under the order of arrival.
+pub fn succeeded_before_canceling()
+    ensures { document_of succeeded_before_canceling_text ≡ Some succeeded_before_canceling }
+{}
+
+/// A goal that yields and a timer that publishes, under the order of arrival.
+pub fn pended_behind_message()
+    ensures { document_of pended_behind_message_text ≡ Some pended_behind_message }
 {}

@@ -11,34 +11,35 @@ ghost use Rattle.exec_rules.specs.Lines.{is_loss};
 ghost use Rattle.exec_rules.specs.Transcript.{first_world, lines_of, last_world};
 ghost use Rattle.exec_rules.specs.World.{goals_of, subscribers_of, ActionClientEntry, ClientEntry, action_client_at, client_at};
 
-/// Each message that is published to a topic, or fed to it, is taken by each subscription of the topic, dropped with a line,
-/// or held in its queue at the end, in the order in which they were published.
+/// Each message that is published or fed to a topic reaches each subscription of the topic. There it is taken, dropped with a
+/// line, or in the queue at the end. This happens in the order in which the messages were published.
 pub fn messages_are_delivered_in_order()
     ensures { (plan : PlanData) (topic subscription : ℕ) → Contains (subscribers_of topic (first_world plan)) subscription →
         IsDelivered plan topic subscription (last_world plan) }
 {}
 
-/// The calls of a service client have the numbers from 1 in the order in which it made them, and of each either its callback
-/// took the reply, once, or the call is pending at the end, and not both.
+/// The calls of a service client have the numbers from 1, in the order in which it made them. For each call its callback took
+/// the reply once, or the call is pending at the end, and never both.
 pub fn calls_are_answered_once()
     ensures { (plan : PlanData) (number : ℕ) (client : ClientEntry) → client_at number (last_world plan) ≡ Some client → AreAnswered client (lines_of plan) }
 {}
 
-/// Of the asks for a goal's result that a server takes, as many are answered with a line `result` as don't wait at the end,
-/// since the goal hasn't ended.
+/// A server takes asks for a goal's result. As many of them are answered with a line `result` as don't wait at the end. An ask
+/// waits because the goal hasn't ended.
 pub fn asks_are_answered_once()
     ensures { (plan : PlanData) (server id : ℕ) →
         length (filter (is_ask_taken server id) (lines_of plan)) ≡ length (filter (is_result_told server id) (lines_of plan)) + length (waiting_in id (goals_of server (last_world plan))) }
 {}
 
-/// An action client asks for the result of a goal once at most.
+/// An action client asks for the result of a goal at most once.
 pub fn results_are_asked_for_once()
     ensures { (plan : PlanData) (client id : ℕ) → length (filter (is_asked client id) (lines_of plan)) ≤ 1 }
 {}
 
-/// In each plan of a lawful graph an action client is told once for each ask, and no other in its place: of each goal's
-/// identifier, the asks that it made are as many as the results that its callback took, that its queue lost or holds, and as
-/// its asks that wait, for the goal's end or in its server's queue.
+/// In each plan of a lawful graph an action client is answered once for each ask, and no other client in its place. Count what
+/// has the identifier of one goal. The asks that the client made are as many as the results that its callback took, that its
+/// queue lost or that its queue holds, together with its asks that wait. These wait for the goal's end, or in its server's
+/// queue.
 pub fn askers_are_told_once()
     ensures { (plan : PlanData) → IsLawful plan.graph → (number : ℕ) (client : ActionClientEntry) → action_client_at number (last_world plan) ≡ Some client → IsToldOnce client (last_world plan) }
 {}
@@ -48,13 +49,13 @@ pub fn results_are_asked_for()
     ensures { (plan : PlanData) (client id : ℕ) → length (filter (is_result_taken client id) (lines_of plan)) ≤ length (filter (is_asked client id) (lines_of plan)) }
 {}
 
-/// In the transcript of a lawful plan no reply, ask, response and code is displaced.
+/// In the transcript of a lawful plan no reply, ask, response or code is displaced.
 pub fn answers_are_never_displaced()
     ensures { (plan : PlanData) → IsLawfulPlan plan → list_any is_loss (lines_of plan) ≡ false }
 {}
 
-/// In the plan of a full queue of results (`transcripts::full_result_queue`), each way that an ask may go: client 2 asks for
-/// three results, of which its queue loses two, and client 3 for one.
+/// Each way that an ask may go, in the plan of a full queue of results (`transcripts::full_result_queue`). Client 2 asks for
+/// three results, and its queue loses two of them. Client 3 asks for one.
 pub fn asks_go_these_ways()
     ensures asked { map (λ number. length (filter (is_asked 2 (goal_id 0 number)) (lines_of full_result_queue))) (1 ∷ 2 ∷ 3 ∷ []) ≡ 1 ∷ 1 ∷ 1 ∷ [] }
     ensures lost { length (filter (is_result_lost 2) (lines_of full_result_queue)) ≡ 2 }

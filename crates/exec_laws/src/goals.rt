@@ -20,8 +20,8 @@ ghost use Rattle.exec_rules.specs.World.{WorldState, goals_of};
 ghost use Rattle.exec_rules.specs.declared.ready.Cause.TheVariants as cause;
 ghost use Rattle.exec_rules.specs.declared.ready.Ready.{Ready};
 
-/// Where a cancel handler ran for candidates, the decisions are those before, followed by one for each candidate, with
-/// its identifier, in order. `S` is whatever the handler's effects go into.
+/// After a cancel handler ran for candidates, the decisions are those from before, and then one for each candidate, with its
+/// identifier, in order. `S` is what the handler's effects go into.
 pub fn decisions_are_of_the_candidates<S>()
     ensures before { (give : Effect → S → S) (ready : Ready) (handling : Handling S) (candidates : List GoalInfo) →
         take (length handling.decisions) (fold (handle give ready) handling candidates).decisions ≡ handling.decisions }
@@ -29,22 +29,22 @@ pub fn decisions_are_of_the_candidates<S>()
         map decided_goal (drop (length handling.decisions) (fold (handle give ready) handling candidates).decisions) ≡ map (λ candidate. candidate.id) candidates }
 {}
 
-/// No two goals of one server have one identifier, after any rounds of a plan.
+/// No two goals of one server have the same identifier, after any rounds of a plan.
 pub fn identifiers_differ()
     ensures { (plan : PlanData) (number : ℕ) (moments : List ℕ) (server : ℕ) →
         IsDistinct (λ one other. one == other) (map (λ goal. goal.id) (goals_of server (rounds plan number moments (first_world plan)))) }
 {}
 
-/// In the transcript of a plan, the statuses of a server's goals of one identifier begin with the acceptance of the
-/// first, each further one follows by a transition or is the acceptance of the next, and that comes only behind a
-/// terminal one.
+/// In the transcript of a plan, take the statuses of a server's goals of one identifier. The first says that a goal is
+/// accepted. Each further one follows by a transition, or says that the next goal is accepted. That comes only after a terminal
+/// status.
 pub fn statuses_follow_the_transitions()
     ensures { (plan : PlanData) (server id : ℕ) → AreLawful None (statuses_of server id (lines_of plan)) }
 {
     exec_goal::laws::goals_move_by_the_table();
 }
 
-/// Behind a terminal status of a goal only the acceptance of the next one comes: so a goal has one terminal status at most.
+/// After a terminal status of a goal only the acceptance of the next goal may come. So a goal has at most one terminal status.
 pub fn goals_end_once()
     ensures { (before after : GoalStatus) → IsFinal before → MayCome (Some before) after → after ≡ status.Accepted }
 {
@@ -52,8 +52,8 @@ pub fn goals_end_once()
     exec_goal::laws::ended_goals_stay();
 }
 
-/// In the transcript of a plan, between two terminal statuses of a server's goals of one identifier the next goal is
-/// accepted: so each goal has one terminal line `state` at most.
+/// In the transcript of a plan, take two terminal statuses of a server's goals of one identifier. Right after the first the
+/// next goal is accepted. So each goal has at most one terminal line `state`.
 pub fn goals_have_one_end()
     ensures { (plan : PlanData) (server id : ℕ) (before between behind : List GoalStatus) (first second : GoalStatus) →
         statuses_of server id (lines_of plan) ≡ before ++ first ∷ between ++ second ∷ behind → IsFinal first → IsFinal second →
@@ -63,8 +63,8 @@ pub fn goals_have_one_end()
     goals_end_once();
 }
 
-/// In any round of a plan, a goal that is polled is EXECUTING or CANCELING in its turn, and still is when its poll is
-/// closed; where it is polled as one that is being canceled, it is CANCELING.
+/// In any round of a plan, a goal that is polled is EXECUTING or CANCELING in its turn, and still is when its poll is closed.
+/// If it is polled as one that is being canceled, it is CANCELING.
 pub fn polled_goals_stay_at_work()
     ensures turn { (plan : PlanData) (number : ℕ) (moments : List ℕ) (next moment : ℕ) (one : Ready) (here : WorldState) (id : ℕ) (value : ℤ) (canceling : Bool) →
         IsTurn plan next moment (rounds plan number moments (first_world plan)) one here → one.cause ≡ cause.Woke id value canceling →
@@ -74,7 +74,7 @@ pub fn polled_goals_stay_at_work()
         may_be_polled canceling (state_in id (goals_of one.entity (unclosed one here))) ≡ true }
 {}
 
-/// So the ending that a goal's script asks for is always a transition of the goal: it never comes to nothing.
+/// So the ending that a goal's script asks for is always a transition of the goal, and is never without effect.
 pub fn endings_are_allowed()
     ensures { (plan : PlanData) (number : ℕ) (moments : List ℕ) (next moment : ℕ) (one : Ready) (here : WorldState) (id : ℕ) (value : ℤ) (canceling : Bool) (by : Event) (result : ℤ) →
         IsTurn plan next moment (rounds plan number moments (first_world plan)) one here → one.cause ≡ cause.Woke id value canceling →

@@ -1,5 +1,5 @@
-//! What holds of every plan's transcript, as laws, and worked documents with their transcripts: each function's contract says
-//! one, and its body is empty or calls the laws that it rests on. No crate stands on this one.
+//! What holds of every plan's transcript, as laws, and worked documents with their transcripts. The contract of each function
+//! says one. Its body is empty, or calls the laws that it needs. No crate uses this one.
 #![tactic(auto)]
 
 pub mod documents;

@@ -1,4 +1,4 @@
-//! Worked transcripts: each function's contract says which transcript a plan has.
+//! Worked transcripts. The contract of each function says which transcript a plan has.
 ghost use Rattle.std.specs.Prelude.{◌≡◌};
 ghost use Rattle.exec_plan.specs.Lawful.{IsLawfulPlan};
 ghost use Rattle.exec_rules.specs.Transcript.{lines_of};
@@ -10,33 +10,37 @@ ghost use Rattle.exec_laws.specs.Examples.Clients.{succeeded_while_canceling, su
 ghost use Rattle.exec_laws.specs.Examples.ManyGoals.{many_goals, many_goals_lines};
 ghost use Rattle.exec_laws.specs.Examples.Forms.{cancel_forms, cancel_forms_lines, two_clients, two_clients_lines, accepted_anew, accepted_anew_lines, arithmetic, arithmetic_lines};
 ghost use Rattle.exec_laws.specs.Examples.FullTable.{full_table, full_table_lines};
+ghost use Rattle.exec_doc.specs.Examples.Orders.{two_subscriptions, two_subscriptions_by_arrival};
+ghost use Rattle.exec_laws.specs.Examples.Arrivals.{two_subscriptions_lines, two_subscriptions_by_arrival_lines};
+ghost use Rattle.exec_laws.specs.Examples.Arrivals.{succeeded_before_canceling, succeeded_before_canceling_lines};
+ghost use Rattle.exec_laws.specs.Examples.Arrivals.{pended_behind_message, pended_behind_message_lines};
 
 /// A plan with nothing in it.
 pub fn empty()
     ensures { lines_of empty ≡ empty_lines }
 {}
 
-/// A timer `t` of period 10 whose calls at 20 and 30 no round sees.
+/// A timer `t` of period 10. No round sees its calls at 20 and 30.
 pub fn late()
     ensures { lines_of late ≡ late_lines }
 {}
 
-/// A timer `t` of period 10 in rounds of one moment: its next call is at 30, and then at 40.
+/// A timer `t` of period 10 in rounds of one moment. Its next call is at 30, and then at 40.
 pub fn repeated()
     ensures { lines_of repeated ≡ repeated_lines }
 {}
 
-/// Two timers of one group, the first of which doubles its variable `g0` and the second of which adds 1.
+/// Two timers of one group. The first doubles its variable `g0`, and the second adds 1.
 pub fn shared()
     ensures { lines_of shared ≡ shared_lines }
 {}
 
-/// A sum beyond the greatest number, which wraps to the least, -9223372036854775808.
+/// A sum greater than the greatest number. It wraps to the least, -9223372036854775808.
 pub fn wrapped()
     ensures { lines_of wrapped ≡ wrapped_lines }
 {}
 
-/// A timer publishes three values to a subscription whose queue keeps two: entity 0 is the topic `x`, 1 the timer, 2 the
+/// A timer publishes three values to a subscription whose queue keeps two. Entity 0 is the topic `x`, 1 the timer, and 2 the
 /// subscription.
 pub fn full_queue()
     ensures { lines_of full_queue ≡ full_queue_lines }
@@ -47,7 +51,7 @@ pub fn echo()
     ensures { lines_of echo ≡ echo_lines }
 {}
 
-/// A service `add` doubles what its client calls with: entity 0 is the timer that calls, 1 the service, 2 the client.
+/// A service `add` doubles what its client calls with. Entity 0 is the timer that calls, 1 the service, and 2 the client.
 pub fn doubled()
     ensures { lines_of doubled ≡ doubled_lines }
 {}
@@ -57,32 +61,32 @@ pub fn unscripted()
     ensures { lines_of unscripted ≡ unscripted_lines }
 {}
 
-/// Two clients call a service whose queue keeps one request: the first is displaced and stays pending.
+/// Two clients call a service whose queue keeps one request. The first request is displaced, and its call stays pending.
 pub fn displaced_request()
     ensures { lines_of displaced_request ≡ displaced_request_lines }
 {}
 
-/// With neither identifier nor stamp all goals are canceled.
+/// A cancel request with neither identifier nor stamp cancels all goals.
 pub fn cancel_all()
     ensures { lines_of cancel_all ≡ cancel_all_lines }
 {}
 
-/// With a stamp all goals accepted at or before it are.
+/// A cancel request with a stamp cancels all goals accepted at or before it.
 pub fn cancel_before()
     ensures { lines_of cancel_before ≡ cancel_before_lines }
 {}
 
-/// With an identifier and a stamp that goal and all goals accepted at or before the stamp are.
+/// A cancel request with an identifier and a stamp cancels that goal, and all goals accepted at or before the stamp.
 pub fn cancel_goal_and_before()
     ensures { lines_of cancel_goal_and_before ≡ cancel_goal_and_before_lines }
 {}
 
-/// A goal that the server doesn't hold.
+/// A cancel request for a goal that the server doesn't hold.
 pub fn cancel_unknown()
     ensures { lines_of cancel_unknown ≡ cancel_unknown_lines }
 {}
 
-/// A goal that has ended.
+/// A cancel request for a goal that has ended.
 pub fn cancel_terminated()
     ensures { lines_of cancel_terminated ≡ cancel_terminated_lines }
 {}
@@ -92,12 +96,12 @@ pub fn cancel_again()
     ensures { lines_of cancel_again ≡ cancel_again_lines }
 {}
 
-/// The handler refuses.
+/// A cancel request that the handler refuses.
 pub fn cancel_refused()
     ensures { lines_of cancel_refused ≡ cancel_refused_lines }
 {}
 
-/// The handler refuses the candidate of a stamp, and so the whole request, though its identifier is unknown.
+/// The handler refuses the candidate of a stamp, and so the whole request, although its identifier is unknown.
 pub fn cancel_unknown_refused()
     ensures { lines_of cancel_unknown_refused ≡ cancel_unknown_refused_lines }
 {}
@@ -107,7 +111,7 @@ pub fn canceled()
     ensures { lines_of canceled ≡ canceled_lines }
 {}
 
-/// A goal that waits for 100 ticks is polled once it is being canceled, and goes on behind its wait.
+/// A goal that waits for 100 ticks is polled as soon as it is being canceled, and goes on after its wait.
 pub fn woken_by_cancel()
     ensures { lines_of woken_by_cancel ≡ woken_by_cancel_lines }
 {}
@@ -157,7 +161,7 @@ pub fn many_goals()
     ensures { lines_of many_goals ≡ many_goals_lines }
 {}
 
-/// One goal a round.
+/// One goal is sent in each round.
 pub fn full_table()
     ensures { lines_of full_table ≡ full_table_lines }
 {}
@@ -182,7 +186,7 @@ pub fn full_result_queue()
     ensures { lines_of full_result_queue ≡ full_result_queue_lines }
 {}
 
-/// A client cancels in each of the four forms, with a handler that accepts those that are EXECUTING.
+/// A client cancels in each of the four forms. The handler accepts goals that are EXECUTING.
 pub fn cancel_forms()
     ensures { lines_of cancel_forms ≡ cancel_forms_lines }
 {}
@@ -192,7 +196,7 @@ pub fn two_clients()
     ensures { lines_of two_clients ≡ two_clients_lines }
 {}
 
-/// A goal that expired, whose identifier is accepted again.
+/// A goal that expired. Its identifier is accepted again.
 pub fn accepted_anew()
     ensures { lines_of accepted_anew ≡ accepted_anew_lines }
 {}
@@ -200,6 +204,26 @@ pub fn accepted_anew()
 /// Each operation at the ends of 64 bits.
 pub fn arithmetic()
     ensures { lines_of arithmetic ≡ arithmetic_lines }
+{}
+
+/// Two subscriptions under the order of kinds. The second is fed first.
+pub fn two_subscriptions()
+    ensures { lines_of two_subscriptions ≡ two_subscriptions_lines }
+{}
+
+/// The same under the order of arrival: the subscription that is fed first runs first.
+pub fn two_subscriptions_by_arrival()
+    ensures { lines_of two_subscriptions_by_arrival ≡ two_subscriptions_by_arrival_lines }
+{}
+
+/// Under the order of arrival a goal that was accepted a round earlier is polled before its cancel request runs.
+pub fn succeeded_before_canceling()
+    ensures { lines_of succeeded_before_canceling ≡ succeeded_before_canceling_lines }
+{}
+
+/// A goal whose poll pends gets the number of a new arrival. A message that was sent before that comes first.
+pub fn pended_behind_message()
+    ensures { lines_of pended_behind_message ≡ pended_behind_message_lines }
 {}
 
 /// The plan of the late timer is lawful.

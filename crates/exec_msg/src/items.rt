@@ -2,7 +2,7 @@ use crate::memory::Memory;
 use std::alloc::Global;
 use std::marker::Model;
 
-/// A list, seen by contracts as its elements.
+/// A list. Contracts see it as its elements.
 #[derive(Debug, Drop)]
 pub struct Items<T> {
     items: Vec<T>,
@@ -68,7 +68,10 @@ impl<T> Items<T> {
 impl<T: Drop> Items<T> {
     ghost use Rattle.std.specs.Prelude.{◌≡◌, ◌++◌, ◌∷◌, [], OnOk, OnErr};
 
-    /// Adds an element at the end. Where memory is refused, the list stays as it was.
+    /// Adds an element at the end.
+    ///
+    /// # Errors
+    /// [`Memory`] if a growth was refused. The list doesn't change.
     pub fn push(&mut self, item: T) -> Result<(), Memory>
         ensures ok { OnOk result (self.new ≡ self.old ++ item ∷ []) }
         ensures unchanged { OnErr result (self.new ≡ self.old) }

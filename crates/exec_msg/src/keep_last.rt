@@ -8,8 +8,7 @@ use circular_buffer::HeapCircularBuffer;
 use std::alloc::Global;
 use std::marker::Model;
 
-/// A queue that keeps the last items that were sent to it, as many as its depth: `rclcpp`'s history policy
-/// "keep last".
+/// A queue that keeps the last items that were sent to it, as many as its depth: `rclcpp`'s history policy "keep last".
 #[derive(Drop)]
 pub struct KeepLast<T> {
     ring: HeapCircularBuffer<T>,
@@ -29,11 +28,11 @@ impl<T> Model for KeepLast<T> {
 }
 
 impl<T> KeepLast<T> {
-    /// An empty queue of a depth from 1 to [`DEPTH`](crate::limits::DEPTH) items. All the room that it will ever
-    /// need is made here.
+    /// An empty queue of a depth from 1 to [`DEPTH`](crate::limits::DEPTH) items. It takes all the memory here that it will
+    /// ever need.
     ///
     /// # Errors
-    /// [`Memory`] where that room was refused.
+    /// [`Memory`] if a growth was refused.
     pub fn new(alloc: Global, depth: usize) -> Result<KeepLast<T>, Memory>
         requires { (1 ≤ depth) × (depth ≤ DEPTH) }
         ensures { IfOk result (λ queue. queue ≡ record { items = []; depth = depth }) }
@@ -42,7 +41,7 @@ impl<T> KeepLast<T> {
         Ok(KeepLast { ring })
     }
 
-    /// Sends an item. A full queue loses its oldest item by it, which is given back. It takes no memory.
+    /// Sends an item. A full queue loses its oldest item by it, and gives it back. It takes no memory.
     pub fn push(&mut self, item: T) -> Option<T>
         ensures sent { self.new ≡ record self.old { items = sent self.old.depth item self.old.items } }
         ensures displaced { result ≡ slice_get (displaced self.old.depth item self.old.items) 0 }
@@ -50,12 +49,12 @@ impl<T> KeepLast<T> {
         self.ring.push_back(item)
     }
 
-    /// Takes the oldest item, where there is one.
+    /// Takes the oldest item, if there is one.
     pub fn take(&mut self) -> Option<T>
         ensures taken { self.new ≡ record self.old { items = after_taking self.old.items } }
         ensures oldest { result ≡ slice_get self.old.items 0 }
     {
-        // An only item taken from the back leaves the ring's start where it is, so that the same cells are used again.
+        // If the only item is taken from the back, the ring's start doesn't move, so that the same cells are used again.
         if self.ring.len() == 1 {
             self.ring.pop_back()
         } else {
@@ -63,7 +62,7 @@ impl<T> KeepLast<T> {
         }
     }
 
-    /// The oldest item, where there is one.
+    /// The oldest item, if there is one.
     pub fn front(&self) -> Option<&T>
         ensures { option_copied result ≡ slice_get self.now.items 0 }
     {

@@ -1,8 +1,8 @@
 ghost use Rattle.std.specs.Prelude.{◌≡◌, ◌≤◌, length};
 ghost use Rattle.exec_msg.specs.Line.{word_of};
 
-/// What a callback is for, in the order in which ready callbacks run. All but [`Kind::Timer`] and
-/// [`Kind::Poll`] have a queue for each entity, from which the callback takes its input.
+/// What a callback is for, in the order in which ready callbacks run. All but [`Kind::Timer`] and [`Kind::Poll`] have a queue
+/// for each entity. The callback takes its input from it.
 #[derive(Clone, Copy, Debug, PartialEq, Eq, PartialOrd, Ord, Hash)]
 pub enum Kind {
     /// A timer is due.

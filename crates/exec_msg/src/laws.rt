@@ -14,7 +14,7 @@ ghost use Rattle.exec_msg.specs.declared.limits.TheConstants.{DOCUMENT, NODES, N
 
 use crate::kind::Kind;
 
-/// Kinds compare as their numbers in the order of ready callbacks.
+/// Kinds compare as their numbers do in the order of ready callbacks.
 pub fn kinds_are_in_ready_order()
     ensures { (first second : Kind) → ⟦<Kind as Ord>⟧.cmp first second ≡ nat_cmp (ready_number first) (ready_number second) }
 {}
@@ -39,24 +39,23 @@ pub fn cancel_decision_numbers_differ()
     ensures { (first second : CancelDecision) → cancel_decision_number first ≡ cancel_decision_number second → first ≡ second }
 {}
 
-/// Whatever a keep-last queue held, it holds no more than its depth once an item was sent to it.
+/// A keep-last queue holds no more than its depth after an item was sent to it, whatever it held before.
 pub fn queue_within_depth<Item>()
     ensures { (depth : ℕ) (item : Item) (items : List Item) → length (sent depth item items) ≤ depth }
 {}
 
-/// A keep-last queue to which a history of items was sent, one after another, holds the last of the
-/// history, as many as its depth.
+/// A history of items is sent to a keep-last queue, one after another. The queue then holds the last items of the history, as
+/// many as its depth.
 pub fn queue_holds_the_last<Item>()
     ensures { (depth : ℕ) (history : List Item) → fold (λ items item. sent depth item items) [] history ≡ drop (length history - depth) history }
 {}
 
-/// A keep-last queue of depth at least 1 holds the item that was sent to it, as its last.
+/// A keep-last queue of depth at least 1 holds the item that was sent to it, as its last one.
 pub fn queue_holds_the_new_item<Item>()
     ensures { (depth : ℕ) (item : Item) (items : List Item) → 1 ≤ depth → sent depth item items ≡ drop (length items + 1 - depth) items ++ item ∷ [] }
 {}
 
-/// What a keep-last queue loses by a send and what it holds then are together what it held and the
-/// new item, in their order.
+/// What a keep-last queue loses by a send, and then what it holds, are what it held and then the new item, in their order.
 pub fn queue_loses_the_first<Item>()
     ensures { (depth : ℕ) (item : Item) (items : List Item) → displaced depth item items ++ sent depth item items ≡ items ++ item ∷ [] }
 {}
@@ -76,8 +75,8 @@ pub fn full_queue_loses_its_oldest<Item>()
     ensures { (depth : ℕ) (item oldest : Item) (items : List Item) → depth ≡ length items + 1 → displaced depth item (oldest ∷ items) ≡ oldest ∷ [] }
 {}
 
-/// A queue of depth 2 to which 1, 2 and 3 are sent loses nothing, nothing and then 1, and holds 2
-/// and 3, of which 3 is left once an item was taken.
+/// A queue of depth 2 is sent 1, 2 and 3. It loses nothing, nothing and then 1, and holds 2 and 3. After an item was taken, 3
+/// is left.
 pub fn queue_of_depth_2()
     ensures first { displaced {A = ℕ} 2 1 [] ≡ [] }
     ensures second { displaced {A = ℕ} 2 2 (sent {A = ℕ} 2 1 []) ≡ [] }
@@ -86,8 +85,7 @@ pub fn queue_of_depth_2()
     ensures left { after_taking {A = ℕ} (sent {A = ℕ} 2 3 (sent {A = ℕ} 2 2 (sent {A = ℕ} 2 1 []))) ≡ 3 ∷ [] }
 {}
 
-/// A timer's next call is whole periods after its old time, at or after now, and no earlier such
-/// time is.
+/// A timer's next call is whole periods after its old time, and at or after now. There is no earlier such time.
 pub fn next_call_is_the_least()
     ensures { (timer : TimerState) (now : ℕ) → 1 ≤ timer.period → IsNextCall timer now (next_call timer now) }
 {}
@@ -97,7 +95,7 @@ pub fn next_call_is_later()
     ensures { (timer : TimerState) (now : ℕ) → 1 ≤ timer.period → timer.next < next_call timer now }
 {}
 
-/// The numbers of the limits, each in `limits`.
+/// The numbers of the limits in `limits`.
 pub fn limits_are_these_numbers()
     ensures document { DOCUMENT ≡ 2 ^ 24 }
     ensures nodes { NODES ≡ 64 }

@@ -8,8 +8,8 @@ use crate::memory::Memory;
 use std::alloc::Global;
 use std::marker::Model;
 
-/// A [`KeepLast`] whose room is made when its first item is sent, so that a queue to which nothing is ever sent takes
-/// no memory, however deep it is.
+/// A [`KeepLast`] that takes its memory when its first item is sent. A queue that nothing is ever sent to takes no memory,
+/// however deep it is.
 #[derive(Drop)]
 pub struct LazyQueue<T> {
     alloc: Global,
@@ -45,7 +45,7 @@ impl<T> LazyQueue<T> {
         }
     }
 
-    /// Takes the oldest item, where there is one.
+    /// Takes the oldest item, if there is one.
     pub fn take(&mut self) -> Option<T>
         ensures taken { self.new ≡ record self.old { items = after_taking self.old.items } }
         ensures oldest { result ≡ slice_get self.old.items 0 }
@@ -56,7 +56,7 @@ impl<T> LazyQueue<T> {
         }
     }
 
-    /// The oldest item, where there is one.
+    /// The oldest item, if there is one.
     pub fn front(&self) -> Option<&T>
         ensures { option_copied result ≡ slice_get self.now.items 0 }
     {
@@ -79,9 +79,12 @@ impl<T> LazyQueue<T> {
 }
 
 impl<T: Drop> LazyQueue<T> {
-    /// Sends an item. A full queue loses its oldest item by it, which is given back. The first item that is sent makes
-    /// all the room that the queue will ever need; where memory is refused for it, the item is dropped and the queue
-    /// stays as it was.
+    /// Sends an item. A full queue loses its oldest item by it, and gives it back. The first item that is sent makes all the
+    /// room that the queue will ever need.
+    ///
+    /// # Errors
+    /// [`Memory`] if a growth was refused. A queue that has an item needs no memory. The item is dropped, and the queue doesn't
+    /// change.
     pub fn send(&mut self, item: T) -> Result<Option<T>, Memory>
         ensures ok { OnOk result (self.new ≡ record self.old { items = sent self.old.depth item self.old.items }) }
         ensures displaced { IfOk result (λ lost. lost ≡ slice_get (displaced self.old.depth item self.old.items) 0) }

@@ -12,19 +12,19 @@ pub const NAMED_GROUPS: usize = 256;
 /// Topics of a document, at most.
 pub const TOPICS: usize = 256;
 
-/// Entities of a document, at most; topics aren't among them.
+/// Entities of a document, at most. Topics aren't among them.
 pub const ENTITIES: usize = 512;
 
 /// Instructions of one script, at most.
 pub const INSTRUCTIONS: usize = 64;
 
-/// Goals that a server holds, in whatever state, at most.
+/// Goals that a server holds, in any state, at most.
 pub const GOALS: usize = 64;
 
-/// The depth of a queue, at most; the least is 1.
+/// The depth of a queue, at most. The least is 1.
 pub const DEPTH: u64 = 1_024;
 
-/// The depth of a queue where none is given.
+/// The depth of a queue if none is given.
 pub const DEFAULT_DEPTH: u64 = 10;
 
 /// Rounds of a document, at most.
@@ -33,7 +33,7 @@ pub const MOMENTS: usize = 65_536;
 /// Entries of a document's feed, at most.
 pub const FEED: usize = 65_536;
 
-/// Characters of a name, at most; the least is 1.
+/// Characters of a name, at most. The least is 1.
 pub const NAME_LENGTH: usize = 64;
 
 /// A moment, a period, a timeout and a fed stamp in ticks, at most: 2^62.

@@ -15,7 +15,7 @@ pub enum Line {
         server: EntityNo,
         id: GoalId,
     },
-    /// A callback runs with its input and what comes beside it.
+    /// A callback runs with its input `in`, and with `aux`, which comes with it.
     Run {
         entity: EntityNo,
         kind: Kind,
@@ -23,7 +23,7 @@ pub enum Line {
         aux: i64,
         id: Option<GoalId>,
     },
-    /// The queue of this kind was full, and lost its oldest item: the input that it would have been.
+    /// The queue of this kind was full, and lost its oldest item. The line has what would have been its input.
     Drop {
         entity: EntityNo,
         kind: Kind,
@@ -51,7 +51,7 @@ pub enum Line {
         id: GoalId,
         value: i64,
     },
-    /// An action client sends a cancel request; its stamp is in ticks.
+    /// An action client sends a cancel request. Its stamp is in ticks.
     Cancel {
         client: EntityNo,
         id: GoalId,
@@ -80,7 +80,7 @@ pub enum Line {
         id: GoalId,
         status: GoalStatus,
     },
-    /// A server answers a cancel request that moved so many goals.
+    /// A server answers a cancel request that moved this many goals.
     Code {
         server: EntityNo,
         code: ReturnCode,
@@ -98,12 +98,12 @@ pub enum Line {
         status: GoalStatus,
         value: i64,
     },
-    /// A service client has so many calls without a reply.
+    /// A service client has this many calls without a reply.
     Pending {
         client: EntityNo,
         calls: u64,
     },
-    /// The transcript ends after so many rounds.
+    /// The transcript ends after this many rounds.
     End {
         rounds: u64,
     },

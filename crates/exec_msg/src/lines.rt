@@ -6,12 +6,15 @@ use crate::memory::Memory;
 use std::alloc::Global;
 use std::marker::Model;
 
-/// Where the lines of a transcript go.
+/// What the lines of a transcript go to.
 pub trait Lines: Drop {
     /// The lines so far.
     ghost lines: { Self → List Line };
 
-    /// Adds a line at the end. Where memory is refused, the lines stay as they were.
+    /// Adds a line at the end.
+    ///
+    /// # Errors
+    /// [`Memory`] if a growth was refused. The lines don't change.
     fn add(&mut self, line: &Line) -> Result<(), Memory>
         ensures ok { OnOk result (lines self.new ≡ lines self.old ++ line.now ∷ []) }
         ensures unchanged { OnErr result (lines self.new ≡ lines self.old) };
@@ -61,8 +64,8 @@ impl Lines for LineList {
     }
 }
 
-// A line is pushed behind a reference, and is written field by field so: one that is handed on as a
-// slice of its own is copied as a whole just after it was made, for which a processor waits.
+// A line is pushed behind a reference, so that it is written field by field. One that is handed on as a slice of its own would
+// be copied as a whole just after it was made, and a processor waits for that.
 #[inline(always)]
 pub(crate) fn push_copy<T: Copy + Drop>(items: &mut Vec<T>, item: &T) -> Result<(), Memory>
     ensures ok { OnOk result (items.new.items ≡ items.old.items ++ item.now ∷ []) }

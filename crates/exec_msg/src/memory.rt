@@ -1,7 +1,7 @@
 use std::alloc::{AllocError, AllocFailed};
 use thiserror::Error;
 
-/// A growth was refused: there was no memory for it.
+/// A growth was refused, because there was no memory for it.
 #[derive(Clone, Copy, Debug, PartialEq, Eq, Error)]
 #[error("out of memory")]
 pub struct Memory;

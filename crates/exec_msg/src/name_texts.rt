@@ -1,4 +1,4 @@
-//! The names of a graph as lines have them: most are short, and are copied at a fixed length.
+//! The names of a graph as lines have them. Most are short, and are copied at a fixed length.
 ghost use Rattle.std.specs.Prelude.{◌≡◌, ◌+◌, ◌≤◌, [], ◌∷◌, ◌++◌, ℕ, List, length, map, string_bytes, take, IfSome};
 ghost use Rattle.std.specs.Option.{option_copied};
 ghost use Rattle.exec_msg.specs.Line.{greatest_length, name_at, spaced};
@@ -11,7 +11,8 @@ use crate::place::{place_field, place_pair};
 use std::alloc::Global;
 use std::marker::Model;
 
-/// A name's field as a line has it, with the space before it, and spaces behind: two copies of a fixed length.
+/// A name's field as a line has it: a space, the name, and spaces up to a fixed length. It is copied in two parts, each of a
+/// fixed length.
 #[derive(Drop)]
 pub(crate) struct NameField {
     length: usize,
@@ -29,7 +30,7 @@ impl Model for NameField {
 }
 
 impl NameField {
-    // The field of a name, where that is short.
+    // The field of a name, if the name is short.
     fn of(name: &str) -> Option<NameField>
         ensures { IfSome result (λ field. field ≡ name.now) }
     {
@@ -41,7 +42,7 @@ impl NameField {
         Some(NameField { length, text })
     }
 
-    /// Puts the name at a place of bytes, with a space before it. What stands behind its end may change.
+    /// Puts the name at a place of bytes, with a space before it. The bytes after its end may change.
     #[inline(always)]
     pub(crate) fn place(&self, bytes: &mut [u8], at: usize) -> usize
         requires { at + 48 ≤ length bytes.old }
@@ -96,7 +97,7 @@ impl<'a> NameTexts<'a> {
         push_fields(self.names.texts(), &mut self.fields)
     }
 
-    /// The field of the name at a number, where it is kept. It has no longer name than the longest.
+    /// The field of the name at a number, if it is kept. The name is no longer than the longest of the graph.
     #[inline(always)]
     pub(crate) fn short(&self, no: EntityNo) -> Option<&NameField>
         ensures name { IfSome (option_copied result) (λ name. name ≡ name_at self.now no) }
@@ -105,7 +106,7 @@ impl<'a> NameTexts<'a> {
         self.field(no)
     }
 
-    // The same, with no word on its length.
+    // The same, but nothing is known of its length.
     #[inline(always)]
     fn field(&self, no: EntityNo) -> Option<&NameField>
         ensures { IfSome (option_copied result) (λ name. name ≡ name_at self.now no) }
@@ -116,7 +117,7 @@ impl<'a> NameTexts<'a> {
         }
     }
 
-    /// Puts the name at a number at a place of bytes, with a space before it. What stands behind its end may change.
+    /// Puts the name at a number at a place of bytes, with a space before it. The bytes after its end may change.
     #[inline(always)]
     pub(crate) fn place(&self, bytes: &mut [u8], at: usize, no: EntityNo) -> usize
         requires { at + greatest_length self.now + 49 ≤ length bytes.old }

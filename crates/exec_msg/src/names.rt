@@ -24,7 +24,7 @@ impl Model for Names {
 }
 
 impl Names {
-    /// The names, the first of which has the number 0.
+    /// The names, at most 65,536. The first has the number 0.
     pub fn of(texts: Vec<String>) -> Names
         requires { length texts.items ≤ 65536 }
         ensures { result ≡ map string_bytes texts.items }
@@ -55,7 +55,7 @@ impl Names {
         self.longest
     }
 
-    /// The name at a number; behind the last name there is the empty text.
+    /// The name at a number. A number after the last name has the empty text.
     pub fn name(&self, no: EntityNo) -> &str
         ensures { result.now ≡ name_at self.now no }
     {

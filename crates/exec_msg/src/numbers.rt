@@ -18,7 +18,7 @@ impl Model for Moment {
 }
 
 impl Moment {
-    /// The moment at so many ticks, or `None` beyond [`TICKS`].
+    /// The moment at this many ticks, or `None` if they are more than [`TICKS`].
     pub fn new(ticks: u64) -> Option<Moment>
         ensures { SomeIff result (ticks ≤ 2 ^ 62) ticks }
     {
@@ -38,10 +38,10 @@ impl Moment {
     }
 }
 
-/// The identifier of a goal, an RFC 9562 UUID as one number with its first byte the highest.
+/// The identifier of a goal: an RFC 9562 UUID as one number. Its first byte is the highest.
 #[derive(Clone, Copy, Debug, PartialEq, Eq, PartialOrd, Ord, Hash)]
 pub struct GoalId {
-    // Two halves, since a `u128` would widen each line by its alignment.
+    // Two halves, because a `u128` would make each line longer by its alignment.
     high: u64,
     low: u64,
 }
@@ -90,7 +90,7 @@ impl GoalId {
         (self.high, self.low)
     }
 
-    // Its lower half: for a goal of an action client its number among that client's goals.
+    // Its lower half. For a goal of an action client it is the goal's number among that client's goals.
     #[inline(always)]
     pub(crate) fn count(self) -> u64
         ensures { result ≡ self % 2 ^ 64 }

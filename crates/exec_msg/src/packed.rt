@@ -9,12 +9,12 @@ use crate::kind::Kind;
 use crate::numbers::EntityNo;
 use std::mem::size_of;
 
-/// A line in twelve bytes, with its smallest field first. A number of 64 bits stands in two halves, or in
-/// its lower one alone where it is short, below 2^32.
+/// A line in twelve bytes, with its smallest field first. A number of 64 bits is in two halves. A short one, below 2^32, may be
+/// in its lower half alone.
 ///
-/// Most cells have neither the goal that their line is on, nor a number beside its value: these are the
-/// identifier that was told last and its count, which is its lower half. An identifier is told by a cell
-/// that says no line, or by a run line on a near goal, one whose halves are below 2^16.
+/// Most cells have neither the goal that their line is on, nor `aux`. The goal is then the identifier that was given last, and
+/// `aux` is its count, which is its lower half. A cell that says no line gives an identifier. So does a run line on a near
+/// goal, which is one whose halves are below 2^16.
 #[derive(Clone, Copy)]
 pub(crate) enum Cell {
     Round {
@@ -22,14 +22,14 @@ pub(crate) enum Cell {
         number: u32,
         lower: u32,
     },
-    /// One with 0 beside its input.
+    /// One with 0 as its `aux`.
     Run {
         kind: Kind,
         entity: EntityNo,
         high: u32,
         low: u32,
     },
-    /// One with the count beside its input.
+    /// One with the count as its `aux`.
     RunCounted {
         kind: Kind,
         entity: EntityNo,
@@ -63,28 +63,28 @@ pub(crate) enum Cell {
         high: u32,
         low: u32,
     },
-    /// One with 0 beside its input.
+    /// One with 0 as its `aux`.
     RunOnGoal {
         kind: Kind,
         entity: EntityNo,
         high: u32,
         low: u32,
     },
-    /// One with a short input and a short number beside it.
+    /// One with a short input and a short `aux`.
     RunOnGoalBeside {
         kind: Kind,
         entity: EntityNo,
         aux: u32,
         low: u32,
     },
-    /// One with the count beside its input.
+    /// One with the count as its `aux`.
     RunOnGoalCounted {
         kind: Kind,
         entity: EntityNo,
         high: u32,
         low: u32,
     },
-    /// One on a near goal, with a short input and 0 beside it.
+    /// One on a near goal, with a short input and 0 as its `aux`.
     RunOnNear {
         kind: Kind,
         entity: EntityNo,
@@ -92,7 +92,7 @@ pub(crate) enum Cell {
         count: u16,
         low: u32,
     },
-    /// One on a near goal, with a short input and the goal's count beside it.
+    /// One on a near goal, with a short input and the goal's count as its `aux`.
     RunOnNearCounted {
         kind: Kind,
         entity: EntityNo,
@@ -135,14 +135,15 @@ pub(crate) enum Cell {
         high: u32,
         low: u32,
     },
-    /// Tells an identifier: its count and a short upper half, or that half alone of the one that was told.
+    /// Gives an identifier. It has the count and a short upper half, or only the upper half. The lower half is then that of the
+    /// last identifier.
     Id {
         is_upper: bool,
         maker: u16,
         high: u32,
         low: u32,
     },
-    /// A line that has no such form; it stands whole beside the cells.
+    /// A line that has no such form. It is kept whole, next to the cells.
     Whole,
 }
 

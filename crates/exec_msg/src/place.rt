@@ -1,5 +1,5 @@
-//! Fields of lines, written at a place of bytes that have the room. Each function gives the end of what it wrote; what
-//! stands behind may change.
+//! Fields of lines, written at a place of bytes that have the room. Each function gives the end of what it wrote. The bytes
+//! after the end may change.
 pub(crate) mod id;
 pub(crate) mod numbers;
 
@@ -26,7 +26,7 @@ pub(crate) fn place(bytes: &mut [u8], at: usize, text: &str) -> usize
     end
 }
 
-// Bytes that stand side by side: one store.
+// Bytes that lie next to each other: one store.
 #[inline(always)]
 pub(crate) fn place_lanes<const N: usize>(bytes: &mut [u8], at: usize, lanes: Simd<u8, N>) -> usize
     requires { (length lanes ≡ N) × (at + N ≤ length bytes.old) }
@@ -37,7 +37,7 @@ pub(crate) fn place_lanes<const N: usize>(bytes: &mut [u8], at: usize, lanes: Si
     at + N
 }
 
-// The first bytes of a text, so many: one load and one store.
+// The first `N` bytes of a text: one load and one store.
 #[inline(always)]
 fn place_front<const N: usize>(bytes: &mut [u8], at: usize, text: &[u8]) -> usize
     requires { (N ≤ length text.now) × (at + N ≤ length bytes.old) }
@@ -47,7 +47,7 @@ fn place_front<const N: usize>(bytes: &mut [u8], at: usize, text: &[u8]) -> usiz
     place_lanes(bytes, at, Simd::<u8, N>::from_slice(text))
 }
 
-// The first bytes of a text, so many and so many more: two copies of a fixed length.
+// The first `N` bytes of a text, and `M` more: two copies of a fixed length.
 #[inline(always)]
 pub(crate) fn place_pair<const N: usize, const M: usize>(
     bytes: &mut [u8],
@@ -75,7 +75,7 @@ fn place_ends<const N: usize>(bytes: &mut [u8], at: usize, text: &[u8]) -> usize
     place_front::<N>(bytes, at + last, &text[last..])
 }
 
-// A text whose length isn't known beforehand, most likely a short one: for that no call is made.
+// A text whose length isn't known before. It is most likely short, and then no call is made.
 #[inline(always)]
 fn place_short(bytes: &mut [u8], at: usize, text: &str) -> usize
     requires { at + length text.now ≤ length bytes.old }
@@ -103,7 +103,7 @@ pub(crate) fn place_field(bytes: &mut [u8], at: usize, text: &str) -> usize
     place_short(bytes, at + 1, text)
 }
 
-// A line's word, and the name of what it speaks of.
+// A line's word, and the name of what it is about.
 #[inline(always)]
 pub(crate) fn place_named(
     bytes: &mut [u8],
@@ -131,7 +131,7 @@ pub(crate) fn place_short_named(bytes: &mut [u8], at: usize, word: &str, name: &
     name.place(bytes, end)
 }
 
-// A line's word, and the callback that it speaks of: its entity's name and its kind.
+// A line's word, and the callback that it is about: its entity's name and its kind.
 #[inline(always)]
 pub(crate) fn place_callback(
     bytes: &mut [u8],
@@ -149,11 +149,11 @@ pub(crate) fn place_callback(
     place_kind(bytes, end, kind)
 }
 
-// For each kind of callback sixteen bytes: its word with a space before it, and spaces behind.
+// Sixteen bytes for each kind of callback: a space, its word, and spaces.
 static KIND_FIELDS: [u8; 192] =
     *b" timer           message         request         reply           goal            cancel          ask             poll            response        code            feedback        result         ";
 
-// A kind's sixteen bytes, and what stands behind them.
+// A kind's sixteen bytes, and what comes after them.
 #[inline(always)]
 fn kind_field(kind: Kind) -> &'static [u8]
     ensures field { take (1 + length (word_of kind)) result.now ≡ 32 ∷ word_of kind }
@@ -173,7 +173,7 @@ pub(crate) fn place_kind(bytes: &mut [u8], at: usize, kind: Kind) -> usize
     at + 1 + kind.word().len()
 }
 
-// A line's word, and the goal that it speaks of: the name of its server or client and its identifier.
+// A line's word, and the goal that it is about: the name of its server or client and its identifier.
 #[inline(always)]
 pub(crate) fn place_goal(
     bytes: &mut [u8],
@@ -191,7 +191,7 @@ pub(crate) fn place_goal(
     place_id(bytes, end, id)
 }
 
-// A line's word, the name of what it speaks of, and a value.
+// A line's word, the name of what it is about, and a value.
 #[inline(always)]
 pub(crate) fn place_named_value(
     texts: &mut ValueTexts,
@@ -210,7 +210,7 @@ pub(crate) fn place_named_value(
     place_value(texts, bytes, end, value)
 }
 
-// A line's word, the name of what it speaks of, and a count.
+// A line's word, the name of what it is about, and a count.
 #[inline(never)]
 pub(crate) fn place_named_count(
     bytes: &mut [u8],
@@ -228,7 +228,7 @@ pub(crate) fn place_named_count(
     place_count(bytes, end, count)
 }
 
-// A line's word, and the goal that it speaks of.
+// A line's word, and the goal that it is about.
 #[inline(never)]
 pub(crate) fn place_goal_line(
     bytes: &mut [u8],
@@ -245,7 +245,7 @@ pub(crate) fn place_goal_line(
     place_goal(bytes, at, word, names, no, id)
 }
 
-// A line's word, the goal that it speaks of, and a value.
+// A line's word, the goal that it is about, and a value.
 #[inline(never)]
 pub(crate) fn place_goal_value(
     texts: &mut ValueTexts,
@@ -265,7 +265,7 @@ pub(crate) fn place_goal_value(
     place_value(texts, bytes, end, value)
 }
 
-// A line's word, the goal that it speaks of, and a count.
+// A line's word, the goal that it is about, and a count.
 #[inline(never)]
 pub(crate) fn place_goal_count(
     bytes: &mut [u8],

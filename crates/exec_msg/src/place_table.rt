@@ -6,8 +6,8 @@ use crate::memory::Memory;
 use std::alloc::Global;
 use std::marker::Model;
 
-/// A direct-address table from numbers to places in a list: under each number stands the first place that was noted there. Its
-/// size is that of the greatest number that it has room for.
+/// A direct-address table from numbers to places in a list. For each number it has the first place that was noted. It is as
+/// large as the greatest number that it has room for.
 #[derive(Drop)]
 pub struct PlaceTable {
     slots: Vec<Option<usize>>,
@@ -31,7 +31,7 @@ impl PlaceTable {
         }
     }
 
-    /// The place that stands under a number.
+    /// The place that is noted for a number.
     pub fn get(&self, number: usize) -> Option<usize>
         ensures { result ≡ place_under number self.now }
     {
@@ -41,10 +41,11 @@ impl PlaceTable {
         }
     }
 
-    /// Makes room for a number. Places and room stay as they are, also where memory is refused.
+    /// Makes room for a number, which is less than 2^32. The places don't change, and the room never gets smaller, even if
+    /// memory is refused.
     ///
     /// # Errors
-    /// [`Memory`] where the growth was refused, which can't be where there is room already.
+    /// [`Memory`] if a growth was refused. No memory is needed if there is room already.
     pub fn reserve(&mut self, number: usize) -> Result<(), Memory>
         requires { number < 2 ^ 32 }
         ensures room { OnOk result (number < length self.new) }
@@ -58,7 +59,7 @@ impl PlaceTable {
         Ok(())
     }
 
-    /// Notes a place under a number. Where one stands there, or there is no room for the number, nothing changes.
+    /// Notes a place for a number. If the number has a place already, or there is no room for it, nothing changes.
     pub fn note(&mut self, number: usize, place: usize)
         ensures { self.new ≡ change_at number (first_noted place) self.old }
     {

@@ -3,7 +3,7 @@ mod run;
 
 ghost use Rattle.std.specs.Prelude.{◌≡◌, ◌+◌, ◌<◌, ◌≤◌, [], ◌∷◌, ◌++◌, length, take, codes, decimal, ◌^◌, vec_capacity, vec_len, IfOk, OnErr};
 ghost use Rattle.std.specs.Fmt.{signed_decimal};
-ghost use Rattle.exec_msg.specs.Goal.{status_number, code_number, decision_number};
+ghost use Rattle.exec_msg.specs.Goal.{status_number, code_number};
 ghost use Rattle.exec_msg.specs.Line.{IsAppended, greatest_length, line_room, joined, name_at, word_of, id_text, fields_of, line_text};
 
 use crate::goal::{GoalStatus, ReturnCode};
@@ -21,10 +21,10 @@ use crate::place::{
 use crate::value_texts::ValueTexts;
 use run::{place_goal_run, place_run, place_run_beside};
 
-/// Appends the text of a line. Where memory is refused, `out` stays as it was.
+/// Appends the text of a line.
 ///
 /// # Errors
-/// [`Memory`] where a growth was refused, which can't be where the capacity has the room of a line.
+/// [`Memory`] if a growth was refused. No memory is needed if the capacity has the room of a line. `out` doesn't change.
 pub fn write_line(line: &Line, names: &Names, out: &mut Vec<u8>) -> Result<(), Memory>
     ensures text { IsAppended result out.old.items out.new.items (line_text names.now line.now) }
     ensures capacity { vec_capacity out.old ≤ vec_capacity out.new }
@@ -40,10 +40,13 @@ pub fn write_line(line: &Line, names: &Names, out: &mut Vec<u8>) -> Result<(), M
     Ok(())
 }
 
-// More than a line takes beside a name.
+// More than a line takes in addition to a name.
 const ROOM: usize = 128;
 
-/// How long the bytes are to be where a line is to stand at a place.
+/// How many bytes are needed so that a line has room at a place.
+///
+/// # Errors
+/// [`Memory`] if the number doesn't fit into 64 bits.
 pub fn room_behind(at: usize, names: &Names) -> Result<usize, Memory>
     ensures room { IfOk result (λ room. room ≡ at + line_room names.now) }
     ensures beyond { OnErr result (2 ^ 64 ≤ at + line_room names.now) }
@@ -52,7 +55,7 @@ pub fn room_behind(at: usize, names: &Names) -> Result<usize, Memory>
     Ok(at.checked_add(room).ok_or(Memory)?)
 }
 
-/// Puts the text of a line at a place of bytes that have the room, and gives its end. What stands behind the end may change.
+/// Puts the text of a line at a place of bytes that have the room, and gives its end. The bytes after the end may change.
 #[inline(always)]
 pub(crate) fn place_line(
     line: &Line,
@@ -70,7 +73,7 @@ pub(crate) fn place_line(
     end + 1
 }
 
-// The match goes where a line is made, and is decided there: for that it has to be small, and has but calls.
+// The match is inlined into what makes a line, and is decided there. For that it must be small, so it has only calls.
 #[inline(always)]
 fn place_fields(
     line: &Line,
@@ -287,8 +290,8 @@ fn place_long_named_value(
     place_named_value(texts, bytes, at, word, names, no, value)
 }
 
-// The line of a client's call. Where its number is small, the name short and the value's text at hand, it is placed with no
-// function called.
+// The line of a client's call. If its number is small, the name is short and the text of the value is kept, it is placed
+// without a call.
 #[inline(never)]
 fn place_call(
     texts: &mut ValueTexts,

@@ -4,7 +4,7 @@ ghost use Rattle.exec_msg.specs.Timer.{IsPeriod, is_due, next_call, after_call, 
 use crate::numbers::Moment;
 use std::marker::Model;
 
-/// A timer as `rclcpp` has them: the time of its next call and its period, both in ticks.
+/// A timer as `rclcpp` has it: the time of its next call and its period, both in ticks.
 #[derive(Clone, Copy, Debug, PartialEq, Eq)]
 pub struct Timer {
     next: u64,
@@ -25,7 +25,7 @@ impl Model for Timer {
 }
 
 impl Timer {
-    /// A timer that is made at moment 0: its first call comes after one period, which is of 1 to
+    /// A timer that is made at moment 0. Its first call comes after one period. The period has 1 to
     /// [`TICKS`](crate::limits::TICKS) ticks.
     pub fn new(period: u64) -> Timer
         requires { IsPeriod period }
@@ -44,8 +44,8 @@ impl Timer {
         self.next <= now.ticks()
     }
 
-    /// Makes the call at `now`: the next one comes a period later, or after as many periods as it
-    /// takes to reach `now`.
+    /// Makes the call, which is due, at `now`. The next one comes a period later, or after as many periods as it takes to reach
+    /// `now`.
     pub fn call(&mut self, now: Moment)
         requires { IsTrue (is_due self.old now) }
         ensures called { self.new ≡ after_call self.old now }

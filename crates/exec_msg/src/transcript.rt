@@ -1,4 +1,4 @@
-//! A transcript's lines, kept in few bytes each, and its text, made of them piece by piece.
+//! A transcript's lines, kept in few bytes each. Its text is made of them piece by piece.
 ghost use Rattle.std.specs.Prelude.{◌≡◌, ◌≤◌, take, vec_len, OnOk};
 
 use crate::line::Line;
@@ -21,7 +21,7 @@ pub struct Transcript {
     cells: Vec<Cell>,
     // The lines that have no form in cells.
     wholes: Vec<Line>,
-    // The identifier that was told last.
+    // The identifier that was given last.
     told: GoalId,
 }
 
@@ -55,7 +55,7 @@ impl Transcript {
     /// A reader of its text, with the names of a graph.
     ///
     /// # Errors
-    /// [`Memory`] where a growth was refused.
+    /// [`Memory`] if a growth was refused.
     pub fn reader<'a>(&'a self, alloc: Global, names: &'a Names) -> Result<TextReader<'a>, Memory>
         ensures { IfOk result (λ reader. reader ≡ record { names = names.now; lines = self.now }) }
     {
@@ -77,7 +77,7 @@ impl Transcript {
     /// Its text, with the names of a graph.
     ///
     /// # Errors
-    /// [`Memory`] where a growth was refused.
+    /// [`Memory`] if a growth was refused.
     pub fn text(&self, alloc: Global, names: &Names) -> Result<Vec<u8>, Memory>
         ensures { IfOk result (λ text. text.items ≡ transcript_text names.now self.now) }
     {
@@ -96,15 +96,14 @@ impl Transcript {
     }
 }
 
-// From so many cells on names are kept as lines have them, and the texts of long numbers for the
-// lines that follow: to make their room takes longer than the lines of fewer cells do.
+// If there are at least this many cells, names are kept as lines have them, and the texts of long numbers are kept for the
+// lines that follow. With fewer cells the room for them takes longer to make than the lines.
 const MANY_CELLS: usize = 8_192;
 
-// Bytes are made longer by so many more than asked.
+// Bytes are made longer by this many more than asked.
 const MORE: usize = 65_536;
 
-// Makes bytes at least so long, with zeros behind them. Where memory is refused, they stay as they
-// were.
+// Makes bytes at least this long, with zeros at the end. If memory is refused, they don't change.
 fn lengthen(bytes: &mut Vec<u8>, length: usize) -> Result<(), Memory>
     ensures ok { OnOk result (length ≤ vec_len bytes.new) }
     ensures front { take (vec_len bytes.old) bytes.new.items ≡ bytes.old.items }
@@ -139,7 +138,7 @@ pub struct TextReader<'a> {
     texts: ValueTexts,
     cells: &'a [Cell],
     wholes: &'a [Line],
-    // The identifier that was told last.
+    // The identifier that was given last.
     told: GoalId,
 }
 
@@ -156,10 +155,10 @@ impl<'a> TextReader<'a> {
     ghost use Rattle.std.specs.Prelude.{◌≡◌, ◌⊎◌, ◌++◌, ◌+◌, ◌<◌, ◌≤◌, [], length, nat_le, take, IfSome, IfNone, IfOk};
     ghost use Rattle.exec_msg.specs.Line.{line_room, transcript_text};
 
-    /// Bytes that have the room of some lines.
+    /// A buffer that has the room of at least one line.
     ///
     /// # Errors
-    /// [`Memory`] where a growth was refused.
+    /// [`Memory`] if a growth was refused.
     pub fn buffer(&self, alloc: Global) -> Result<Vec<u8>, Memory>
         ensures { IfOk result (λ buffer. line_room self.now.names ≤ length buffer.items) }
     {
@@ -178,9 +177,8 @@ impl<'a> TextReader<'a> {
         }
     }
 
-    /// Puts the text of the next lines, as many as there is room for, at a place of a buffer that has the
-    /// room of one, and gives its end, or `None` where no line is left. What stands behind the end may
-    /// change.
+    /// Puts the text of the next lines at a place of a buffer that has the room of one line. It puts as many lines as there is
+    /// room for. Gives the end of the text, or `None` if no line is left. The bytes after the end may change.
     pub fn fill(&mut self, buffer: &mut [u8], at: usize) -> Option<usize>
         requires { at + line_room self.old.names ≤ length buffer.old }
         ensures text { IfSome result (λ end. take at buffer.old ++ transcript_text self.old.names self.old.lines ≡ take end buffer.new ++ transcript_text self.old.names self.new.lines) }
@@ -223,12 +221,12 @@ impl<'a> TextReader<'a> {
     }
 }
 
-// The lines that are left, in places of their own while a buffer is filled.
+// The lines that are left, in local variables while a buffer is filled.
 #[derive(Drop)]
 struct Left<'a> {
     cells: &'a [Cell],
     wholes: &'a [Line],
-    // The identifier that was told last.
+    // The identifier that was given last.
     told: GoalId,
 }
 
@@ -246,7 +244,7 @@ impl<'a> Left<'a> {
     ghost use Rattle.std.specs.Prelude.{◌≡◌, ◌++◌, ◌+◌, ◌≤◌, [], length, take, IfSome, IfNone};
     ghost use Rattle.exec_msg.specs.Line.{line_room, transcript_text};
 
-    // Puts the text of the next line at a place, and gives its end, where a line is left.
+    // Puts the text of the next line at a place, and gives its end, if a line is left.
     #[inline(always)]
     fn place_next(
         &mut self,

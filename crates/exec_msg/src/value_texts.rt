@@ -1,4 +1,4 @@
-//! The texts of long numbers that lines had, for the lines that follow: what one callback sends, others run with.
+//! The texts of long numbers that lines had, for the lines that follow: what one callback sends, others take as input.
 ghost use Rattle.std.specs.Prelude.{◌≡◌, ◌+◌, ◌≤◌, [], ◌∷◌, ◌++◌, length, take, IfSome};
 ghost use Rattle.std.specs.Option.{option_copied};
 ghost use Rattle.std.specs.Fmt.{signed_decimal};
@@ -10,7 +10,7 @@ use crate::place::place_pair;
 use std::alloc::Global;
 use std::marker::Model;
 
-// A value's field as a line has it, with the space before it, and spaces behind.
+// A value's field as a line has it: a space, the value, and spaces.
 #[derive(Clone, Copy)]
 pub(crate) struct ValueField {
     value: i64,
@@ -62,7 +62,7 @@ impl ValueField {
         self.length = place_signed(&mut self.text, 0, value);
     }
 
-    /// Puts the value at a place of bytes, with a space before it. What stands behind its end may change.
+    /// Puts the value at a place of bytes, with a space before it. The bytes after its end may change.
     #[inline(always)]
     pub(crate) fn place(&self, bytes: &mut [u8], at: usize) -> usize
         requires { at + 24 ≤ length bytes.old }
@@ -74,13 +74,13 @@ impl ValueField {
     }
 }
 
-// So many fields take 10 KiB.
+// This many fields take 10 KiB.
 const FIELDS: usize = 256;
 
-// Numbers below this one are written faster than they are found.
+// A number below this one is written faster than it is found.
 const LONG: u64 = 100_000_000;
 
-/// The fields of long numbers, each at a place that its value gives, until another takes it.
+/// The fields of long numbers. The value of each decides its place, and another value may take the place.
 #[derive(Drop)]
 pub(crate) struct ValueTexts {
     fields: Vec<ValueField>,
@@ -100,7 +100,7 @@ impl ValueTexts {
         Ok(())
     }
 
-    /// The field of a value, where it is kept.
+    /// The field of a value, if it is kept.
     #[inline(always)]
     pub(crate) fn find(&self, value: i64) -> Option<&ValueField>
         ensures { IfSome (option_copied result) (λ field. field.0 ≡ value) }
@@ -111,7 +111,7 @@ impl ValueTexts {
         }
     }
 
-    /// Puts a value at a place of bytes, with a space before it. What stands behind its end may change.
+    /// Puts a value at a place of bytes, with a space before it. The bytes after its end may change.
     #[inline(never)]
     pub(crate) fn place(&mut self, bytes: &mut [u8], at: usize, value: i64) -> usize
         requires { at + 24 ≤ length bytes.old }

@@ -1,5 +1,5 @@
-//! Entities, as a draft and as a graph has them: a draft's refer to one another by texts and have spelled scripts, a
-//! graph's refer by numbers and have decoded scripts.
+//! Entities, as a draft and as a graph has them. Those of a draft refer to one another by texts, and have spelled scripts.
+//! Those of a graph refer by numbers, and have decoded scripts.
 pub(crate) mod parts;
 
 ghost use Rattle.std.specs.Prelude.{◌≡◌};
@@ -71,7 +71,7 @@ pub struct ServiceEntity<S> {
 /// A service client.
 #[derive(Debug, Drop)]
 pub struct ClientEntity<N, S> {
-    /// Its service, of whatever node.
+    /// Its service, in any node.
     pub service: N,
     /// How many replies its queue holds, from 1 to [`DEPTH`](exec_msg::limits::DEPTH).
     pub depth: u64,
@@ -85,8 +85,7 @@ pub struct ServerEntity<S> {
     /// How many items each of its queues of goal requests, cancel requests and asks holds, from 1 to
     /// [`DEPTH`](exec_msg::limits::DEPTH).
     pub depth: u64,
-    /// For how many ticks it keeps a result, at most [`TICKS`](exec_msg::limits::TICKS); without end where
-    /// this is `None`.
+    /// For how many ticks it keeps a result, at most [`TICKS`](exec_msg::limits::TICKS). `None` is for ever.
     pub result_timeout: Option<u64>,
     /// What it does with a goal request.
     pub on_goal: S,
@@ -99,7 +98,7 @@ pub struct ServerEntity<S> {
 /// An action client.
 #[derive(Debug, Drop)]
 pub struct ActionClientEntity<N, S> {
-    /// Its action server, of whatever node.
+    /// Its action server, in any node.
     pub server: N,
     /// How many items each of its queues of responses, codes, feedback and results holds, from 1 to
     /// [`DEPTH`](exec_msg::limits::DEPTH).
@@ -110,11 +109,11 @@ pub struct ActionClientEntity<N, S> {
     pub on_code: S,
     /// What it does with a goal's feedback.
     pub on_feedback: S,
-    /// What it does with a goal's result; it asks for results where this is there, be it empty.
+    /// What it does with a goal's result. It asks for results if this isn't `None`, even if the script is empty.
     pub on_result: Option<S>,
 }
 
-/// What an entity is, where `N` stands for what it refers to, and `S` for a script. In a draft no limit need hold.
+/// What an entity is. `N` is the type of what it refers to, and `S` that of a script. In a draft no limit need hold.
 #[derive(Debug, Drop)]
 pub enum EntityOf<N, S> {
     /// A timer.
@@ -153,7 +152,7 @@ impl<N, S> EntityOf<N, S> {
         self.kind() == kind
     }
 
-    /// How many items each of its queues holds; a timer has none.
+    /// How many items each of its queues holds. A timer has none.
     pub fn queue_depth(&self) -> u64
         ensures { result ≡ queue_depth self.now }
     {
@@ -187,9 +186,9 @@ impl Model for GroupNo {
 pub struct CallbackGroup {
     /// The number of its node, from 0.
     pub node: usize,
-    /// Its name; a node's default group has none.
+    /// Its name. A node's default group has none.
     pub name: Option<WordText>,
-    /// Whether it is mutually exclusive, else it is reentrant.
+    /// Whether it is mutually exclusive. Otherwise it is reentrant.
     pub exclusive: bool,
 }
 
@@ -215,7 +214,7 @@ impl Declared {
     ghost use Rattle.std.specs.Option.{option_copied};
     ghost use Rattle.exec_plan.specs.Graph.{entity_of, is_topic, is_a};
 
-    /// The entity as which it is declared; a topic is none.
+    /// The entity that it is declared as. A topic is none.
     pub fn entity(&self) -> Option<&GraphEntity>
         ensures { option_copied result ≡ entity_of self.now }
     {

@@ -11,7 +11,7 @@ pub struct Graph {
     groups: Vec<CallbackGroup>,
     // Each at its number.
     entities: IndexMap<String, Declared>,
-    // The keys once more, as those who write lines read them.
+    // The keys once more, for those who write lines.
     names: Names,
 }
 
@@ -36,7 +36,7 @@ impl Graph {
     ghost use Rattle.exec_plan.specs.Lawful.{IsLawful, is_at};
     ghost use Rattle.exec_plan.specs.inner.Entries.{entities_in};
 
-    /// The graph of its nodes, callback groups, topics and entities, each at its number; the names are the keys of the last
+    /// The graph of its nodes, callback groups, topics and entities, each at its number. `names` are the keys of `entities`
     /// once more. It takes no memory.
     pub fn from_parts(
         nodes: Names,
@@ -79,7 +79,7 @@ impl Graph {
         self.entities.len()
     }
 
-    /// What a number stands for.
+    /// What is declared at a number.
     pub fn declaration(&self, no: EntityNo) -> &Declared
         requires { no < length self.now.entities }
         ensures { result.now ≡ declared_at self.now no }
@@ -100,12 +100,13 @@ impl Graph {
         ensures group { group_of (declared_at self.now no) ≡ Some result }
         ensures bound { result < length self.now.groups }
     {
-        // So that the type's invariant is known here.
+        // This makes the type's invariant known here.
         let _ = &self.nodes;
         self.declaration(no).entity().unwrap().group
     }
 
-    /// Whether a callback group is mutually exclusive. A reentrant one isn't, and no group but the graph's is.
+    /// Whether a callback group is mutually exclusive. A reentrant group isn't, and neither is a group that the graph
+    /// doesn't have.
     pub fn is_exclusive(&self, group: GroupNo) -> bool
         ensures { result ≡ is_exclusive self.now group }
     {
@@ -115,7 +116,7 @@ impl Graph {
         }
     }
 
-    /// The topic of a name.
+    /// The topic of a name, if there is one.
     pub fn topic_at(&self, name: &str) -> Option<EntityNo>
         ensures { result ≡ topic_at self.now name.now }
     {
@@ -127,7 +128,7 @@ impl Graph {
         }
     }
 
-    /// The action server of a name.
+    /// The action server of a name, if there is one.
     pub fn server_at(&self, name: &str) -> Option<EntityNo>
         ensures { result ≡ server_at self.now name.now }
     {

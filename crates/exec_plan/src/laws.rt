@@ -1,4 +1,4 @@
-//! Laws of graphs and plans: each function's contract says one, and its body is empty or calls the law that it rests on.
+//! Laws of graphs and plans. The contract of each function says one law. Its body is empty, or calls the law that it needs.
 ghost use Rattle.std.specs.Prelude.{◌≡◌, ℕ, ◌-◌, ◌<◌, ◌≤◌, ◌==◌, ℤ, List, [], ◌∷◌, length, slice_get, Bool, true, false, cond, Option, None, Some, IsTrue};
 ghost use Rattle.std.specs.List.{filter, list_all};
 ghost use Rattle.std.specs.Ordering.{nat_cmp};
@@ -37,7 +37,7 @@ pub fn kinds_of_callbacks_are_listed_once()
     ensures place { (kind : Kind) → slice_get kinds (ready_number kind - 1) ≡ Some kind }
 {}
 
-/// A graph's entities that pass a test are listed once each, and nothing else is.
+/// Each entity of a graph that passes a test is listed once, and nothing else is listed.
 pub fn entities_are_listed_once()
     ensures inside { (graph : GraphData) (test : Declared → Bool) (number : ℕ) → number < length graph.entities →
         length (filter (λ other. other == number) (entities_where test graph)) ≡ cond (test (declared_at graph number)) 1 0 }
@@ -45,7 +45,7 @@ pub fn entities_are_listed_once()
         length (filter (λ other. other == number) (entities_where test graph)) ≡ 0 }
 {}
 
-/// A lawful script of a reentrant callback group leaves the variables that it was given, wherever its effects go.
+/// A lawful script of a reentrant callback group doesn't change the variables that it was given, wherever its effects go.
 pub fn reentrant_groups_share_nothing<S>()
     ensures { (graph : GraphData) (group : CallbackGroup) (roled : RoleScriptData (List Instr)) → IsLawfulScript graph group roled → group.exclusive ≡ false →
         (give : Effect → S → S) (place : ℕ) (registers variables : List ℤ) (answer : Option ℤ) (input : CallInput) (given : S) →
@@ -54,7 +54,7 @@ pub fn reentrant_groups_share_nothing<S>()
     exec_script::laws::reentrant_scripts_share_nothing::<S>();
 }
 
-/// What a graph finds by name stands at its number.
+/// What a graph finds by name is at its number.
 pub fn what_is_found_stands_at_its_number()
     ensures topic { (graph : GraphData) (name : List ℕ) (number : ℕ) → topic_at graph name ≡ Some number →
         IsTrue (is_at is_topic graph number) }
@@ -62,8 +62,8 @@ pub fn what_is_found_stands_at_its_number()
         IsTrue (is_at is_server graph number) }
 {}
 
-/// A lawful graph, moments and a feed without a fault are a lawful plan, where what is fed goes to topics and servers of
-/// the graph and identifiers have 128 bits.
+/// A lawful graph, moments and a feed without a fault are a lawful plan. What is fed must go to topics and servers of the
+/// graph, and identifiers must have 128 bits.
 pub fn plans_without_faults_are_lawful()
     ensures { (graph : GraphData) (order : Order) (moments : List ℕ) (feed : List Feed) → IsLawful graph
         → list_all (λ entry. goes_somewhere graph entry.fed) feed ≡ true → list_all (λ entry. has_128_bits entry.fed) feed ≡ true

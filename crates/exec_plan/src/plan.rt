@@ -8,7 +8,7 @@ use crate::plan::schedule::fault_of;
 use exec_msg::{EntityNo, GoalId, Moment};
 use std::marker::Model;
 
-/// What is fed, where `N` stands for what it goes to, and `I` for an identifier.
+/// What is fed. `N` is the type of what it goes to, and `I` that of an identifier.
 #[derive(Clone, Copy, Debug, PartialEq, Eq, Drop)]
 pub enum FedOf<N, I> {
     /// A message to a topic.
@@ -33,7 +33,7 @@ pub enum FedOf<N, I> {
         server: N,
         /// The identifier of the goal that is to be canceled, or 0 for none.
         id: I,
-        /// In ticks: the goals accepted up to it are to be canceled. 0 for none.
+        /// A stamp in ticks: the goals accepted up to it are to be canceled. 0 is none.
         stamp: u64,
     },
 }
@@ -54,8 +54,8 @@ pub type Fed = FedOf<EntityNo, GoalId>;
 /// An entry of a plan's feed.
 pub type Feed = FeedOf<EntityNo, GoalId>;
 
-/// A lawful plan: a graph, the order in which ready callbacks are run, the moment of each round, and what is fed to it. No moment is below the one before it, each
-/// round of the feed is one of the plan, and all limits hold.
+/// A lawful plan: a graph, the order in which ready callbacks run, the moment of each round, and what is fed to it. No moment
+/// is less than the one before it. Each round of the feed is one of the plan. All limits hold.
 #[derive(Drop)]
 pub struct Plan {
     graph: Graph,
@@ -83,11 +83,11 @@ impl Plan {
     ghost use Rattle.exec_plan.specs.Lawful.{IsLawfulPlan};
     ghost use Rattle.exec_plan.specs.Schedule.{plan_fault_in};
 
-    /// The plan of a graph, the order in which ready callbacks are run, the moment of each round, and what is fed to topics and
-    /// servers of the graph. What was handed in is given up on a fault. It takes no memory.
+    /// The plan of a graph, the order in which ready callbacks run, the moment of each round, and what is fed to topics and
+    /// servers of the graph. It takes no memory.
     ///
     /// # Errors
-    /// The least fault of moments and feed.
+    /// The least fault of moments and feed. What was handed in is then dropped.
     pub fn new(
         graph: Graph,
         order: Order,

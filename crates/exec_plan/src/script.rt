@@ -2,7 +2,7 @@ use exec_script::Instr;
 use std::marker::Model;
 use std::sync::Arc;
 
-/// A script that is shared, seen by contracts as its instructions.
+/// A script that is shared. Contracts see it as its instructions.
 #[derive(Drop)]
 pub struct Script {
     instructions: Arc<Vec<Instr>>,
@@ -36,7 +36,7 @@ impl Script {
         self.instructions.as_slice()
     }
 
-    /// The instructions as they are shared, so that a caller takes part in them without a copy.
+    /// The instructions as they are shared. A caller may share them too, without a copy.
     pub fn shared(&self) -> &Arc<Vec<Instr>>
         ensures { (arc_value result.now).items ≡ self.now }
     {

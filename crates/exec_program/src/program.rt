@@ -118,8 +118,8 @@ impl From<OutFailed> for Failure {
     }
 }
 
-/// The whole program: looks at the words, and only then reads the document, runs it and writes its
-/// transcript. A failure puts its line on `errors`; that this line may fail changes nothing.
+/// The whole program. It looks at the words, and only then reads the document, runs it and writes its transcript. A failure
+/// puts its line on `errors`. If that fails, nothing else changes.
 pub fn execute<H: Threads + Wait + Sync, G: Gate, R: Read, O: Write, E: Write>(
     rt: &H,
     alloc: Global,
@@ -191,7 +191,7 @@ fn write_transcript<H: Threads + Wait + Sync, G: Gate, O: Write>(
     Ok(())
 }
 
-// The line that standard error gets of a refusal, with its line feed.
+// The line for a refusal that standard error gets, with its line feed.
 fn code_line(code: Refused) -> &'static str
     ensures { result.now ≡ refused_line code }
 {

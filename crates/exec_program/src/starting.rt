@@ -10,7 +10,8 @@ use std::sync::Wait;
 use std::thread::Threads;
 
 /// The whole program by the words that it was started with, over standard input, standard output and standard error. No clause
-/// can say what these words are; what comes of them is [`execute`]'s. A read or a write that a signal interrupts is made again.
+/// can say what these words are. The contract of [`execute`] says what comes of them. A read or a write that a signal
+/// interrupts is made again.
 pub fn start<
     H: Threads + Wait + Sync + Env + AllocGlobal,
     G: Gate,

@@ -1,7 +1,7 @@
 -- The places of the queues that have an item, in ascending order.
 use Rattle.std.proofs.Common.{◌≡◌, ℕ, zero, suc, ◌+◌, ◌-◌, ◌<◌, ◌≤◌, ◌&&◌, ◌==◌, ◌⊎◌, inl, inr, ⊎_elim, Bool, true, false, not, cond, if◌then◌else◌, length, map, filter, drop, get_or, List, [], ◌∷◌, ◌++◌, Option, Some, slice_get, slice_set, refl, sym, ap, subst, ◌∙◌, length-drop, arith}
 use Rattle.std.specs.Bool.{⊤}
-use Rattle.std.specs.List.{Contains, flat_map}
+use Rattle.std.specs.List.{AllByRecursion, Contains, flat_map}
 use Rattle.std.specs.List.Sorted.{IsStrictlyIncreasing}
 use Rattle.std.specs.Option.{option_map, option_map_or}
 use Rattle.std.proofs.lemmas.Bool.{cases_lt, eqb-true}
@@ -13,7 +13,8 @@ use Rattle.exec_rules.specs.World.{Queue, is_queue}
 use Rattle.exec_rules.specs.declared.item.Item.{Item}
 use Rattle.exec_msg.specs.Places.{first_place, change_at}
 use Rattle.exec_rules.specs.inner.Places.{places_from, places_where, change_each}
-use Rattle.exec_queue.specs.inner.Queues.{has_item, is_filled_at, is_in_part, is_in_part_at, FindsQueues, CoversFilled, AreFilled}
+use Rattle.exec_queue.proofs.Numbered.{nothing_taken}
+use Rattle.exec_queue.specs.inner.Queues.{has_item, is_filled_at, is_in_part, is_in_part_at, HaveTheirNumbers, HasItsNumbers, FindsQueues, CoversFilled, AreFilled}
 
 -- places that rise from one on
 abbrev pub Rising : ℕ → List ℕ → Type 0
@@ -185,21 +186,13 @@ module _ {A : Type 0} (test : A → Bool) (change : A → A) where
   changed_by true x xs changed places same is = is (change x)
   changed_by false x xs changed places same is = is x ∙ ap (λ y. y ∷ changed) (same refl)
 
-  all_changed : ((x : A) → test x ≡ false → x ≡ change x) → (xs : List A) → change_each (places_where test xs) change xs ≡ map change xs
-  all_changed same [] = refl
-  all_changed same (x ∷ xs) = changed_by (test x) x xs (map change xs) (places_from 1 test xs) (same x) (λ z. shifted 0 xs z xs ∙ ap (λ ys. z ∷ ys) (all_changed same xs))
-
-nothing_taken : (items : List Item) → not (length items == 0) ≡ false → items ≡ drop 1 items
-nothing_taken [] is = refl
-nothing_taken (item ∷ items) is = let none = eqb-true (length (item ∷ items)) 0 (no (length (item ∷ items) == 0) is) in absurd (omega arith)
-  where
-    no : (b : Bool) → not b ≡ false → b ≡ true
-    no true is = refl
-    no false is = sym is
+  all_changed : (P : A → Type 0) → ((x : A) → P x → test x ≡ false → x ≡ change x) → (xs : List A) → AllByRecursion P xs → change_each (places_where test xs) change xs ≡ map change xs
+  all_changed P same [] p = refl
+  all_changed P same (x ∷ xs) p = changed_by (test x) x xs (map change xs) (places_from 1 test xs) (same x p.0) (λ z. shifted 0 xs z xs ∙ ap (λ ys. z ∷ ys) (all_changed P same xs p.1))
 
 -- each queue loses its first item
-pub all_taken : (queues : List Queue) → change_each (places_where has_item queues) queue_taken queues ≡ map queue_taken queues
-all_taken queues = all_changed has_item queue_taken (λ queue is. ap (λ items. record queue { items = items }) (nothing_taken queue.items is)) queues
+pub all_taken : (queues : List Queue) → HaveTheirNumbers queues → change_each (places_where has_item queues) queue_taken queues ≡ map queue_taken queues
+all_taken queues numbered = all_changed has_item queue_taken HasItsNumbers (λ queue p is. nothing_taken queue p is) queues numbered
 
 had_item : (items : List Item) → not (length (drop 1 items) == 0) ≡ true → not (length items == 0) ≡ true
 had_item [] is = is

@@ -27,11 +27,11 @@ looked_up places queues held finds views entity given of named slot counted foun
     ∙ sym is
 
 -- a queue that an item is sent to is found as before
-pub finds_after : (places : List (Option ℕ)) (queues after : List Queue) (place : ℕ) (item : Item) → FindsQueues places queues
-    → after ≡ change_at place (queue_after item) queues → FindsQueues places after
-finds_after places queues after place item finds is = λ entity kind.
+pub finds_after : (places : List (Option ℕ)) (queues after : List Queue) (place number : ℕ) (item : Item) → FindsQueues places queues
+    → after ≡ change_at place (queue_after number item) queues → FindsQueues places after
+finds_after places queues after place number item finds is = λ entity kind.
     finds entity kind
-    ∙ sym (first_place-changed (is_queue entity kind) (queue_after item) (λ queue. refl) place queues)
+    ∙ sym (first_place-changed (is_queue entity kind) (queue_after number item) (λ queue. refl) place queues)
     ∙ ap (first_place (is_queue entity kind)) (sym is)
 
 -- ---- the place of a queue that an item is sent to is noted unless it had one

@@ -1,4 +1,5 @@
 pub mod Filled
 pub mod FoundQueues
+pub mod Numbered
 mod PlainFronts
 mod Parts

@@ -1,5 +1,5 @@
-//! The queues of a plan's entities in ready order, found by entity and kind. A snapshot walks over those that have an item,
-//! and over no other.
+//! The queues of a plan's entities in ready order, found by entity and kind. A snapshot walks over those that have an item, and
+//! over no other.
 ghost use Rattle.std.specs.Prelude.{◌≡◌, ◌&&◌, ◌||◌, List, ◌<◌, ◌≤◌, ◌^◌, [], ◌∷◌, ◌++◌, false, true, not, None, Some, length, map, find, slice_get, vec_capacity, OnOk, OnErr, IfOk};
 ghost use Rattle.std.specs.Option.{option_copied, option_map, option_map_or, option_to_list};
 ghost use Rattle.exec_msg.specs.KeepLast.{displaced};
@@ -7,7 +7,8 @@ ghost use Rattle.exec_msg.specs.Kind.{ready_number};
 ghost use Rattle.exec_msg.specs.Lists.{change_first};
 ghost use Rattle.exec_msg.specs.declared.limits.TheConstants.{DEPTH};
 ghost use Rattle.exec_rules.specs.Item.{taker_of};
-ghost use Rattle.exec_rules.specs.Ready.{item_ready, queue_taken};
+ghost use Rattle.exec_rules.specs.Ready.{first_number, item_ready, queue_taken};
+ghost use Rattle.exec_rules.specs.Transcript.{no_arrivals};
 ghost use Rattle.exec_rules.specs.inner.ByKind.{is_before_polls};
 ghost use Rattle.exec_rules.specs.World.{Handler, Queue, is_queue, queue_after, lost_from};
 ghost use Rattle.exec_rules.specs.declared.homes.Home.{Home as HomeAt};
@@ -15,6 +16,7 @@ ghost use Rattle.exec_rules.specs.inner.Homes.{AreHomes, IsScriptHome, handlers_
 ghost use Rattle.exec_rules.specs.inner.Listing.{listed_behind};
 ghost use Rattle.exec_msg.specs.Places.{change_at};
 ghost use Rattle.exec_rules.specs.inner.Places.{change_each, places_where};
+ghost use Rattle.exec_queue.specs.inner.Numbers.{numbers_of};
 ghost use Rattle.exec_queue.specs.inner.Queues.{slot_of, has_item, is_filled_at, is_in_part};
 
 mod entry;
@@ -23,7 +25,7 @@ mod filled;
 pub use entry::EntityQueue;
 use entry::list_plain_at;
 use exec_msg::{EntityNo, Kind, LazyQueue, Memory, Moment, PlaceTable};
-use exec_plan::Script;
+use exec_plan::{Order, Script};
 use exec_rules::{Handler, Home, Item, ReadyList};
 use filled::{keep_filled, leave_part, note_filled, settle};
 use std::alloc::Global;
@@ -34,13 +36,13 @@ use std::marker::Model;
 pub struct Queues {
     alloc: Global,
     entries: Vec<EntityQueue>,
-    // By entity and kind. A round finds a queue by it, and walks over none.
+    // By entity and kind. A round finds a queue by it, without a walk over others.
     places: PlaceTable,
     // The places of the queues that have an item, and of no other.
     filled: Vec<usize>,
-    // Whether these rise.
+    // Whether these are in ascending order.
     settled: bool,
-    // Whether there is a queue of a kind behind polls.
+    // Whether there is a queue of a kind after polls.
     has_late: bool,
 }
 
@@ -48,13 +50,13 @@ impl Model for Queues {
     ghost use Rattle.std.specs.Prelude.{◌≡◌, List, true, false};
     ghost use Rattle.std.specs.List.Sorted.{IsStrictlyIncreasing};
     ghost use Rattle.exec_rules.specs.World.{Queue};
-    ghost use Rattle.exec_queue.specs.inner.Queues.{FindsQueues, CoversFilled, AreFilled, AreBeforePolls};
+    ghost use Rattle.exec_queue.specs.inner.Queues.{FindsQueues, CoversFilled, AreFilled, AreBeforePolls, HaveTheirNumbers};
 
     ghost Value = { List Queue };
 
     ghost view = { λ queues. queues.entries.items };
 
-    ghost invariant = { λ queues. FindsQueues queues.places queues.entries.items × CoversFilled queues.filled.items queues.entries.items × AreFilled queues.filled.items queues.entries.items × (queues.settled ≡ true → IsStrictlyIncreasing queues.filled.items) × (queues.has_late ≡ false → AreBeforePolls queues.entries.items) };
+    ghost invariant = { λ queues. FindsQueues queues.places queues.entries.items × CoversFilled queues.filled.items queues.entries.items × AreFilled queues.filled.items queues.entries.items × (queues.settled ≡ true → IsStrictlyIncreasing queues.filled.items) × (queues.has_late ≡ false → AreBeforePolls queues.entries.items) × HaveTheirNumbers queues.entries.items };
 }
 
 impl Queues {
@@ -72,37 +74,51 @@ impl Queues {
         }
     }
 
-    /// Declares an empty queue behind the others, of a depth from 1 to [`DEPTH`](exec_msg::limits::DEPTH) items.
+    /// Declares an empty queue after the others. Its depth is 1 to [`DEPTH`](exec_msg::limits::DEPTH) items. It keeps the
+    /// numbers of its items' arrivals if the order of ready callbacks needs them.
     ///
     /// # Errors
-    /// [`Memory`] where a growth was refused. The queues stay as they were.
-    pub fn declare(&mut self, handler: Handler, kind: Kind, depth: usize) -> Result<(), Memory>
+    /// [`Memory`] if a growth was refused. The queues don't change.
+    pub fn declare(
+        &mut self,
+        handler: Handler,
+        kind: Kind,
+        depth: usize,
+        order: Order,
+    ) -> Result<(), Memory>
         requires { (1 ≤ depth) × (depth ≤ DEPTH) }
-        ensures ok { OnOk result (self.new ≡ self.old ++ record { handler = handler; kind = kind; depth = depth; items = [] } ∷ []) }
+        ensures ok { OnOk result (self.new ≡ self.old ++ record { handler = handler; kind = kind; depth = depth; items = []; arrivals = no_arrivals order } ∷ []) }
         ensures unchanged { OnErr result (self.new ≡ self.old) }
     {
         let slot = slot(handler.entity, kind);
         self.places.reserve(slot)?;
         let place = count(&self.entries);
         let queue = LazyQueue::new(self.alloc, depth);
+        let numbered = needs_numbers(order);
         self.settled = false;
         self.has_late = has_late_with(self.has_late, kind);
         self.entries.push(EntityQueue {
             handler,
             kind,
+            numbered,
             queue,
         })?;
         self.places.note(slot, place);
         Ok(())
     }
 
-    /// Sends an item to an entity's queue of its kind, and answers the item that is lost by it, the oldest of a full queue.
-    /// Where there is no such queue nothing changes.
+    /// Sends an item, with the number of its arrival, to an entity's queue of its kind. Answers the item that is lost by it:
+    /// the oldest one of a full queue. If there is no such queue, nothing changes.
     ///
     /// # Errors
-    /// [`Memory`] where a growth was refused, which can't be where the queue has an item. The queues stay as they were.
-    pub fn send(&mut self, entity: EntityNo, item: Item) -> Result<Option<Item>, Memory>
-        ensures ok { OnOk result (self.new ≡ change_first (is_queue entity (taker_of item)) (queue_after item) self.old) }
+    /// [`Memory`] if a growth was refused. A queue that has an item needs no memory. The queues don't change.
+    pub fn send(
+        &mut self,
+        entity: EntityNo,
+        item: Item,
+        number: u64,
+    ) -> Result<Option<Item>, Memory>
+        ensures ok { OnOk result (self.new ≡ change_first (is_queue entity (taker_of item)) (queue_after number item) self.old) }
         ensures lost { IfOk result (λ lost. option_to_list lost ≡ lost_from entity item self.old) }
         ensures unchanged { OnErr result (self.new ≡ self.old) }
         ensures memory { OnErr result (option_map_or has_item (find (is_queue entity (taker_of item)) self.old) false ≡ false) }
@@ -112,22 +128,22 @@ impl Queues {
         };
         self.settled = false;
         note_filled(&mut self.filled, &self.entries, place)?;
-        match send_at(&mut self.entries, place, item) {
+        match send_at(&mut self.entries, place, item, number) {
             Ok(lost) => Ok(lost),
             Err(refused) => {
-                // The queue was empty and is, and its place stands last.
+                // The queue is still empty, and its place is the last one.
                 self.filled.pop();
                 Err(refused)
             }
         }
     }
 
-    /// Sets places to those of the queues that have an item, either of the kinds before polls or of those behind them, in
-    /// ascending order.
+    /// Makes `places` those of the queues that have an item, in ascending order. Either they are the queues of the kinds before
+    /// polls, or those of the kinds after them.
     ///
     /// # Errors
-    /// [`Memory`] where a growth was refused, which can't be where the capacity has room for the places of all queues that have
-    /// an item. The queues stay as they were, and the places may have changed.
+    /// [`Memory`] if a growth was refused. No memory is needed if the capacity has room for the places of all queues that have
+    /// an item. The queues don't change. The places may have changed.
     pub fn list_filled(&mut self, before_polls: bool, places: &mut Vec<usize>) -> Result<(), Memory>
         ensures same { self.new ≡ self.old }
         ensures places { OnOk result (places.new.items ≡ places_where (λ queue. has_item queue && is_in_part before_polls queue) self.old) }
@@ -147,15 +163,16 @@ impl Queues {
         settle(&mut self.settled, &mut self.filled);
         self.settled = false;
         take_each(&mut self.entries, &self.filled);
-        // Those whose last item was taken are noted no more.
+        // The queues whose last item was taken are no longer noted.
         keep_filled(&mut self.filled, &self.entries);
     }
 
-    /// Lists the callback that takes from the queue at a place, where there is one and it has an item, unless that asks about a
-    /// server's goals: says whether it does not. Most items don't, and are copied where they are listed, with one look-up.
+    /// Lists the callback that takes from the queue at a place, if there is one and it has an item. Answers whether that is
+    /// done. If the item asks about a server's goals, nothing is listed, and the answer is `false`. Most items don't ask, and
+    /// are copied with one look-up.
     ///
     /// # Errors
-    /// [`Memory`] where a growth was refused. The queues stay as they were.
+    /// [`Memory`] if a growth was refused. The queues don't change.
     #[inline(always)]
     pub fn list_plain(
         &mut self,
@@ -180,10 +197,10 @@ impl Queues {
         self.entries.get(place)
     }
 
-    /// The script of the callback that takes from the queue at a place, which may be brought home.
+    /// The script of the callback that takes from the queue at a place. It may be brought home.
     ///
     /// # Errors
-    /// [`Memory`] where the count of shares was refused one more. The queues stay as they were.
+    /// [`Memory`] if one more share can't be counted. The queues don't change.
     pub fn take_script(&mut self, place: usize) -> Result<Option<Script>, Memory>
         ensures script { IfOk result (λ script. script ≡ option_map (λ queue. queue.handler.script) (slice_get self.old place)) }
         ensures same { self.new ≡ self.old }
@@ -197,6 +214,16 @@ impl Queues {
         ensures { self.new ≡ self.old }
     {
         bring_home_at(&mut self.entries, place, script);
+    }
+
+    /// The number of the first arrival of an entity's queue of a kind. It is 0 if there is none.
+    pub fn first_number(&self, entity: EntityNo, kind: Kind) -> u64
+        ensures { result ≡ option_map_or first_number (find (is_queue entity kind) self.now) 0 }
+    {
+        match self.places.get(slot(entity, kind)) {
+            None => 0,
+            Some(place) => first_number_at(&self.entries, place),
+        }
     }
 }
 
@@ -244,7 +271,26 @@ fn bring_home_at(entries: &mut Vec<EntityQueue>, place: usize, script: Script)
     }
 }
 
-// The number by which a queue is found.
+fn first_number_at(entries: &[EntityQueue], place: usize) -> u64
+    ensures { result ≡ option_map_or first_number (slice_get entries.now place) 0 }
+{
+    match entries.get(place) {
+        None => 0,
+        Some(entry) => entry.first_number(),
+    }
+}
+
+// Whether the order of ready callbacks needs the numbers of arrivals.
+fn needs_numbers(order: Order) -> bool
+    ensures { numbers_of result [] ≡ no_arrivals order }
+{
+    match order {
+        Order::Kind => false,
+        Order::Arrival => true,
+    }
+}
+
+// The number that a queue is found by.
 fn slot(entity: EntityNo, kind: Kind) -> usize
     ensures value { result ≡ slot_of entity kind }
     ensures bound { result < 2 ^ 32 }
@@ -259,14 +305,14 @@ fn number(kind: Kind) -> usize
     kind as usize + 1
 }
 
-// Whether callbacks of a kind run before polls, or are these.
+// Whether callbacks of a kind run before polls, or are polls.
 fn is_before_polls(kind: Kind) -> bool
     ensures { result ≡ is_before_polls kind }
 {
     number(kind) <= number(Kind::Poll)
 }
 
-// Whether there is a queue of a kind behind polls once there is one of this kind.
+// Whether there is a queue of a kind after polls, when one of this kind is added.
 fn has_late_with(has_late: bool, kind: Kind) -> bool
     ensures { result ≡ (has_late || not (is_before_polls kind)) }
 {
@@ -279,8 +325,13 @@ fn count(entries: &[EntityQueue]) -> usize
     entries.len()
 }
 
-fn send_at(entries: &mut Vec<EntityQueue>, place: usize, item: Item) -> Result<Option<Item>, Memory>
-    ensures ok { OnOk result (entries.new.items ≡ change_at place (queue_after item) entries.old.items) }
+fn send_at(
+    entries: &mut Vec<EntityQueue>,
+    place: usize,
+    item: Item,
+    number: u64,
+) -> Result<Option<Item>, Memory>
+    ensures ok { OnOk result (entries.new.items ≡ change_at place (queue_after number item) entries.old.items) }
     ensures filled { OnOk result (place < length entries.old.items → is_filled_at entries.new.items place ≡ true) }
     ensures lost { IfOk result (λ lost. lost ≡ option_map_or (λ queue. slice_get (displaced queue.depth item queue.items) 0) (slice_get entries.old.items place) None) }
     ensures unchanged { OnErr result (entries.new.items ≡ entries.old.items) }
@@ -289,7 +340,7 @@ fn send_at(entries: &mut Vec<EntityQueue>, place: usize, item: Item) -> Result<O
     match entries.get_mut(place) {
         None => Ok(None),
         Some(entry) => {
-            let lost = entry.send(item)?;
+            let lost = entry.send(item, number)?;
             Ok(lost)
         }
     }

@@ -46,7 +46,7 @@ impl EntityTimer {
         }
     }
 
-    // Makes the timer's call where it is due, and then lists its callback. The timer stands at a place.
+    // Makes the timer's call if it is due, and then lists its callback. The timer is at this place.
     #[inline(always)]
     fn take_into(
         &mut self,
@@ -83,7 +83,7 @@ impl EntityTimer {
 /// Makes the call of each timer that is due, and lists their callbacks.
 ///
 /// # Errors
-/// [`Memory`] where a growth was refused. Some of the timers may have made their calls.
+/// [`Memory`] if a growth was refused. Some of the timers may have made their calls.
 pub fn take_due_into(
     alloc: Global,
     timers: &mut [EntityTimer],

@@ -10,9 +10,9 @@ use exec_msg::Memory;
 use std::alloc::Global;
 use std::thread::{Threads, join};
 
-// Runs all callbacks of the lanes by so many workers at most, which claim lanes on a board and run at most `quantum` callbacks
-// at a claim. There are no more passes than lanes, since a pass beyond the last lane could do nothing. What a worker was refused
-// the caller, which sweeps when all workers have ended, is refused again.
+// Runs all callbacks of the lanes by at most `workers` workers. They claim lanes on a board, and run at most `quantum`
+// callbacks at a claim. There are no more passes than lanes, because a pass more could do nothing. The caller sweeps when all
+// workers have ended. If a worker was refused memory for a lane, the caller is refused it again.
 pub(crate) fn claim_lanes<R: Threads + Sync, G: Gate>(
     rt: &R,
     alloc: Global,
@@ -36,7 +36,7 @@ pub(crate) fn claim_lanes<R: Threads + Sync, G: Gate>(
     board.close(alloc, pass)
 }
 
-// Sweeps a board with as many passes as a share has numbers, each in a thread of its own where one can be made, and joins them.
+// Sweeps a board with as many passes as a share has numbers, and joins them. Each is in a thread of its own if one can be made.
 fn sweep_by<R: Threads + Sync, G: Gate>(
     rt: &R,
     board: &Board,

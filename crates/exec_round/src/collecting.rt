@@ -14,7 +14,7 @@ use std::sync::atomic::AtomicU64;
 use std::sync::atomic::Ordering::SeqCst;
 use std::thread::yield_now;
 
-// In so many turns at most outcomes are collected while workers run.
+// Outcomes are collected in at most this many turns while workers run.
 const TURNS: usize = 4_096;
 
 // The workers of a round, as their collector sees them.
@@ -32,7 +32,7 @@ impl Workers {
         }
     }
 
-    // They have ended.
+    // The workers have ended.
     pub(crate) fn end(&self) {
         self.ended.store(1, SeqCst);
     }
@@ -74,7 +74,7 @@ impl Collector {
         }
     }
 
-    // Takes the next outcome, and tells whether there was one.
+    // Takes the next outcome, and answers whether there was one.
     fn take<R: Wait, G: Gate>(
         &mut self,
         rt: &R,
@@ -94,7 +94,7 @@ impl Collector {
         Ok(true)
     }
 
-    // Takes what comes until the workers have ended, in so many turns at most. It never waits for a worker.
+    // Takes what comes until the workers have ended, in a limited number of turns. It never waits for a worker.
     pub(crate) fn take_some<R: Wait, G: Gate>(
         &mut self,
         rt: &R,

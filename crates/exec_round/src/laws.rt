@@ -1,4 +1,4 @@
-//! What is put into a queue of outcomes and what comes out of it.
+//! What is put into a queue of outcomes, and what comes out of it.
 ghost use Rattle.std.specs.Prelude.{◌≡◌, ◌<◌, ◌≤◌, List, ◌++◌, IfOk, MatchOption, MatchResult, IsPermutation};
 ghost use Rattle.crossbeam_queue.specs.Passes.{IsPassOf, ruled_capacity, view};
 ghost use Rattle.exec_round.specs.Outcomes.{Hand, WasHeld, WasHolding, all_parts, first_hand, having_put, having_taken, joined_hands, kept_hand, new_hand};
@@ -11,7 +11,11 @@ use exec_msg::Memory;
 use std::alloc::Global;
 use std::sync::Wait;
 
-/// A queue for so many outcomes at a time, which is empty, and its first pass, with which nothing was put or taken.
+/// A queue that is empty, for at most `capacity` outcomes at a time, 1 or more, and its first pass. Nothing was put or taken
+/// with that pass.
+///
+/// # Errors
+/// [`Memory`] if a growth was refused.
 pub fn outcome_queue(alloc: Global, capacity: usize) -> Result<(OutcomeQueue, OutcomePass), Memory>
     requires { 0 < capacity }
     ensures queue { IfOk result (λ made. IsPassOf made.0 made.1 × (ruled_capacity made.0 ≡ capacity)) }
@@ -20,7 +24,10 @@ pub fn outcome_queue(alloc: Global, capacity: usize) -> Result<(OutcomeQueue, Ou
     Ok(OutcomeQueue::ruled(alloc, capacity)?)
 }
 
-/// Puts an outcome into the queue. It comes back where the queue was full at a moment of the call.
+/// Puts an outcome into the queue.
+///
+/// # Errors
+/// The outcome comes back if the queue was full at a moment of the call.
 pub fn put_outcome<R: Wait>(
     rt: &R,
     queue: &OutcomeQueue,
@@ -35,7 +42,7 @@ pub fn put_outcome<R: Wait>(
     queue.push_as::<Putting, R>(rt, pass, outcome)
 }
 
-/// Takes the outcome that was put first. There is none where the queue was empty at a moment of the call.
+/// Takes an outcome that was put. There is none if the queue was empty at a moment of the call.
 pub fn take_outcome<R: Wait>(
     rt: &R,
     queue: &OutcomeQueue,
@@ -49,8 +56,8 @@ pub fn take_outcome<R: Wait>(
     queue.pop_as::<Taking, R>(rt, pass)
 }
 
-/// Splits a pass, so that two callers may go on at once: the pass keeps what it put and took and half of its parts, rounded
-/// down, and the other one has the rest.
+/// Splits a pass, so that two callers may go on at once. The pass keeps what it put and took, and half of its parts, rounded
+/// down. The other one has the rest of the parts.
 pub fn split_pass(queue: &OutcomeQueue, pass: &mut OutcomePass) -> OutcomePass
     requires queue { IsPassOf queue.now pass.old }
     requires parts { 2 ≤ (view pass.old).parts }
@@ -61,7 +68,7 @@ pub fn split_pass(queue: &OutcomeQueue, pass: &mut OutcomePass) -> OutcomePass
     queue.another::<Halves>(pass)
 }
 
-/// Joins a pass to another: what it put and took stands behind what the other did.
+/// Joins a pass to another. What it put and took is listed after what the other did.
 pub fn join_pass(queue: &OutcomeQueue, pass: &mut OutcomePass, other: OutcomePass)
     requires queue { IsPassOf queue.now pass.old × IsPassOf queue.now other }
     requires parts { 0 < (view pass.old).parts }

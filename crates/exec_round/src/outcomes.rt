@@ -15,7 +15,7 @@ impl Model for View {
     ghost view = { λ _. spent_hand };
 }
 
-/// The rule: what all passes put is, item by item and as often, what all took and what the queue holds.
+/// The rule: what all passes put is what all took and what the queue holds, each outcome as often.
 pub struct Balance;
 
 impl Protocol<Outcome, View> for Balance {
@@ -80,7 +80,7 @@ impl Join<View> for Together {
     ghost spent = { spent_hand };
 }
 
-/// Where outcomes wait to be collected: a bounded queue that threads share.
+/// Outcomes that wait to be collected: a bounded queue that threads share.
 pub type OutcomeQueue = RuledArrayQueue<Outcome, View, Balance>;
 
 /// What one caller knows of such a queue. It has no bytes.

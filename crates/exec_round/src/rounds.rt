@@ -19,19 +19,20 @@ use std::thread::Threads;
 // How the lanes of a round are shared among workers.
 #[derive(Clone, Copy)]
 pub(crate) enum Sharing {
-    // Before any runs.
+    // Before any lane runs.
     Dealt,
-    // By claims, of so many callbacks at most.
+    // By claims, each of at most this many callbacks.
     Claimed(usize),
 }
 
-/// Runs a whole round by so many workers at most. Its callbacks are cut into lanes: lane i, from 0, goes to worker i modulo the
-/// number of workers, and each worker runs its lanes one after another, in a thread of its own where one can be made. What the
-/// callbacks did is committed when the last of them has run. One worker alone, and a round whose callbacks take less time than
-/// workers to start, if nobody watches, take no thread. Where memory is refused, the world is given up.
+/// Runs a whole round by at most `workers` workers, 1 or more. Its callbacks are cut into lanes. Lane i, from 0, goes to worker
+/// i modulo the number of workers. Each worker runs its lanes one after another, in a thread of its own if one can be made.
+/// What the callbacks did is committed when the last of them has run. No thread is made for one worker alone. If nobody
+/// watches, none is made for a round whose callbacks take less time than workers to start. If memory is refused, the world is
+/// dropped.
 ///
 /// # Errors
-/// [`Memory`] where a growth or a clone was refused. All threads have ended then.
+/// [`Memory`] if a growth or a clone was refused. All threads have ended then.
 pub fn round_forked<L: Lines, R: Threads + Sync, G: Gate>(
     rt: &R,
     alloc: Global,
@@ -52,14 +53,14 @@ pub fn round_forked<L: Lines, R: Threads + Sync, G: Gate>(
     Ok(world)
 }
 
-/// Runs a whole round by so many workers at most. Its callbacks are cut into lanes on a board, and each worker, in a thread of
-/// its own where one can be made, claims a lane that is open, runs at most `quantum` callbacks of it and releases it, until it
-/// came round without a claim. What the callbacks did is committed when the last of them has run. One worker alone, and a round
-/// whose callbacks take less time than workers to start, if nobody watches, take no thread. Where memory is refused, the world is
-/// given up.
+/// Runs a whole round by at most `workers` workers, 1 or more. Its callbacks are cut into lanes on a board. Each worker claims
+/// a lane that is open, runs at most `quantum` callbacks of it, 1 or more, and releases it, until a turn over all lanes brings
+/// no claim. It runs in a thread of its own if one can be made. What the callbacks did is committed when the last of them has
+/// run. No thread is made for one worker alone. If nobody watches, none is made for a round whose callbacks take less time than
+/// workers to start. If memory is refused, the world is dropped.
 ///
 /// # Errors
-/// [`Memory`] where a growth or a clone was refused. All threads have ended then.
+/// [`Memory`] if a growth or a clone was refused. All threads have ended then.
 pub fn round_claimed<L: Lines, R: Threads + Sync, G: Gate>(
     rt: &R,
     alloc: Global,
@@ -83,12 +84,12 @@ pub fn round_claimed<L: Lines, R: Threads + Sync, G: Gate>(
     Ok(world)
 }
 
-/// Runs a whole round as [`round_claimed`] does, but that each worker puts what a callback did into a queue as soon as the callback
-/// has run. The calling thread takes it from there, and tells the gate. A worker keeps what comes back from a full queue. What is
-/// committed is what was taken and kept, in ready order.
+/// Runs a whole round as [`round_claimed`] does, but each worker puts what a callback did into a queue as soon as the callback
+/// has run. The calling thread takes it from there, and reports it to the gate. A worker keeps what comes back from a full
+/// queue. What is committed is what was taken and what was kept, in ready order.
 ///
 /// # Errors
-/// [`Memory`] where a growth or a copy was refused. All threads have ended then.
+/// [`Memory`] if a growth or a copy was refused. All threads have ended then.
 pub fn round_streamed<L: Lines, R: Threads + Wait + Sync, G: Gate>(
     rt: &R,
     alloc: Global,
@@ -111,7 +112,7 @@ pub fn round_streamed<L: Lines, R: Threads + Wait + Sync, G: Gate>(
     Ok(world)
 }
 
-// Runs a round. Where nobody watches, callbacks that take less time than workers to start run where they stand.
+// Runs a round. If nobody watches, the calling thread runs callbacks that take less time than workers to start.
 pub(crate) fn run_round<L: Lines, R: Threads + Sync, G: Gate>(
     rt: &R,
     alloc: Global,
@@ -142,8 +143,8 @@ pub(crate) fn run_round<L: Lines, R: Threads + Sync, G: Gate>(
     Ok(())
 }
 
-// Runs a round whose workers send on what callbacks did, and commits that. Where nobody watches, callbacks that take less time
-// than workers to start run where they stand.
+// Runs a round whose workers send on what callbacks did, and commits that. If nobody watches, the calling thread runs callbacks
+// that take less time than workers to start.
 pub(crate) fn stream_round<L: Lines, R: Threads + Wait + Sync, G: Gate>(
     rt: &R,
     alloc: Global,
@@ -205,7 +206,7 @@ fn commit_each<L: Lines>(all: Gathered, world: &mut World<L>) -> Result<(), Memo
     Ok(())
 }
 
-// Commits callbacks that ran, one after another, each with the effects that were sent on of it.
+// Commits callbacks that ran, one after another. Each has the effects that were sent on.
 fn commit_sent<L: Lines>(
     all: Gathered,
     sent: Vec<Outcome>,

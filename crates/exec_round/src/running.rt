@@ -43,7 +43,7 @@ impl PlanTranscript {
     ghost use Rattle.exec_msg.specs.Line.{transcript_text};
     ghost use Rattle.exec_plan.specs.Graph.{names_of};
 
-    // A reader of its text, which takes little memory beside it.
+    // A reader of its text. It takes little other memory.
     fn reader(&self, alloc: Global) -> Result<TextReader<'_>, Memory>
         ensures { IfOk result (λ reader. reader ≡ record { names = names_of self.now.plan.graph; lines = self.now.lines }) }
     {
@@ -58,12 +58,12 @@ impl PlanTranscript {
     }
 }
 
-/// Runs a document by so many workers, 1 to 64, and gives the text of its transcript. The quantum, 1 to 1,024, is how many
-/// callbacks a worker claims at a time at most; the text depends on neither.
+/// Runs a document by at most `workers` workers, 1 to 64, and gives the text of its transcript. A worker claims at most
+/// `quantum` callbacks at a time, 1 to 1,024. The text depends on neither. If a worker's thread can't be started, the calling
+/// thread does its work.
 ///
 /// # Errors
-/// The least code that holds of the bytes, or [`Refused::Memory`] where a growth was refused. Where a worker's thread can't be
-/// started, the calling thread does its work.
+/// The least code that holds of the bytes, or [`Refused::Memory`] if a growth was refused.
 pub fn run<R: Threads + Sync, G: Gate>(
     rt: &R,
     alloc: Global,
@@ -116,11 +116,11 @@ impl From<OutFailed> for RunFault {
     }
 }
 
-/// Runs a document as [`run`] does, with rounds as of [`round_streamed`](crate::round_streamed), and writes the text of its
-/// transcript. The transcript is whole, and all memory that the writing takes is had, before the first byte is written.
+/// Runs a document as [`run`] does, with rounds by [`round_streamed`](crate::round_streamed), and writes the text of its
+/// transcript. Before the first byte is written, the transcript is whole, and the writing has all memory that it needs.
 ///
 /// # Errors
-/// [`RunFault::Refused`] where [`run`] refuses, and [`RunFault::Write`] where the writer failed.
+/// [`RunFault::Refused`] if [`run`] refuses, and [`RunFault::Write`] if the writer failed.
 pub fn run_into<R: Threads + Wait + Sync, G: Gate, O: Out>(
     rt: &R,
     alloc: Global,
@@ -167,7 +167,7 @@ fn transcribe<R: Threads + Sync, G: Gate>(
     Ok(PlanTranscript { plan, lines })
 }
 
-// Runs all rounds of a plan by so many workers. One alone that nobody watches runs them where they stand.
+// Runs all rounds of a plan by `workers` workers. If there is one worker and nobody watches, the calling thread runs them.
 fn run_by<L: Lines, R: Threads + Sync, G: Gate>(
     rt: &R,
     alloc: Global,
@@ -211,7 +211,7 @@ fn run_rounds<L: Lines, R: Threads + Sync, G: Gate>(
     Ok(world.into_lines())
 }
 
-// Runs so many rounds, all that the plan of a new world has, and closes its transcript.
+// Runs `rounds` rounds and closes the transcript. They are all rounds of the plan, and the world is new.
 fn run_each<L: Lines, R: Threads + Sync, G: Gate>(
     rt: &R,
     alloc: Global,
@@ -258,7 +258,8 @@ fn transcribe_streamed<R: Threads + Wait + Sync, G: Gate>(
     Ok(PlanTranscript { plan, lines })
 }
 
-// Runs all rounds of a plan by so many workers that send on what callbacks did. One alone that nobody watches runs them where they stand.
+// Runs all rounds of a plan by `workers` workers that send on what callbacks did. If there is one worker and nobody watches,
+// the calling thread runs them.
 fn stream_by<L: Lines, R: Threads + Wait + Sync, G: Gate>(
     rt: &R,
     alloc: Global,
@@ -302,7 +303,7 @@ fn stream_rounds<L: Lines, R: Threads + Wait + Sync, G: Gate>(
     Ok(world.into_lines())
 }
 
-// Runs so many such rounds, all that the plan of a new world has, and closes its transcript.
+// Runs `rounds` such rounds and closes the transcript. They are all rounds of the plan, and the world is new.
 fn stream_each<L: Lines, R: Threads + Wait + Sync, G: Gate>(
     rt: &R,
     alloc: Global,

@@ -11,7 +11,7 @@ use std::alloc::Global;
 use std::marker::Model;
 use std::sync::Wait;
 
-// What sends outcomes on: a pass of their queue, and those that came back, since the queue was full.
+// What sends outcomes on: a pass of their queue, and the outcomes that came back because the queue was full.
 #[derive(Drop)]
 pub(crate) struct Sender {
     pass: OutcomePass,
@@ -52,7 +52,7 @@ impl Sender {
         Ok(())
     }
 
-    // Puts an outcome into the queue, or keeps it where the queue is full. There is room to keep it.
+    // Puts an outcome into the queue. If the queue is full, it keeps the outcome. There is room to keep it.
     pub(crate) fn send<R: Wait>(&mut self, rt: &R, queue: &OutcomeQueue, outcome: Outcome)
         requires queue { MaySend (queue_id queue.now) self.old }
         requires room { 0 < self.old.room }
@@ -63,7 +63,7 @@ impl Sender {
         }
     }
 
-    // Splits it: it keeps half of its parts, rounded down, and another one has the rest.
+    // Splits the sender. It keeps half of its parts, rounded down, and another one has the rest.
     pub(crate) fn split(&mut self, alloc: Global, queue: &OutcomeQueue) -> Sender
         requires queue { self.old.queue ≡ queue_id queue.now }
         requires parts { 2 ≤ self.old.hand.parts }
@@ -73,7 +73,7 @@ impl Sender {
         Sender::new(alloc, split_pass(queue, &mut self.pass))
     }
 
-    // Joins another one to it. Where memory is refused, what that one kept is lost.
+    // Joins another sender to it. If memory is refused, what that one kept is lost.
     pub(crate) fn join(&mut self, queue: &OutcomeQueue, other: Sender) -> Result<(), Memory>
         requires queue { MaySend (queue_id queue.now) self.old × (other.queue ≡ queue_id queue.now) }
         ensures queue { self.new.queue ≡ self.old.queue }

@@ -20,11 +20,11 @@ use std::alloc::Global;
 use std::sync::Wait;
 use std::thread::{Threads, join};
 
-// How many outcomes wait in the queue at most.
+// How many outcomes wait in the queue, at most.
 const CAPACITY: usize = 64;
 
 // What the workers of a streamed round share: the board, the queue for what the callbacks did, and how many callbacks they run
-// at a claim at most.
+// at a claim, at most.
 #[derive(Drop)]
 struct Stream {
     board: Board,
@@ -63,7 +63,7 @@ fn run_next<R: Wait, G: Gate>(
     Ok(())
 }
 
-// Runs the next callbacks of a lane, at most so many, and sends on what they did.
+// Runs the next callbacks of a lane, at most as many as the quantum, and sends on what they did.
 fn run_some<R: Wait, G: Gate>(
     rt: &R,
     stream: &Stream,
@@ -87,7 +87,7 @@ fn run_some<R: Wait, G: Gate>(
 }
 
 impl Worker {
-    // Claims a lane, if it is open, runs callbacks of it, sends on what they did, and releases it. It tells whether the lane was
+    // Claims a lane, if it is open, runs callbacks of it, sends on what they did, and releases it. Answers whether the lane was
     // claimed.
     fn visit<R: Wait, G: Gate>(
         &mut self,
@@ -116,7 +116,7 @@ impl Worker {
         Ok(true)
     }
 
-    // Visits each lane once, and tells whether one was claimed.
+    // Visits each lane once, and answers whether one was claimed.
     fn turn<R: Wait, G: Gate>(&mut self, rt: &R, stream: &Stream, gate: &G) -> Result<bool, Memory>
         requires at { IsWorkerAt stream.now.board (queue_id stream.now.queue) self.old }
         requires sent { HasSentAll self.old }
@@ -132,7 +132,7 @@ impl Worker {
         Ok(claimed)
     }
 
-    // Goes over the lanes again and again, until it has come round without a claim.
+    // Goes over the lanes again and again, until a turn over all brings no claim.
     fn work<R: Wait, G: Gate>(&mut self, rt: &R, stream: &Stream, gate: &G) -> Result<(), Memory>
         requires at { IsWorkerAt stream.now.board (queue_id stream.now.queue) self.old }
         requires sent { HasSentAll self.old }
@@ -149,8 +149,8 @@ impl Worker {
         unreachable!()
     }
 
-    // Splits a worker that has not begun: the first one has the front half of its share of the passes, rounded down, and about
-    // half of its parts of the queue, and the second one has the rest.
+    // Splits a worker that has not begun. The first one has the front half of its share of the passes, rounded down, and about
+    // half of its parts of the queue. The second one has the rest.
     fn split(self, alloc: Global, stream: &Stream) -> (Worker, Worker)
         requires begins { MayBegin stream.now.board (queue_id stream.now.queue) self }
         requires share { self.pass.view.start + 2 ≤ self.pass.view.stop }
@@ -173,7 +173,8 @@ impl Worker {
         )
     }
 
-    // Joins another worker to it, whose share stands behind its own. Where memory is refused, what that one kept is lost.
+    // Joins another worker to it. The other's share begins at the end of its own share. If memory is refused, what that one
+    // kept is lost.
     fn join(self, stream: &Stream, other: Worker) -> (Worker, Result<(), Memory>)
         requires at { IsWorkerAt stream.now.board (queue_id stream.now.queue) self × IsWorkerAt stream.now.board (queue_id stream.now.queue) other }
         requires neighbours { other.pass.view.start ≡ self.pass.view.stop }
@@ -189,7 +190,7 @@ impl Worker {
     }
 }
 
-// Works with as many workers as a worker's share has numbers of passes, each in a thread of its own where one can be made. They
+// Works with as many workers as a worker's share has numbers of passes. Each is in a thread of its own if one can be made. They
 // become one again at the end.
 fn work_by<R: Threads + Wait + Sync, G: Gate>(
     rt: &R,
@@ -239,7 +240,8 @@ fn work_alone<R: Wait, G: Gate>(
     (worker, ended)
 }
 
-// Works beside a collector: the workers in threads, each of its own where one can be made, and the collector on the calling one.
+// Works while a collector collects. Each worker is in a thread of its own if one can be made. The collector is on the calling
+// one.
 fn work_beside<R: Threads + Wait + Sync, G: Gate>(
     rt: &R,
     alloc: Global,
@@ -292,8 +294,8 @@ fn collect<R: Wait, G: Gate>(
     (collector, collected)
 }
 
-// Runs all lanes of a board: by one worker alone, which takes no thread, or by several beside the collector. What these left
-// the calling thread runs.
+// Runs all lanes of a board: by one worker alone, which takes no thread, or by several, together with the collector. The
+// calling thread runs what these left.
 fn run_all<R: Threads + Wait + Sync, G: Gate>(
     rt: &R,
     alloc: Global,
@@ -321,7 +323,7 @@ fn run_all<R: Threads + Wait + Sync, G: Gate>(
     Ok((worker, collector))
 }
 
-// Closes the board, and puts what was collected and what the workers kept in ready order.
+// Closes the board, and puts what was collected and what the workers kept into ready order.
 fn end<R: Wait, G: Gate>(
     rt: &R,
     alloc: Global,
@@ -358,8 +360,8 @@ fn end<R: Wait, G: Gate>(
     Ok((boxes, all))
 }
 
-// Runs all callbacks of lanes by so many workers at most, which claim lanes on a board, run at most `quantum` callbacks at a
-// claim, and put what each did into a queue, from which the calling thread takes it meanwhile. Gives the lanes, and what their
+// Runs all callbacks of lanes by at most `workers` workers. They claim lanes on a board, run at most `quantum` callbacks at a
+// claim, and put what each did into a queue. Meanwhile the calling thread takes it from there. Gives the lanes, and what their
 // callbacks did, in ready order.
 pub(crate) fn stream_lanes<R: Threads + Wait + Sync, G: Gate>(
     rt: &R,

@@ -1,4 +1,4 @@
-//! Rounds by workers beside those of one thread, and workers that meet.
+//! Rounds by workers, compared with those of one thread, and workers that meet.
 mod board;
 mod callers;
 mod fixture;
@@ -22,15 +22,15 @@ use std::sync::{Arc, Wait};
 use std::test::Fail;
 use std::thread::Threads;
 
-// A thread that waits for another gives up after so many turns: a second or more, since a machine at work may leave a thread
-// that long.
+// A thread that waits for another gives up after this many turns. That takes a second or more, because a busy machine may leave
+// a thread for that long.
 const TURNS: u64 = 4_000_000_000;
 
 // How workers share a round.
 #[derive(Clone, Copy)]
 enum Way {
     Forked,
-    // So many callbacks are claimed at a time.
+    // This many callbacks are claimed at a time.
     Claimed(usize),
     // The same, and what they did is sent on.
     Streamed(usize),
@@ -49,7 +49,7 @@ fn is_ready(world: &World, round: usize) -> bool
     !world.is_failed() && world.is_next(round)
 }
 
-// Runs the round of this number by so many workers, where the world may run it.
+// Runs the round of this number by `workers` workers, if the world may run it.
 fn next<R: Threads + Wait + Sync, G: Gate>(
     rt: &R,
     alloc: Global,
@@ -65,7 +65,7 @@ fn next<R: Threads + Wait + Sync, G: Gate>(
     share(rt, alloc, world, round, workers, way, gate)
 }
 
-// Runs the round of this number by so many workers.
+// Runs the round of this number by `workers` workers.
 fn share<R: Threads + Wait + Sync, G: Gate>(
     rt: &R,
     alloc: Global,
@@ -90,8 +90,8 @@ fn share<R: Threads + Wait + Sync, G: Gate>(
     }
 }
 
-// Marks each position that comes. It holds those up to `held`, and those of the second half alike, until all of their half are
-// marked, for at most so many turns.
+// Marks each position that comes. Positions up to `held`, and those of the second half alike, are held until all of their half
+// are marked, for a limited number of turns.
 #[derive(Drop)]
 struct Meeting {
     half: u64,
@@ -99,7 +99,7 @@ struct Meeting {
     first: AtomicU64,
     second: AtomicU64,
     missed: AtomicU64,
-    // How often it was told of each position below 16, a hexadecimal digit each.
+    // How often each position below 16 was reported to it, as a hexadecimal digit each.
     taken: AtomicU64,
 }
 
@@ -229,8 +229,8 @@ fn two_workers_run_at_once_in_a_run_that_is_written(rt: HostRuntime) -> Result<(
     Ok(())
 }
 
-// Three timers of period 1 in three mutually exclusive groups. The first waits for the third, which no worker has behind it: the
-// other worker claims both others.
+// Three timers of period 1 in three mutually exclusive groups. The first waits for the third. No worker has the third after the
+// first, because the other worker claims both others.
 const THREE_GROUPS: &[u8] =
     br#"{"version":1,"nodes":[{"name":"n","groups":[{"name":"a","kind":"exclusive"},{"name":"b","kind":"exclusive"},{"name":"c","kind":"exclusive"}],"timers":[{"name":"s","period":1,"group":"a","script":[]},{"name":"t","period":1,"group":"b","script":[]},{"name":"u","period":1,"group":"c","script":[]}]}],"moments":[1]}"#;
 
@@ -254,7 +254,8 @@ fn a_worker_claims_what_another_leaves_in_a_run(rt: HostRuntime) -> Result<(), F
     Ok(())
 }
 
-// Eight timers of period 1, two in each of four mutually exclusive groups, the second of which stands four behind the first.
+// Eight timers of period 1, two in each of four mutually exclusive groups. The second of a group comes four places after the
+// first.
 const FOUR_GROUPS: &[u8] =
     br#"{"version":1,"nodes":[{"name":"n","groups":[{"name":"a","kind":"exclusive"},{"name":"b","kind":"exclusive"},{"name":"c","kind":"exclusive"},{"name":"d","kind":"exclusive"}],"timers":[{"name":"t1","period":1,"group":"a","script":[]},{"name":"t2","period":1,"group":"b","script":[]},{"name":"t3","period":1,"group":"c","script":[]},{"name":"t4","period":1,"group":"d","script":[]},{"name":"t5","period":1,"group":"a","script":[]},{"name":"t6","period":1,"group":"b","script":[]},{"name":"t7","period":1,"group":"c","script":[]},{"name":"t8","period":1,"group":"d","script":[]}]}],"moments":[1]}"#;
 
@@ -314,7 +315,7 @@ const ORDERS: [(usize, u64); 4] = [
     (1024, 12_345_678),
 ];
 
-// The positions that a gate is told while one worker runs the first round of a document.
+// The positions that are reported to a gate while one worker runs the first round of a document.
 fn told_in_a_round<R: Threads + Wait + Sync>(
     rt: &R,
     alloc: Global,
@@ -374,7 +375,7 @@ fn lines_of(world: World) -> Result<LineList, Memory> {
     Ok(world.into_lines())
 }
 
-// What workers write in so many rounds.
+// What workers write in this many rounds.
 fn lines_by<R: Threads + Wait + Sync, G: Gate>(
     rt: &R,
     alloc: Global,
@@ -390,7 +391,7 @@ fn lines_by<R: Threads + Wait + Sync, G: Gate>(
     lines_of(world)
 }
 
-// What one thread writes in so many rounds.
+// What one thread writes in this many rounds.
 fn lines_alone(mut world: World, rounds: usize) -> Result<LineList, Memory> {
     for done in 0..rounds {
         if !is_ready(&world, done + 1) {
@@ -466,7 +467,7 @@ fn push_server(text: &mut String, name: &str) -> Result<(), AllocError> {
     )
 }
 
-// Goals of a server, one a round.
+// Goals of a server, one in each round.
 fn push_goals(text: &mut String, server: &str, goals: usize) -> Result<(), AllocError> {
     for goal in 1..=goals {
         write!(
@@ -477,8 +478,8 @@ fn push_goals(text: &mut String, server: &str, goals: usize) -> Result<(), Alloc
     Ok(())
 }
 
-// A document in whose round 34 two servers have 33 and 32 goals that wake, one callback more than the queue has places. No other
-// round has a callback past position 4.
+// A document in whose round 34 two servers have 33 and 32 goals that wake. That is one callback more than the queue has places.
+// No other round has a callback after position 4.
 fn sixty_five_polls(alloc: Global) -> Result<String, AllocError> {
     let mut text = String::from_str(
         alloc,
@@ -498,7 +499,7 @@ fn sixty_five_polls(alloc: Global) -> Result<String, AllocError> {
     Ok(text)
 }
 
-// Watches, and counts the outcomes that come to the collector from positions past 4.
+// Watches, and counts the outcomes that come to the collector from positions after 4.
 #[derive(Drop)]
 struct Taken {
     count: AtomicU64,
@@ -514,7 +515,8 @@ impl Gate for Taken {
     }
 }
 
-// One worker puts all before anything is taken: the queue has places for positions 1 to 64, and the last outcome stays with it.
+// One worker puts all before anything is taken. The queue has places for positions 1 to 64, and the worker keeps the last
+// outcome.
 #[test]
 fn more_outcomes_than_places_are_collected(rt: HostRuntime) -> Result<(), Fail> {
     let document = sixty_five_polls(rt.alloc())?;
@@ -540,7 +542,7 @@ fn more_outcomes_than_places_are_collected(rt: HostRuntime) -> Result<(), Fail> 
     Ok(())
 }
 
-// Holds each of positions 1, 2 and 4 until all three have come, for at most so many turns.
+// Holds each of positions 1, 2 and 4 until all three have come, for a limited number of turns.
 #[derive(Drop)]
 struct Three {
     came: AtomicU64,

@@ -1,4 +1,4 @@
-//! Whether callbacks outweigh the start of workers. It decides where callbacks run, never what they do.
+//! Whether callbacks take more time than the start of workers. It decides which threads run callbacks, and never what they do.
 ghost use Rattle.std.specs.Prelude.{◌≡◌, ◌<◌, true, IfSome};
 
 use exec_lane::Gate;
@@ -6,17 +6,16 @@ use exec_msg::Kind;
 use exec_world::Ready;
 use std::thread::{Threads, available_parallelism};
 
-// Nanoseconds, as measured: what an instruction takes, what it costs to cut a callback off and to bring it home, and what it
-// costs to start a worker and to wait for its end.
+// Nanoseconds: what an instruction takes, what it costs to cut a callback off and to bring it home, and what it costs to start
+// a worker and to wait for its end. How they were measured is in docs/MEASURED.md.
 const INSTRUCTION: u64 = 5;
 
 const CUT: u64 = 400;
 
 const START: u64 = 50_000;
 
-// By how many workers, of so many at most, callbacks are run. None where the calling thread runs them where they stand, since
-// nobody watches and it takes no more time, as far as the lengths of their scripts tell; more workers than processors gain
-// nothing.
+// How many workers run callbacks, at most `workers`. None if the calling thread runs them. It does if nobody watches, and if
+// workers would save no time, as far as the lengths of the scripts show. More workers than processors gain nothing.
 pub(crate) fn workers_for<R: Threads, G: Gate>(
     rt: &R,
     list: &[Ready],
@@ -47,7 +46,8 @@ pub(crate) fn workers_for<R: Threads, G: Gate>(
     }
 }
 
-// By how many workers, of so many at most, work, in nanoseconds, ends first: each one more takes off more than its start costs.
+// How many workers, at most `most`, end work of this many nanoseconds first. Each one more saves more time than its start
+// costs.
 fn fastest(work: u64, most: usize) -> usize {
     let mut count = 1;
     while count < most && saving(work, count + 1) > START {
@@ -56,7 +56,7 @@ fn fastest(work: u64, most: usize) -> usize {
     count
 }
 
-// How much less time work takes so many workers than one fewer.
+// How much less time work takes with this many workers than with one fewer.
 fn saving(work: u64, workers: usize) -> u64
     requires { 1 < workers }
 {
@@ -64,7 +64,7 @@ fn saving(work: u64, workers: usize) -> u64
     (work / (workers - 1)).saturating_sub(work / workers)
 }
 
-// Whether so many workers take less time for work, in nanoseconds, that is cut into callbacks than one does.
+// Whether this many workers take less time than one does. The work is in nanoseconds, and is cut into callbacks.
 fn pays(work: u64, callbacks: usize, workers: usize) -> bool
     ensures { result ≡ true → 1 < workers }
 {
@@ -78,7 +78,7 @@ fn pays(work: u64, callbacks: usize, workers: usize) -> bool
     work - work / workers > cost
 }
 
-// How many instructions callbacks have; a cancel request has them once for each goal that it may cancel.
+// How many instructions callbacks have. A cancel request has them once for each goal that it may cancel.
 fn instructions(list: &[Ready]) -> u64 {
     let mut all = 0u64;
     for one in list {

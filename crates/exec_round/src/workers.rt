@@ -10,8 +10,8 @@ use exec_msg::Memory;
 use std::alloc::Global;
 use std::thread::{Threads, for_each_mut};
 
-// Runs all callbacks of the lanes, by so many workers at most: lane i, from 0, goes to worker i modulo their number, and each
-// worker runs its lanes one after another, in a thread of its own where one can be made. One worker alone takes none.
+// Runs all callbacks of the lanes, by at most `workers` workers. Lane i, from 0, goes to worker i modulo their number. Each
+// worker runs its lanes one after another, in a thread of its own if one can be made. One worker alone takes no thread.
 pub(crate) fn run_lanes<R: Threads + Sync, G: Gate>(
     rt: &R,
     alloc: Global,
@@ -29,7 +29,7 @@ pub(crate) fn run_lanes<R: Threads + Sync, G: Gate>(
     Ok(ran)
 }
 
-// The same, but that a lane that was refused memory is left as it stands.
+// The same, but a lane that was refused memory is left unfinished.
 fn run_by<R: Threads + Sync, G: Gate>(
     rt: &R,
     alloc: Global,
@@ -78,7 +78,7 @@ fn run_share<G: Gate>(lanes: &mut Vec<LaneBox>, gate: &G)
     }
 }
 
-// Runs shares of lanes, each in a thread of its own where one can be made.
+// Runs shares of lanes, each in a thread of its own if one can be made.
 fn run_shares<R: Threads + Sync, G: Gate>(rt: &R, shares: &mut Vec<Vec<LaneBox>>, gate: &G)
     requires { 0 < vec_len shares.old }
     ensures len { vec_len shares.new ≡ vec_len shares.old }
@@ -92,7 +92,7 @@ fn run_shares<R: Threads + Sync, G: Gate>(rt: &R, shares: &mut Vec<Vec<LaneBox>>
     for_each_mut(rt, shares.as_mut_slice(), count, &run);
 }
 
-// Deals lanes to so many shares.
+// Deals lanes to `count` shares.
 fn deal(alloc: Global, mut lanes: Vec<LaneBox>, count: usize) -> Result<Vec<Vec<LaneBox>>, Memory>
     requires { 0 < count }
     ensures len { IfOk result (λ shares. vec_len shares ≡ count) }
@@ -111,7 +111,7 @@ fn deal(alloc: Global, mut lanes: Vec<LaneBox>, count: usize) -> Result<Vec<Vec<
     Ok(shares)
 }
 
-// Puts back the lanes, so many of them, that were dealt.
+// Puts back the lanes that were dealt. There are `number` of them.
 fn put_back(
     alloc: Global,
     mut shares: Vec<Vec<LaneBox>>,

@@ -16,13 +16,13 @@ use Rattle.exec_script.specs.declared.effects.Effect.TheVariants as effect
 use Rattle.exec_task.specs.Task.{TaskState}
 use Rattle.exec_rules.proofs.Later.{callback_later}
 use Rattle.exec_rules.specs.Callback.{Outcome}
-use Rattle.exec_rules.specs.Close.{close_callback}
+use Rattle.exec_rules.specs.Close.{close_callback, goal_arrived}
 use Rattle.exec_rules.specs.Give.{publish, call_by, send_goal_by, send_cancel, cancel_all_by, cancel_goal_by, execute_goal, execute, client_of, give_feedback, give, give_all}
 use Rattle.exec_rules.specs.Item.{goal_id}
 use Rattle.exec_rules.specs.Ready.{run_line}
 use Rattle.exec_rules.specs.Run.{work_for, with_polled, variables_for, with_variables_for, brought_home, after_callback, run, apart, effects_of, commit}
 use Rattle.exec_script.specs.Script.{Variables}
-use Rattle.exec_rules.specs.World.{WorldState, TopicEntry, GoalWork, HeldGoal, Queue, ServerEntry, ClientEntry, ActionClientEntry, add_line, add_lines, drop_line, lost_by, queued, push, push_any, subscribers_of, is_server_at, goals_of, change_server, change_goals, is_for, with_task, client_at, with_call, action_client_at, with_goal_sent, with_variables}
+use Rattle.exec_rules.specs.World.{WorldState, TopicEntry, GoalWork, HeldGoal, Queue, ServerEntry, ClientEntry, ActionClientEntry, add_line, add_lines, drop_line, lost_by, queued, push, push_any, subscribers_of, is_server_at, goals_of, change_server, change_goals, is_for, next_arrival, with_task, client_at, with_call, action_client_at, with_goal_sent, with_variables}
 use Rattle.exec_rules.specs.declared.item.Item.{Item}
 use Rattle.exec_rules.specs.declared.item.Item.TheVariants as item
 use Rattle.exec_rules.specs.declared.ready.Cause.{Cause}
@@ -36,7 +36,9 @@ pub record StandsApart (home : WorldState → WorldState) : Type 0 where
   pub queued_apart : (entity : EntityNo) (new : Item) (world : WorldState) → home (queued entity new world) ≡ queued entity new (home world)
   pub calls_apart : (client : EntityNo) (world : WorldState) → home (with_call client world) ≡ with_call client (home world)
   pub sending_apart : (client : EntityNo) (world : WorldState) → home (with_goal_sent client world) ≡ with_goal_sent client (home world)
+  pub arrivals_apart : (server : EntityNo) (id : GoalId) (world : WorldState) → home (goal_arrived server id world) ≡ goal_arrived server id (home world)
   pub goals_apart : (server : EntityNo) (change : List GoalRecord → List GoalRecord) (world : WorldState) → home (change_goals server change world) ≡ change_goals server change (home world)
+  pub order_same : (world : WorldState) → (home world).order ≡ world.order
   pub topics_same : (world : WorldState) → (home world).topics ≡ world.topics
   pub queues_same : (world : WorldState) → (home world).queues ≡ world.queues
   pub clients_same : (world : WorldState) → (home world).clients ≡ world.clients
@@ -180,8 +182,8 @@ sender_found : (id : GoalId) (found : Option ServerEntry) → option_map_or (λ 
 sender_found id None = refl
 sender_found id (Some entry) = refl
 
--- what a server keeps beside a goal is changed, under its identifier and its sender
-module _ (server : EntityNo) (goal : GoalId) (change : HeldGoal → HeldGoal) (id_same : (held : HeldGoal) → (change held).id ≡ held.id) (client_same : (held : HeldGoal) → (change held).client ≡ held.client) where
+-- what a server keeps beside a goal is changed, but not its identifier, its sender and the number of its arrival
+module _ (server : EntityNo) (goal : GoalId) (change : HeldGoal → HeldGoal) (id_same : (held : HeldGoal) → (change held).id ≡ held.id) (client_same : (held : HeldGoal) → (change held).client ≡ held.client) (arrival_apart : (number : ℕ) (held : HeldGoal) → change (record held { arrival = number }) ≡ record (change held) { arrival = number }) where
   abbrev pub held_changed : WorldState → WorldState
   held_changed world = change_server server (λ entry. record entry { held = change_first (is_for goal) change entry.held }) world
 
@@ -191,9 +193,15 @@ module _ (server : EntityNo) (goal : GoalId) (change : HeldGoal → HeldGoal) (i
     queued_apart = λ entity new world. refl;
     calls_apart = λ client world. refl;
     sending_apart = λ client world. refl;
+    arrivals_apart = λ other id world.
+        ap (λ (servers : List ServerEntry). record (goal_arrived other id world) { servers = servers })
+        (changed_in_turn (is_server_at server) (is_server_at other) _ _ (λ entry. refl) (λ entry. refl)
+        (λ entry. ap (λ (held : List HeldGoal). record entry { held = held })
+        (changed_in_turn (is_for goal) (is_for id) change (λ held. record held { arrival = next_arrival world }) (λ held. refl) (λ held. ap (λ (n : GoalId). n == id) (id_same held)) (arrival_apart (next_arrival world)) entry.held)) world.servers);
     goals_apart = λ other by world.
         ap (λ (servers : List ServerEntry). record world { servers = servers })
         (changed_in_turn (is_server_at server) (is_server_at other) _ _ (λ entry. refl) (λ entry. refl) (λ entry. refl) world.servers);
+    order_same = λ world. refl;
     topics_same = λ world. refl;
     queues_same = λ world. refl;
     clients_same = λ world. refl;
@@ -208,7 +216,7 @@ module _ (server : EntityNo) (goal : GoalId) (change : HeldGoal → HeldGoal) (i
   }
 
 task_apart : (server : EntityNo) (goal : GoalId) (task : TaskState) → StandsApart (λ world. with_task server goal task world)
-task_apart server goal task = held_apart server goal (λ held. record held { work = option_map (λ (work : GoalWork). record work { task = task }) held.work }) (λ held. refl) (λ held. refl)
+task_apart server goal task = held_apart server goal (λ held. record held { work = option_map (λ (work : GoalWork). record work { task = task }) held.work }) (λ held. refl) (λ held. refl) (λ number held. refl)
 
 pub variables_apart : (group : GroupNo) (variables : Variables) → StandsApart (λ world. with_variables group variables world)
 variables_apart group variables = record {
@@ -216,7 +224,9 @@ variables_apart group variables = record {
   queued_apart = λ entity new world. refl;
   calls_apart = λ client world. refl;
   sending_apart = λ client world. refl;
+  arrivals_apart = λ server id world. refl;
   goals_apart = λ server change world. refl;
+  order_same = λ world. refl;
   topics_same = λ world. refl;
   queues_same = λ world. refl;
   clients_same = λ world. refl;
@@ -231,7 +241,9 @@ nothing_apart = record {
   queued_apart = λ entity new world. refl;
   calls_apart = λ client world. refl;
   sending_apart = λ client world. refl;
+  arrivals_apart = λ server id world. refl;
   goals_apart = λ server change world. refl;
+  order_same = λ world. refl;
   topics_same = λ world. refl;
   queues_same = λ world. refl;
   clients_same = λ world. refl;
@@ -260,7 +272,9 @@ both_apart {first} {next} a b = record {
   queued_apart = λ entity new world. ap next (a.queued_apart entity new world) ∙ b.queued_apart entity new (first world);
   calls_apart = λ client world. ap next (a.calls_apart client world) ∙ b.calls_apart client (first world);
   sending_apart = λ client world. ap next (a.sending_apart client world) ∙ b.sending_apart client (first world);
+  arrivals_apart = λ server id world. ap next (a.arrivals_apart server id world) ∙ b.arrivals_apart server id (first world);
   goals_apart = λ server change world. ap next (a.goals_apart server change world) ∙ b.goals_apart server change (first world);
+  order_same = λ world. b.order_same (first world) ∙ a.order_same world;
   topics_same = λ world. b.topics_same (first world) ∙ a.topics_same world;
   queues_same = λ world. b.queues_same (first world) ∙ a.queues_same world;
   clients_same = λ world. b.clients_same (first world) ∙ a.clients_same world;

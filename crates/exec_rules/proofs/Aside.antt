@@ -11,8 +11,10 @@ use Rattle.exec_goal.specs.declared.state.State.{State}
 use Rattle.exec_msg.specs.Goal.{acceptance_of}
 use Rattle.exec_msg.specs.Numbers.{EntityNo, GoalId, Moment}
 use Rattle.exec_msg.specs.Lists.{change_first}
+use Rattle.exec_plan.specs.declared.order.Order.{Order}
 use Rattle.exec_msg.specs.declared.goal.Acceptance.{Acceptance}
 use Rattle.exec_msg.specs.declared.goal.Decision.{Decision}
+use Rattle.exec_plan.specs.declared.order.Order.TheVariants as order
 use Rattle.exec_msg.specs.declared.goal.Decision.TheVariants as decision
 use Rattle.exec_msg.specs.declared.goal.Event.{Event}
 use Rattle.exec_msg.specs.declared.goal.GoalStatus.{GoalStatus}
@@ -27,12 +29,12 @@ use Rattle.exec_rules.proofs.Apart.{StandsApart, effects_apart, held_apart, line
 use Rattle.exec_rules.proofs.Keeping.{Kept}
 use Rattle.exec_rules.proofs.Running.{KeptByAcceptance, commit_keeps, given_keeps}
 use Rattle.exec_rules.proofs.Pairs.{any_before}
-use Rattle.exec_rules.specs.Close.{GoalRequest, accept, accept_where, answer_ask, answer_cancel, answer_goal, ask, ask_where, cancel, close_callback, close_cause, close_item, close_poll, decide, decision_in, decisions_in, end, end_in, goal_at, held_goal, moved_lines, reply_in, reply_to, respond, server_accepting, tell, tell_askers, tell_end, with_ended}
+use Rattle.exec_rules.specs.Close.{GoalRequest, accept, accept_where, answer_ask, answer_cancel, answer_goal, ask, ask_where, cancel, close_callback, close_cause, close_item, close_poll, decide, decision_in, decisions_in, end, end_in, goal_at, held_goal, moved_lines, pend, reply_in, reply_to, respond, server_accepting, tell, tell_askers, tell_end, with_ended}
 use Rattle.exec_rules.specs.Give.{give_all}
 use Rattle.exec_rules.specs.Ready.{run_line}
 use Rattle.exec_rules.specs.Run.{commit}
 use Rattle.exec_script.specs.Script.{Variables}
-use Rattle.exec_rules.specs.World.{ActionClientEntry, GoalWork, HeldGoal, ServerEntry, WorldState, action_client_at, add_line, add_lines, change_goals, change_server, goals_of, has_room_for, is_for, is_server_at, push, push_any, with_work, work_at}
+use Rattle.exec_rules.specs.World.{ActionClientEntry, GoalWork, HeldGoal, ServerEntry, WorldState, action_client_at, add_line, add_lines, change_goals, change_server, goals_of, has_room_for, is_for, is_server_at, next_arrival, push, push_any, with_work, work_at}
 use Rattle.exec_rules.specs.declared.item.Item.{Item}
 use Rattle.exec_rules.specs.declared.item.Item.TheVariants as item
 use Rattle.exec_rules.specs.declared.ready.Cause.{Cause}
@@ -80,13 +82,19 @@ module _ {P : WorldState → Type 0} {home : WorldState → WorldState} (s : Sta
       end_in_apart (end_state id by (goals_of server world)) server id by value moment world
       ∙ ap (λ (goals : List GoalRecord). end_in (end_state id by goals) server id by value moment (home world)) (sym (s.aside.goals_same server world))
 
+  pend_apart : (under : Order) (server : EntityNo) (id : GoalId) (world : WorldState) → home (pend under server id world) ≡ pend under server id (home world)
+  pend_apart order.Kind server id world = refl
+  pend_apart order.Arrival server id world = s.aside.arrivals_apart server id world
+
   close_poll_apart : (server : EntityNo) (id : GoalId) (moment : Moment) (closing : Close) (world : WorldState) → home (close_poll server id moment closing world) ≡ close_poll server id moment closing (home world)
   close_poll_apart server id moment close.Nothing world = refl
   close_poll_apart server id moment (close.Reply value) world = refl
   close_poll_apart server id moment (close.Decide decision) world = refl
   close_poll_apart server id moment (close.DecideCancel decision) world = refl
   close_poll_apart server id moment (close.Decisions decisions) world = refl
-  close_poll_apart server id moment close.Pending world = refl
+  close_poll_apart server id moment close.Pending world =
+      pend_apart world.order server id world
+      ∙ ap (λ (under : Order). pend under server id (home world)) (sym (s.aside.order_same world))
   close_poll_apart server id moment (close.Ended by value) world = end_apart server id by value moment world
 
   accept_where_apart : (wanted : Option Acceptance) (server : EntityNo) (moment : Moment) (request : GoalRequest) (world : WorldState) → P world → home (accept_where wanted server moment request world) ≡ accept_where wanted server moment request (home world)
@@ -214,6 +222,8 @@ module _ (server : EntityNo) (id : GoalId) where
     lines_kept = λ lines world p. p;
     queues_kept = λ entity new world p. p;
     goals_kept = λ other change world same p. read_kept (keeps id) (is_server_at other) (is_server_at server) _ (λ entry. refl) (λ entry q. q) world.servers p;
+    arrivals_kept = λ other goal world p.
+        read_kept (keeps id) (is_server_at other) (is_server_at server) _ (λ entry. refl) (λ entry q. any_changed (is_for goal) (is_for id) _ (λ held. refl) entry.held ∙ q) world.servers p;
     tasks_kept = λ other goal task world p.
         read_kept (keeps id) (is_server_at other) (is_server_at server) _ (λ entry. refl) (λ entry q. any_changed (is_for goal) (is_for id) _ (λ held. refl) entry.held ∙ q) world.servers p;
     calls_kept = λ client world p. p;
@@ -223,25 +233,25 @@ module _ (server : EntityNo) (id : GoalId) where
 
   held_accepts : KeptByAcceptance (IsHeld server id)
   held_accepts other moment how request world room p =
-      read_kept (keeps id) (is_server_at other) (is_server_at server) (server_accepting moment how request) (λ entry. refl)
-      (λ entry q. any_before (is_for id) entry.held (held_goal entry.handler.script request ∷ []) q) world.servers p
+      read_kept (keeps id) (is_server_at other) (is_server_at server) (server_accepting (next_arrival world) moment how request) (λ entry. refl)
+      (λ entry q. any_before (is_for id) entry.held (held_goal (next_arrival world) entry.handler.script request ∷ []) q) world.servers p
 
-  module _ (change : HeldGoal → HeldGoal) (id_same : (held : HeldGoal) → (change held).id ≡ held.id) (client_same : (held : HeldGoal) → (change held).client ≡ held.client) where
+  module _ (change : HeldGoal → HeldGoal) (id_same : (held : HeldGoal) → (change held).id ≡ held.id) (client_same : (held : HeldGoal) → (change held).client ≡ held.client) (arrival_apart : (number : ℕ) (held : HeldGoal) → change (record held { arrival = number }) ≡ record (change held) { arrival = number }) where
     abbrev changed : ServerEntry → ServerEntry
     changed entry = record entry { held = change_first (is_for id) change entry.held }
 
     -- an acceptance, and a change of what is kept for a goal that is held
-    accepted_in_turn : (other : EntityNo) (moment : Moment) (how : Acceptance) (request : GoalRequest) (servers : List ServerEntry) → option_map_or (keeps id) (find (is_server_at server) servers) false ≡ true →
-        change_first (is_server_at server) changed (change_first (is_server_at other) (server_accepting moment how request) servers) ≡ change_first (is_server_at other) (server_accepting moment how request) (change_first (is_server_at server) changed servers)
-    accepted_in_turn other moment how request [] p = refl
-    accepted_in_turn other moment how request (entry ∷ servers) p = by (is_server_at server entry) (is_server_at other entry) refl refl p (accepted_in_turn other moment how request servers)
+    accepted_in_turn : (other : EntityNo) (number : ℕ) (moment : Moment) (how : Acceptance) (request : GoalRequest) (servers : List ServerEntry) → option_map_or (keeps id) (find (is_server_at server) servers) false ≡ true →
+        change_first (is_server_at server) changed (change_first (is_server_at other) (server_accepting number moment how request) servers) ≡ change_first (is_server_at other) (server_accepting number moment how request) (change_first (is_server_at server) changed servers)
+    accepted_in_turn other number moment how request [] p = refl
+    accepted_in_turn other number moment how request (entry ∷ servers) p = by (is_server_at server entry) (is_server_at other entry) refl refl p (accepted_in_turn other number moment how request servers)
       where
         by : (b c : Bool) → is_server_at server entry ≡ b → is_server_at other entry ≡ c → option_map_or (keeps id) (find (is_server_at server) (entry ∷ servers)) false ≡ true →
-            (option_map_or (keeps id) (find (is_server_at server) servers) false ≡ true → change_first (is_server_at server) changed (change_first (is_server_at other) (server_accepting moment how request) servers) ≡ change_first (is_server_at other) (server_accepting moment how request) (change_first (is_server_at server) changed servers)) →
-            change_first (is_server_at server) changed (change_first (is_server_at other) (server_accepting moment how request) (entry ∷ servers)) ≡ change_first (is_server_at other) (server_accepting moment how request) (change_first (is_server_at server) changed (entry ∷ servers))
+            (option_map_or (keeps id) (find (is_server_at server) servers) false ≡ true → change_first (is_server_at server) changed (change_first (is_server_at other) (server_accepting number moment how request) servers) ≡ change_first (is_server_at other) (server_accepting number moment how request) (change_first (is_server_at server) changed servers)) →
+            change_first (is_server_at server) changed (change_first (is_server_at other) (server_accepting number moment how request) (entry ∷ servers)) ≡ change_first (is_server_at other) (server_accepting number moment how request) (change_first (is_server_at server) changed (entry ∷ servers))
         by true true e f p rest =
             let here : keeps id entry ≡ true = rw e at p in
-            rw (e, f, e) (ap (λ (held : List HeldGoal). record entry { goals = entry.goals ++ new_goal request.id request.value moment how ∷ []; held = held } ∷ servers) (changed_front (is_for id) change entry.held (held_goal entry.handler.script request ∷ []) here))
+            rw (e, f, e) (ap (λ (held : List HeldGoal). record entry { goals = entry.goals ++ new_goal request.id request.value moment how ∷ []; held = held } ∷ servers) (changed_front (is_for id) change entry.held (held_goal number entry.handler.script request ∷ []) here))
         by true false e f p rest = rw (e, f, e) refl
         by false true e f p rest = rw (e, f, e) refl
         by false false e f p rest =
@@ -250,11 +260,11 @@ module _ (server : EntityNo) (id : GoalId) where
 
     pub held_aside : StandsAside (IsHeld server id) (λ world. change_server server changed world)
     held_aside = record {
-      aside = held_apart server id change id_same client_same;
+      aside = held_apart server id change id_same client_same arrival_apart;
       basic = held_kept;
       accepts = held_accepts;
       acceptance_apart = λ other moment how request world p.
-          ap (λ (servers : List ServerEntry). record (add_lines (accept other moment how request world).lines world) { servers = servers; lines = (accept other moment how request world).lines }) (accepted_in_turn other moment how request world.servers p);
+          ap (λ (servers : List ServerEntry). record (accept other moment how request world) { servers = servers }) (accepted_in_turn other (next_arrival world) moment how request world.servers p);
     }
 
 -- anywhere
@@ -267,6 +277,7 @@ anywhere_kept = record {
   queues_kept = λ entity new world p. p;
   goals_kept = λ server change world same p. p;
   tasks_kept = λ server id task world p. p;
+  arrivals_kept = λ server id world p. p;
   calls_kept = λ client world p. p;
   sending_kept = λ client world p. p;
   variables_kept = λ group variables world p. p;
@@ -280,7 +291,9 @@ set_aside variables = record {
     queued_apart = λ entity new world. refl;
     calls_apart = λ client world. refl;
     sending_apart = λ client world. refl;
+    arrivals_apart = λ server id world. refl;
     goals_apart = λ server change world. refl;
+    order_same = λ world. refl;
     topics_same = λ world. refl;
     queues_same = λ world. refl;
     clients_same = λ world. refl;
@@ -369,6 +382,6 @@ work_left server id work one effects world is =
     let there : IsHeld server id world = work_held server id work world is in
     let same : with_work server id (Some work) world ≡ world = ap (λ (servers : List ServerEntry). record world { servers = servers }) (put_back server id work world.servers is) in
     let after : with_work server id (Some work) (commit one effects world) ≡ commit one effects world =
-    commit_apart (held_aside server id put (λ held. refl) (λ held. refl)) one effects world there ∙ ap (λ (before : WorldState). commit one effects before) same in
+    commit_apart (held_aside server id put (λ held. refl) (λ held. refl) (λ number held. refl)) one effects world there ∙ ap (λ (before : WorldState). commit one effects before) same in
     sym (ap (λ (state : WorldState). work_at server id state) after)
     ∙ work_put server id (Some work) (commit one effects world).servers (commit_keeps (held_kept server id) (held_accepts server id) one effects world there)

@@ -1,6 +1,6 @@
 -- Under the order of kinds the ready list has timers, what takes from the queues before polls, polls, and what takes from the other
 -- queues, one after another.
-use Rattle.std.proofs.Common.{◌≡◌, ℕ, ◌≤◌, Bool, true, false, not, nat_le, List, [], ◌∷◌, ◌++◌, refl, sym, ap, ◌∙◌, ap₂, append_assoc, subst, arith, true≢false}
+use Rattle.std.proofs.Common.{◌≡◌, ℕ, ◌≤◌, Bool, true, false, not, nat_le, List, [], ◌∷◌, ◌++◌, refl, sym, ap, ◌∙◌, append_assoc, subst, arith, true≢false}
 use Rattle.std.specs.List.{AllByRecursion, filter, flat_map, fold}
 use Rattle.std.proofs.lemmas.Bool.{le-leb, leb-false, leb-true, lt-leb, not-true}
 use Rattle.std.proofs.lemmas.Grind.{flat_map-append}
@@ -24,12 +24,12 @@ use Rattle.exec_rules.specs.Ready.{all_ready, answered_by_first, due_ready, item
 use Rattle.exec_rules.specs.Shape.{queue_shape, shape_of}
 use Rattle.exec_rules.specs.Sorting.{sorted_by}
 use Rattle.exec_rules.specs.Item.{taker_of}
-use Rattle.exec_rules.specs.Transcript.{at_snapshot, first_world, new_queue, rounds, run_all, snapshot_and_run, takes_from_queue}
+use Rattle.exec_rules.specs.Transcript.{at_snapshot, first_world, new_queue, rounds, takes_from_queue}
 use Rattle.exec_rules.specs.World.{ClientEntry, Queue, WorldState, goals_of}
 use Rattle.exec_rules.specs.declared.item.Item.{Item}
 use Rattle.exec_rules.specs.declared.item.Item.TheVariants as item
 use Rattle.exec_rules.specs.declared.ready.Ready.{Ready}
-use Rattle.exec_rules.specs.inner.ByKind.{IsListedByKind, is_before_polls, listed_by_kind, queues_before_polls, queues_behind_polls, ready_before, ready_behind, round_by_kind, taken_by_kind}
+use Rattle.exec_rules.specs.inner.ByKind.{IsListedByKind, is_before_polls, listed_by_kind, queues_before_polls, queues_behind_polls, ready_before, ready_behind, taken_in_parts}
 
 -- ---- queues stand in the order of their kinds
 
@@ -61,12 +61,12 @@ queues_rise plan world same =
     pairs_unmapped (λ one other. KindsRise one.kind other.kind) queue_shape world.queues
     (subst (λ (queues : List Queue). QueuesRise queues) (sym (ap (λ (shape : WorldState). shape.queues) same))
     (pairs_map (λ one other. KindsRise one.kind other.kind) (λ one other. KindsRise one.kind other.kind) queue_shape (λ one other rise. rise) _
-    (pairs_map (λ one other. KindsRise one.kind other.kind) (λ one other. KindsRise one.kind other.kind) (new_queue plan.graph) (λ one other rise. rise) _
+    (pairs_map (λ one other. KindsRise one.kind other.kind) (λ one other. KindsRise one.kind other.kind) (new_queue plan.order plan.graph) (λ one other rise. rise) _
     (pairs_filter (λ one other. KindsRise one.kind other.kind) (λ waitable. takes_from_queue waitable.kind) (wait_set plan.graph) (waits_rise plan.graph)))))
 
 -- ---- two parts of them
 
-split_by : (queues : List Queue) → QueuesRise queues → queues ≡ filter (λ queue. is_before_polls queue.kind) queues ++ filter (λ queue. not (is_before_polls queue.kind)) queues
+pub split_by : (queues : List Queue) → QueuesRise queues → queues ≡ filter (λ queue. is_before_polls queue.kind) queues ++ filter (λ queue. not (is_before_polls queue.kind)) queues
 split_by [] rise = refl
 split_by (queue ∷ queues) rise = by (is_before_polls queue.kind) refl (split_by queues rise.1)
   where
@@ -87,9 +87,6 @@ split_by (queue ∷ queues) rise = by (is_before_polls queue.kind) refl (split_b
 
 abbrev kind_rank : Ready → ℕ
 kind_rank one = ready_number (kind_of one.cause)
-
-kinds_alone : (under : Order) → rank_under under ≡ kind_rank
-kinds_alone order.Kind = refl
 
 abbrev Rise : Ready → Ready → Type 0
 Rise one other = nat_le (kind_rank one) (kind_rank other) ≡ true
@@ -212,8 +209,8 @@ module _ (moment : Moment) (world : WorldState) (kinds_of : AreOfTheirKinds worl
       ∙ sym (append_assoc (timers ++ took_before) polls took_behind)
 
   -- the ready list, part by part
-  pub listed : QueuesRise world.queues → ready_list moment world ≡ listed_by_kind moment world
-  listed rise = ap (placed_from 1) (ap (λ (rank : Ready → ℕ). sorted_by rank (all_ready moment world)) (kinds_alone world.order) ∙ parts_sorted rise)
+  pub listed : world.order ≡ order.Kind → QueuesRise world.queues → ready_list moment world ≡ listed_by_kind moment world
+  listed of_kinds rise = ap (placed_from 1) (ap (λ (under : Order). sorted_by (rank_under under world) (all_ready moment world)) of_kinds ∙ parts_sorted rise)
 
 -- ---- what is taken
 
@@ -242,12 +239,8 @@ answered_before (queue ∷ queues) clients kinds = by (is_before_polls queue.kin
     by false is rest = rw is (ap (λ (so_far : List ClientEntry). fold reply_taken so_far queues) (none_answered queue clients kinds.0 is) ∙ rest clients)
 
 -- replies are handed on by queues before polls alone
-pub taken : (moment : Moment) (world : WorldState) → AreOfTheirKinds world → take_inputs moment world ≡ taken_by_kind moment world
+pub taken : (moment : Moment) (world : WorldState) → AreOfTheirKinds world → take_inputs moment world ≡ taken_in_parts moment world
 taken moment world kinds = ap (λ (clients : List ClientEntry). record (take_inputs moment world) { clients = clients }) (answered_before world.queues world.clients kinds)
-
--- so the round is the one by kinds
-pub rounded : (moment : Moment) (world : WorldState) → AreOfTheirKinds world → QueuesRise world.queues → snapshot_and_run moment world ≡ round_by_kind moment world
-rounded moment world kinds rise = ap₂ run_all (listed moment world kinds rise) (taken moment world kinds)
 
 -- ---- in a plan
 
@@ -256,4 +249,5 @@ pub listed_in_rounds : (plan : PlanData) (number : ℕ) (moments : List Moment) 
 listed_in_rounds plan number moments next moment of_kinds =
     let shapes = shape_kept (shape_of (first_world plan)) in
     let before : WorldState = at_snapshot plan next moment (rounds plan number moments (first_world plan)) in
-    listed moment before (snapshot_of_kinds plan number moments next moment) (queues_rise plan before (snapshot_keeps shapes plan next moment _ (rounds_keep shapes plan number moments (first_world plan) refl)))
+    let shaped : shape_of before ≡ shape_of (first_world plan) = snapshot_keeps shapes plan next moment _ (rounds_keep shapes plan number moments (first_world plan) refl) in
+    listed moment before (snapshot_of_kinds plan number moments next moment) (ap (λ (shape : WorldState). shape.order) shaped ∙ of_kinds) (queues_rise plan before shaped)

@@ -42,7 +42,7 @@ module _ (one : Ready) (effects : Effects) where
   polled_in_turn server (cause.Took taken) task world home = refl
   polled_in_turn server (cause.Woke id value canceling) None world home = refl
   polled_in_turn server (cause.Woke id value canceling) (Some task) world home =
-      commit_apart (held_aside server id (λ held. record held { work = option_map (λ (work : GoalWork). record work { task = task }) held.work }) (λ held. refl) (λ held. refl)) one effects world (work_held server id home.0 world home.1)
+      commit_apart (held_aside server id (λ held. record held { work = option_map (λ (work : GoalWork). record work { task = task }) held.work }) (λ held. refl) (λ held. refl) (λ number held. refl)) one effects world (work_held server id home.0 world home.1)
 
   variables_in_turn : (other : Ready) (variables : Variables) (world : WorldState) → with_variables_for other variables (commit one effects world) ≡ commit one effects (with_variables_for other variables world)
   variables_in_turn other variables world = by other.exclusive

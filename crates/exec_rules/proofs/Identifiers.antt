@@ -14,7 +14,7 @@ use Rattle.exec_rules.proofs.Keeping.{ids}
 use Rattle.exec_rules.proofs.Running.{KeptByRounds, rounds_keep}
 use Rattle.exec_rules.specs.Close.{GoalRequest, server_accepting, accept}
 use Rattle.exec_rules.specs.Transcript.{server_expired, first_world, new_server, rounds}
-use Rattle.exec_rules.specs.World.{WorldState, GoalWork, ServerEntry, is_server_at, is_for, goals_in, goals_of, has_room_for}
+use Rattle.exec_rules.specs.World.{WorldState, GoalWork, ServerEntry, is_server_at, is_for, goals_in, goals_of, has_room_for, next_arrival}
 
 -- ---- numbers
 
@@ -80,7 +80,7 @@ pub record Makes (change : ServerEntry → ServerEntry) (goals : List GoalRecord
   pub stays : (entry : ServerEntry) → (change entry).handler.entity ≡ entry.handler.entity
   pub makes : (entry : ServerEntry) → (change entry).goals ≡ goals entry.goals
 
--- the records are changed, a task is put, and a goal is accepted
+-- the records are changed, a task is put, a goal arrives anew, and a goal is accepted
 pub changing : (change : List GoalRecord → List GoalRecord) → Makes (λ entry. record entry { goals = change entry.goals }) change
 changing change = record { stays = λ entry. refl; makes = λ entry. refl }
 
@@ -90,8 +90,14 @@ tasked id task entry = record entry { held = change_first (is_for id) (λ held. 
 pub tasking : (id : GoalId) (task : TaskState) → Makes (tasked id task) (λ goals. goals)
 tasking id task = record { stays = λ entry. refl; makes = λ entry. refl }
 
-pub accepting : (moment : Moment) (how : Acceptance) (request : GoalRequest) → Makes (server_accepting moment how request) (λ goals. goals ++ new_goal request.id request.value moment how ∷ [])
-accepting moment how request = record { stays = λ entry. refl; makes = λ entry. refl }
+abbrev arriving : GoalId → ℕ → ServerEntry → ServerEntry
+arriving id number entry = record entry { held = change_first (is_for id) (λ held. record held { arrival = number }) entry.held }
+
+pub goal_arriving : (id : GoalId) (number : ℕ) → Makes (arriving id number) (λ goals. goals)
+goal_arriving id number = record { stays = λ entry. refl; makes = λ entry. refl }
+
+pub accepting : (number : ℕ) (moment : Moment) (how : Acceptance) (request : GoalRequest) → Makes (server_accepting number moment how request) (λ goals. goals ++ new_goal request.id request.value moment how ∷ [])
+accepting number moment how request = record { stays = λ entry. refl; makes = λ entry. refl }
 
 module _ {change : ServerEntry → ServerEntry} {goals : List GoalRecord → List GoalRecord} (m : Makes change goals) where
   pub old_or_new : (one server : EntityNo) (servers : List ServerEntry) → OldOrNew one server change goals servers
@@ -158,9 +164,9 @@ HasDistinct world = (server : EntityNo) → Distinct (ids (goals_of server world
 
 distinct_accepted : (server : EntityNo) (moment : Moment) (how : Acceptance) (request : GoalRequest) (world : WorldState) → has_room_for request.id (goals_of server world) ≡ true → HasDistinct world → HasDistinct (accept server moment how request world)
 distinct_accepted server moment how request world room p one =
-    by (old_or_new (accepting moment how request) one server world.servers)
+    by (old_or_new (accepting (next_arrival world) moment how request) one server world.servers)
   where
-    by : OldOrNew one server (server_accepting moment how request) (λ goals. goals ++ new_goal request.id request.value moment how ∷ []) world.servers → Distinct (ids (goals_of one (accept server moment how request world)))
+    by : OldOrNew one server (server_accepting (next_arrival world) moment how request) (λ goals. goals ++ new_goal request.id request.value moment how ∷ []) world.servers → Distinct (ids (goals_of one (accept server moment how request world)))
     by (inl e) = subst (λ (some : List GoalRecord). Distinct (ids some)) (sym e) (p one)
     by (inr q) =
         subst (λ (some : List GoalRecord). Distinct (ids some)) (sym q.1)
@@ -174,6 +180,7 @@ distinct_kept = record {
     queues_kept = λ entity new world p. p;
     goals_kept = λ server change world same p one. subst (λ (some : List GoalId). Distinct some) (sym (ids_left (changing change) same one server world.servers)) (p one);
     tasks_kept = λ server id task world p one. subst (λ (some : List GoalId). Distinct some) (sym (ids_left (tasking id task) (λ goals. refl) one server world.servers)) (p one);
+    arrivals_kept = λ server id world p one. subst (λ (some : List GoalId). Distinct some) (sym (ids_left (goal_arriving id (next_arrival world)) (λ goals. refl) one server world.servers)) (p one);
     calls_kept = λ client world p. p;
     sending_kept = λ client world p. p;
     variables_kept = λ group variables world p. p;

@@ -30,7 +30,7 @@ use Rattle.exec_script.specs.declared.step.Stop.TheVariants as stop
 use Rattle.exec_task.specs.Task.{TaskState, polled_where, is_awake, poll_input}
 use Rattle.exec_task.specs.declared.wait.Turn.{Turn}
 use Rattle.exec_rules.specs.Callback.{Handling, handle, call_in, take_item, poll, poll_where, act, callback, instructions_of, candidate_input}
-use Rattle.exec_rules.specs.Close.{tell, tell_end, moved_lines, answer_ask}
+use Rattle.exec_rules.specs.Close.{tell, tell_end, moved_lines, answer_ask, goal_arrived}
 use Rattle.exec_rules.specs.Give.{publish, call_by, send_goal_by, send_cancel, cancel_all_by, cancel_goal_by, oldest_accepted, execute_goal, client_of, give_feedback, give}
 use Rattle.exec_rules.specs.Item.{goal_id, taker_of}
 use Rattle.exec_rules.specs.Lines.{statuses_of, is_answer, is_loss}
@@ -48,12 +48,13 @@ abbrev pub ids : List GoalRecord → List GoalId
 ids goals = map (λ goal. goal.id) goals
 
 -- each basic change but an acceptance keeps a property: lines, an item that is queued, goals that are changed under their
--- identifiers, where a task stands, a call, a goal that is sent, and variables
+-- identifiers, where a task stands, a goal that arrives anew, a call, a goal that is sent, and variables
 pub record Kept (P : WorldState → Type 0) : Type 0 where
   pub lines_kept : (lines : List Line) (world : WorldState) → P world → P (add_lines lines world)
   pub queues_kept : (entity : EntityNo) (new : Item) (world : WorldState) → P world → P (queued entity new world)
   pub goals_kept : (server : EntityNo) (change : List GoalRecord → List GoalRecord) (world : WorldState) → ((goals : List GoalRecord) → ids (change goals) ≡ ids goals) → P world → P (change_goals server change world)
   pub tasks_kept : (server : EntityNo) (id : GoalId) (task : TaskState) (world : WorldState) → P world → P (with_task server id task world)
+  pub arrivals_kept : (server : EntityNo) (id : GoalId) (world : WorldState) → P world → P (goal_arrived server id world)
   pub calls_kept : (client : EntityNo) (world : WorldState) → P world → P (with_call client world)
   pub sending_kept : (client : EntityNo) (world : WorldState) → P world → P (with_goal_sent client world)
   pub variables_kept : (group : ℕ) (variables : Variables) (world : WorldState) → P world → P (with_variables group variables world)
@@ -113,8 +114,8 @@ canceled server decisions returned count world =
 
 -- each basic change but an acceptance, an end, a result and an answer keeps a property: lines that are quiet, an item that
 -- may be sent there, is no message, request or result and answers nothing, a publication, a call, the execution of a goal,
--- the goals that a cancel request moves, where a task stands, a goal that is sent, and variables; and action clients are known
--- to send where they may
+-- the goals that a cancel request moves, where a task stands, a goal that arrives anew, a goal that is sent, and variables; and
+-- action clients are known to send where they may
 pub record Moves (routes : Routes) (P : WorldState → Type 0) : Type 0 where
   pub lines_kept : (lines : List Line) (world : WorldState) → IsQuiet lines → P world → P (add_lines lines world)
   pub pushes_kept : (entity : EntityNo) (new : Item) (world : WorldState) → is_sent_well routes entity new ≡ true → is_answer (taker_of new) ≡ false → is_message (taker_of new) ≡ false → is_request (taker_of new) ≡ false → is_result (taker_of new) ≡ false → P world → P (push entity new world)
@@ -124,6 +125,7 @@ pub record Moves (routes : Routes) (P : WorldState → Type 0) : Type 0 where
   pub execution_kept : (server : EntityNo) (goal : GoalRecord) (world : WorldState) → oldest_accepted server world ≡ Some goal → P world → P (execute_goal server (Some goal) world)
   pub answer_kept : (server : EntityNo) (decisions : List Decided) (returned : ReturnCode) (count : ℕ) (world : WorldState) → P world → P (canceled server decisions returned count world)
   pub tasks_kept : (server : EntityNo) (id : GoalId) (task : TaskState) (world : WorldState) → P world → P (with_task server id task world)
+  pub arrivals_kept : (server : EntityNo) (id : GoalId) (world : WorldState) → P world → P (goal_arrived server id world)
   pub sending_kept : (client : EntityNo) (world : WorldState) → P world → P (with_goal_sent client world)
   pub variables_kept : (group : ℕ) (variables : Variables) (world : WorldState) → P world → P (with_variables group variables world)
 
@@ -249,6 +251,7 @@ moves_kept {P} k = record {
   execution_kept = λ server goal world found p. k.lines_kept _ _ (k.goals_kept server _ world (ids_changed goal.id (after_event event.Execute) (λ one. refl)) p);
   answer_kept = λ server decisions returned count world p. k.lines_kept _ _ (k.goals_kept server _ world (ids_answered decisions) p);
   tasks_kept = k.tasks_kept;
+  arrivals_kept = k.arrivals_kept;
   sending_kept = k.sending_kept;
   variables_kept = k.variables_kept;
 }

@@ -1,6 +1,7 @@
 pub mod AllRounds
 pub mod Apart
 pub mod Aside
+pub mod ByArrival
 pub mod ByKind
 pub mod Calling
 pub mod Committing
@@ -8,12 +9,16 @@ pub mod Identifiers
 pub mod Keeping
 pub mod Later
 pub mod Listing
+pub mod Numbering
 pub mod OfKinds
 pub mod Pairs
+pub mod Placing
 pub mod PolledAlike
+pub mod Ranking
 pub mod ReadyLists
 pub mod Running
 pub mod ScriptsHome
 pub mod Shapes
 pub mod Sorting
+pub mod Stable
 pub mod Wiring

@@ -7,6 +7,7 @@ use Rattle.std.proofs.lemmas.List.Elements.{All-nil, All-push, All-drop, All-fro
 use Rattle.exec_msg.specs.Numbers.{EntityNo, Moment}
 use Rattle.exec_plan.specs.Graph.{GraphData, Waitable, wait_set, kinds}
 use Rattle.exec_plan.specs.Plan.{PlanData}
+use Rattle.exec_plan.specs.declared.order.Order.{Order}
 use Rattle.exec_msg.specs.KeepLast.{displaced}
 use Rattle.exec_msg.specs.Kind.{ready_number}
 use Rattle.exec_msg.specs.declared.kind.Kind.{Kind}
@@ -17,7 +18,7 @@ use Rattle.exec_rules.proofs.Running.{KeptByRounds, rounds_keep}
 use Rattle.exec_rules.specs.Item.{taker_of}
 use Rattle.exec_rules.specs.Ready.{queue_taken}
 use Rattle.exec_rules.specs.Transcript.{takes_from_queue, new_queue, first_world, rounds}
-use Rattle.exec_rules.specs.World.{WorldState, Queue, is_queue, queue_after}
+use Rattle.exec_rules.specs.World.{WorldState, Queue, is_queue, next_arrival, queue_after}
 use Rattle.exec_rules.specs.declared.item.Item.{Item}
 
 kind_back : (one : Kind) → get_or kinds (ready_number one - 1) kind.Timer ≡ one
@@ -42,11 +43,11 @@ same_kind one other e = sym (kind_back one) ∙ ap (λ (n : ℕ). get_or kinds (
 abbrev pub IsOfItsKind : Queue → Type 0
 IsOfItsKind queue = All (λ one. taker_of one ≡ queue.kind) queue.items
 
-kinds_after : (entity : EntityNo) (new : Item) (queues : List Queue) → AllByRecursion IsOfItsKind queues → AllByRecursion IsOfItsKind (change_first (is_queue entity (taker_of new)) (queue_after new) queues)
-kinds_after entity new [] p = tt
-kinds_after entity new (queue ∷ queues) p = by (is_queue entity (taker_of new) queue) refl (kinds_after entity new queues p.1)
+kinds_after : (entity : EntityNo) (number : ℕ) (new : Item) (queues : List Queue) → AllByRecursion IsOfItsKind queues → AllByRecursion IsOfItsKind (change_first (is_queue entity (taker_of new)) (queue_after number new) queues)
+kinds_after entity number new [] p = tt
+kinds_after entity number new (queue ∷ queues) p = by (is_queue entity (taker_of new) queue) refl (kinds_after entity number new queues p.1)
   where
-    by : (b : Bool) → is_queue entity (taker_of new) queue ≡ b → AllByRecursion IsOfItsKind (change_first (is_queue entity (taker_of new)) (queue_after new) queues) → AllByRecursion IsOfItsKind (change_first (is_queue entity (taker_of new)) (queue_after new) (queue ∷ queues))
+    by : (b : Bool) → is_queue entity (taker_of new) queue ≡ b → AllByRecursion IsOfItsKind (change_first (is_queue entity (taker_of new)) (queue_after number new) queues) → AllByRecursion IsOfItsKind (change_first (is_queue entity (taker_of new)) (queue_after number new) (queue ∷ queues))
     by true e rest =
         let same : taker_of new ≡ queue.kind = sym (same_kind queue.kind (taker_of new) (eqb-true (ready_number queue.kind) (ready_number (taker_of new)) (and_parts (queue.handler.entity == entity) (ready_number queue.kind == ready_number (taker_of new)) e).1)) in
         rw e (All-drop (λ one. taker_of one ≡ queue.kind) (length (queue.items ++ new ∷ []) - queue.depth) (queue.items ++ new ∷ []) (All-push (λ one. taker_of one ≡ queue.kind) queue.items new p.0 same), p.1)
@@ -56,9 +57,9 @@ kinds_taken : (queues : List Queue) → AllByRecursion IsOfItsKind queues → Al
 kinds_taken [] p = tt
 kinds_taken (queue ∷ queues) p = (All-drop (λ one. taker_of one ≡ queue.kind) 1 queue.items p.0, kinds_taken queues p.1)
 
-pub kinds_first : (graph : GraphData) (waitables : List Waitable) → AllByRecursion IsOfItsKind (map (new_queue graph) waitables)
-kinds_first graph [] = tt
-kinds_first graph (waitable ∷ waitables) = (All-nil (λ one. taker_of one ≡ waitable.kind), kinds_first graph waitables)
+pub kinds_first : (under : Order) (graph : GraphData) (waitables : List Waitable) → AllByRecursion IsOfItsKind (map (new_queue under graph) waitables)
+kinds_first under graph [] = tt
+kinds_first under graph (waitable ∷ waitables) = (All-nil (λ one. taker_of one ≡ waitable.kind), kinds_first under graph waitables)
 
 -- all queues of a world do
 abbrev pub AreOfTheirKinds : WorldState → Type 0
@@ -68,9 +69,10 @@ pub kinds_kept : KeptByRounds AreOfTheirKinds
 kinds_kept = record {
   basic = record {
     lines_kept = λ lines world p. p;
-    queues_kept = λ entity new world p. kinds_after entity new world.queues p;
+    queues_kept = λ entity new world p. kinds_after entity (next_arrival world) new world.queues p;
     goals_kept = λ server change world same p. p;
     tasks_kept = λ server id task world p. p;
+    arrivals_kept = λ server id world p. p;
     calls_kept = λ client world p. p;
     sending_kept = λ client world p. p;
     variables_kept = λ group variables world p. p;
@@ -82,7 +84,7 @@ kinds_kept = record {
 
 pub queues_of_kinds : (plan : PlanData) (number : ℕ) (moments : List Moment) → All (λ queue. All (λ one. taker_of one ≡ queue.kind) queue.items) (rounds plan number moments (first_world plan)).queues
 queues_of_kinds plan number moments =
-    All-from_recursion IsOfItsKind _ (rounds_keep kinds_kept plan number moments (first_world plan) (kinds_first plan.graph (filter (λ waitable. takes_from_queue waitable.kind) (wait_set plan.graph))))
+    All-from_recursion IsOfItsKind _ (rounds_keep kinds_kept plan number moments (first_world plan) (kinds_first plan.order plan.graph (filter (λ waitable. takes_from_queue waitable.kind) (wait_set plan.graph))))
 
 -- ---- what is displaced
 

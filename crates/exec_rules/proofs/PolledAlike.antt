@@ -68,7 +68,7 @@ module _ (position : ℕ) (one : Ready) (variables : Variables) (world : WorldSt
   acts_alike (cause.Woke id value canceling) work = refl
 
 -- a callback at another place runs alike
-runs_alike : (position : ℕ) (one : Ready) (world : WorldState) → run (record one { position = position }) world ≡ run one world
+pub runs_alike : (position : ℕ) (one : Ready) (world : WorldState) → run (record one { position = position }) world ≡ run one world
 runs_alike position one world =
     let work : Option GoalWork = work_for one.entity one.cause world in
     let variables : Variables = variables_for one world in
@@ -76,7 +76,7 @@ runs_alike position one world =
     ap (λ (gives : Effect → WorldState → WorldState). after_callback one (act one.cause gives (other one position one.script) work variables lined)) (gives_alike one position one.script)
     ∙ ap (after_callback one) (acts_alike position one variables lined one.cause work)
 
-placed_alike : (position : ℕ) (list : List Ready) (world : WorldState) → run_all (placed_from position list) world ≡ run_all list world
+pub placed_alike : (position : ℕ) (list : List Ready) (world : WorldState) → run_all (placed_from position list) world ≡ run_all list world
 placed_alike position [] world = refl
 placed_alike position (one ∷ list) world =
     ap (run_all (placed_from (suc position) list)) (runs_alike position one world)
@@ -86,7 +86,7 @@ placed_alike position (one ∷ list) world =
 
 module _ (moment : Moment) where
   -- a poll runs alike without a script
-  poll_alike : (entry : ServerEntry) (goal : GoalRecord) (world : WorldState) → run (ready_for moment entry.handler (woken goal) [] (Some entry.handler.script)) world ≡ run (poll_at moment (awake_goal entry.handler goal)) world
+  pub poll_alike : (entry : ServerEntry) (goal : GoalRecord) (world : WorldState) → run (ready_for moment entry.handler (woken goal) [] (Some entry.handler.script)) world ≡ run (poll_at moment (awake_goal entry.handler goal)) world
   poll_alike entry goal world =
       let one : Ready = poll_at moment (awake_goal entry.handler goal) in
       ap (λ (gives : Effect → WorldState → WorldState). after_callback one (poll gives (turn_at moment (is_canceling goal.state)) (work_for one.entity one.cause world) (variables_for one world) (add_line (run_line one) world)))

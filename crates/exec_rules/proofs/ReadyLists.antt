@@ -143,8 +143,8 @@ all_listed P moved moment world due taken polled =
     let timers : List Ready = flat_map (due_ready moment) world.timers in
     let took : List Ready = flat_map (queue_ready moment world) world.queues in
     let polls : List Ready = flat_map (poll_ready moment) world.servers in
-    all_placed P moved 1 (sorted_by (rank_under world.order) (timers ++ took ++ polls))
-    (all_sorted P (rank_under world.order) (timers ++ took ++ polls) (all_append P (timers ++ took) polls (all_append P timers took due taken) polled))
+    all_placed P moved 1 (sorted_by (rank_under world.order world) (timers ++ took ++ polls))
+    (all_sorted P (rank_under world.order world) (timers ++ took ++ polls) (all_append P (timers ++ took) polls (all_append P timers took due taken) polled))
 
 pairs_placed : (of : Kind) (position : ℕ) (list : List Ready) → Pairs (Apart of) list → Pairs (Apart of) (placed_from position list)
 pairs_placed of position [] p = tt
@@ -173,8 +173,8 @@ ready_apart of other graph moment world wires p =
 -- nor in the list
 pub list_apart : (of : Kind) → of ≢ kind.Poll → (graph : GraphData) (moment : Moment) (world : WorldState) → IsWired graph world → AreOfTheirKinds world → Pairs (Apart of) (ready_list moment world)
 list_apart of other graph moment world wires p =
-    pairs_placed of 1 (sorted_by (rank_under world.order) (all_ready moment world))
-    (pairs_sorted (Apart of) (rank_under world.order) (all_ready moment world) (λ one two apart a b same. apart b a (sym same)) (ready_apart of other graph moment world wires p))
+    pairs_placed of 1 (sorted_by (rank_under world.order world) (all_ready moment world))
+    (pairs_sorted (Apart of) (rank_under world.order world) (all_ready moment world) (λ one two apart a b same. apart b a (sym same)) (ready_apart of other graph moment world wires p))
 
 -- what takes a goal request is a server's
 abbrev pub IsListed : GraphData → Ready → Type 0
@@ -230,7 +230,7 @@ one_at_most entity of (one ∷ rest) apart = by (is_callback_of entity of one) r
 module _ (plan : PlanData) (number : ℕ) (moments : List Moment) (next : ℕ) (moment : Moment) where
   pub snapshot_of_kinds : AreOfTheirKinds (at_snapshot plan next moment (rounds plan number moments (first_world plan)))
   snapshot_of_kinds =
-      snapshot_keeps kinds_kept plan next moment _ (rounds_keep kinds_kept plan number moments (first_world plan) (kinds_first plan.graph (filter (λ waitable. takes_from_queue waitable.kind) (wait_set plan.graph))))
+      snapshot_keeps kinds_kept plan next moment _ (rounds_keep kinds_kept plan number moments (first_world plan) (kinds_first plan.order plan.graph (filter (λ waitable. takes_from_queue waitable.kind) (wait_set plan.graph))))
 
   pub snapshot_wired : IsWired plan.graph (at_snapshot plan next moment (rounds plan number moments (first_world plan)))
   snapshot_wired =

@@ -12,8 +12,10 @@ use Rattle.exec_msg.specs.Goal.{acceptance_of}
 use Rattle.exec_msg.specs.Numbers.{EntityNo, GoalId, Moment}
 use Rattle.exec_plan.specs.Feeding.{fed_in}
 use Rattle.exec_plan.specs.Plan.{PlanData}
+use Rattle.exec_plan.specs.declared.order.Order.{Order}
 use Rattle.exec_msg.specs.declared.goal.Acceptance.{Acceptance}
 use Rattle.exec_msg.specs.declared.goal.Decision.{Decision}
+use Rattle.exec_plan.specs.declared.order.Order.TheVariants as order
 use Rattle.exec_msg.specs.declared.goal.Decision.TheVariants as decision
 use Rattle.exec_msg.specs.declared.goal.Event.{Event}
 use Rattle.exec_msg.specs.declared.kind.Kind.{Kind}
@@ -26,7 +28,7 @@ use Rattle.exec_script.specs.declared.effects.Effects.{Effects}
 use Rattle.exec_task.specs.Task.{TaskState}
 use Rattle.exec_rules.proofs.Keeping.{Routes, Kept, Moves, Tells, push_kept, publish_kept, moves_kept, tells_kept, ids_changed, state_said, fold_keeps, callback_keeps, give_keeps, answer_ask_keeps, tell_end_keeps, feed_keeps}
 use Rattle.exec_rules.specs.Callback.{Outcome}
-use Rattle.exec_rules.specs.Close.{GoalRequest, reply_in, decision_in, decisions_in, accept, accept_where, decide, with_ended, goal_at, end_in, ask, close_item, close_cause, close_poll, cancel, ask_where, respond}
+use Rattle.exec_rules.specs.Close.{GoalRequest, reply_in, decision_in, decisions_in, accept, accept_where, decide, with_ended, goal_at, end_in, ask, close_item, close_cause, close_poll, pend, cancel, ask_where, respond}
 use Rattle.exec_rules.specs.Give.{give, give_all}
 use Rattle.exec_rules.specs.Item.{taker_of}
 use Rattle.exec_rules.specs.Run.{unclosed}
@@ -209,13 +211,17 @@ module _ {routes : Routes} {P Q : WorldState → Type 0} (k : Moves routes P) (o
   end_keeps id goal canceling by value None world same leads p = p
   end_keeps id goal canceling by value (Some reached) world same leads p = ending id goal canceling by value reached world same leads p
 
+  pend_keeps : (under : Order) (id : GoalId) (world : WorldState) → P world → P (pend under one.entity id world)
+  pend_keeps order.Kind id world p = p
+  pend_keeps order.Arrival id world p = k.arrivals_kept one.entity id world p
+
   poll_keeps : (id : GoalId) (goal : ℤ) (canceling : Bool) (closing : Close) (world : WorldState) → one.cause ≡ cause.Woke id goal canceling → P world → P (close_poll one.entity id one.moment closing world)
   poll_keeps id goal canceling close.Nothing world same p = p
   poll_keeps id goal canceling (close.Reply reply) world same p = p
   poll_keeps id goal canceling (close.Decide decision) world same p = p
   poll_keeps id goal canceling (close.DecideCancel decision) world same p = p
   poll_keeps id goal canceling (close.Decisions decisions) world same p = p
-  poll_keeps id goal canceling close.Pending world same p = p
+  poll_keeps id goal canceling close.Pending world same p = pend_keeps world.order id world p
   poll_keeps id goal canceling (close.Ended by value) world same p = end_keeps id goal canceling by value (end_state id by (goals_of one.entity world)) world same refl p
 
   pub closing_keeps : (why : Cause) (closing : Close) (world : WorldState) → one.cause ≡ why → P world → Q (close_cause one.entity one.moment why closing world)

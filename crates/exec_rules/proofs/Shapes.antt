@@ -1,17 +1,19 @@
 -- Rounds change no shape.
-use Rattle.std.proofs.Common.{◌≡◌, ℕ, Bool, true, false, List, [], ◌∷◌, length, map, refl, ap, ◌∙◌}
+use Rattle.std.proofs.Common.{◌≡◌, ℕ, Bool, true, false, List, [], ◌∷◌, length, map, drop, Option, None, Some, refl, ap, ◌∙◌}
 use Rattle.std.proofs.lemmas.List.{length-set}
 use Rattle.std.specs.List.{fold}
+use Rattle.std.specs.Option.{option_map}
+use Rattle.exec_msg.specs.KeepLast.{sent}
 use Rattle.exec_msg.specs.Numbers.{EntityNo, Moment}
 use Rattle.exec_plan.specs.Plan.{PlanData}
 use Rattle.exec_msg.specs.Timer.{is_due}
 use Rattle.exec_msg.specs.Lists.{change_first}
 use Rattle.exec_rules.proofs.Running.{KeptByRounds, rounds_keep}
-use Rattle.exec_rules.specs.Close.{accept}
-use Rattle.exec_rules.specs.Shape.{timer_shape, queue_shape, server_shape, client_shape, action_client_shape, shape_of}
+use Rattle.exec_rules.specs.Close.{accept, goal_arrived}
+use Rattle.exec_rules.specs.Shape.{timer_shape, numbers_shape, queue_shape, server_shape, client_shape, action_client_shape, shape_of}
 use Rattle.exec_rules.specs.Ready.{timer_taken, queue_taken, call_answered, answered_by_first, reply_taken, take_inputs}
 use Rattle.exec_rules.specs.Transcript.{expire, rounds}
-use Rattle.exec_rules.specs.World.{WorldState, TimerEntry, Queue, ClientEntry, queued, change_goals, with_task, is_client_at, with_call, with_goal_sent, with_variables}
+use Rattle.exec_rules.specs.World.{WorldState, TimerEntry, Queue, ClientEntry, next_arrival, queued, change_goals, with_task, is_client_at, with_call, with_goal_sent, with_variables}
 use Rattle.exec_rules.specs.declared.item.Item.{Item}
 use Rattle.exec_rules.specs.declared.item.Item.TheVariants as item
 
@@ -28,6 +30,14 @@ pub part_mapped : {A B : Type 0} (part : A → B) (change : A → A) → ((one :
 part_mapped part change same [] = refl
 part_mapped {A} {B} part change same (one ∷ all) =
     ap (λ (first : B). first ∷ map part (map change all)) (same one) ∙ ap (λ (others : List B). part one ∷ others) (part_mapped part change same all)
+
+-- a queue whose numbers are changed, or the lack of which stays, has its shape
+numbers_same : (numbers : Option (List ℕ)) (change : List ℕ → List ℕ) → numbers_shape (option_map change numbers) ≡ numbers_shape numbers
+numbers_same None change = refl
+numbers_same (Some numbers) change = refl
+
+queue_same : (queue : Queue) (items : List Item) (change : List ℕ → List ℕ) → queue_shape (record queue { items = items; arrivals = option_map change queue.arrivals }) ≡ queue_shape queue
+queue_same queue items change = ap (λ (numbers : Option (List ℕ)). record queue { items = []; arrivals = numbers }) (numbers_same queue.arrivals change)
 
 timer_same : (moment : Moment) (entry : TimerEntry) → timer_shape (timer_taken moment entry) ≡ timer_shape entry
 timer_same moment entry = by (is_due entry.timer moment) refl
@@ -68,9 +78,10 @@ pub shape_kept : (of : WorldState) → KeptByRounds (λ world. shape_of world �
 shape_kept of = record {
   basic = record {
     lines_kept = λ lines world p. p;
-    queues_kept = λ entity new world p. same_shape world (queued entity new world) refl refl refl (part_changed queue_shape _ _ (λ queue. refl) world.queues) refl refl refl refl ∙ p;
+    queues_kept = λ entity new world p. same_shape world (queued entity new world) refl refl refl (part_changed queue_shape _ _ (λ queue. queue_same queue (sent queue.depth new queue.items) (sent queue.depth (next_arrival world))) world.queues) refl refl refl refl ∙ p;
     goals_kept = λ server change world same p. same_shape world (change_goals server change world) refl refl refl refl (part_changed server_shape _ _ (λ entry. refl) world.servers) refl refl refl ∙ p;
     tasks_kept = λ server id task world p. same_shape world (with_task server id task world) refl refl refl refl (part_changed server_shape _ _ (λ entry. refl) world.servers) refl refl refl ∙ p;
+    arrivals_kept = λ server id world p. same_shape world (goal_arrived server id world) refl refl refl refl (part_changed server_shape _ _ (λ entry. refl) world.servers) refl refl refl ∙ p;
     calls_kept = λ client world p. same_shape world (with_call client world) refl refl refl refl refl (part_changed client_shape _ _ (λ entry. refl) world.clients) refl refl ∙ p;
     sending_kept = λ client world p. same_shape world (with_goal_sent client world) refl refl refl refl refl refl (part_changed action_client_shape _ _ (λ entry. refl) world.action_clients) refl ∙ p;
     variables_kept = λ group variables world p. same_shape world (with_variables group variables world) refl refl refl refl refl refl refl (length-set world.variables group variables) ∙ p;
@@ -78,7 +89,7 @@ shape_kept of = record {
   accepts_kept = λ server moment how request world room p. same_shape world (accept server moment how request world) refl refl refl refl (part_changed server_shape _ _ (λ entry. refl) world.servers) refl refl refl ∙ p;
   expiry_kept = λ moment world p. same_shape world (expire moment world) refl refl refl refl (part_mapped server_shape _ (λ entry. refl) world.servers) refl refl refl ∙ p;
   snapshot_kept = λ moment world p.
-      same_shape world (take_inputs moment world) refl refl (part_mapped timer_shape _ (timer_same moment) world.timers) (part_mapped queue_shape queue_taken (λ queue. refl) world.queues) refl (replied_shape world.queues world.clients) refl refl ∙ p;
+      same_shape world (take_inputs moment world) refl refl (part_mapped timer_shape _ (timer_same moment) world.timers) (part_mapped queue_shape queue_taken (λ queue. queue_same queue (drop 1 queue.items) (drop 1)) world.queues) refl (replied_shape world.queues world.clients) refl refl ∙ p;
 }
 
 pub shape_stays : (plan : PlanData) (number : ℕ) (moments : List Moment) (world : WorldState) → shape_of (rounds plan number moments world) ≡ shape_of world

@@ -7,7 +7,7 @@ use Rattle.exec_rules.specs.Sorting.{inserted_by, sorted_by}
 
 -- ---- what holds of the elements
 
-all_inserted : {A : Type 0} (P : A → Type 0) (rank : A → ℕ) (x : A) (xs : List A) → P x → AllByRecursion P xs → AllByRecursion P (inserted_by rank x xs)
+pub all_inserted : {A : Type 0} (P : A → Type 0) (rank : A → ℕ) (x : A) (xs : List A) → P x → AllByRecursion P xs → AllByRecursion P (inserted_by rank x xs)
 all_inserted P rank x [] p q = (p, tt)
 all_inserted P rank x (y ∷ ys) p q = by (nat_le (rank x) (rank y)) (all_inserted P rank x ys p q.1)
   where

@@ -149,9 +149,9 @@ wired plan world same = record {
       (pairs_map _ _ timer_shape (λ one other apart. apart) _ (pairs_map NumbersApart (λ one other. NumbersApart one.handler.entity other.handler.entity) (new_timer plan.graph) (λ one other apart. apart) _ (numbers_apart is_timer 0 plan.graph.entities))));
   queues = pairs_unmapped QueuesApart queue_shape world.queues
       (subst (λ (queues : List Queue). Pairs QueuesApart queues) (sym (ap (λ (shape : WorldState). shape.queues) same))
-      (pairs_map QueuesApart QueuesApart queue_shape (λ one other apart. apart) _ (pairs_map WaitsApart QueuesApart (new_queue plan.graph) (λ one other apart. apart) _ (pairs_filter WaitsApart (λ waitable. takes_from_queue waitable.kind) (wait_set plan.graph) (waits_apart plan.graph)))));
+      (pairs_map QueuesApart QueuesApart queue_shape (λ one other apart. apart) _ (pairs_map WaitsApart QueuesApart (new_queue plan.order plan.graph) (λ one other apart. apart) _ (pairs_filter WaitsApart (λ waitable. takes_from_queue waitable.kind) (wait_set plan.graph) (waits_apart plan.graph)))));
   takes_goals = all_unmapped (TakesListed plan.graph) queue_shape world.queues
       (subst (λ (queues : List Queue). AllByRecursion (TakesListed plan.graph) queues) (sym (ap (λ (shape : WorldState). shape.queues) same))
-      (all_mapped (TakesListed plan.graph) (TakesListed plan.graph) queue_shape (λ queue t. t) _ (all_mapped (WaitListed plan.graph) (TakesListed plan.graph) (new_queue plan.graph) (λ waitable t. t) _ (all_filter (WaitListed plan.graph) (λ waitable. takes_from_queue waitable.kind) (wait_set plan.graph) (waits_listed plan.graph)))));
+      (all_mapped (TakesListed plan.graph) (TakesListed plan.graph) queue_shape (λ queue t. t) _ (all_mapped (WaitListed plan.graph) (TakesListed plan.graph) (new_queue plan.order plan.graph) (λ waitable t. t) _ (all_filter (WaitListed plan.graph) (λ waitable. takes_from_queue waitable.kind) (wait_set plan.graph) (waits_listed plan.graph)))));
   listed = sym (servers_shaped world.servers) ∙ ap (λ (shape : WorldState). servers_of shape) same ∙ servers_shaped (map (new_server plan.graph) (entities_where is_server plan.graph)) ∙ new_servers plan.graph (entities_where is_server plan.graph);
 }

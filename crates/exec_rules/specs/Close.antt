@@ -23,7 +23,10 @@ use Rattle.exec_msg.specs.Lists.{change_first}
 use Rattle.exec_script.specs.declared.effects.Close.{Close}
 use Rattle.exec_script.specs.declared.effects.Close.TheVariants as close
 use Rattle.exec_task.specs.Task.{new_task}
-use Rattle.exec_rules.specs.World.{WorldState, HeldGoal, ServerEntry, ActionClientEntry, add_line, add_lines, push, push_any, goals_of, change_server, change_goals, has_room_for, action_client_at}
+use Rattle.exec_plan.specs.declared.order.Order.{Order}
+use Rattle.exec_plan.specs.declared.order.Order.TheVariants as order
+use Rattle.exec_rules.specs.World.{WorldState, HeldGoal, ServerEntry, ActionClientEntry, goals_of, has_room_for, is_for, action_client_at}
+use Rattle.exec_rules.specs.World.{add_line, add_lines, push, push_any, change_server, change_goals, arrived, next_arrival, with_arrival}
 use Rattle.exec_rules.specs.declared.item.Item.{Item}
 use Rattle.exec_rules.specs.declared.item.Item.TheVariants as item
 use Rattle.exec_rules.specs.declared.ready.Cause.{Cause}
@@ -64,22 +67,27 @@ abbrev pub accepted_lines : EntityNo → GoalId → Acceptance → List Line
 accepted_lines server id acceptance.Execute = line.State server id status.Accepted ∷ line.State server id status.Executing ∷ []
 accepted_lines server id acceptance.Defer = line.State server id status.Accepted ∷ []
 
--- what a server keeps beside the record of a goal that it accepts
-abbrev pub held_goal : Script → GoalRequest → HeldGoal
-held_goal script request =
-    record { id = request.id; client = request.client; work = Some (record { script = script; value = request.value; task = new_task }) }
-
--- a server that holds one more goal, accepted at a moment
-abbrev pub server_accepting : Moment → Acceptance → GoalRequest → ServerEntry → ServerEntry
-server_accepting moment how request entry = record entry {
-  goals = with_accepted request.id request.value moment how entry.goals;
-  held = entry.held ++ held_goal entry.handler.script request ∷ [];
+-- what a server keeps beside the record of a goal that it accepts, with the number of its arrival
+abbrev pub held_goal : ℕ → Script → GoalRequest → HeldGoal
+held_goal number script request = record {
+  id = request.id;
+  client = request.client;
+  work = Some (record { script = script; value = request.value; task = new_task });
+  arrival = number;
 }
 
--- a server accepts a goal at a moment
+-- a server that holds one more goal, accepted at a moment
+abbrev pub server_accepting : ℕ → Moment → Acceptance → GoalRequest → ServerEntry → ServerEntry
+server_accepting number moment how request entry = record entry {
+  goals = with_accepted request.id request.value moment how entry.goals;
+  held = entry.held ++ held_goal number entry.handler.script request ∷ [];
+}
+
+-- a server accepts a goal at a moment: the goal arrives
 abbrev pub accept : EntityNo → Moment → Acceptance → GoalRequest → WorldState → WorldState
 accept server moment how request world =
-    add_lines (accepted_lines server request.id how) (change_server server (server_accepting moment how request) world)
+    add_lines (accepted_lines server request.id how)
+    (change_server server (server_accepting (next_arrival world) moment how request) (with_arrival world))
 
 -- a goal request is accepted so, or not
 abbrev pub accept_where : Option Acceptance → EntityNo → Moment → GoalRequest → WorldState → WorldState
@@ -171,9 +179,21 @@ end_in (Some reached) server id by value moment world =
 abbrev pub end : EntityNo → GoalId → Event → ℤ → Moment → WorldState → WorldState
 end server id by value moment world = end_in (end_state id by (goals_of server world)) server id by value moment world
 
--- a poll that ended a goal ends it; one that pends leaves nothing to do
+-- a server's goal arrives anew
+abbrev pub goal_arrived : EntityNo → GoalId → WorldState → WorldState
+goal_arrived server id world =
+    change_server server (λ entry. record entry { held = change_first (is_for id) (arrived (next_arrival world)) entry.held })
+    (with_arrival world)
+
+-- a goal whose poll pends arrives anew, if the order asks for arrivals
+abbrev pub pend : Order → EntityNo → GoalId → WorldState → WorldState
+pend order.Kind server id world = world
+pend order.Arrival server id world = goal_arrived server id world
+
+-- a poll that ended a goal ends it, and one that pends has it arrive anew if the order asks for arrivals
 abbrev pub close_poll : EntityNo → GoalId → Moment → Close → WorldState → WorldState
 close_poll server id moment (close.Ended by value) world = end server id by value moment world
+close_poll server id moment close.Pending world = pend world.order server id world
 close_poll server id moment _ world = world
 
 -- ---- callbacks

@@ -1,7 +1,7 @@
 -- The callbacks that are ready at a snapshot, and what the snapshot takes.
-use Rattle.std.specs.Prelude.{ℕ, suc, pos, List, [], ◌∷◌, ◌++◌, length, map, drop, Bool, false, ◌&&◌, ◌==◌, if◌then◌else◌, Option, None, Some}
+use Rattle.std.specs.Prelude.{ℕ, suc, pos, List, [], ◌∷◌, ◌++◌, length, map, drop, get_or, Bool, false, ◌&&◌, ◌==◌, if◌then◌else◌, Option, None, Some}
 use Rattle.std.specs.List.{filter, find, flat_map, fold}
-use Rattle.std.specs.Option.{option_map_or}
+use Rattle.std.specs.Option.{option_map, option_map_or}
 use Rattle.exec_goal.specs.Cancel.{candidates}
 use Rattle.exec_goal.specs.Info.{info_of}
 use Rattle.exec_goal.specs.State.{is_canceling, is_worked_on}
@@ -23,7 +23,8 @@ use Rattle.exec_plan.specs.declared.order.Order.{Order}
 use Rattle.exec_plan.specs.declared.order.Order.TheVariants as order
 use Rattle.exec_rules.specs.Item.{taker_of, first_of, aux_of, id_of}
 use Rattle.exec_rules.specs.Sorting.{sorted_by}
-use Rattle.exec_rules.specs.World.{WorldState, Handler, TimerEntry, Queue, ServerEntry, ClientEntry, HeldGoal, goals_of, has_room_for, is_client_at, is_for}
+use Rattle.exec_rules.specs.World.{WorldState, Handler, TimerEntry, Queue, ServerEntry, ClientEntry, HeldGoal}
+use Rattle.exec_rules.specs.World.{goals_of, has_room_for, held_for, is_client_at, is_for, is_queue}
 use Rattle.exec_rules.specs.declared.item.Item.{Item}
 use Rattle.exec_rules.specs.declared.item.Item.TheVariants as item
 use Rattle.exec_rules.specs.declared.ready.Cause.{Cause}
@@ -134,13 +135,32 @@ placed_from position (one ∷ others) = record one { position = position } ∷ p
 abbrev pub all_ready : Moment → WorldState → List Ready
 all_ready moment world = flat_map (due_ready moment) world.timers ++ flat_map (queue_ready moment world) world.queues ++ flat_map (poll_ready moment) world.servers
 
--- the rank of a ready callback under an order
-abbrev pub rank_under : Order → Ready → ℕ
-rank_under order.Kind one = ready_number (kind_of one.cause)
+-- the number of the arrival of a queue's first item
+abbrev pub first_number : Queue → ℕ
+first_number queue = option_map_or (λ numbers. get_or numbers 0 0) queue.arrivals 0
+
+-- the same of an entity's queue of a kind
+abbrev pub first_arrival : EntityNo → Kind → WorldState → ℕ
+first_arrival entity kind world = option_map_or first_number (find (is_queue entity kind) world.queues) 0
+
+-- the number of the last arrival of a server's goal
+abbrev pub goal_arrival : EntityNo → GoalId → WorldState → ℕ
+goal_arrival server id world = option_map_or (λ held. held.arrival) (held_for server id world) 0
+
+-- the number of the arrival that made an entity's callback ready for this cause; a timer's is ready by none, and comes first
+abbrev pub arrival_for : EntityNo → Cause → WorldState → ℕ
+arrival_for entity cause.Due world = 0
+arrival_for entity (cause.Took taken) world = first_arrival entity (taker_of taken) world
+arrival_for entity (cause.Woke id value canceling) world = goal_arrival entity id world
+
+-- the rank of a ready callback of a world under an order
+abbrev pub rank_under : Order → WorldState → Ready → ℕ
+rank_under order.Kind world one = ready_number (kind_of one.cause)
+rank_under order.Arrival world one = arrival_for one.entity one.cause world
 
 -- the ready list: all that is ready, in the order of ranks
 abbrev pub ready_list : Moment → WorldState → List Ready
-ready_list moment world = placed_from 1 (sorted_by (rank_under world.order) (all_ready moment world))
+ready_list moment world = placed_from 1 (sorted_by (rank_under world.order world) (all_ready moment world))
 
 -- ---- what is taken
 
@@ -150,7 +170,7 @@ timer_taken moment entry = if is_due entry.timer moment then record entry { time
 
 -- a queue after it: its first item is taken
 abbrev pub queue_taken : Queue → Queue
-queue_taken queue = record queue { items = drop 1 queue.items }
+queue_taken queue = record queue { items = drop 1 queue.items; arrivals = option_map (drop 1) queue.arrivals }
 
 -- a service client whose call of a number is answered
 abbrev pub call_answered : ℕ → ClientEntry → ClientEntry

@@ -1,5 +1,5 @@
 -- The rounds of a plan on one thread, and their transcript.
-use Rattle.std.specs.Prelude.{ℕ, zero, suc, List, [], ◌∷◌, ◌++◌, length, map, replicate, Bool, is_some, ◌==◌, Option, None, true, false}
+use Rattle.std.specs.Prelude.{ℕ, zero, suc, List, [], ◌∷◌, ◌++◌, length, map, replicate, Bool, is_some, ◌==◌, Option, None, Some, true, false}
 use Rattle.std.specs.List.{filter, flat_map, fold}
 use Rattle.std.specs.Option.{unwrap_or}
 use Rattle.exec_goal.specs.Table.{GoalRecord, holds_id, expired, unexpired}
@@ -9,6 +9,8 @@ use Rattle.exec_plan.specs.Feeding.{fed_in}
 use Rattle.exec_plan.specs.Graph.{GraphData, of_entity, is_topic, is_timer, is_client, is_server, is_action_client, wait_set, declared_at, entity_of, callback_script, is_exclusive, entities_where, names_of, Waitable}
 use Rattle.exec_plan.specs.Plan.{PlanData, Fed, Feed}
 use Rattle.exec_plan.specs.declared.entity.Declared.{Declared}
+use Rattle.exec_plan.specs.declared.order.Order.{Order}
+use Rattle.exec_plan.specs.declared.order.Order.TheVariants as order
 use Rattle.exec_plan.specs.declared.entity.GraphEntity.{GraphEntity}
 use Rattle.exec_plan.specs.declared.entity.EntityOf.TheVariants.{Timer, Subscription, Client, Server, ActionClient}
 use Rattle.exec_plan.specs.declared.plan.FedOf.TheVariants.{Message, Goal, Cancel}
@@ -75,18 +77,24 @@ takes_from_queue kind.Timer = false
 takes_from_queue kind.Poll = false
 takes_from_queue _ = true
 
+-- the numbers of no items, if an order asks for numbers
+abbrev pub no_arrivals : Order → Option (List ℕ)
+no_arrivals order.Kind = None
+no_arrivals order.Arrival = Some []
+
 -- an empty queue of a kind
-abbrev pub queue_for : GraphData → Kind → EntityNo → GraphEntity → Queue
-queue_for graph kind number entity = record {
+abbrev pub queue_for : Order → GraphData → Kind → EntityNo → GraphEntity → Queue
+queue_for under graph kind number entity = record {
   handler = handler_for graph kind number entity;
   kind = kind;
   depth = queue_depth entity.is;
   items = [];
+  arrivals = no_arrivals under;
 }
 
 -- the queue of an entity's callbacks of a kind, before anything is sent to it
-abbrev pub new_queue : GraphData → Waitable → Queue
-new_queue graph waitable = queue_for graph waitable.kind waitable.entity (entity_at graph waitable.entity)
+abbrev pub new_queue : Order → GraphData → Waitable → Queue
+new_queue under graph waitable = queue_for under graph waitable.kind waitable.entity (entity_at graph waitable.entity)
 
 -- for how many ticks a server keeps a result, where it doesn't keep it without end
 abbrev pub timeout_in : Resolved → Option ℕ
@@ -144,9 +152,10 @@ new_action_clients graph place (number ∷ numbers) = action_client_for place nu
 abbrev pub first_world : PlanData → WorldState
 first_world plan = record {
   order = plan.order;
+  arrivals = 0;
   topics = map (new_topic plan.graph) (entities_where is_topic plan.graph);
   timers = map (new_timer plan.graph) (entities_where is_timer plan.graph);
-  queues = map (new_queue plan.graph) (filter (λ waitable. takes_from_queue waitable.kind) (wait_set plan.graph));
+  queues = map (new_queue plan.order plan.graph) (filter (λ waitable. takes_from_queue waitable.kind) (wait_set plan.graph));
   servers = map (new_server plan.graph) (entities_where is_server plan.graph);
   clients = map (new_client plan.graph) (entities_where is_client plan.graph);
   action_clients = new_action_clients plan.graph 0 (entities_where is_action_client plan.graph);

@@ -7,6 +7,7 @@ use Rattle.exec_msg.specs.Numbers.{EntityNo, GoalId}
 use Rattle.exec_script.specs.Instruction.{Script}
 use Rattle.exec_plan.specs.Graph.{GroupNo}
 use Rattle.exec_plan.specs.declared.order.Order.{Order}
+use Rattle.exec_plan.specs.declared.order.Order.TheVariants as order
 use Rattle.exec_msg.specs.KeepLast.{sent, displaced}
 use Rattle.exec_msg.specs.Kind.{ready_number}
 use Rattle.exec_msg.specs.Lists.{change_first}
@@ -33,12 +34,14 @@ pub record TimerEntry : Type 0 where
   pub handler : Handler
   pub timer : TimerState
 
--- a queue: the callback that takes from it, of which kind that is, its depth, and its items, the oldest first
+-- a queue: the callback that takes from it, of which kind that is, its depth, its items, the oldest first, and the number of
+-- each item's arrival, if the order asks for numbers
 pub record Queue : Type 0 where
   pub handler : Handler
   pub kind : Kind
   pub depth : ℕ
   pub items : List Item
+  pub arrivals : Option (List ℕ)
 
 -- a topic with its subscriptions, in the order of declaration
 pub record TopicEntry : Type 0 where
@@ -56,11 +59,12 @@ abbrev pub work_of : GoalTaskState → GoalWork
 work_of task = record { script = task.script; value = task.value; task = task.task }
 
 -- what a server keeps beside a goal's record, by identifier: the action client that sent the goal (none where it was fed),
--- and the goal's work (none while its task is out)
+-- the goal's work (none while its task is out), and the number of the goal's last arrival
 pub record HeldGoal : Type 0 where
   pub id : GoalId
   pub client : Option EntityNo
   pub work : Option GoalWork
+  pub arrival : ℕ
 
 -- a server: the callback that polls its goals, for how many ticks it keeps a result (without end where there is none), the
 -- records of its goals in order of acceptance, and what it keeps beside each
@@ -86,11 +90,12 @@ pub record ActionClientEntry : Type 0 where
   pub asks : Bool
   pub goals : ℕ
 
--- the world: the order in which ready callbacks are run; topics, timers, queues in the order of their kinds, servers, service
--- clients and action clients, each of the others in the order of declaration; the variables of each callback group (no callback of a reentrant group reads or writes its own); and
--- the lines so far
+-- the world: the order in which ready callbacks are run, and the number of the last arrival; topics, timers, queues in the
+-- order of their kinds, servers, service clients and action clients, each of the others in the order of declaration; the
+-- variables of each callback group (no callback of a reentrant group reads or writes its own); and the lines so far
 pub record WorldState : Type 0 where
   pub order : Order
+  pub arrivals : ℕ
   pub topics : List TopicEntry
   pub timers : List TimerEntry
   pub queues : List Queue
@@ -120,6 +125,25 @@ variables_of group world = slice_index_or world.variables group zeros
 abbrev pub with_variables : GroupNo → Variables → WorldState → WorldState
 with_variables group variables world = record world { variables = slice_set world.variables group variables }
 
+-- ---- arrivals
+
+-- the number of the next arrival: the order of kinds asks for no numbers, and each is 0 there
+abbrev pub next_in : Order → ℕ → ℕ
+next_in order.Kind last = 0
+next_in order.Arrival last = last + 1
+
+-- the number of a world's next arrival
+abbrev pub next_arrival : WorldState → ℕ
+next_arrival world = next_in world.order world.arrivals
+
+-- the world after one more arrival
+abbrev pub with_arrival : WorldState → WorldState
+with_arrival world = record world { arrivals = next_arrival world }
+
+-- what is held of a goal that arrived with this number
+abbrev pub arrived : ℕ → HeldGoal → HeldGoal
+arrived number held = record held { arrival = number }
+
 -- ---- queues
 
 -- whether a queue is that of an entity and a kind
@@ -130,13 +154,14 @@ is_queue entity kind queue = (queue.handler.entity == entity) && (ready_number q
 abbrev pub drop_line : EntityNo → Item → Line
 drop_line entity lost = line.Drop entity (taker_of lost) (first_of lost)
 
--- a queue after an item was sent to it
-abbrev pub queue_after : Item → Queue → Queue
-queue_after new queue = record queue { items = sent queue.depth new queue.items }
+-- a queue after an item was sent to it, with the number of its arrival
+abbrev pub queue_after : ℕ → Item → Queue → Queue
+queue_after number new queue = record queue { items = sent queue.depth new queue.items; arrivals = option_map (sent queue.depth number) queue.arrivals }
 
--- the world after an item was sent to an entity's queue of its kind
+-- the world after an item was sent to an entity's queue of its kind: the item arrives
 abbrev pub queued : EntityNo → Item → WorldState → WorldState
-queued entity new world = record world { queues = change_first (is_queue entity (taker_of new)) (queue_after new) world.queues }
+queued entity new world =
+    record (with_arrival world) { queues = change_first (is_queue entity (taker_of new)) (queue_after (next_arrival world) new) world.queues }
 
 -- what these queues lose by an item that is sent to an entity
 abbrev pub lost_from : EntityNo → Item → List Queue → List Item

@@ -3,4 +3,5 @@ pub mod ByKind
 pub mod Handling
 pub mod Homes
 pub mod Listing
+pub mod Numbering
 pub mod Places

@@ -22,11 +22,11 @@ use exec_task::{GoalTask, Poller, Turn};
 use std::alloc::Global;
 
 impl Ready {
-    /// Runs the callback apart from the world, with its group's variables and, where it polls a goal, that goal's task: gives
-    /// what it did, for the world to commit. A poll without a task does nothing, and the goal pends.
+    /// Runs the callback apart from the world, with the variables of its group. A poll is given its goal's task too. Gives what
+    /// the callback did, which the world is to commit. A poll without a task does nothing, and the goal pends.
     ///
     /// # Errors
-    /// [`Memory`] where a growth was refused. The variables stay as they were, and so does what the task does.
+    /// [`Memory`] if a growth was refused. The variables and the task's work don't change.
     pub fn run_apart(
         &self,
         alloc: Global,
@@ -73,7 +73,7 @@ impl Ready {
         })
     }
 
-    // Polls the goal's task. The list then has its effects, and these alone.
+    // Polls the goal's task. The list then has its effects alone.
     fn poll_apart(
         &self,
         canceling: bool,
@@ -100,11 +100,11 @@ impl Ready {
     }
 }
 
-/// Runs a callback that took an item, where this is its input; puts its effects behind those that are listed, and leaves what
-/// closes it where it is told.
+/// Runs a callback that took an item, if this is the callback's input. The effects are added after those that the list has.
+/// What closes the callback is left in `close`.
 ///
 /// # Errors
-/// [`Memory`] where a growth was refused. The variables and the effects may have changed.
+/// [`Memory`] if a growth was refused. The variables and the effects may have changed.
 #[inline(always)]
 pub fn take_item(
     alloc: Global,
@@ -136,11 +136,11 @@ pub fn take_item(
     }
 }
 
-/// Runs a callback's script once in a role, where this is the callback's input; puts its effects behind those that are listed,
-/// and leaves what closes it where it is told.
+/// Runs a callback's script once in a role, if this is the callback's input. The effects are added after those that the list
+/// has. What closes the callback is left in `close`.
 ///
 /// # Errors
-/// [`Memory`] where a growth was refused. The variables and the effects may have changed.
+/// [`Memory`] if a growth was refused. The variables and the effects may have changed.
 #[inline(always)]
 pub fn call_in(
     role: Role,
@@ -157,7 +157,7 @@ pub fn call_in(
     run_call_closing(instructions_of(one), role, bank, input, effects, close)
 }
 
-// The instructions of a callback's script; none is empty.
+// The instructions of a callback's script. There are none if there is no script.
 #[inline(always)]
 fn instructions_of(one: &Ready) -> &[Instr]
     ensures { result.now ≡ instructions_of one.now.script }
@@ -218,7 +218,7 @@ fn candidate_input(moment: Moment, candidate: &GoalInfo) -> Input
     }
 }
 
-/// The decision that closes a callback; any other closing rejects.
+/// The decision that closes a callback. If something else closes it, the decision is to reject.
 pub fn decision_in(closing: &Close) -> Decision
     ensures { result ≡ decision_in closing.now }
 {
@@ -228,7 +228,7 @@ pub fn decision_in(closing: &Close) -> Decision
     }
 }
 
-// The decision that closes a cancel handler's call for a candidate; any other closing rejects.
+// The decision that closes a cancel handler's call for a candidate. If something else closes it, the decision is to reject.
 fn cancel_decision_in(closing: &Close) -> CancelDecision
     ensures { result ≡ cancel_decision_in closing.now }
 {

@@ -5,7 +5,7 @@ use exec_msg::{EntityNo, Items, Memory, Moment};
 use exec_plan::{GroupNo, Script};
 use std::marker::Model;
 
-/// Whose callback it is: an entity's, of a callback group that is mutually exclusive or not, and with which script.
+/// Whose callback it is: the entity, its callback group, whether that is mutually exclusive, and the script.
 #[derive(Drop)]
 pub struct Handler {
     /// The entity.
@@ -16,7 +16,7 @@ pub struct Handler {
     pub exclusive: bool,
     /// What runs.
     pub script: Script,
-    // Another share in the script, where one is at hand: to make one takes an atomic step, and so does to drop it.
+    // Another share in the script, if there is one. It takes an atomic step to make one, and another to drop it.
     spare: Option<Script>,
 }
 
@@ -48,10 +48,10 @@ impl Handler {
         }
     }
 
-    /// The callback's script, which is shared.
+    /// The callback's script, as one more share in it.
     ///
     /// # Errors
-    /// [`Memory`] where the count of shares was refused one more.
+    /// [`Memory`] if one more share can't be counted.
     #[inline(always)]
     pub fn share_script(&self) -> Result<Script, Memory>
         ensures { IfOk result (λ script. script ≡ self.now.script) }
@@ -59,10 +59,10 @@ impl Handler {
         share(&self.script)
     }
 
-    /// The callback's script, which is shared, and which may be brought home.
+    /// The callback's script, as one more share in it. It may be brought home.
     ///
     /// # Errors
-    /// [`Memory`] where the count of shares was refused one more. The handler stays as it was.
+    /// [`Memory`] if one more share can't be counted. The handler doesn't change.
     #[inline(always)]
     pub fn take_script(&mut self) -> Result<Script, Memory>
         ensures script { IfOk result (λ script. script ≡ self.old.script) }
@@ -83,7 +83,7 @@ impl Handler {
         let _spare = self.spare.replace(script);
     }
 
-    /// The callback where it is ready; its place in the ready list isn't known yet.
+    /// The callback as one that is ready. Its place in the ready list isn't known yet.
     #[inline(always)]
     pub fn ready(
         &self,

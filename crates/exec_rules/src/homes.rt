@@ -1,19 +1,19 @@
-//! Where the scripts of ready callbacks come from. They are brought home when the round is done, so that the next round needs
-//! no new share in them.
+//! Which handlers the scripts of ready callbacks come from. The scripts are brought home when the round is done, so that the
+//! next round needs no new share in them.
 use exec_msg::Memory;
 use std::alloc::Global;
 
-/// Where a ready callback's script comes from: the callback's place in the ready list, and its handler's place among the timers
-/// or the queues, all from 0.
+/// Which handler a ready callback's script comes from. The callback has a place in the ready list, and the handler one among
+/// the timers or the queues. Both are from 0.
 #[derive(Clone, Copy)]
 pub struct Home {
-    /// The callback's place in the ready list.
+    /// The callback's place in the ready list, from 0.
     pub at: usize,
-    /// Its handler's place among the timers or the queues.
+    /// Its handler's place among the timers or the queues, from 0.
     pub place: usize,
 }
 
-/// Where the scripts come from that timers and queues gave.
+/// Which handlers the scripts come from, of timers and of queues.
 #[derive(Drop)]
 pub struct Homes {
     /// Those of timers.
@@ -36,7 +36,7 @@ impl Homes {
         }
     }
 
-    /// Forgets all; the room for them stays.
+    /// Forgets all. The room for them is kept.
     pub fn clear(&mut self)
         ensures timers { self.new.timers.items ≡ [] }
         ensures queues { self.new.queues.items ≡ [] }

@@ -4,7 +4,7 @@ ghost use Rattle.exec_rules.specs.Item.{taker_of, first_of, aux_of, id_of, goal_
 use exec_goal::CancelRequest;
 use exec_msg::{EntityNo, GoalId, GoalStatus, Kind, ReturnCode};
 
-/// What stands in a queue until a callback takes it.
+/// What is in a queue until a callback takes it.
 #[derive(Clone, Copy, Debug, PartialEq, Eq)]
 pub enum Item {
     /// A message to a subscription.
@@ -22,13 +22,13 @@ pub enum Item {
         number: u64,
         value: i64,
     },
-    /// A goal request to an action server, from the action client that sent it, or from none where it was fed.
+    /// A goal request to an action server, with the action client that sent it. It has none if it was fed.
     Goal {
         id: GoalId,
         client: Option<EntityNo>,
         value: i64,
     },
-    /// A cancel request to an action server, from the action client that sent it, or from none where it was fed.
+    /// A cancel request to an action server, with the action client that sent it. It has none if it was fed.
     Cancel {
         request: CancelRequest,
         client: Option<EntityNo>,
@@ -53,7 +53,7 @@ pub enum Item {
         id: GoalId,
         value: i64,
     },
-    /// A goal's result; the status of a goal that isn't held is `Unknown`.
+    /// A goal's result. The status of a goal that isn't held is `Unknown`.
     Result {
         id: GoalId,
         status: GoalStatus,
@@ -117,7 +117,7 @@ impl Item {
         }
     }
 
-    /// Its `aux`, where it is a cancel request with so many candidates.
+    /// Its `aux`. A cancel request needs the number of its candidates for it.
     #[inline(always)]
     pub fn aux(&self, candidates: usize) -> i64
         ensures { result ≡ aux_of self.now candidates }

@@ -1,5 +1,5 @@
 //! The rules of one executor thread: what an item, a ready callback and a world are, what a callback does, what a round does,
-//! and the transcript of a plan. The rules are definitions, in specs/; the code here is what all that follows them hands on.
+//! and the transcript of a plan. The rules are definitions, in specs/. The code here is what all crates that follow them share.
 #![tactic(auto)]
 
 mod callback;

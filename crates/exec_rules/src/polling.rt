@@ -1,4 +1,4 @@
-//! A poll of a goal's task, apart from where that is kept.
+//! A poll of a goal's task, wherever the task is kept.
 ghost use Rattle.std.specs.Prelude.{◌≡◌, true, Some, IfOk, IsSomeAnd, OnErr, OnOk};
 ghost use Rattle.std.specs.Option.{option_map};
 ghost use Rattle.exec_task.specs.Task.{is_awake};
@@ -11,7 +11,7 @@ use exec_script::{Bank, Close, EffectList};
 use exec_task::{Answer, GoalTask, Turn, is_awake, poll_goal_into};
 use futures::task::Context;
 
-// What closes a poll that is answered so.
+// What closes a poll with this answer.
 fn close_of(answer: Answer) -> Close
     ensures { result ≡ close_of_answer answer }
 {
@@ -21,11 +21,11 @@ fn close_of(answer: Answer) -> Close
     }
 }
 
-/// Polls a task where it isn't out and is awake, with the variables of its callback group, in a context that the caller has
-/// made, and answers what closes the poll. The list then has its effects, and these alone.
+/// Polls a task with the variables of its callback group, in a context that the caller has made. Answers what closes the poll.
+/// The list then has the poll's effects alone. A task that is out or isn't awake isn't polled, and pends.
 ///
 /// # Errors
-/// [`Memory`] where a growth was refused, which only a task that is awake asks for. The task and the variables stay as they were.
+/// [`Memory`] if a growth was refused. Only a task that is awake needs memory. The task's work and the variables don't change.
 #[inline(always)]
 pub fn poll_any(
     task: &mut Option<GoalTask>,
@@ -50,7 +50,7 @@ pub fn poll_any(
     Ok(close)
 }
 
-// Polls a task where it is awake.
+// Polls a task if it is awake.
 #[inline(always)]
 fn poll_task(
     task: &mut GoalTask,
@@ -67,7 +67,7 @@ fn poll_task(
     ensures unchanged { OnErr result (work_of task.new ≡ work_of task.old) }
     ensures unchanged_variables { OnErr result (bank.new ≡ bank.old) }
 {
-    // Emptied before the test, and not behind it, so that the compiler drops the same two steps of the poll.
+    // Emptied before the test, not after it. The compiler drops the same two steps of the poll only then.
     effects.clear();
     if !is_awake(task, turn.moment, turn.canceling) {
         return Ok(Close::Pending);

@@ -24,7 +24,7 @@ pub enum Cause {
     },
 }
 
-/// A goal that is awake at a snapshot: what its poll needs that runs where the list of these stands.
+/// A goal that is awake at a snapshot. It has what its poll needs, if the poll runs straight from the list of such goals.
 #[derive(Clone, Copy, Debug, PartialEq, Eq)]
 pub struct AwakeGoal {
     /// Its identifier.
@@ -56,10 +56,10 @@ pub struct Ready {
     pub moment: Moment,
     /// Why it is ready.
     pub cause: Cause,
-    /// Of a cancel request the goals that it may cancel, as they were at the snapshot, in the order of acceptance.
+    /// The goals that a cancel request may cancel, as they were at the snapshot, in the order of acceptance.
     pub candidates: Items<GoalInfo>,
-    /// What runs, of a cancel request once for each candidate. None for an ask, and none for a goal request whose identifier
-    /// is held, or that finds no room, at the snapshot.
+    /// What runs. For a cancel request it runs once for each candidate. An ask has none. A goal request has none if its
+    /// identifier is held at the snapshot, or if there is no room for one more goal.
     pub script: Option<Script>,
 }
 
@@ -90,8 +90,8 @@ impl Cause {
 }
 
 impl AwakeGoal {
-    /// The goal's poll at a moment. It has no place in a ready list and no share in a script; no poll asks for either. It takes
-    /// no memory.
+    /// The goal's poll at a moment. It has no place in a ready list and no share in a script, because no poll needs either. It
+    /// takes no memory.
     #[inline(always)]
     pub fn poll_at(&self, alloc: Global, moment: Moment) -> Ready
         ensures { result ≡ poll_at moment self.now }
@@ -121,7 +121,7 @@ impl Ready {
         self.cause.kind()
     }
 
-    /// What the callback is handed; a cancel handler is handed something else for each candidate.
+    /// What the callback is handed. A cancel handler is handed something else for each candidate.
     #[inline(always)]
     pub fn input(&self) -> Input
         ensures { result ≡ input_of self.now }
@@ -136,7 +136,7 @@ impl Ready {
         self.cause.id()
     }
 
-    /// The line with which the callback begins, where it is handed this.
+    /// The line with which the callback begins, if it is handed this.
     #[inline(always)]
     pub fn run_line(&self, input: &Input) -> Line
         ensures { result ≡ line_of self.now.entity self.now.cause input.now }

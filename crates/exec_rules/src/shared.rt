@@ -3,10 +3,10 @@ ghost use Rattle.std.specs.Prelude.{◌≡◌, IfOk};
 use exec_msg::Memory;
 use exec_plan::Script;
 
-/// The same script, which is shared.
+/// One more share in the same script.
 ///
 /// # Errors
-/// [`Memory`] where the count of shares was refused one more.
+/// [`Memory`] if one more share can't be counted.
 #[inline(always)]
 pub fn share(script: &Script) -> Result<Script, Memory>
     ensures { IfOk result (λ shared. shared ≡ script.now) }

@@ -22,7 +22,7 @@ impl Model for Slot {
 impl Slot {
     ghost use Rattle.std.specs.Prelude.{◌≡◌, ◌<◌, SomeIff};
 
-    /// The slot of a place, or `None` beyond 7.
+    /// The slot of a place, or `None` if the place is greater than 7.
     pub fn new(index: u8) -> Option<Slot>
         ensures { SomeIff result (index < 8) index }
     {
@@ -38,7 +38,7 @@ impl Slot {
     }
 }
 
-// Copies eight integers. All are read before one is written, so that nobody asks whether both overlap.
+// Copies eight integers. All are read before one is written, so that no test is needed whether the two overlap.
 #[inline(always)]
 pub(crate) fn copy_eight(from: &[i64], to: &mut [i64])
     requires { (length from.now ≡ 8) × (length to.old ≡ 8) }

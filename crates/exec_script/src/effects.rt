@@ -20,13 +20,13 @@ pub enum Effect {
         client: EntityNo,
         value: i64,
     },
-    /// An action client sends a cancel request with no identifier; its stamp is in ticks, and 0 is none.
+    /// An action client sends a cancel request with no identifier. Its stamp is in ticks, and 0 is none.
     CancelAll {
         client: EntityNo,
         stamp: u64,
     },
-    /// An action client sends a cancel request for its goal of this number; 0 is no goal of
-    /// it. Its stamp is in ticks, and 0 is none.
+    /// An action client sends a cancel request for its goal of this number. 0 is no goal of it. The stamp is in ticks, and 0
+    /// is none.
     CancelGoal {
         client: EntityNo,
         goal: u64,
@@ -53,8 +53,7 @@ pub enum Close {
     Decide(Decision),
     /// A cancel handler's decision of one candidate.
     DecideCancel(CancelDecision),
-    /// A cancel handler's decisions in the order of its candidates, each with the candidate's
-    /// identifier.
+    /// A cancel handler's decisions, in the order of its candidates, each with the candidate's identifier.
     Decisions(Items<(GoalId, CancelDecision)>),
     /// The goal pends.
     Pending,
@@ -65,10 +64,10 @@ pub enum Close {
 impl Close {
     ghost use Rattle.std.specs.Prelude.{◌≡◌, IfOk};
 
-    /// A copy, with decisions in room of their own.
+    /// A copy. The decisions in it have room of their own.
     ///
     /// # Errors
-    /// [`Memory`] where a growth was refused.
+    /// [`Memory`] if a growth was refused.
     pub fn copy_of(alloc: Global, close: &Close) -> Result<Close, Memory>
         ensures { IfOk result (λ copy. copy ≡ close.now) }
     {
@@ -117,7 +116,7 @@ impl EffectList {
     /// A copy, in room of its own.
     ///
     /// # Errors
-    /// [`Memory`] where a growth was refused.
+    /// [`Memory`] if a growth was refused.
     pub fn copy_of(alloc: Global, effects: &EffectList) -> Result<EffectList, Memory>
         ensures { IfOk result (λ copy. copy ≡ effects.now) }
     {
@@ -126,7 +125,10 @@ impl EffectList {
         })
     }
 
-    /// Adds an effect at the end. Where memory is refused, the list stays as it was.
+    /// Adds an effect at the end.
+    ///
+    /// # Errors
+    /// [`Memory`] if a growth was refused. The list doesn't change.
     pub fn push(&mut self, effect: Effect) -> Result<(), Memory>
         ensures ok { OnOk result (self.new ≡ self.old ++ effect ∷ []) }
         ensures unchanged { OnErr result (self.new ≡ self.old) }
@@ -142,7 +144,7 @@ impl EffectList {
         self.items.len()
     }
 
-    /// Lets all effects go, and keeps their room.
+    /// Drops all effects, and keeps their room.
     pub fn clear(&mut self)
         ensures { self.new ≡ [] }
     {
@@ -172,7 +174,7 @@ impl Effects {
     /// A copy, in room of its own.
     ///
     /// # Errors
-    /// [`Memory`] where a growth was refused.
+    /// [`Memory`] if a growth was refused.
     pub fn copy_of(alloc: Global, effects: &Effects) -> Result<Effects, Memory>
         ensures { IfOk result (λ copy. copy ≡ effects.now) }
     {

@@ -48,7 +48,7 @@ impl Source {
         8 <= self.0 && self.0 < 16
     }
 
-    // Shows the operand that it and a constant are, with a space before it.
+    // Shows the operand that this source and a constant are, with a space before it.
     pub(crate) fn show<W: fmt::Write>(
         self,
         constant: i64,
@@ -65,7 +65,7 @@ impl Source {
     }
 }
 
-// Where a destination stands in a frame.
+// The place of a destination in a frame.
 #[derive(Clone, Copy, PartialEq, Eq)]
 pub(crate) struct Target(u8);
 
@@ -125,8 +125,8 @@ impl fmt::Debug for Target {
     }
 }
 
-// All that a script reads and writes while it runs, in one array: registers, group variables, `in`, `aux`, `now`, and
-// one integer that is always 0.
+// All that a script reads and writes while it runs, in one array: registers, group variables, `in`, `aux`, `now`, and one
+// integer that is always 0.
 #[derive(Drop)]
 pub(crate) struct Frame {
     values: [i64; 20],
@@ -148,14 +148,14 @@ impl Frame {
     ghost use Rattle.exec_script.specs.Zeros.{zeros};
     ghost use Rattle.exec_script.specs.inner.Cells.{cell_operand, constant_of};
 
-    // All are 0. A frame is filled where it stands: one that is handed on is copied as a whole just after it was filled, for
-    // which a processor waits.
+    // All are 0. A frame is filled in its place. A frame that is handed on would be copied as a whole just after it was filled,
+    // and a processor waits for that.
     #[inline(always)]
     pub(crate) fn new() -> Frame {
         Frame { values: [0; 20] }
     }
 
-    // Fills it with what a script's run from its top begins with.
+    // Fills it with what a script begins with at its top.
     #[inline(always)]
     pub(crate) fn begin(&mut self, bank: &Bank, input: &Input)
         ensures { self.new ≡ record { registers = zeros; variables = bank.now; input = input.now } }

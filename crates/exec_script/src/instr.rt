@@ -8,7 +8,7 @@ use exec_msg::EntityNo;
 use std::fmt;
 use std::marker::Model;
 
-/// Where a value comes from.
+/// What a value is read from.
 #[derive(Clone, Copy, Debug, PartialEq, Eq)]
 pub enum Operand {
     /// A value that the script writes.
@@ -19,7 +19,7 @@ pub enum Operand {
     Variable(Slot),
     /// `in`, the callback's input.
     In,
-    /// `aux`, what comes beside the input.
+    /// `aux`, what comes with the input.
     Aux,
     /// `now`, the round's moment in ticks.
     Now,
@@ -40,7 +40,7 @@ impl Operand {
     }
 }
 
-/// Where a value goes.
+/// What a value is written to.
 #[derive(Clone, Copy, Debug, PartialEq, Eq)]
 pub enum Destination {
     /// `r0` to `r7`.
@@ -62,9 +62,9 @@ pub enum Operation {
     Min,
     /// The greater, as signed numbers.
     Max,
-    /// 1 where the first is below the second as signed numbers, else 0.
+    /// 1 if the first is less than the second, as signed numbers, else 0.
     Lt,
-    /// 1 where the two are equal, else 0.
+    /// 1 if the two are equal, else 0.
     Eq,
 }
 
@@ -90,8 +90,8 @@ pub(crate) enum Opcode {
     Canceled,
 }
 
-// The parts of an instruction, side by side. An operand is what its source reads and its constant together, one of
-// which is 0. What an instruction doesn't use is 0; a skip's count is its second constant.
+// The parts of an instruction. An operand is what its source reads plus its constant, and one of the two is 0. What an
+// instruction doesn't use is 0. A skip's count is its second constant.
 #[derive(Clone, Copy, PartialEq, Eq)]
 pub(crate) struct Flat {
     pub(crate) left: i64,
@@ -135,7 +135,7 @@ impl Instr {
     ghost use Rattle.std.specs.Prelude.{◌≡◌};
     ghost use Rattle.exec_script.specs.Legality.{reach_of, names_variable, is_allowed};
 
-    // How many of the instructions behind it it may pass over.
+    // How many of the instructions after it it may pass over.
     pub(crate) fn reach(&self) -> u64
         ensures { result ≡ reach_of self.now }
     {
@@ -180,7 +180,7 @@ impl Instr {
     }
 }
 
-// An instruction is shown as scripts spell it, but for the numbers of entities, and the forms of `cancel`.
+// An instruction is shown as scripts spell it, except for the numbers of entities and the forms of `cancel`.
 impl fmt::Debug for Instr {
     fn fmt<W: fmt::Write>(&self, f: &mut fmt::Formatter<W>) -> fmt::Result {
         let flat = &self.flat;

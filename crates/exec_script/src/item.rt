@@ -14,7 +14,7 @@ pub(crate) fn operand_of(word: &Word) -> Option<Operand>
     operand_in(word.as_ref())
 }
 
-/// The same of a word that is read where it stands.
+/// The same of a word that is read without a copy.
 #[inline(always)]
 pub(crate) fn operand_in(word: WordRef<'_>) -> Option<Operand>
     ensures { result ≡ operand_of (word_of word.entry) }
@@ -25,7 +25,8 @@ pub(crate) fn operand_in(word: WordRef<'_>) -> Option<Operand>
     }
 }
 
-// The operand that a text names. Cells are asked first, since most operands are registers; no cell has the name of an input.
+// The operand that a text names. Cells are looked up first, because most operands are registers. No cell has the name of an
+// input.
 fn operand_named(text: &str) -> Option<Operand>
     ensures { result ≡ operand_named text.now }
 {
@@ -38,7 +39,7 @@ fn operand_named(text: &str) -> Option<Operand>
     }
 }
 
-// The operand that has a name of its own. Bytes are compared in place, where texts take a call for each name.
+// The operand that has a name of its own. Bytes are compared in place, because texts take a call for each name.
 fn input_named(text: &str) -> Option<Operand>
     ensures { result ≡ lookup (bytes_eq text.now) inputs }
 {
@@ -92,7 +93,7 @@ pub(crate) fn count_of(word: &Word) -> Option<u64>
     }
 }
 
-/// The text of a word, where it is one.
+/// The text of a word, if it is one.
 pub(crate) fn text_in(word: &Word) -> Option<&str>
     ensures { option_copied result ≡ text_in word.now }
 {

@@ -1,5 +1,5 @@
-//! Laws of scripts. Each holds for all scripts, from every state, and for effects that go anywhere: `S` is what they
-//! are put into, and `give` puts one there.
+//! Laws of scripts. Each holds for all scripts, from every state, and for effects that go anywhere: `S` is what they are put
+//! into, and `give` puts one there.
 
 ghost use Rattle.std.specs.Prelude.{◌≡◌, ◌≢◌, ℕ, ◌+◌, ◌<◌, ◌≤◌, ℤ, pos, List, [], length, true, Option, None, Some, Ok, IfSome};
 ghost use Rattle.std.specs.List.{All, Any};
@@ -21,7 +21,7 @@ pub fn decisions_are_made_by_their_numbers()
     ensures cancel { (made : CancelDecision) → cancel_decided (Some (pos (cancel_decision_number made))) ≡ made }
 {}
 
-/// A script that waits or yields goes on behind the place from which it came, and at most at its end.
+/// A script that waits or yields goes on after the place that it was resumed at, and at its end at the latest.
 pub fn goes_on_within_its_end<S>()
     ensures behind { (give : Effect → S → S) (script : List Instr) (place : ℕ) (registers variables : List ℤ) (answer : Option ℤ) (input : CallInput) (given : S) →
         IfSome (goes_on_at (resumed give script place registers variables answer input given).stop) (λ next. place < next) }
@@ -29,15 +29,15 @@ pub fn goes_on_within_its_end<S>()
         IfSome (goes_on_at (resumed give script place registers variables answer input given).stop) (λ next. next ≤ length script) }
 {}
 
-/// A script that `check` accepts for another role than a goal's own work never stops but at its end.
+/// A script that `check` accepts for another role than a goal's own work stops only at its end.
 pub fn only_goals_stop<S>()
     ensures { (give : Effect → S → S) (script : List Instr) (allowed : Place) (place : ℕ) (registers variables : List ℤ) (answer : Option ℤ) (input : CallInput) (given : S) →
         allowed.role ≢ role.Goal → legality_of script allowed ≡ Ok tt →
         (resumed give script place registers variables answer input given).stop ≡ stop.End }
 {}
 
-/// A script that `check` accepts in a reentrant group leaves the variables that it was given, and does the same for
-/// all variables.
+/// A script that `check` accepts in a reentrant group doesn't change the variables that it was given. What it does depends on
+/// no variable.
 pub fn reentrant_scripts_share_nothing<S>()
     ensures leaves { (give : Effect → S → S) (script : List Instr) (allowed : Place) (place : ℕ) (registers variables : List ℤ) (answer : Option ℤ) (input : CallInput) (given : S) →
         allowed.reentrant ≡ true → legality_of script allowed ≡ Ok tt →
@@ -48,7 +48,7 @@ pub fn reentrant_scripts_share_nothing<S>()
         ≡ state_with_variables variables (resumed give script place registers others answer input given) }
 {}
 
-/// A script that `check` accepts for a callback that answers nothing, or for a goal's own work, gives no answer.
+/// A script that `check` accepts gives no answer if it is for a callback that answers nothing, or for a goal's own work.
 pub fn callbacks_and_goals_give_no_answer<S>()
     ensures callback { (give : Effect → S → S) (script : List Instr) (allowed : Place) (place : ℕ) (registers variables : List ℤ) (input : CallInput) (given : S) →
         allowed.role ≡ role.Callback → legality_of script allowed ≡ Ok tt →
@@ -58,7 +58,7 @@ pub fn callbacks_and_goals_give_no_answer<S>()
         (resumed give script place registers variables None input given).answer ≡ None }
 {}
 
-/// Effects that are listed, and then given one after another, do what effects do that are given at once.
+/// Effects that are listed may be given later, one after another. They do the same as effects that are given at once.
 pub fn effects_may_be_given_later<S>()
     ensures call { (give : Effect → S → S) (script : List Instr) (variables : List ℤ) (input : CallInput) (given : S) →
         called give script variables input given ≡ given_later give given (call_of script variables input) }

@@ -8,19 +8,19 @@ use crate::instr::Instr;
 /// What kind of callback a script is for.
 #[derive(Clone, Copy, Debug, PartialEq, Eq)]
 pub enum Role {
-    /// A callback that answers nothing, as a timer's.
+    /// A callback that answers nothing, such as a timer's.
     Callback,
-    /// A service's, which replies.
+    /// A service's callback, which replies.
     Service,
-    /// A server's on a goal request, which it decides.
+    /// A server's callback on a goal request, which decides about it.
     GoalHandler,
-    /// A server's on a candidate of a cancel request, which it decides.
+    /// A server's callback on a candidate of a cancel request, which decides about it.
     CancelHandler,
     /// A goal's own work.
     Goal,
 }
 
-/// Where a script stands.
+/// What a script is for. It decides which instructions are allowed.
 #[derive(Clone, Copy, Debug, PartialEq, Eq)]
 pub struct Place {
     /// Whether its callback group is reentrant.
@@ -29,7 +29,10 @@ pub struct Place {
     pub role: Role,
 }
 
-/// Whether the script is allowed in its place, and if not the least of its faults.
+/// Whether the script is allowed in its place.
+///
+/// # Errors
+/// The least of its faults.
 pub fn check(script: &[Instr], place: Place) -> Result<(), ScriptFault>
     ensures { result ≡ legality_of script.now place }
 {

@@ -12,7 +12,8 @@ pub(crate) trait Results {
         ensures { result ≡ result_of operation left right };
 }
 
-/// All results are made, and one is picked: for many scripts that run in turn, whose operations a processor can't foresee.
+/// All results are made, and one is picked. This is for many scripts that run in turn, so that a processor can't foresee their
+/// operations.
 pub(crate) struct Picked;
 
 impl Results for Picked {
@@ -31,7 +32,8 @@ impl Results for Picked {
     }
 }
 
-/// The one result is made, behind a jump: for a script that runs many times in turn, whose operations a processor foresees.
+/// Only the one result is made, after a jump. This is for a script that runs many times in turn, so that a processor foresees
+/// its operations.
 pub(crate) struct Foreseen;
 
 impl Results for Foreseen {

@@ -35,8 +35,10 @@ impl Model for Input {
     ghost inverse = { λ call. record { first = call.first; aux = call.aux; moment = call.moment } };
 }
 
-/// Runs a script from its top to its end, with registers of 0, and closes it by its role. An empty one takes no memory. Where
-/// memory is refused, the bank stays as it was.
+/// Runs a script from its top to its end, with registers of 0, and closes it by its role. An empty one takes no memory.
+///
+/// # Errors
+/// [`Memory`] if a growth was refused. The bank doesn't change.
 pub fn run_call(
     alloc: Global,
     script: &[Instr],
@@ -53,8 +55,11 @@ pub fn run_call(
     Ok(Effects { list, close })
 }
 
-/// Runs a script as [`run_call`] does, and puts its effects behind those that are listed: a list that is used again and
-/// again has room already. Where memory is refused, the bank and the effects stay as they were.
+/// Runs a script as [`run_call`] does, and adds its effects after those that are listed. A list that was used before has room
+/// already.
+///
+/// # Errors
+/// [`Memory`] if a growth was refused. The bank and the effects don't change.
 pub fn run_call_into(
     script: &[Instr],
     role: Role,
@@ -72,8 +77,11 @@ pub fn run_call_into(
     Ok(close)
 }
 
-/// Runs a script as [`run_call_into`] does, and leaves what closes it where it is told: one that is answered is copied by each
-/// function that hands it on.
+/// Runs a script as [`run_call_into`] does, but leaves what closes it in `close`. An answer would be copied by each function
+/// that hands it on.
+///
+/// # Errors
+/// [`Memory`] if a growth was refused. The bank and the effects don't change.
 #[inline(always)]
 pub fn run_call_closing(
     script: &[Instr],
@@ -102,9 +110,11 @@ pub fn run_call_closing(
     Ok(())
 }
 
-/// Goes on with a script at a place, from these registers, until it stops, and says where. Its effects go behind
-/// those that are listed. A wait is for fewer than 2^63 ticks. At the script's end it takes no memory. Where memory is
-/// refused, the registers, the bank and the effects stay as they were.
+/// Goes on with a script at a place, from these registers, until it stops, and answers where. Its effects are added after those
+/// that are listed. A wait is for fewer than 2^63 ticks. At the script's end it takes no memory.
+///
+/// # Errors
+/// [`Memory`] if a growth was refused. The registers, the bank and the effects don't change.
 pub fn run_from(
     script: &[Instr],
     place: usize,
@@ -136,7 +146,7 @@ pub fn run_from(
     Ok(stop)
 }
 
-// Runs a script from a place until it stops, and says where. An instruction gives at most one effect, so there is room for
+// Runs a script from a place until it stops, and answers where. An instruction gives at most one effect, so there is room for
 // all of them.
 fn follow<R: Results>(
     script: &[Instr],
@@ -175,8 +185,8 @@ fn follow<R: Results>(
     }
 }
 
-// Runs the `set`s that stand at a place one after another, and says where they end. Scripts have many of them: in a loop of
-// their own all that it needs stays in a processor's registers.
+// Runs the `set`s from a place on, one after another, and answers where they end. Scripts have many of them. In a loop of their
+// own, all that it needs stays in a processor's registers.
 #[inline(always)]
 fn follow_sets<R: Results>(script: &[Instr], place: usize, frame: &mut Frame) -> usize
     ensures behind { place ≤ result }

@@ -3,7 +3,7 @@ ghost use Rattle.exec_script.specs.Spelling.{ScopeNames};
 
 use exec_msg::EntityNo;
 
-/// The names that a script may use, each with the number of what it names: topics of the whole document,
+/// The names that a script may use, each with the number of what it names. They are the topics of the whole document, and the
 /// clients and servers of the script's own node.
 pub trait Scope {
     ghost names: { Self → ScopeNames };

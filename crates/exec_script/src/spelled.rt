@@ -5,12 +5,12 @@ use crate::spelling::{Spelling, instruction_of, set_with};
 use crate::word::{Word, WordRef};
 use std::marker::Model;
 
-/// An instruction as a document spells it, in 32 bytes, seen by contracts as its words. A `set` takes no memory beside them.
+/// An instruction as a document spells it, in 32 bytes. Contracts see it as its words. A `set` takes no other memory.
 #[derive(Debug, Drop)]
 pub struct SpelledInstr(Kept);
 
-// A `set` is decoded where it is read, since it names nothing that a scope has. So are others, but most instructions of long
-// scripts are `set`s, and a `set`'s words take 240 bytes.
+// A `set` is decoded when it is read, because it names nothing that a scope has. Some others name nothing either, but most
+// instructions of long scripts are `set`s, and the words of a `set` take 240 bytes.
 #[derive(Debug, Drop)]
 enum Kept {
     Set(Instr),
@@ -43,7 +43,7 @@ impl SpelledInstr {
         SpelledInstr(Kept::Words(words))
     }
 
-    /// The `set` with these items, or `None` where they are misspelt.
+    /// The `set` with these items, or `None` if they are misspelt.
     pub fn set(
         destination: &str,
         operation: &str,

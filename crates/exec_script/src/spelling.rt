@@ -30,8 +30,10 @@ impl Spelling for Vec<Word> {
     }
 }
 
-/// The script that lists of words spell. Where one is misspelt, the fault is that of the first such
-/// instruction, and of its faults the least.
+/// The script that lists of words spell.
+///
+/// # Errors
+/// The least fault of the first instruction that is misspelt, or [`ScriptFault::Memory`] if a growth was refused.
 pub fn decode<W: Spelling, S: Scope>(
     alloc: Global,
     spelled: &[W],
@@ -101,7 +103,8 @@ fn set(items: &[Word]) -> Result<Instr, ScriptFault>
     }
 }
 
-/// The `set` with these items, or `None` where they are misspelt. A long script is mostly `set`s, so it is written in place.
+/// The `set` with these items, or `None` if they are misspelt. It is inlined, because most instructions of a long script are
+/// `set`s.
 #[inline(always)]
 pub(crate) fn set_with(
     destination: &str,

@@ -3,11 +3,11 @@ use exec_msg::Memory;
 use std::alloc::Global;
 use std::marker::Model;
 
-/// A text, seen by contracts as its bytes.
+/// A text. Contracts see it as its bytes.
 #[derive(Debug, Drop)]
 pub struct WordText(Held);
 
-// A text in place, or one with memory of its own.
+// A text in its place, or one with memory of its own.
 #[derive(Debug, Drop)]
 enum Held {
     Short(ArrayString<24>),
@@ -36,7 +36,7 @@ impl WordText {
     /// A word of a copy of this text. One of at most 24 bytes takes no memory.
     ///
     /// # Errors
-    /// [`Memory`] where a growth was refused.
+    /// [`Memory`] if a growth was refused.
     pub fn copy_of(alloc: Global, text: &str) -> Result<WordText, Memory>
         ensures copy { IfOk result (λ word. word ≡ text.now) }
         ensures short { length text.now ≤ 24 → IsOk result }
@@ -74,7 +74,7 @@ impl Word {
     /// A copy of a word. One of at most 24 bytes takes no memory.
     ///
     /// # Errors
-    /// [`Memory`] where a growth was refused.
+    /// [`Memory`] if a growth was refused.
     pub fn copy_of(alloc: Global, word: WordRef<'_>) -> Result<Word, Memory>
         ensures copy { IfOk result (λ copy. copy ≡ word_of word.entry) }
         ensures short { IsShort (word_of word.entry) → IsOk result }
@@ -85,7 +85,7 @@ impl Word {
         }
     }
 
-    /// The word where it stands.
+    /// The same word, without a copy.
     pub fn as_ref(&self) -> WordRef<'_>
         ensures { word_of result ≡ self.now }
     {
@@ -96,7 +96,7 @@ impl Word {
     }
 }
 
-/// A word, read where its text stands.
+/// A word that is read without a copy.
 #[derive(Clone, Copy, Debug)]
 pub enum WordRef<'a> {
     /// A text.

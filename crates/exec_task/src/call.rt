@@ -45,7 +45,10 @@ impl PendingCall {
         }
     }
 
-    /// Gives the call its reply, and wakes the task that waits for it. A call that has its reply stays as it was.
+    /// Gives the call its reply, and wakes the task that waits for it.
+    ///
+    /// # Errors
+    /// [`Already`] if the call has a reply. It doesn't change.
     pub fn complete(&mut self, value: i64) -> Result<(), Already>
         ensures call { self.new.call ≡ completed value self.old.call }
         ensures already { IsErr result ↔ IsSome self.old.call.reply }
@@ -60,8 +63,8 @@ impl PendingCall {
         Ok(())
     }
 
-    /// Ready with the reply once there is one. Until then the task that is polled waits for it. It takes no
-    /// memory, and so never answers `Memory`: where no waker can be made, the poll yields.
+    /// The reply, if there is one. Until then the task that is polled waits for it. No poll takes memory, so none answers
+    /// `Memory`. If no waker can be made, the poll yields.
     pub fn poll_reply(&mut self, cx: &mut Context<'_>) -> Result<Poll<i64>, Memory>
         ensures answer { result ≡ Ok (poll_of_reply self.old.call.reply) }
         ensures call { self.new.call ≡ self.old.call }

@@ -1,4 +1,4 @@
-//! Worked examples of goals' tasks: what each poll is answered, and that an ended task does nothing.
+//! Worked examples of goals' tasks: what each poll answers, and that an ended task does nothing.
 ghost use Rattle.std.specs.Prelude.{◌≡◌, ◌∷◌, [], pos, None, Some};
 ghost use Rattle.exec_msg.specs.declared.goal.Event.TheVariants as event;
 ghost use Rattle.exec_task.specs.Call.{new_call, completed, sources_of_call};
@@ -8,7 +8,7 @@ ghost use Rattle.exec_task.specs.declared.wait.Answer.TheVariants as answer;
 ghost use Rattle.exec_task.specs.declared.wait.Source.TheVariants as source;
 ghost use Rattle.exec_task.specs.declared.wait.Wait.TheVariants as wait;
 
-/// A goal that yields pends until the next round, ends in it, and is answered the same from then on.
+/// A goal that yields pends until the next round, and ends in it. From then on each poll gives the same answer.
 pub fn yield_once()
     ensures first { task_answer (after_polls yielding (at 10 ∷ []) new_task) ≡ answer.Pending wait.NextRound }
     ensures second { task_answer (after_polls yielding (at 10 ∷ at 10 ∷ []) new_task) ≡ answer.Ready (record { event = event.Succeed; value = pos 9 }) }
@@ -23,7 +23,7 @@ pub fn wait_for_a_time()
     ensures third { task_answer (after_polls waiting (at 10 ∷ at 12 ∷ at 15 ∷ []) new_task) ≡ answer.Ready (record { event = event.Succeed; value = pos 9 }) }
 {}
 
-/// A goal that waits is polled before its time where it is being canceled.
+/// A goal that waits is polled before its time if it is being canceled.
 pub fn wake_early()
     ensures { task_answer (after_polls waiting (at 10 ∷ canceling_at 12 ∷ []) new_task) ≡ answer.Ready (record { event = event.Succeed; value = pos 9 }) }
 {}
@@ -34,7 +34,7 @@ pub fn give_up()
     ensures asked { task_answer (after_polls giving_up (canceling_at 10 ∷ []) new_task) ≡ answer.Ready (record { event = event.Canceled; value = pos 7 }) }
 {}
 
-/// A goal whose script falls off its end starts again in the next round.
+/// A goal whose script comes to its end without ending it starts again in the next round.
 pub fn start_again()
     ensures { after_polls [] (at 10 ∷ []) new_task ≡ new_task }
 {}

@@ -38,7 +38,7 @@ impl Model for GoalTask {
 }
 
 impl GoalTask {
-    /// The task of a goal of this value, before its first poll. The script is shared, so this takes no memory.
+    /// The task of a goal of this value, before its first poll. It takes no memory, because the script is shared.
     pub fn new(script: Arc<Vec<Instr>>, value: i64) -> GoalTask
         ensures script { result.script ≡ (arc_value script).items }
         ensures value { result.value ≡ value }
@@ -57,7 +57,7 @@ impl GoalTask {
         }
     }
 
-    // Runs the script of an awake task on in a turn. One that ends waits for nothing any more.
+    // Goes on with the script of an awake task in a turn. A task that ends waits for nothing any more.
     fn run(&mut self, bank: &mut Bank, turn: &Turn, effects: &mut EffectList) -> Result<(), Memory>
         ensures ok { OnOk result (record { task = self.new.task; variables = bank.new; given = effects.new }
             ≡ ran turn.now self.old.task (run_of listed self.old.script self.old.value turn.now self.old.task bank.old effects.old)) }
@@ -80,7 +80,7 @@ impl GoalTask {
         ran
     }
 
-    // Waits for each source that wakes the task, or yields where none does; one that has ended waits for nothing.
+    // Waits for each source that wakes the task, or yields if none does. A task that has ended waits for nothing.
     fn listen(&mut self, cx: &mut Context<'_>)
         ensures same { IsSameGoal self.old self.new }
         ensures task { self.new.task ≡ self.old.task }
@@ -112,16 +112,16 @@ impl GoalTask {
     }
 }
 
-/// Whether a goal is to be polled in a round at this moment, in which it is being canceled or not: its wait, as the last
-/// poll that pended left it, is over, or it is canceling and wasn't polled so yet. One that has ended never is.
+/// Whether a goal is to be polled in a round at this moment. It is if the wait that its last poll left is over. It also is if
+/// it is being canceled, and wasn't polled so yet. A goal that has ended never is.
 pub fn is_awake(task: &GoalTask, moment: Moment, canceling: bool) -> bool
     ensures { result ≡ is_awake task.now.task (record { moment = moment; canceling = canceling }) }
 {
     task.progress.is_awake(moment, canceling)
 }
 
-/// From when on, in ticks, a goal is awake that isn't being canceled: 0 where it waits for the next round, the time where it
-/// waits until one, and 2^64 - 1, which no moment reaches, where it has ended.
+/// The moment from which on a goal is awake that isn't being canceled, in ticks. It is 0 if the goal waits for the next round.
+/// If it waits for a time, it is that time. If it has ended, it is 2^64 - 1, which no moment reaches.
 #[inline(always)]
 pub fn wakes_at(task: &GoalTask) -> u64
     ensures { result ≡ wake_of task.now.task }
@@ -130,10 +130,12 @@ pub fn wakes_at(task: &GoalTask) -> u64
 }
 
 /// Polls a goal in a round, with the variables of its callback group, in a context that the caller has made. A goal that is
-/// awake goes on with its script; another one, and one that has ended, answers as before and gives no effect. A goal that
-/// pends has registered with each source that wakes it, or has yielded.
+/// awake goes on with its script. Any other goal answers as before and has no effect, and so does one that has ended. A goal
+/// that pends has registered with each source that wakes it, or has yielded.
 ///
-/// Where memory is refused, the bank and all of the task stay as they were, but that it answers `Memory` from then on.
+/// # Errors
+/// [`Memory`] if a growth was refused now or in an earlier poll of the task. The bank and the task don't change, but the task
+/// answers [`Memory`] from then on.
 pub fn poll_goal(
     alloc: Global,
     task: &mut GoalTask,
@@ -154,8 +156,11 @@ pub fn poll_goal(
     Ok(Polled { effects, answer })
 }
 
-/// Polls a goal as [`poll_goal`] does. The list then has its effects, and these alone: one that is used again and again has
-/// room already. Where memory is refused, the list is empty.
+/// Polls a goal as [`poll_goal`] does. The list then has the poll's effects alone. A list that was used before has room
+/// already.
+///
+/// # Errors
+/// [`Memory`] as [`poll_goal`] does. The list is then empty.
 #[inline(always)]
 pub fn poll_goal_into(
     task: &mut GoalTask,

@@ -1,4 +1,4 @@
-//! Laws of goals' tasks: each function's contract says one. They hold for all scripts, from every state of a task, and
+//! Laws of goals' tasks. The contract of each function says one law. They hold for all scripts, from every state of a task, and
 //! for effects that go anywhere: `S` is what they are put into, and `give` puts one there.
 
 ghost use Rattle.std.specs.Prelude.{◌≡◌, ◌≢◌, ◌↔◌, ◌⊎◌, ℕ, ◌^◌, ◌-◌, ◌<◌, ◌≤◌, nat_le, ℤ, List, [], ◌∷◌, length, Bool, true, false, Contains, None, Some, IfSome, not, ◌&&◌, ◌||◌};
@@ -34,19 +34,19 @@ pub fn next_rounds_wake()
     ensures { (task : TaskState) (turn : Turn) → has_ended task ≡ false → task.waits ≡ wait.NextRound → is_awake task turn ≡ true }
 {}
 
-/// A task that waits until a time is awake exactly from that time on, or where it is canceling and wasn't told so.
+/// A task that waits until a time is awake exactly from that time on, or if it is being canceled and wasn't polled so.
 pub fn times_and_cancellation_wake()
     ensures { (task : TaskState) (turn : Turn) (time : ℕ) → has_ended task ≡ false → task.waits ≡ wait.Until time →
         (is_awake task turn ≡ true) ↔ ((time ≤ turn.moment) ⊎ ((turn.canceling ≡ true) × (task.told ≡ false))) }
 {}
 
-/// Whether a task that pends is awake is read from the wait that its last poll answered.
+/// The wait that the last poll of a pending task answered decides whether the task is awake.
 pub fn the_last_answer_wakes()
     ensures { (task : TaskState) (turn : Turn) (waits : Wait) → task_answer task ≡ answer.Pending waits →
         is_awake task turn ≡ (is_reached waits turn.moment || (turn.canceling && not task.told)) }
 {}
 
-/// Whether a task is awake that isn't being canceled is told by one moment, from which on it is.
+/// A task that isn't being canceled is awake from one moment on, and not before.
 pub fn one_moment_wakes()
     ensures { (task : TaskState) (moment : Moment) → moment < 2 ^ 64 - 1 →
         is_awake task (record { moment = moment; canceling = false }) ≡ nat_le (wake_of task) moment }
@@ -62,7 +62,7 @@ pub fn sleeping_tasks_stay<S>()
         task_answer (polled give script value turn task variables given).task ≡ task_answer task }
 {}
 
-/// A task that hasn't ended was told that it is being canceled once it was polled so, and not otherwise.
+/// A task that hasn't ended knows that it is being canceled after it was polled so. No other poll changes what it knows.
 pub fn polls_tell_of_cancellation<S>()
     ensures told { (give : Effect → S → S) (script : List Instr) (value : ℤ) (turn : Turn) (task : TaskState) (variables : List ℤ) (given : S) →
         has_ended task ≡ false → turn.canceling ≡ true →
@@ -89,7 +89,7 @@ pub fn only_canceling_goals_are_canceled<S>()
         IfSome (polled give script value turn task variables given).task.ending (λ ending. ending.event ≢ event.Canceled) }
 {}
 
-/// A goal's script ends it by its own event, but that `canceled` aborts a goal that isn't being canceled.
+/// A goal's script ends it by its own event. But `canceled` aborts a goal that isn't being canceled.
 pub fn scripts_choose_their_ending()
     ensures canceling { (by : Event) → ending_event true by ≡ by }
     ensures unasked { ending_event false event.Canceled ≡ event.Abort }
@@ -105,7 +105,7 @@ pub fn tasks_end_by_an_ending<S>()
     exec_script::laws::goals_end_by_an_ending::<S>();
 }
 
-/// A poll that pends until a time is woken by the clock at that time, and one that pends otherwise by the next round.
+/// A goal that pends until a time is woken by the clock at that time. One that pends otherwise is woken by the next round.
 pub fn pending_tasks_have_a_source<S>()
     ensures { (give : Effect → S → S) (script : List Instr) (value : ℤ) (turn : Turn) (task : TaskState) (variables : List ℤ) (given : S) (waits : Wait) →
         task_answer (polled give script value turn task variables given).task ≡ answer.Pending waits →
@@ -113,7 +113,7 @@ pub fn pending_tasks_have_a_source<S>()
         ⊎ ((time : ℕ) × (waits ≡ wait.Until time) × Contains (sources_of (polled give script value turn task variables given).task) (source.Clock time)) }
 {}
 
-/// A task that hasn't ended is awake exactly where it waits for the next round or one of its sources has come.
+/// A task that hasn't ended is awake exactly if it waits for the next round or one of its sources has come.
 pub fn sources_wake()
     ensures { (task : TaskState) (turn : Turn) → has_ended task ≡ false →
         (is_awake task turn ≡ true) ↔ ((task.waits ≡ wait.NextRound) ⊎ (list_any (has_come turn) (sources_of task) ≡ true)) }
@@ -127,7 +127,7 @@ pub fn tasks_stay_within_their_script<S>()
     exec_script::laws::goes_on_within_its_end::<S>();
 }
 
-/// Effects that a poll lists, and that are given later one after another, do what effects do that are given at once.
+/// Effects that a poll lists may be given later, one after another. They do the same as effects that are given at once.
 pub fn effects_may_be_given_later<S>()
     ensures { (give : Effect → S → S) (script : List Instr) (value : ℤ) (turn : Turn) (task : TaskState) (variables : List ℤ) (given : S) →
         polled give script value turn task variables given ≡ polled_later give given (polled listed script value turn task variables []) }
@@ -135,15 +135,14 @@ pub fn effects_may_be_given_later<S>()
     exec_script::laws::effects_may_be_given_later::<S>();
 }
 
-/// A call waits for its reply exactly as long as it has none, and keeps the first that comes.
+/// A call waits for its reply as long as it has none. It keeps the first reply that comes.
 pub fn calls_keep_their_first_reply()
     ensures waits { (call : CallState) → (sources_of_call call ≡ source.Reply ∷ []) ↔ (call.reply ≡ None) }
     ensures first { (call : CallState) (value : ℤ) → call.reply ≡ None → (completed value call).reply ≡ Some value }
     ensures keeps { (call : CallState) (reply value : ℤ) → call.reply ≡ Some reply → completed value call ≡ call }
 {}
 
-/// A goal's task and a call may be moved into another thread with all that they own, and so may what a poll is lent
-/// and gives.
+/// A goal's task and a call may be moved into another thread with all that they own. So may what a poll is lent and gives.
 pub fn tasks_cross_threads() {
     crosses_threads::<GoalTask>();
     crosses_threads::<PendingCall>();

@@ -4,15 +4,18 @@ use std::alloc::Global;
 use std::io;
 use std::random::RandomSource;
 
-/// Makes the contexts in which goals and calls are polled by hand. It stands for a task that nobody runs, so a waker of it
-/// does nothing. Many may be polled by one of these, one after another.
+/// Makes the contexts in which goals and calls are polled by hand. Its task is run by nobody, so a waker of it does nothing.
+/// One poller may serve many, one after another.
 #[derive(Drop)]
 pub struct Poller {
     task: Solo,
 }
 
 impl Poller {
-    /// A poller of its own. No poll by it is refused memory on its account later.
+    /// A poller of its own. It takes its memory here, because a poll can't answer later that the poller was refused memory.
+    ///
+    /// # Errors
+    /// [`Memory`] if a growth was refused.
     pub fn new(alloc: Global) -> Result<Poller, Memory> {
         match Solo::new(&(Nameless, alloc), Doorbell::spinning()) {
             Ok(task) => Ok(Poller { task }),
@@ -26,7 +29,7 @@ impl Poller {
     }
 }
 
-// Executors tell each other's tasks apart by a random name. Nobody runs a poller's task, so that all have the same name.
+// Executors tell each other's tasks apart by a random name. Nobody runs a poller's task, so all may have the same name.
 #[derive(Drop)]
 struct Nameless;
 

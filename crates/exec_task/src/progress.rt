@@ -9,7 +9,7 @@ use exec_msg::{Event, Memory, Moment};
 use exec_script::{Bank, EffectList, Input, Instr, Regs, Stop, run_from};
 use std::marker::Model;
 
-// How far a goal's script has come. What tells whether the goal is awake stands first, so that it lies together.
+// How far a goal's script has come. What decides whether the goal is awake comes first, so that it is together in memory.
 #[derive(Clone, Copy, Debug, PartialEq, Eq)]
 pub(crate) struct Progress {
     waits: Wait,
@@ -69,7 +69,7 @@ impl Progress {
         !self.has_ended() && (is_reached(self.waits, moment) || (canceling && !self.told))
     }
 
-    // From when on it is awake where it isn't being canceled.
+    // The moment from which on it is awake, if it isn't being canceled.
     #[inline(always)]
     pub(crate) fn wakes_at(&self) -> u64
         ensures { result ≡ wake_of self.now }
@@ -89,7 +89,7 @@ impl Progress {
         }
     }
 
-    // Runs the script on in a turn. Where memory is refused, all stays as it was.
+    // Goes on with the script in a turn. If memory is refused, nothing changes.
     pub(crate) fn run(
         &mut self,
         script: &[Instr],
@@ -157,7 +157,7 @@ fn is_reached(waits: Wait, moment: Moment) -> bool
     }
 }
 
-// From when on a task is awake that waits for this.
+// The moment from which on a task is awake that waits for this.
 fn wake_by(waits: Wait) -> u64
     ensures { result ≡ wake_by None waits }
 {
@@ -167,7 +167,7 @@ fn wake_by(waits: Wait) -> u64
     }
 }
 
-// The event by which a goal ends whose script ends it by this one.
+// The event that ends a goal, if its script ends it by this one.
 fn ending_event(canceling: bool, event: Event) -> Event
     ensures { result ≡ ending_event canceling event }
 {

@@ -5,8 +5,8 @@ ghost use Rattle.exec_task.specs.Wake.{LeftWaker};
 use futures::task::{Context, Poll, Source, Waker};
 use std::marker::Model;
 
-// A source that a task owns, with the slot for the waker that a poll leaves there. A waker that is laid aside stands there no
-// longer; it is kept for the next poll that waits, which then makes none.
+// A source that a task owns, with the slot for the waker that a poll leaves there. A waker that is laid aside no longer wakes
+// its task. It is kept for the next poll that waits, which then makes none.
 #[derive(Drop)]
 pub(crate) struct WakeSource {
     source: Source,
@@ -46,14 +46,14 @@ impl WakeSource {
         cx.register(&self.source, &mut self.slot)
     }
 
-    // The source has fired, or the task no longer waits for it: a waker that stands there wakes its task and goes.
+    // The source has fired, or the task no longer waits for it. A waker that isn't laid aside wakes its task, and is dropped.
     pub(crate) fn clear(&mut self)
         ensures { self.new ≡ record self.old { waker = None } }
     {
         self.slot = None;
     }
 
-    // The task that is polled has yielded, so that no waker needs to wake it: the one that stands there is laid aside.
+    // The task that is polled has yielded, so no waker needs to wake it. A waker in the slot is laid aside.
     pub(crate) fn lay_aside(&mut self)
         ensures { self.new ≡ record self.old { waker = None } }
     {

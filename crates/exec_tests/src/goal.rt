@@ -67,8 +67,8 @@ fn refusals_have_numbers(rt: HostRuntime) {
     same(&rt, Reject::from(Memory).number(), 3);
 }
 
-// A function that owns goals is proved over all that they drop, once for each way out: so a test makes them, and hands them
-// on at once.
+// A function that owns goals is proved over all that they drop, once for each way out. So a test makes them, and hands them on
+// immediately.
 #[test]
 fn a_table_of_three_goals(rt: HostRuntime) -> Result<(), Fail> {
     let mut goals = Goals::new(rt.alloc());
@@ -86,7 +86,7 @@ fn serves_three(rt: &impl Abort, goals: &mut Goals) -> Result<(), Fail> {
     Ok(())
 }
 
-// Goals 1 and 2 are deferred at 10 and 20, and goal 3 is executed at 30, each of value 5.
+// Goals 1 and 2 are deferred at 10 and 20, and goal 3 is executed at 30. Each has value 5.
 fn accepts_three(rt: &impl Abort, goals: &mut Goals) {
     let (deferred, executed) = (State::Accepted, State::Executing);
     same(
@@ -123,7 +123,7 @@ fn has(infos: &[GoalInfo], number: u128) -> bool {
     infos.iter().any(|info| info.id.number() == number)
 }
 
-// The return code of an answer, and the goals that moved: the first of them, and how many.
+// The return code of an answer, the first goal that moved, and how many moved.
 type Answered = (ReturnCode, Option<GoalId>, usize);
 
 fn answered(
@@ -153,7 +153,7 @@ fn cancels_until_20(rt: &impl Abort, goals: &mut Goals) -> Result<(), Fail> {
     Ok(())
 }
 
-// Goal 1 is CANCELING, and so no candidate; goal 9 isn't held.
+// Goal 1 is CANCELING, and so no candidate. Goal 9 isn't held.
 fn answers_of_one_goal(rt: &impl Abort, goals: &mut Goals) -> Result<(), Fail> {
     same(rt, selected(goals, 1, 0)?, [false, false, false]);
     let answer = answered(goals, 1, 0, &[])?;
@@ -207,8 +207,8 @@ fn forgets_goal_1(rt: &impl Abort, goals: &mut Goals) {
     same(rt, goals.state(id(2)), Some(State::Executing));
 }
 
-// A request's identifier and stamp, and whether it selects goals 1, 2 and 3 of those above: all of them, those accepted up
-// to the stamp, the named one whenever it was accepted, and both.
+// A request's identifier and stamp, and which of goals 1, 2 and 3 it selects: all of them, those accepted up to the stamp, the
+// named one whenever it was accepted, or both.
 const SELECTED: &[(u128, u64, [bool; 3])] = &[
     (0, 0, [true, true, true]),
     (0, 9, [false, false, false]),

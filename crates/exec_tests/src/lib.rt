@@ -1,5 +1,5 @@
-//! The tests of exec_msg, exec_script, exec_goal, exec_task, exec_plan, exec_graph and exec_doc by their public calls. They stand
-//! in a crate of their own since a crate with tests is proved twice, with them and without.
+//! The tests of exec_msg, exec_script, exec_goal, exec_task, exec_plan, exec_graph and exec_doc by their public calls. They are
+//! in a crate of their own, because a crate with tests is proved twice: with them and without.
 #![tactic(auto)]
 
 #[cfg(test)]

@@ -55,7 +55,7 @@ fn names(alloc: Global) -> Result<Names, AllocError> {
     Ok(Names::of(texts))
 }
 
-// A line is written whole, or is refused and leaves the text as it was.
+// A line is written whole, or is refused and doesn't change the text.
 fn written(alloc: Global, names: &Names, lines: &[Line]) -> Result<Vec<u8>, Fail> {
     let mut text = Vec::new(alloc);
     for line in lines {
@@ -70,7 +70,7 @@ fn written(alloc: Global, names: &Names, lines: &[Line]) -> Result<Vec<u8>, Fail
     Ok(text)
 }
 
-// A line is added whole, or is refused and leaves the lines as they were.
+// A line is added whole, or is refused and doesn't change the lines.
 fn added(alloc: Global, names: &Names, lines: &[Line]) -> Result<Vec<u8>, Memory> {
     let mut transcript = Transcript::new(alloc);
     for line in lines {
@@ -188,7 +188,7 @@ const LAST_LINES: [Line; 2] = [
     Line::End { rounds: 65_536 },
 ];
 
-// Adds lines to a list. Where memory is refused, it is as it was, and the call is made once more.
+// Adds lines to a list. If memory is refused, the list doesn't change, and the call is made once more.
 fn lists(lines: &mut LineList, more: &[Line]) -> Result<(), Fail> {
     for line in more {
         let before = lines.as_slice().len();
@@ -326,7 +326,7 @@ fn keeps_two(rt: &impl Abort, queue: &mut KeepLast<i64>) {
     same(rt, queue.len(), 0);
 }
 
-// A send that is refused leaves the queue as it was, and the next one makes its room.
+// A send that is refused doesn't change the queue. The next one makes its room.
 #[test]
 fn makes_room_with_the_first_item(rt: HostRuntime) -> Result<(), Fail> {
     let mut queue = LazyQueue::new(rt.alloc(), 2);
@@ -355,7 +355,7 @@ fn sends_two_more(rt: &impl Abort, queue: &mut LazyQueue<i64>) {
     );
 }
 
-// A timer behind a moment, at which it is called if it is due.
+// A timer after a moment. It is called then if it is due.
 fn after(timer: Timer, now: Moment) -> Timer {
     let mut timer = timer;
     if timer.due(now) {

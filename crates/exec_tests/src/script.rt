@@ -43,7 +43,7 @@ fn input(first: i64, aux: i64, ticks: u64) -> Input
     }
 }
 
-// Runs a script as a call. Where memory is refused, the bank has to be as it was, and the call is made once more.
+// Runs a script as a call. If memory is refused, the bank must not change, and the call is made once more.
 fn called(
     alloc: Global,
     script: &str,
@@ -190,7 +190,7 @@ fn keeps_variables_alone(rt: HostRuntime) -> Result<(), Fail> {
     Ok(())
 }
 
-// Calls into one list put their effects behind one another, until it is cleared.
+// Calls into one list add their effects one after another, until it is cleared.
 #[test]
 fn calls_into_one_list(rt: HostRuntime) -> Result<(), Fail> {
     let mut effects = EffectList::new(rt.alloc());
@@ -264,7 +264,7 @@ fn closes_by_the_role(rt: HostRuntime) -> Result<(), Fail> {
     Ok(())
 }
 
-// Whether a copy of what a call did has its effects and is closed as it is.
+// Whether a copy of what a call did has the same effects and the same close.
 fn is_call_copied(alloc: Global, role: Role, script: &str) -> Result<bool, Fail> {
     let effects = called(alloc, script, role, &mut Bank::new(), &input(5, 6, 7))?;
     let copy = Effects::copy_of(alloc, &effects)?;
@@ -319,7 +319,7 @@ impl Work {
         )
     }
 
-    // Goes on with a script. Where memory is refused, all is as it was, and the call is made once more.
+    // Goes on with a script. If memory is refused, nothing changes, and the call is made once more.
     fn goes_on(&mut self, script: &[Instr], place: usize) -> Result<Stop, Fail> {
         let (regs, bank, count) = (self.regs, self.bank, self.effects.len());
         if let Ok(stop) = self.run(script, place) {
@@ -331,7 +331,7 @@ impl Work {
         Ok(self.run(script, place)?)
     }
 
-    // Where a script stops first, and where it does then.
+    // Where a script stops first, and where it stops after that.
     fn stops(&mut self, script: &[Instr]) -> Result<[Stop; 2], Fail> {
         let first = self.goes_on(script, 0)?;
         let place = match first {
@@ -342,13 +342,13 @@ impl Work {
     }
 }
 
-// Where a script stops first, and where it does then.
+// Where a script stops first, and where it stops after that.
 fn stops(alloc: Global, script: &str) -> Result<[Stop; 2], Fail> {
     let instrs = decoded(alloc, script)?;
     Work::new(alloc).stops(instrs.as_slice())
 }
 
-// A script, and where it stops first and then.
+// A script, where it stops first, and where it stops after that.
 const STOPS: &[(&str, [Stop; 2])] = &[
     (
         "yield\nsucceed 9",
@@ -379,7 +379,7 @@ fn stops_and_goes_on(rt: HostRuntime) -> Result<(), Fail> {
     Ok(())
 }
 
-// A poll's effects go behind those that are listed, and registers are kept over the polls.
+// A poll's effects are added after those that are listed, and registers are kept over the polls.
 #[test]
 fn adds_to_the_effects(rt: HostRuntime) -> Result<(), Fail> {
     let instrs = decoded(

@@ -5,12 +5,12 @@ use exec_msg::Moment;
 use std::fmt::Debug;
 use std::process::Abort;
 
-// A function of its own, since each assertion in a test makes the test's proof longer.
+// A function of its own, because each assertion in a test makes the test's proof longer.
 pub(crate) fn same<T: PartialEq + Debug + Drop>(rt: &impl Abort, found: T, wanted: T) {
     assert_eq!(rt; found, wanted);
 }
 
-// As `same`, and tells where.
+// As `same`, and says where.
 pub(crate) fn same_at<T: PartialEq + Debug + Drop>(
     rt: &impl Abort,
     place: &str,

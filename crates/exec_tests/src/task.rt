@@ -159,7 +159,7 @@ impl Trial {
         }
     }
 
-    // Whether a poll is as it is said to be.
+    // Whether a poll is as it should be.
     fn takes(&mut self, step: Step) -> Result<bool, Memory> {
         if self.is_awake(step.ticks, step.canceling) != step.awake {
             return Ok(false);
@@ -174,7 +174,7 @@ impl Trial {
     }
 }
 
-// A function that owns a goal's task is proved over all that a task drops, once for each way out: so a goal is made here for
+// A function that owns a goal's task is proved over all that a task drops, once for each way out. So a goal is made here for
 // the tests, and lent once.
 fn goes(rt: &impl Abort, alloc: Global, script: &[Instr], steps: &[Step]) -> Result<(), Fail> {
     let mut goal = Trial::of(alloc, script)?;
@@ -251,7 +251,7 @@ fn waits_end_at_their_time(rt: HostRuntime) -> Result<(), Fail> {
     goes(&rt, rt.alloc(), &[wait(i64::MAX), succeed_9()], &steps)
 }
 
-// An ending, and the event by which a goal ends that isn't being canceled, and one that is.
+// An ending, the event that ends a goal that isn't being canceled, and the event that ends one that is.
 fn endings() -> [(Instr, Event, Event); 3] {
     [
         (Instr::succeed(value_7()), Event::Succeed, Event::Succeed),
@@ -329,7 +329,8 @@ fn keeps_registers(rt: &impl Abort, goal: &mut Trial) -> Result<(), Fail> {
     Ok(())
 }
 
-// Run with each allocation refused in turn, too. What is refused before the first poll leaves nothing to look at.
+// This is also run with each allocation refused, one after another. If one is refused before the first poll, nothing is left to
+// look at.
 #[test]
 fn a_refused_poll_leaves_all_as_it_was(rt: HostRuntime) {
     let script = [
@@ -400,7 +401,7 @@ fn a_call_is_a_future(rt: HostRuntime) -> Result<(), Fail> {
     Ok(())
 }
 
-// What a poll of a call answers, whether it takes the reply 8, and what a poll of the call with 1 more answers then.
+// What a poll of a call answers, whether it takes the reply 8, and what a poll of the call with 1 more answers after that.
 fn reply_and_map(poller: &Poller) -> (Poll<i64>, Result<(), Already>, Poll<i64>) {
     let mut context = poller.begin();
     let mut call = PendingCall::new(1);

@@ -1,5 +1,6 @@
-//! `exec_watched <workers> <quantum>`: `exec_run` under a gate that says that somebody watches. Each round with a ready callback
-//! is cut into lanes, claimed by as many workers as its words say, and streamed, whether that pays or not. It is for tests.
+//! `exec_watched <workers> <quantum>`: `exec_run` under a gate that says that somebody watches. Each round with a ready
+//! callback is cut into lanes, claimed by as many workers as its words say, and streamed, whether that pays or not. It is for
+//! tests.
 #![tactic(auto)]
 
 use exec_lane::Gate;

@@ -1,22 +1,25 @@
-//! A gate that counts what it is told.
+//! A gate that counts what is reported to it.
 use exec_lane::Gate;
 use exec_msg::Memory;
 use std::alloc::Global;
 use std::sync::atomic::AtomicU64;
 use std::sync::atomic::Ordering::SeqCst;
 
-/// Watches one round, and counts how often it is told of each of its positions.
+/// Watches one round, and counts how often each of its positions is reported.
 #[derive(Drop)]
 pub struct Counting {
-    // How often a worker came to each position, and how often its outcome came to the collector, from position 1 on.
+    // How often a worker came to each position, and how often its outcome came to the collector. The first position is 1.
     passed: Vec<AtomicU64>,
     took: Vec<AtomicU64>,
-    // How often it was told of another position.
+    // How often another position was reported to it.
     others: AtomicU64,
 }
 
 impl Counting {
-    /// A gate for a round of so many callbacks.
+    /// A gate for a round of this many callbacks.
+    ///
+    /// # Errors
+    /// [`Memory`] if a growth was refused.
     pub fn new(alloc: Global, callbacks: usize) -> Result<Counting, Memory> {
         Ok(Counting {
             passed: zeros(alloc, callbacks)?,
@@ -25,7 +28,7 @@ impl Counting {
         })
     }
 
-    /// Whether it was told once of each callback that ran, and of no other position.
+    /// Whether each callback that ran was reported once, and no other position.
     pub fn was_passed(&self) -> bool {
         self.others.load(SeqCst) == 0 && self.passed.iter().all(|count| count.load(SeqCst) == 1)
     }

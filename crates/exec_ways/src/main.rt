@@ -1,9 +1,9 @@
 //! `exec_ways <workers> <quantum>`: reads a document on standard input and runs it by each way in which workers share a round,
-//! under a gate that counts what it is told. It is for tests. For each way it prints a line: its name, how many callbacks ran, and
-//! how many outcomes came to the collector by the queue.
+//! under a gate that counts what is reported to it. It is for tests. For each way it prints a line: its name, how many
+//! callbacks ran, and how many outcomes came to the collector through the queue.
 //!
-//! Its status is 0 if each way left the transcript of one thread and told its gate what it owes, 1 if the document is refused or
-//! memory was, 2 if the words are wrong, and 3 if a way differs.
+//! Its status is 0 if each way left the transcript of one thread and reported to its gate what it owes. It is 1 if the document
+//! or memory is refused, 2 if the words are wrong, and 3 if a way differs.
 #![tactic(auto)]
 
 mod counting;
@@ -55,7 +55,7 @@ fn read_plan<R: Read + Drop>(alloc: Global, input: R) -> Result<Arc<Plan>, Refus
     Ok(Arc::new(alloc, read_document(alloc, &document)?)?)
 }
 
-// Runs a plan by a way, prints what ran, and tells the status that it comes to.
+// Runs a plan by a way, prints what ran, and answers the status that it comes to.
 fn try_way<H: Threads + Wait + Sync + Print>(
     rt: &H,
     alloc: Global,

@@ -1,4 +1,4 @@
-//! The ways in which workers share a round, each beside one thread.
+//! The ways in which workers share a round, each compared with one thread.
 ghost use Rattle.std.specs.Prelude.{◌≡◌, ◌<◌, false, true};
 ghost use Rattle.exec_rules.specs.Calls.{IsNext};
 
@@ -20,7 +20,7 @@ pub enum Way {
     Forked,
     /// Lanes are claimed.
     Claimed,
-    /// Lanes are claimed, and what the callbacks did is sent on.
+    /// Lanes are claimed, and what the callbacks did is sent on through a queue.
     Streamed,
 }
 
@@ -32,7 +32,7 @@ pub const WAYS: &[Way] = &[Way::Forked, Way::Claimed, Way::Streamed];
 pub enum Fault {
     /// A growth was refused.
     Memory,
-    /// Its gate was told of a position twice, not at all, or of none of the round.
+    /// A position was reported twice to its gate, or not at all, or isn't one of the round.
     Told,
     /// It left another transcript.
     Differs,
@@ -49,11 +49,14 @@ impl From<Memory> for Fault {
 pub struct Ran {
     /// How many callbacks.
     pub callbacks: usize,
-    /// How many of their outcomes came to the collector by the queue.
+    /// How many of their outcomes came to the collector through the queue.
     pub taken: usize,
 }
 
-/// Runs a plan by one thread and by workers in a way, each round under a gate that counts, and compares their lines.
+/// Runs a plan by one thread and by workers in a way, and compares their lines. Each round is under a gate that counts.
+///
+/// # Errors
+/// [`Fault`] says why the way isn't compared, or how it differs.
 pub fn compare<R: Threads + Wait + Sync>(
     rt: &R,
     alloc: Global,
@@ -130,7 +133,7 @@ fn lines_by<R: Threads + Wait + Sync>(
 }
 
 impl Ran {
-    // Adds a round of so many callbacks.
+    // Adds a round of this many callbacks.
     fn add(&mut self, callbacks: usize, gate: &Counting) -> Result<(), Fault> {
         if !gate.was_passed() {
             return Err(Fault::Told);

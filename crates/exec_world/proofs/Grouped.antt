@@ -56,7 +56,7 @@ all_below plan world same =
           (all_mapped (λ entry. IsBelow groups entry.handler) (λ entry. IsBelow groups entry.handler) timer_shape (λ entry below. below) _ (all_map (λ entry. IsBelow groups entry.handler) (new_timer plan.graph) (λ number. handler_within plan.graph kind.Timer number) (entities_where is_timer plan.graph))));
       queues = all_unmapped (λ queue. IsBelow groups queue.handler) queue_shape world.queues
           (subst (λ (queues : List Queue). AllByRecursion (λ queue. IsBelow groups queue.handler) queues) (sym (ap (λ (shape : WorldState). shape.queues) same))
-          (all_mapped (λ queue. IsBelow groups queue.handler) (λ queue. IsBelow groups queue.handler) queue_shape (λ queue below. below) _ (all_map (λ queue. IsBelow groups queue.handler) (new_queue plan.graph) (λ waitable. handler_within plan.graph waitable.kind waitable.entity) (filter (λ waitable. takes_from_queue waitable.kind) (wait_set plan.graph)))));
+          (all_mapped (λ queue. IsBelow groups queue.handler) (λ queue. IsBelow groups queue.handler) queue_shape (λ queue below. below) _ (all_map (λ queue. IsBelow groups queue.handler) (new_queue plan.order plan.graph) (λ waitable. handler_within plan.graph waitable.kind waitable.entity) (filter (λ waitable. takes_from_queue waitable.kind) (wait_set plan.graph)))));
       servers = all_unmapped (λ entry. IsBelow groups entry.handler) server_shape world.servers
           (subst (λ (servers : List ServerEntry). AllByRecursion (λ entry. IsBelow groups entry.handler) servers) (sym (ap (λ (shape : WorldState). shape.servers) same))
           (all_mapped (λ entry. IsBelow groups entry.handler) (λ entry. IsBelow groups entry.handler) server_shape (λ entry below. below) _ (all_map (λ entry. IsBelow groups entry.handler) (new_server plan.graph) (λ number. handler_within plan.graph kind.Poll number) (entities_where is_server plan.graph))));

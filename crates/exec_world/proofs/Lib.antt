@@ -1,7 +1,9 @@
+pub mod Arranged
 mod Begun
 pub mod Committed
 pub mod Giving
 pub mod Grouped
+pub mod InArrival
 mod KeptBanks
 pub mod ListedFronts
 pub mod Polled

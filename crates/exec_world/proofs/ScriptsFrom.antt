@@ -6,12 +6,12 @@ use Rattle.exec_rules.specs.Transcript.{run_all}
 use Rattle.exec_rules.specs.World.{Handler, WorldState}
 use Rattle.exec_rules.specs.declared.homes.Homes.{Homes}
 use Rattle.exec_rules.specs.declared.ready.Ready.{Ready}
-use Rattle.exec_rules.specs.inner.ByKind.{taken_by_kind}
+use Rattle.exec_rules.specs.inner.ByKind.{taken_in_parts}
 use Rattle.exec_rules.specs.inner.Homes.{AreHomes, queue_handlers, timer_handlers}
 use Rattle.exec_world.specs.inner.Snapshots.{ScriptsComeFrom}
 
 pub come_after : (moment : Moment) (world taken after : WorldState) (first polls last list left : List Ready) (homes kept : Homes)
-    → ScriptsComeFrom world list homes → taken ≡ taken_by_kind moment world → after ≡ run_all last (run_all polls (run_all first taken)) → left ≡ list → kept ≡ homes
+    → ScriptsComeFrom world list homes → taken ≡ taken_in_parts moment world → after ≡ run_all last (run_all polls (run_all first taken)) → left ≡ list → kept ≡ homes
     → ScriptsComeFrom after left kept
 come_after moment world taken after first polls last list left homes kept come taken_is ran list_is homes_is =
     let begun = run_all first taken in

@@ -1,5 +1,5 @@
 -- What every world keeps, and what follows for the goals that callbacks poll.
-use Rattle.std.proofs.Common.{◌≡◌, ℕ, suc, Bool, true, false, ◌==◌, ◌&&◌, List, [], ◌∷◌, ◌++◌, Option, None, Some, refl, sym, ap, subst, ◌∙◌, true≢false}
+use Rattle.std.proofs.Common.{◌≡◌, ℕ, suc, Bool, true, false, ◌==◌, ◌&&◌, List, [], ◌∷◌, ◌++◌, Option, None, Some, refl, sym, ap, ap₂, append_assoc, subst, ◌∙◌, true≢false}
 use Rattle.std.specs.List.{AllByRecursion, IsDistinct, filter, find, flat_map}
 use Rattle.std.specs.Option.{option_map_or}
 use Rattle.std.specs.Result.{OnOk, is_err}
@@ -14,7 +14,7 @@ use Rattle.exec_plan.specs.Plan.{Feed, PlanData}
 use Rattle.exec_msg.specs.Lists.{change_first}
 use Rattle.exec_msg.specs.Timer.{is_due}
 use Rattle.exec_msg.specs.declared.line.Line.TheVariants as line
-use Rattle.exec_rules.proofs.ByKind.{listed, queues_rise, rounded, taken}
+use Rattle.exec_rules.proofs.ByKind.{QueuesRise, listed, queues_rise, split_by, taken}
 use Rattle.exec_rules.proofs.Identifiers.{HasDistinct, eq_turned, Makes, distinct_kept, first_distinct, ids_left}
 use Rattle.exec_rules.proofs.Keeping.{Kept, feed_keeps, ids, moves_kept, publish_kept, push_kept}
 use Rattle.exec_rules.proofs.Pairs.{Pairs, across, all_append, all_flat, all_mapped, all_weaker, all_passed, pairs_append, pairs_all, pairs_filter, pairs_map, pairs_unmapped}
@@ -26,16 +26,20 @@ use Rattle.exec_rules.proofs.Shapes.{part_changed, shape_kept}
 use Rattle.exec_rules.proofs.Wiring.{NumbersApart, numbers_apart, wired}
 use Rattle.exec_rules.specs.Calls.{AreHome, IsHomeFor, polls_same, polls_same_of, wakes}
 use Rattle.exec_rules.specs.Shape.{server_shape, shape_of}
-use Rattle.exec_rules.specs.Ready.{due_ready, is_goal_awake, is_task_awake, item_ready, poll_ready, placed_from, queue_ready, rank_under, ready_for, ready_list, take_inputs, turn_at, woken}
+use Rattle.exec_rules.specs.Ready.{all_ready, due_ready, is_goal_awake, is_task_awake, item_ready, poll_ready, placed_from, queue_ready, rank_under, ready_for, ready_list, take_inputs, turn_at, woken}
 use Rattle.exec_rules.specs.Sorting.{sorted_by}
-use Rattle.exec_rules.specs.Transcript.{expire, feed, first_world, snapshot_and_run, takes_from_queue}
+use Rattle.exec_rules.specs.Transcript.{expire, feed, first_world, run_all, snapshot_and_run, takes_from_queue}
 use Rattle.exec_rules.specs.World.{GoalWork, HeldGoal, Queue, ServerEntry, TimerEntry, WorldState, add_line, goals_of, is_for, is_server_at, with_work}
 use Rattle.exec_rules.specs.declared.item.Item.{Item}
 use Rattle.exec_rules.specs.declared.item.Item.TheVariants as item
 use Rattle.exec_rules.specs.declared.ready.Cause.{Cause}
 use Rattle.exec_rules.specs.declared.ready.Cause.TheVariants as cause
 use Rattle.exec_rules.specs.declared.ready.Ready.{Ready}
-use Rattle.exec_rules.specs.inner.ByKind.{listed_by_kind, round_by_kind, taken_by_kind}
+use Rattle.exec_rules.specs.inner.ByKind.{queues_before_polls, queues_behind_polls, ready_behind, taken_in_parts}
+use Rattle.exec_world.specs.inner.Snapshots.{listed_in, listed_under, ready_in_parts, round_in}
+use Rattle.exec_plan.specs.declared.order.Order.{Order}
+use Rattle.exec_plan.specs.declared.order.Order.TheVariants as order
+use Rattle.std.proofs.lemmas.Grind.{flat_map-append}
 use Rattle.exec_world.specs.inner.Sound.{IsSound}
 
 -- ---- what is kept
@@ -50,6 +54,7 @@ module _ (plan : PlanData) where
     queues_kept = λ entity new world p. record { shape = shapes.basic.queues_kept entity new world p.shape; kinds = kinds_kept.basic.queues_kept entity new world p.kinds; identifiers = distinct_kept.basic.queues_kept entity new world p.identifiers };
     goals_kept = λ server change world same p. record { shape = shapes.basic.goals_kept server change world same p.shape; kinds = kinds_kept.basic.goals_kept server change world same p.kinds; identifiers = distinct_kept.basic.goals_kept server change world same p.identifiers };
     tasks_kept = λ server id task world p. record { shape = shapes.basic.tasks_kept server id task world p.shape; kinds = kinds_kept.basic.tasks_kept server id task world p.kinds; identifiers = distinct_kept.basic.tasks_kept server id task world p.identifiers };
+    arrivals_kept = λ server id world p. record { shape = shapes.basic.arrivals_kept server id world p.shape; kinds = kinds_kept.basic.arrivals_kept server id world p.kinds; identifiers = distinct_kept.basic.arrivals_kept server id world p.identifiers };
     calls_kept = λ client world p. record { shape = shapes.basic.calls_kept client world p.shape; kinds = kinds_kept.basic.calls_kept client world p.kinds; identifiers = distinct_kept.basic.calls_kept client world p.identifiers };
     sending_kept = λ client world p. record { shape = shapes.basic.sending_kept client world p.shape; kinds = kinds_kept.basic.sending_kept client world p.kinds; identifiers = distinct_kept.basic.sending_kept client world p.identifiers };
     variables_kept = λ group variables world p. record { shape = shapes.basic.variables_kept group variables world p.shape; kinds = kinds_kept.basic.variables_kept group variables world p.kinds; identifiers = distinct_kept.basic.variables_kept group variables world p.identifiers };
@@ -66,7 +71,7 @@ module _ (plan : PlanData) where
 
   -- the first world is so
   pub first_sound : IsSound plan (first_world plan)
-  first_sound = record { shape = refl; kinds = kinds_first plan.graph (filter (λ waitable. takes_from_queue waitable.kind) (wait_set plan.graph)); identifiers = first_distinct plan }
+  first_sound = record { shape = refl; kinds = kinds_first plan.order plan.graph (filter (λ waitable. takes_from_queue waitable.kind) (wait_set plan.graph)); identifiers = first_distinct plan }
 
   lending : (id : GoalId) (work : Option GoalWork) → Makes (λ entry. record entry { held = change_first (is_for id) (λ held. record held { work = work }) entry.held }) (λ goals. goals)
   lending id work = record { stays = λ entry. refl; makes = λ entry. refl }
@@ -91,16 +96,29 @@ module _ (plan : PlanData) where
       let before : WorldState = feed fed (expire moment (add_line (line.Round number moment) world)) in
       run_all_keeps sound (ready_list moment before) (take_inputs moment before) (begun_sound number moment fed world p)
 
--- a sound world's snapshot is the one by kinds
-module _ (plan : PlanData) (moment : Moment) (world : WorldState) (p : IsSound plan world) where
-  pub sound_listed : ready_list moment world ≡ listed_by_kind moment world
-  sound_listed = listed moment world p.kinds (queues_rise plan world p.shape)
+-- what is ready is what is ready in its parts
+parts_ready : (moment : Moment) (world : WorldState) → QueuesRise world.queues → all_ready moment world ≡ ready_in_parts moment world
+parts_ready moment world rise =
+    let timers : List Ready = flat_map (due_ready moment) world.timers in
+    let polls : List Ready = flat_map (poll_ready moment) world.servers in
+    let before : List Ready = flat_map (queue_ready moment world) (queues_before_polls world) in
+    ap (λ (took : List Ready). (timers ++ took) ++ polls) (ap (flat_map (queue_ready moment world)) (split_by world.queues rise) ∙ flat_map-append (queue_ready moment world) (queues_before_polls world) (queues_behind_polls world))
+    ∙ ap (λ (list : List Ready). list ++ polls) (sym (append_assoc timers before (ready_behind moment world)))
 
-  pub sound_taken : take_inputs moment world ≡ taken_by_kind moment world
+-- a sound world's snapshot is the one that is made
+module _ (plan : PlanData) (moment : Moment) (world : WorldState) (p : IsSound plan world) where
+  listed_by : (under : Order) → world.order ≡ under → placed_from 1 (sorted_by (rank_under under world) (all_ready moment world)) ≡ listed_under under moment world
+  listed_by order.Kind is = ap (λ (under : Order). placed_from 1 (sorted_by (rank_under under world) (all_ready moment world))) (sym is) ∙ listed moment world p.kinds is (queues_rise plan world p.shape)
+  listed_by order.Arrival is = ap (λ (list : List Ready). placed_from 1 (sorted_by (rank_under order.Arrival world) list)) (parts_ready moment world (queues_rise plan world p.shape))
+
+  pub sound_listed : ready_list moment world ≡ listed_in moment world
+  sound_listed = listed_by world.order refl
+
+  pub sound_taken : take_inputs moment world ≡ taken_in_parts moment world
   sound_taken = taken moment world p.kinds
 
-  pub sound_rounded : snapshot_and_run moment world ≡ round_by_kind moment world
-  sound_rounded = rounded moment world p.kinds (queues_rise plan world p.shape)
+  pub sound_rounded : snapshot_and_run moment world ≡ round_in moment world
+  sound_rounded = ap₂ run_all sound_listed sound_taken
 
 -- what is told of a call that wasn't refused
 pub not_refused : {A E : Type 0} (result : Result A E) (fact : Type 0) → is_err result ≡ false → OnOk result fact → fact
@@ -312,8 +330,8 @@ snapshot_home plan moment world p =
     record {
       home = all_weaker (HasHome moment world) (HasHome moment (take_inputs moment world)) (λ one home. home_taken moment world one.entity one.cause home) (ready_list moment world)
           (all_listed (HasHome moment world) (λ place one q. q) moment world (homes timers none_due) (homes took none_taken) (all_home moment world world.servers found));
-      apart = distinct_of (ready_list moment world) (placed_apart 1 (sorted_by (rank_under world.order) (timers ++ took ++ polls))
-          (pairs_sorted Apart (rank_under world.order) (timers ++ took ++ polls) apart_turned
+      apart = distinct_of (ready_list moment world) (placed_apart 1 (sorted_by (rank_under world.order world) (timers ++ took ++ polls))
+          (pairs_sorted Apart (rank_under world.order world) (timers ++ took ++ polls) apart_turned
           (pairs_append Apart (timers ++ took) polls (pairs_all PollsNone Apart (λ one other q r. none_with one other q) (timers ++ took) none)
           (all_polls_apart moment world world.servers apart (goals_own moment world world.servers p.identifiers found)) (none_against (timers ++ took) polls none))));
     }

@@ -7,6 +7,7 @@ use Rattle.exec_plan.specs.Graph.{EntityData, GraphData, Waitable, cons_if, decl
 use Rattle.exec_plan.specs.declared.entity.Declared.{Declared}
 use Rattle.exec_plan.specs.declared.entity.Declared.TheVariants.{Topic}
 use Rattle.exec_msg.specs.declared.kind.Kind.{Kind}
+use Rattle.exec_plan.specs.declared.order.Order.{Order}
 use Rattle.exec_rules.specs.Transcript.{entity_at, new_action_clients, new_queue, takes_from_queue, action_client_for}
 use Rattle.exec_rules.specs.World.{ActionClientEntry, Queue}
 use Rattle.exec_world.specs.inner.Parts.{new_queue_of, queues_of}
@@ -42,35 +43,35 @@ as_they_are (number ∷ numbers) = ap (λ rest. number ∷ rest) (as_they_are nu
 
 -- ---- queues
 
-module _ (graph : GraphData) where
+module _ (under : Order) (graph : GraphData) where
   abbrev waits_of : Kind → List Waitable
   waits_of kind = map (λ entity. record { kind = kind; entity = entity }) (entities_where (has_kind kind) graph)
 
   -- the queues of these kinds
   abbrev pub queues_from : List Kind → List Queue
-  queues_from kinds = map (new_queue graph) (filter (λ waitable. takes_from_queue waitable.kind) (flat_map waits_of kinds))
+  queues_from kinds = map (new_queue under graph) (filter (λ waitable. takes_from_queue waitable.kind) (flat_map waits_of kinds))
 
   abbrev made : List Waitable → List Queue
-  made waitables = map (new_queue graph) (filter (λ waitable. takes_from_queue waitable.kind) waitables)
+  made waitables = map (new_queue under graph) (filter (λ waitable. takes_from_queue waitable.kind) waitables)
 
   of_kind : (kind : Kind) (b : Bool) (numbers : List EntityNo) (rest : List Waitable) → takes_from_queue kind ≡ b
-      → made (map (λ entity. record { kind = kind; entity = entity }) numbers ++ rest) ≡ (if b then map (new_queue_of graph kind) numbers else []) ++ made rest
+      → made (map (λ entity. record { kind = kind; entity = entity }) numbers ++ rest) ≡ (if b then map (new_queue_of under graph kind) numbers else []) ++ made rest
   of_kind kind true [] rest is = refl
   of_kind kind false [] rest is = refl
   of_kind kind true (number ∷ numbers) rest is =
       let more = filter (λ waitable. takes_from_queue waitable.kind) (map (λ entity. record { kind = kind; entity = entity }) numbers ++ rest) in
-      ap (λ b. map (new_queue graph) (cond b (record { kind = kind; entity = number } ∷ more) more)) is
-      ∙ ap (λ queues. new_queue_of graph kind number ∷ queues) (of_kind kind true numbers rest is)
+      ap (λ b. map (new_queue under graph) (cond b (record { kind = kind; entity = number } ∷ more) more)) is
+      ∙ ap (λ queues. new_queue_of under graph kind number ∷ queues) (of_kind kind true numbers rest is)
   of_kind kind false (number ∷ numbers) rest is =
       let more = filter (λ waitable. takes_from_queue waitable.kind) (map (λ entity. record { kind = kind; entity = entity }) numbers ++ rest) in
-      ap (λ b. map (new_queue graph) (cond b (record { kind = kind; entity = number } ∷ more) more)) is
+      ap (λ b. map (new_queue under graph) (cond b (record { kind = kind; entity = number } ∷ more) more)) is
       ∙ of_kind kind false numbers rest is
 
   -- the queues of one more kind stand behind the others
-  pub next_kind : (kinds : List Kind) (i : ℕ) (kind : Kind) (before after whole : List Queue) → i < length kinds → after ≡ before ++ queues_of graph (get_or kinds i kind) → before ++ queues_from (drop i kinds) ≡ whole → after ++ queues_from (drop (i + 1) kinds) ≡ whole
+  pub next_kind : (kinds : List Kind) (i : ℕ) (kind : Kind) (before after whole : List Queue) → i < length kinds → after ≡ before ++ queues_of under graph (get_or kinds i kind) → before ++ queues_from (drop i kinds) ≡ whole → after ++ queues_from (drop (i + 1) kinds) ≡ whole
   next_kind kinds i kind before after whole within declared so_far =
       ap (λ queues. queues ++ queues_from (drop (i + 1) kinds)) declared
-      ∙ append_assoc before (queues_of graph (get_or kinds i kind)) (queues_from (drop (i + 1) kinds))
+      ∙ append_assoc before (queues_of under graph (get_or kinds i kind)) (queues_from (drop (i + 1) kinds))
       ∙ ap (λ rest. before ++ rest) (sym (ap queues_from (drop_more kinds i kind within) ∙ of_kind (get_or kinds i kind) (takes_from_queue (get_or kinds i kind)) (entities_where (has_kind (get_or kinds i kind)) graph) (flat_map waits_of (drop (i + 1) kinds)) refl))
       ∙ so_far
 

@@ -1,4 +1,5 @@
 pub mod Adding
+pub mod Arrivals
 pub mod Banks
 pub mod Lending
 pub mod Mail

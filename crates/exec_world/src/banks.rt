@@ -11,7 +11,7 @@ use std::marker::Model;
 // The variables of each callback group.
 #[derive(Drop)]
 pub(crate) struct Banks {
-    // Those of each group, and behind them spare ones, for callbacks whose group keeps none.
+    // Those of each group, and after them spare ones, for callbacks whose group keeps none.
     banks: Vec<Bank>,
 }
 
@@ -31,7 +31,7 @@ impl Banks {
     ghost use Rattle.std.specs.Prelude.{◌≡◌, ◌<◌, replicate, slice_index_or, slice_set, if◌then◌else◌, IfOk};
     ghost use Rattle.exec_script.specs.Zeros.{zeros};
 
-    // The variables of so many groups, all 0.
+    // The variables of this many groups, all 0.
     pub(crate) fn new(alloc: Global, count: usize) -> Result<Banks, Memory>
         ensures { IfOk result (λ banks. banks ≡ replicate count zeros) }
     {
@@ -43,7 +43,7 @@ impl Banks {
         Ok(Banks { banks })
     }
 
-    // Those of a group; no group but the graph's has any.
+    // Those of a group. Only groups of the graph have any.
     pub(crate) fn get(&self, group: GroupNo) -> Bank
         ensures { result ≡ slice_index_or self.now group zeros }
     {
@@ -64,8 +64,8 @@ impl Banks {
         }
     }
 
-    // Those with which a callback runs, where they stand: its group's, or spare ones of 0 where that keeps none, as a reentrant
-    // one. What is left of the spare ones is nobody's.
+    // Those that a callback runs with, without a copy. They are its group's. If the group keeps none, because it is reentrant,
+    // they are spare ones of 0. Nobody uses what is left in the spare ones.
     #[inline(always)]
     pub(crate) fn lend(&mut self, exclusive: bool, group: GroupNo) -> &mut Bank
         ensures* lends { sem 𝓛 (LendsBank self.entry exclusive group result) }

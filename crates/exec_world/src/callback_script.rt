@@ -13,8 +13,8 @@ use exec_rules::share;
 use std::alloc::Global;
 use std::sync::Arc;
 
-// The script of an entity's callbacks of a kind, where it has such callbacks. That of an ask is empty, and so is that of a
-// result for which the action client has none.
+// The script of an entity's callbacks of a kind, if it has such callbacks. That of an ask is empty. That of a result is empty
+// if the action client has none for it.
 pub(crate) fn callback_script(
     alloc: Global,
     kind: Kind,

@@ -1,7 +1,7 @@
 use exec_msg::Memory;
 use thiserror::Error;
 
-/// Why a call of a world came to nothing.
+/// Why a call of a world failed.
 #[derive(Clone, Copy, Debug, PartialEq, Eq, Error)]
 pub enum WorldFault {
     /// A growth or a clone was refused. The world has failed from then on.
@@ -24,7 +24,7 @@ impl WorldFault {
     }
 }
 
-/// A world that answers a fault was refused memory, in that call or before.
+/// A fault means that the world was refused memory, in that call or before, or that it was marked as failed.
 impl From<WorldFault> for Memory {
     fn from(_fault: WorldFault) -> Memory {
         Memory

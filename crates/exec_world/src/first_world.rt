@@ -2,14 +2,16 @@
 ghost use Rattle.std.specs.Prelude.{◌≡◌, ◌<◌, ◌^◌, ◌++◌, [], false, true, length, map, IsTrue, OnOk, IfOk};
 ghost use Rattle.std.specs.List.{filter};
 ghost use Rattle.exec_plan.specs.Entity.{is_within};
-ghost use Rattle.exec_plan.specs.Graph.{callback_script, cons_if, entities_where, has_kind, in_group, is_action_client, is_client, is_exclusive, is_server, is_timer, is_topic, of_entity, wait_set};
-ghost use Rattle.exec_rules.specs.Transcript.{as_entity, new_action_clients, new_client, new_queue, new_server, new_timer, new_topic, subscribes_to, takes_from_queue, action_client_for, client_for, queue_for, server_for, timer_for};
+ghost use Rattle.exec_plan.specs.Graph.{callback_script, cons_if, entities_where, has_kind, in_group};
+ghost use Rattle.exec_plan.specs.Graph.{is_action_client, is_client, is_exclusive, is_server, is_timer, is_topic, of_entity, wait_set};
+ghost use Rattle.exec_rules.specs.Transcript.{as_entity, new_action_clients, new_client, new_queue, new_server, new_timer, new_topic};
+ghost use Rattle.exec_rules.specs.Transcript.{action_client_for, client_for, queue_for, server_for, timer_for, subscribes_to, takes_from_queue};
 ghost use Rattle.exec_world.specs.inner.Parts.{new_queue_of, queues_of};
 
 use crate::callback_script::callback_script;
 use exec_entity::{ActionClient, ActionClients, Client, Clients, Server, Servers, Topic, Topics};
 use exec_msg::{EntityNo, Kind, Memory};
-use exec_plan::{Declared, EntityOf, Graph, GraphEntity, Script};
+use exec_plan::{Declared, EntityOf, Graph, GraphEntity, Order, Script};
 use exec_queue::{EntityTimer, Queues};
 use exec_rules::{Handler, share};
 use std::alloc::Global;
@@ -48,7 +50,8 @@ fn push_timer_of(
     found: &GraphEntity,
 ) -> Result<(), Memory>
     requires { IsTrue (is_within found.now.is) }
-    ensures { OnOk result (timers.new.items ≡ timers.old.items ++ cons_if (is_timer (in_group found.now.group found.now.is)) (timer_for graph.now entity found.now) []) }
+    ensures { OnOk result (timers.new.items
+        ≡ timers.old.items ++ cons_if (is_timer (in_group found.now.group found.now.is)) (timer_for graph.now entity found.now) []) }
 {
     if let EntityOf::Timer(timer) = &found.is {
         let script = share(&timer.script)?;
@@ -59,21 +62,27 @@ fn push_timer_of(
 }
 
 // The queues of a graph in ready order, all empty.
-pub(crate) fn new_queues(alloc: Global, graph: &Graph) -> Result<Queues, Memory>
-    ensures { IfOk result (λ queues. queues ≡ map (new_queue graph.now) (filter (λ waitable. takes_from_queue waitable.kind) (wait_set graph.now))) }
+pub(crate) fn new_queues(alloc: Global, graph: &Graph, order: Order) -> Result<Queues, Memory>
+    ensures { IfOk result (λ queues. queues ≡ map (new_queue order graph.now) (filter (λ waitable. takes_from_queue waitable.kind) (wait_set graph.now))) }
 {
     let mut queues = Queues::new(alloc);
     for kind in Kind::IN_ORDER {
-        declare_kind(alloc, &mut queues, graph, kind)?;
+        declare_kind(alloc, &mut queues, graph, order, kind)?;
     }
     Ok(queues)
 }
 
-fn declare_kind(alloc: Global, queues: &mut Queues, graph: &Graph, kind: Kind) -> Result<(), Memory>
-    ensures { OnOk result (queues.new ≡ queues.old ++ queues_of graph.now kind) }
+fn declare_kind(
+    alloc: Global,
+    queues: &mut Queues,
+    graph: &Graph,
+    order: Order,
+    kind: Kind,
+) -> Result<(), Memory>
+    ensures { OnOk result (queues.new ≡ queues.old ++ queues_of order graph.now kind) }
 {
     if takes_from_queue(kind) {
-        declare_all(alloc, queues, graph, kind)
+        declare_all(alloc, queues, graph, order, kind)
     } else {
         Ok(())
     }
@@ -89,9 +98,15 @@ fn takes_from_queue(kind: Kind) -> bool
 }
 
 // Declares the queue of each entity that has callbacks of a kind.
-fn declare_all(alloc: Global, queues: &mut Queues, graph: &Graph, kind: Kind) -> Result<(), Memory>
+fn declare_all(
+    alloc: Global,
+    queues: &mut Queues,
+    graph: &Graph,
+    order: Order,
+    kind: Kind,
+) -> Result<(), Memory>
     requires { takes_from_queue kind ≡ true }
-    ensures { OnOk result (queues.new ≡ queues.old ++ map (new_queue_of graph.now kind) (entities_where (has_kind kind) graph.now)) }
+    ensures { OnOk result (queues.new ≡ queues.old ++ map (new_queue_of order graph.now kind) (entities_where (has_kind kind) graph.now)) }
 {
     for number in 0..graph.len() {
         let entity = EntityNo(number as u16);
@@ -99,6 +114,7 @@ fn declare_all(alloc: Global, queues: &mut Queues, graph: &Graph, kind: Kind) ->
             alloc,
             queues,
             graph,
+            order,
             kind,
             entity,
             graph.declaration(entity),
@@ -111,17 +127,21 @@ fn declare_queue(
     alloc: Global,
     queues: &mut Queues,
     graph: &Graph,
+    order: Order,
     kind: Kind,
     entity: EntityNo,
     declared: &Declared,
 ) -> Result<(), Memory>
     requires taken { takes_from_queue kind ≡ true }
     requires within { IsTrue (of_entity true is_within declared.now) }
-    ensures { OnOk result (queues.new ≡ queues.old ++ cons_if (has_kind kind declared.now) (queue_for graph.now kind entity (as_entity declared.now)) []) }
+    ensures { OnOk result (queues.new
+        ≡ queues.old ++ cons_if (has_kind kind declared.now) (queue_for order graph.now kind entity (as_entity declared.now)) []) }
 {
     match declared {
         Declared::Topic => Ok(()),
-        Declared::Entity(found) => declare_queue_of(alloc, queues, graph, kind, entity, found),
+        Declared::Entity(found) => {
+            declare_queue_of(alloc, queues, graph, order, kind, entity, found)
+        }
     }
 }
 
@@ -129,23 +149,25 @@ fn declare_queue_of(
     alloc: Global,
     queues: &mut Queues,
     graph: &Graph,
+    order: Order,
     kind: Kind,
     entity: EntityNo,
     found: &GraphEntity,
 ) -> Result<(), Memory>
     requires taken { takes_from_queue kind ≡ true }
     requires within { IsTrue (is_within found.now.is) }
-    ensures { OnOk result (queues.new ≡ queues.old ++ cons_if (has_kind kind (in_group found.now.group found.now.is)) (queue_for graph.now kind entity found.now) []) }
+    ensures { OnOk result (queues.new
+        ≡ queues.old ++ cons_if (has_kind kind (in_group found.now.group found.now.is)) (queue_for order graph.now kind entity found.now) []) }
 {
     let Some(script) = callback_script(alloc, kind, &found.is)? else {
         return Ok(());
     };
     let handler = handler(graph, entity, found, script);
     let depth = found.is.queue_depth() as usize;
-    queues.declare(handler, kind, depth)
+    queues.declare(handler, kind, depth, order)
 }
 
-// The servers of a graph, in the order of declaration, none with a goal.
+// The servers of a graph, in the order of declaration. None has a goal.
 pub(crate) fn new_servers(alloc: Global, graph: &Graph) -> Result<Servers, Memory>
     ensures { IfOk result (λ servers. servers ≡ map (new_server graph.now) (entities_where is_server graph.now)) }
 {
@@ -185,7 +207,8 @@ fn declare_server_of(
     entity: EntityNo,
     found: &GraphEntity,
 ) -> Result<(), Memory>
-    ensures { OnOk result (servers.new ≡ servers.old ++ cons_if (is_server (in_group found.now.group found.now.is)) (server_for graph.now entity found.now) []) }
+    ensures { OnOk result (servers.new
+        ≡ servers.old ++ cons_if (is_server (in_group found.now.group found.now.is)) (server_for graph.now entity found.now) []) }
 {
     if let EntityOf::Server(server) = &found.is {
         let script = share(&server.script)?;
@@ -195,7 +218,7 @@ fn declare_server_of(
     Ok(())
 }
 
-// The service clients of a graph, in the order of declaration, none with a call.
+// The service clients of a graph, in the order of declaration. None has a call.
 pub(crate) fn new_clients(alloc: Global, graph: &Graph) -> Result<Clients, Memory>
     ensures { IfOk result (λ clients. clients ≡ map (new_client graph.now) (entities_where is_client graph.now)) }
 {
@@ -235,7 +258,7 @@ fn declare_client_of(
     Ok(())
 }
 
-// The action clients of a graph, in the order of declaration, each with its place among them, and none with a goal.
+// The action clients of a graph, in the order of declaration, each with its place among them. None has a goal.
 pub(crate) fn new_action_clients(alloc: Global, graph: &Graph) -> Result<ActionClients, Memory>
     ensures { IfOk result (λ clients. clients ≡ new_action_clients graph.now 0 (entities_where is_action_client graph.now)) }
 {
@@ -253,7 +276,8 @@ fn declare_action_client(
     declared: &Declared,
 ) -> Result<(), Memory>
     requires { length clients.old < 2 ^ 16 }
-    ensures { OnOk result (clients.new ≡ clients.old ++ cons_if (is_action_client declared.now) (action_client_for (length clients.old) entity (as_entity declared.now)) []) }
+    ensures { OnOk result (clients.new
+        ≡ clients.old ++ cons_if (is_action_client declared.now) (action_client_for (length clients.old) entity (as_entity declared.now)) []) }
 {
     match declared {
         Declared::Topic => Ok(()),
@@ -267,7 +291,8 @@ fn declare_action_client_of(
     found: &GraphEntity,
 ) -> Result<(), Memory>
     requires { length clients.old < 2 ^ 16 }
-    ensures { OnOk result (clients.new ≡ clients.old ++ cons_if (is_action_client (in_group found.now.group found.now.is)) (action_client_for (length clients.old) entity found.now) []) }
+    ensures { OnOk result (clients.new ≡ clients.old
+        ++ cons_if (is_action_client (in_group found.now.group found.now.is)) (action_client_for (length clients.old) entity found.now) []) }
 {
     if let EntityOf::ActionClient(client) = &found.is {
         let place = clients.as_slice().len() as u16;

@@ -11,7 +11,7 @@ use exec_queue::Queues;
 use exec_rules::{Home, Item, ReadyList};
 use std::alloc::Global;
 
-// What a snapshot at a moment looks at when it lists callbacks that take from queues.
+// What a snapshot at a moment looks at to list the callbacks that take from queues.
 #[derive(Drop)]
 pub(crate) struct Fronts<'a> {
     pub(crate) alloc: Global,
@@ -100,7 +100,7 @@ impl<'a> Fronts<'a> {
     }
 }
 
-// The script that runs for an item of the queue at a place, if any, if its entity is this server, if it is one.
+// The script that runs for an item of the queue at a place, if one does. The server is the item's entity, if that is one.
 #[inline(always)]
 fn script_for(
     item: &Item,

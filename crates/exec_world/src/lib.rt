@@ -1,6 +1,7 @@
 //! The executor on one thread: the world, its rounds, and the transcript of a plan.
 #![tactic(auto)]
 
+mod arrived;
 mod banks;
 mod callback_script;
 mod fault;

@@ -1,13 +1,17 @@
 use crate::fronts::Fronts;
 use exec_entity::Servers;
 use exec_msg::{EntityNo, Line, Lines, Memory, Moment};
+use exec_plan::Order;
 use exec_queue::{Queues, bring_home_to_queues};
 use exec_rules::{Home, Item, ReadyList};
 use std::marker::Model;
 
-// Where goes what callbacks send: the queues of entities, and the lines of the transcript.
+// What callbacks send goes here: to the queues of entities, and to the lines of the transcript. It also has the order of ready
+// callbacks, and the number of the last arrival.
 #[derive(Drop)]
 pub(crate) struct Mail<L: Lines> {
+    order: Order,
+    arrivals: u64,
     queues: Queues,
     lines: L,
 }
@@ -17,11 +21,11 @@ impl<L: Lines> Model for Mail<L> {
 
     ghost Value = { MailState };
 
-    ghost view = { λ mail. record { queues = mail.queues; lines = L.lines mail.lines } };
+    ghost view = { λ mail. record { order = mail.order; arrivals = mail.arrivals; queues = mail.queues; lines = L.lines mail.lines } };
 }
 
 impl<L: Lines> Mail<L> {
-    ghost use Rattle.std.specs.Prelude.{◌≡◌, ◌++◌, ◌&&◌, map, OnOk};
+    ghost use Rattle.std.specs.Prelude.{◌≡◌, ◌++◌, ◌&&◌, map, IfOk, OnOk};
     ghost use Rattle.std.specs.Option.{option_to_list};
     ghost use Rattle.exec_rules.specs.World.{drop_line};
     ghost use Rattle.exec_rules.specs.Ready.{queue_taken};
@@ -32,23 +36,57 @@ impl<L: Lines> Mail<L> {
     ghost use Rattle.exec_rules.specs.inner.Places.{places_where};
     ghost use Rattle.exec_world.specs.inner.Snapshots.{fronts_at};
     ghost use Rattle.exec_queue.specs.inner.Queues.{has_item, is_in_part};
-    ghost use Rattle.exec_world.specs.inner.Mail.{with_line, sent_to, sent_to_any, sent_to_each};
+    ghost use Rattle.exec_world.specs.inner.Mail.{next_number, with_line, with_next, sent_to, sent_to_any, sent_to_each};
 
-    // Empty queues, and where lines go.
-    pub(crate) fn new(queues: Queues, lines: L) -> Mail<L>
-        ensures { result ≡ record { queues = queues; lines = L.lines lines } }
+    // Empty queues under an order, and what lines go to.
+    pub(crate) fn new(order: Order, queues: Queues, lines: L) -> Mail<L>
+        ensures { result ≡ record { order = order; arrivals = 0; queues = queues; lines = L.lines lines } }
     {
-        Mail { queues, lines }
+        Mail {
+            order,
+            arrivals: 0,
+            queues,
+            lines,
+        }
     }
 
-    // Where the lines go.
+    // The order in which ready callbacks run.
+    #[inline(always)]
+    pub(crate) fn order(&self) -> Order
+        ensures { result ≡ self.now.order }
+    {
+        self.order
+    }
+
+    // The number of the next arrival.
+    #[inline(always)]
+    fn next_number(&self) -> Result<u64, Memory>
+        ensures { IfOk result (λ number. number ≡ next_number self.now) }
+    {
+        match self.order {
+            Order::Kind => Ok(0),
+            Order::Arrival => self.arrivals.checked_add(1).ok_or(Memory),
+        }
+    }
+
+    // Counts one more arrival, and answers its number.
+    pub(crate) fn arrive(&mut self) -> Result<u64, Memory>
+        ensures number { IfOk result (λ number. number ≡ next_number self.old) }
+        ensures counted { OnOk result (self.new ≡ with_next self.old) }
+    {
+        let number = self.next_number()?;
+        self.arrivals = number;
+        Ok(number)
+    }
+
+    // What the lines go to.
     pub(crate) fn lines(&self) -> &L
         ensures { L.lines result.now ≡ self.now.lines }
     {
         &self.lines
     }
 
-    // Where the lines went.
+    // What the lines went to.
     pub(crate) fn into_lines(self) -> L
         ensures { L.lines result ≡ self.lines }
     {
@@ -62,8 +100,8 @@ impl<L: Lines> Mail<L> {
         &self.queues
     }
 
-    // Sets places to those of the queues that have an item, either of the kinds before polls or of those behind them, in
-    // ascending order.
+    // Makes `places` those of the queues that have an item, in ascending order. Either they are the queues of the kinds before
+    // polls, or those of the kinds after them.
     pub(crate) fn list_filled(
         &mut self,
         before_polls: bool,
@@ -106,8 +144,8 @@ impl<L: Lines> Mail<L> {
         self.queues.take_first();
     }
 
-    // Adds a line. It is written where it is made: one that is handed on is copied as a whole just after it was made, for which
-    // a processor waits.
+    // Adds a line. It is inlined into what makes the line. A line that is handed on would be copied as a whole just after it
+    // was made, and a processor waits for that.
     #[inline(always)]
     pub(crate) fn add_line(&mut self, line: Line) -> Result<(), Memory>
         ensures { OnOk result (self.new ≡ with_line line self.old) }
@@ -115,7 +153,7 @@ impl<L: Lines> Mail<L> {
         self.lines.add(&line)
     }
 
-    // Servers forget the goals whose results they keep no longer at a moment, each with its line, server by server.
+    // Servers forget the goals whose results they keep no longer at a moment, server by server. Each leaves its line.
     pub(crate) fn expire(&mut self, moment: Moment, servers: &mut Servers) -> Result<(), Memory>
         ensures servers { OnOk result (servers.new ≡ map (server_expired moment) servers.old) }
         ensures lines { OnOk result (self.new ≡ record self.old { lines = self.old.lines ++ flat_map (expire_lines moment) servers.old }) }
@@ -123,11 +161,13 @@ impl<L: Lines> Mail<L> {
         servers.expire(moment, &mut self.lines)
     }
 
-    // Sends an item to an entity: what its queue loses by it is dropped with a line.
+    // Sends an item to an entity, which is an arrival. What its queue loses by it is dropped with a line.
     pub(crate) fn send(&mut self, entity: EntityNo, item: Item) -> Result<(), Memory>
         ensures { OnOk result (self.new ≡ sent_to entity item self.old) }
     {
-        let lost = self.queues.send(entity, item)?;
+        let number = self.next_number()?;
+        let lost = self.queues.send(entity, item, number)?;
+        self.arrivals = number;
         self.add_lost(entity, lost)
     }
 

@@ -1,17 +1,21 @@
 //! What a round works with.
+use crate::arrived::Arrived;
 use exec_rules::{AwakeGoal, Homes, Ready, ReadyList};
 use exec_script::EffectList;
 use std::alloc::Global;
 use std::mem;
 
-// What a round lists, and what the callback that runs does. The next round uses the same memory again, and none of what is in it.
+// What a round lists, and what the callback that runs does. The next round uses the same memory again, but nothing that is in
+// it.
 #[derive(Drop)]
 pub(crate) struct Scratch {
-    // The callbacks that are ready, and where their scripts come from.
+    // The callbacks that are ready, and the handlers that their scripts come from.
     pub(crate) list: ReadyList,
     pub(crate) homes: Homes,
     // The goals that are awake.
     pub(crate) goals: Vec<AwakeGoal>,
+    // The numbers of arrivals, if callbacks run in their order.
+    pub(crate) arrivals: Vec<Arrived>,
     // The places of queues that have an item.
     pub(crate) places: Vec<usize>,
     // The effects of the callback that runs.
@@ -27,6 +31,7 @@ impl Scratch {
             list: ReadyList::new(alloc),
             homes: Homes::new(alloc),
             goals: Vec::new(alloc),
+            arrivals: Vec::new(alloc),
             places: Vec::new(alloc),
             effects: EffectList::new(alloc),
         }

@@ -1,4 +1,5 @@
 //! What changes while a plan is run.
+mod arrivals;
 mod callback;
 mod close;
 mod give;
@@ -15,18 +16,17 @@ use crate::first_world::{
 use crate::mail::Mail;
 use exec_entity::{ActionClients, Clients, Servers, Topics};
 use exec_msg::{Line, Lines, Memory};
-use exec_plan::{GroupNo, Order, Plan};
+use exec_plan::{GroupNo, Plan};
 use exec_queue::EntityTimer;
 use exec_script::Bank;
 use std::alloc::Global;
 use std::marker::Model;
 
-// The world of a plan: the order in which ready callbacks are run; topics, timers, queues, servers and clients, the variables of its callback groups, and the lines
-// so far.
+// The world of a plan: the order in which ready callbacks run, the number of the last arrival, topics, timers, queues, servers
+// and clients, the variables of its callback groups, and the lines so far.
 #[derive(Drop)]
 pub(crate) struct State<L: Lines> {
     alloc: Global,
-    order: Order,
     topics: Topics,
     timers: Vec<EntityTimer>,
     servers: Servers,
@@ -42,7 +42,8 @@ impl<L: Lines> Model for State<L> {
     ghost Value = { WorldState };
 
     ghost view = { λ state. record {
-      order = state.order;
+      order = state.mail.order;
+      arrivals = state.mail.arrivals;
       topics = state.topics;
       timers = state.timers.items;
       queues = state.mail.queues;
@@ -59,33 +60,33 @@ impl<L: Lines> State<L> {
     ghost use Rattle.exec_rules.specs.Transcript.{first_world};
     ghost use Rattle.exec_rules.specs.World.{add_line, variables_of, with_variables};
 
-    // The world of a plan before its first round, with no lines yet.
+    // The world of a plan before its first round. It has no lines yet.
     pub(crate) fn new(alloc: Global, plan: &Plan, lines: L) -> Result<State<L>, Memory>
         requires { L.lines lines ≡ [] }
         ensures { IfOk result (λ state. state ≡ first_world plan.now) }
     {
         let graph = plan.graph();
+        let order = plan.order();
         Ok(State {
             alloc,
-            order: plan.order(),
             topics: new_topics(alloc, graph)?,
             timers: new_timers(alloc, graph)?,
             servers: new_servers(alloc, graph)?,
             clients: new_clients(alloc, graph)?,
             action_clients: new_action_clients(alloc, graph)?,
             banks: Banks::new(alloc, graph.groups().len())?,
-            mail: Mail::new(new_queues(alloc, graph)?, lines),
+            mail: Mail::new(order, new_queues(alloc, graph, order)?, lines),
         })
     }
 
-    // Where the lines go.
+    // What the lines go to.
     pub(crate) fn lines(&self) -> &L
         ensures { L.lines result.now ≡ self.now.lines }
     {
         self.mail.lines()
     }
 
-    // Where the lines went.
+    // What the lines went to.
     pub(crate) fn into_lines(self) -> L
         ensures { L.lines result ≡ self.lines }
     {
@@ -99,7 +100,7 @@ impl<L: Lines> State<L> {
         self.mail.add_line(line)
     }
 
-    // The variables of a group; no group but the graph's has any.
+    // The variables of a group. Only groups of the graph have any.
     pub(crate) fn bank(&self, group: GroupNo) -> Bank
         ensures { result ≡ variables_of group self.now }
     {

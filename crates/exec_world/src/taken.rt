@@ -13,7 +13,7 @@ use exec_plan::Script;
 use exec_rules::{Cause, Handler, Item, Ready};
 use std::alloc::Global;
 
-// The callback that takes an item, where its entity is this server, if it is one, and this is the script that it runs, if any.
+// The callback that takes an item. `script` is what it runs, if it runs one. The server is the item's entity, if that is one.
 #[inline(always)]
 pub(crate) fn ready_for_item(
     alloc: Global,
@@ -44,10 +44,11 @@ fn candidates_for(
     }
 }
 
-// Whether a script runs for an item, where its entity is this server, if it is one.
+// Whether a script runs for an item. The server is the item's entity, if that is one.
 #[inline(always)]
 pub(crate) fn runs_script(item: &Item, server: Option<&Server>) -> bool
-    ensures { (script : Script) → script_to_take item.now (option_map_or (λ entry. entry.goals) (option_copied server.entry) []) script ≡ (if result then Some script else None) }
+    ensures { (script : Script)
+        → script_to_take item.now (option_map_or (λ entry. entry.goals) (option_copied server.entry) []) script ≡ (if result then Some script else None) }
 {
     match item {
         Item::Ask { .. } => false,

@@ -14,8 +14,8 @@ use std::alloc::Global;
 use std::marker::Model;
 use std::sync::Arc;
 
-/// What a plan's rounds change, and its transcript, whose lines go to `L`. A world that has failed answers
-/// [`WorldFault::Failed`] from then on where it is asked to go on, and changes nothing then.
+/// What the rounds of a plan change, and the transcript, whose lines go to `L`. Once a world has failed, each call that would
+/// go on answers [`WorldFault::Failed`] and changes nothing.
 #[derive(Drop)]
 pub struct World<L: Lines = LineList> {
     alloc: Global,
@@ -40,9 +40,18 @@ impl<L: Lines> Model for World<L> {
 
     ghost Value = { WorldData };
 
-    ghost view = { λ world. record { plan = arc_value world.plan; state = world.state; rounds = rounds_in world.round world.left; left = world.left; failed = world.failed } };
+    ghost view = { λ world. record {
+      plan = arc_value world.plan;
+      state = world.state;
+      rounds = rounds_in world.round world.left;
+      left = world.left;
+      failed = world.failed;
+    } };
 
-    ghost invariant = { λ world. (world.feed ≡ feeds_by_round (arc_value world.plan)) × (length world.feed ≡ length (arc_value world.plan).moments) × HasBegun world.round world.left × (world.failed ≡ false → IsSound (arc_value world.plan) world.state) };
+    ghost invariant = { λ world. (world.feed ≡ feeds_by_round (arc_value world.plan))
+        × (length world.feed ≡ length (arc_value world.plan).moments)
+        × HasBegun world.round world.left
+        × (world.failed ≡ false → IsSound (arc_value world.plan) world.state) };
 }
 
 impl World<LineList> {
@@ -53,7 +62,7 @@ impl World<LineList> {
     /// The world of a plan before its first round.
     ///
     /// # Errors
-    /// [`Memory`] where a growth or a clone was refused.
+    /// [`Memory`] if a growth or a clone was refused.
     pub fn new(alloc: Global, plan: Arc<Plan>) -> Result<World<LineList>, Memory>
         ensures { IfOk result (λ world. world ≡ new_world (arc_value plan)) }
     {
@@ -73,15 +82,16 @@ impl<L: Lines> World<L> {
     ghost use Rattle.std.specs.Prelude.{◌≡◌, ◌↔◌, ◌<◌, [], length, true, false, None, Some, IfOk, IfErr, OnOk};
     ghost use Rattle.std.specs.Arc.{arc_value};
     ghost use Rattle.exec_world.specs.Faults.{HasFailed};
-    ghost use Rattle.exec_rules.specs.Calls.{AreHome, HaveVariables, IsNext, after_all, after_commit, after_finish, after_round, after_snapshot, new_world, ready_in, world_after};
+    ghost use Rattle.exec_rules.specs.Calls.{AreHome, HaveVariables, IsNext, ready_in};
+    ghost use Rattle.exec_rules.specs.Calls.{after_all, after_commit, after_finish, after_round, after_snapshot, new_world, world_after};
     ghost use Rattle.exec_world.specs.declared.fault.WorldFault.TheVariants as fault;
     ghost use Rattle.exec_rules.specs.World.{GoalWork, variables_of, with_variables, with_work, work_at, work_of};
     ghost use Rattle.exec_rules.specs.Transcript.{lines_of};
 
-    /// The world of a plan before its first round, whose lines go where there are none yet.
+    /// The world of a plan before its first round. The lines go to `lines`, which has none yet.
     ///
     /// # Errors
-    /// [`Memory`] where a growth or a clone was refused.
+    /// [`Memory`] if a growth or a clone was refused.
     pub fn with_lines(alloc: Global, plan: Arc<Plan>, lines: L) -> Result<World<L>, Memory>
         requires { L.lines lines ≡ [] }
         ensures { IfOk result (λ world. world ≡ new_world (arc_value plan)) }
@@ -102,14 +112,14 @@ impl<L: Lines> World<L> {
         })
     }
 
-    /// Whether a call was refused memory, or the world was marked as failed: calls that go on answer `Failed` from then on.
+    /// Whether a call was refused memory, or the world was marked as failed. Calls that go on answer `Failed` from then on.
     pub fn is_failed(&self) -> bool
         ensures { result ≡ self.now.failed }
     {
         self.failed
     }
 
-    /// How many rounds are done: each is with its last commit, or at its snapshot where nothing is ready.
+    /// How many rounds are done. A round is done with its last commit, or with its snapshot if nothing is ready.
     pub fn rounds_done(&self) -> usize
         ensures { result ≡ self.now.rounds }
     {
@@ -127,7 +137,7 @@ impl<L: Lines> World<L> {
         self.left
     }
 
-    /// Whether this is the next round, and one of the plan, and the round before is done.
+    /// Whether this is the next round. It must be one of the plan, and the round before it must be done.
     pub fn is_next(&self, round: usize) -> bool
         ensures { (result ≡ true) ↔ IsNext round self.now }
     {
@@ -154,12 +164,12 @@ impl<L: Lines> World<L> {
         Ok(())
     }
 
-    /// Begins a round, and takes its inputs: gives the callbacks that are ready in it, in the order in which they run. Each is to
-    /// be committed, in that order. Each goal that they poll is held, its task at home, and no two of them poll one goal. The
-    /// variables of each mutually exclusive group are there.
+    /// Begins a round and takes its inputs. Gives the callbacks that are ready in it, in the order in which they run. Each is
+    /// to be committed, in that order. Each goal that they poll is held, and its task is at home. No two of them poll one goal.
+    /// The variables of each mutually exclusive group are there.
     ///
     /// # Errors
-    /// [`WorldFault::Memory`] where a growth or a clone was refused, [`WorldFault::Failed`] where the world had failed before.
+    /// [`WorldFault::Memory`] if a growth or a clone was refused, [`WorldFault::Failed`] if the world had failed before.
     pub fn snapshot(&mut self, round: usize) -> Result<Vec<Ready>, WorldFault>
         requires { self.old.failed ≡ false → IsNext round self.old }
         ensures ready { IfOk result (λ list. list.items ≡ ready_in round self.old) }
@@ -187,10 +197,10 @@ impl<L: Lines> World<L> {
         Ok(list)
     }
 
-    /// Gives to the world what the next of the last snapshot's callbacks did: its line, its effects and what closes it.
+    /// Gives to the world what the next callback of the last snapshot did: its line, its effects and what closes it.
     ///
     /// # Errors
-    /// [`WorldFault::Memory`] where a growth was refused, [`WorldFault::Failed`] where the world had failed before.
+    /// [`WorldFault::Memory`] if a growth was refused, [`WorldFault::Failed`] if the world had failed before.
     pub fn commit(&mut self, one: &Ready, effects: Effects) -> Result<(), WorldFault>
         requires { self.old.failed ≡ false → 0 < self.old.left }
         ensures committed { OnOk result (self.new ≡ after_commit one.now effects self.old) }
@@ -209,11 +219,11 @@ impl<L: Lines> World<L> {
         Ok(())
     }
 
-    /// Runs the callbacks of the last snapshot where they stand, one after another in the calling thread, which commits each
-    /// before the next one runs.
+    /// Runs the callbacks of the last snapshot one after another, in the calling thread. Each is committed before the next one
+    /// runs.
     ///
     /// # Errors
-    /// [`WorldFault::Memory`] where a growth or a clone was refused, [`WorldFault::Failed`] where the world had failed before.
+    /// [`WorldFault::Memory`] if a growth or a clone was refused, [`WorldFault::Failed`] if the world had failed before.
     pub fn run_ready(&mut self, list: &[Ready]) -> Result<(), WorldFault>
         requires { self.old.failed ≡ false → (length list.now ≡ self.old.left) × (0 < self.old.left) }
         ensures ran { OnOk result (self.new ≡ after_all list.now self.old) }
@@ -234,7 +244,7 @@ impl<L: Lines> World<L> {
         Ok(())
     }
 
-    /// The variables of a callback group, which [`put_bank`](World::put_bank) brings home.
+    /// The variables of a callback group. [`put_bank`](World::put_bank) brings them home.
     pub fn take_bank(&mut self, group: GroupNo) -> Bank
         ensures bank { result ≡ variables_of group self.old.state }
         ensures same { self.new ≡ self.old }
@@ -249,7 +259,8 @@ impl<L: Lines> World<L> {
         self.state.set_bank(group, &bank);
     }
 
-    /// Takes the task of a goal that a server holds, and whose task isn't out: [`put_task`](World::put_task) brings it home.
+    /// Takes the task of a goal out. The server holds the goal, and its task isn't out. [`put_task`](World::put_task) brings it
+    /// home.
     pub fn take_task(&mut self, server: EntityNo, id: GoalId) -> GoalTask
         requires { (work : GoalWork) × (work_at server id self.old.state ≡ Some work) }
         ensures task { Some (work_of result) ≡ work_at server id self.old.state }
@@ -258,17 +269,17 @@ impl<L: Lines> World<L> {
         self.state.take_task(server, id).unwrap()
     }
 
-    /// Brings the task of a goal home. Where the server holds no such goal, nothing changes.
+    /// Brings the task of a goal home. If the server holds no such goal, nothing changes.
     pub fn put_task(&mut self, server: EntityNo, id: GoalId, task: GoalTask)
         ensures { self.new ≡ record self.old { state = with_work server id (Some (work_of task)) self.old.state } }
     {
         self.state.put_task(server, id, task);
     }
 
-    /// Runs a whole round. Where memory is refused, the world is given up.
+    /// Runs a whole round. If memory is refused, the world is dropped.
     ///
     /// # Errors
-    /// [`Memory`] where a growth or a clone was refused.
+    /// [`Memory`] if a growth or a clone was refused.
     pub fn round_alone(self, round: usize) -> Result<World<L>, Memory>
         requires unfailed { self.failed ≡ false }
         requires next { IsNext round self }
@@ -332,10 +343,10 @@ impl<L: Lines> World<L> {
         Ok(())
     }
 
-    /// Closes the transcript after the rounds that are done: the plan's, each of them.
+    /// Closes the transcript after the rounds that are done. At the end of a run these are all rounds of the plan.
     ///
     /// # Errors
-    /// [`WorldFault::Memory`] where a growth was refused, [`WorldFault::Failed`] where the world had failed before.
+    /// [`WorldFault::Memory`] if a growth was refused, [`WorldFault::Failed`] if the world had failed before.
     pub fn finish(&mut self) -> Result<(), WorldFault>
         ensures closed { OnOk result (self.new ≡ after_finish self.old) }
         ensures unfailed { OnOk result (self.old.failed ≡ false) }
@@ -351,13 +362,13 @@ impl<L: Lines> World<L> {
         Ok(())
     }
 
-    /// Drops a world that was refused memory. Worlds are dropped here alone, since a function that may drop one is proved over
-    /// the drops of all its parts.
+    /// Drops a world that was refused memory. No other function drops a world, because a function that may drop one is proved
+    /// over the drops of all its parts.
     pub fn give_up(self) -> Memory {
         Memory
     }
 
-    /// Where the lines of the transcript went.
+    /// What the lines of the transcript went to.
     pub fn into_lines(self) -> L
         requires { self.failed ≡ false }
         ensures { L.lines result ≡ self.state.lines }
@@ -366,10 +377,10 @@ impl<L: Lines> World<L> {
     }
 }
 
-/// Runs all rounds of a plan on one thread, and closes its transcript, whose lines go where there are none yet.
+/// Runs all rounds of a plan on one thread, and closes its transcript. The lines go to `lines`, which has none yet.
 ///
 /// # Errors
-/// [`Memory`] where a growth or a clone was refused.
+/// [`Memory`] if a growth or a clone was refused.
 pub fn run_plan<L: Lines>(alloc: Global, plan: Arc<Plan>, lines: L) -> Result<L, Memory>
     requires { L.lines lines ≡ [] }
     ensures { IfOk result (λ lines. L.lines lines ≡ lines_of (arc_value plan)) }

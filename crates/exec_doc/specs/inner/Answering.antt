@@ -1,7 +1,7 @@
 -- What a reader answers of drafts: a plan, or the refusal.
-use Rattle.std.specs.Prelude.{◌≡◌, ℕ, ◌⊎◌, List, Bool, false, not, ◌&&◌, Option, None, Some, find, Result, Ok, Err}
+use Rattle.std.specs.Prelude.{◌≡◌, ℕ, ◌⊎◌, List, Bool, true, false, not, ◌&&◌, Option, None, Some, find, Result, Ok, Err}
 use Rattle.exec_doc.specs.Draft.{DocumentDraft, EntryDraft}
-use Rattle.exec_doc.specs.Refusals.{has_fault_of, codes_in_order}
+use Rattle.exec_doc.specs.Refusals.{has_fault_of, codes_in_order, is_version}
 use Rattle.exec_doc.specs.declared.refused.Refused.{Refused}
 use Rattle.exec_doc.specs.declared.refused.Refused.TheVariants as refused
 use Rattle.exec_graph.specs.declared.draft.GraphDraft.{GraphDraft}
@@ -30,9 +30,9 @@ has_graph_fault graph within _ = false
 abbrev pub graph_refusal : GraphDraft → Bool → Option Refused
 graph_refusal graph within = find (has_graph_fault graph within) codes_in_order
 
--- a document of version 1 of this graph, which has no fault, these moments and this feed
+-- a document of a version that is read, of this graph, which has no fault, these moments and this feed
 pub record IsReady (document : DocumentDraft) (graph : GraphData) (moments : List ℕ) (feed : List EntryDraft) : Type 0 where
-  pub version : document.version ≡ 1
+  pub version : is_version document.version ≡ true
   pub faultless : fault_in document.graph ≡ None
   pub made : graph_in document.graph ≡ Some graph
   pub ticks : document.moments ≡ moments

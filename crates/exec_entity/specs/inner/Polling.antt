@@ -1,5 +1,5 @@
 -- What a poll makes of a server, and what a task that is taken from it leaves.
-use Rattle.std.specs.Prelude.{List, [], ◌∷◌, Option, None, Some}
+use Rattle.std.specs.Prelude.{ℕ, List, [], ◌∷◌, Option, None, Some}
 use Rattle.std.specs.List.{find}
 use Rattle.std.specs.Option.{option_and_then, option_map}
 use Rattle.exec_msg.specs.Numbers.{EntityNo, GoalId, Moment}
@@ -10,7 +10,7 @@ use Rattle.exec_task.specs.declared.wait.Turn.{Turn}
 use Rattle.exec_rules.specs.Callback.{Outcome, poll_listed}
 use Rattle.exec_rules.specs.Ready.{ready_for}
 use Rattle.exec_script.specs.Script.{Variables}
-use Rattle.exec_rules.specs.World.{GoalWork, Handler, HeldGoal, ServerEntry, is_for, is_server_at}
+use Rattle.exec_rules.specs.World.{GoalWork, Handler, HeldGoal, ServerEntry, is_for, is_server_at, arrived}
 use Rattle.exec_rules.specs.declared.ready.AwakeGoal.{AwakeGoal}
 use Rattle.exec_rules.specs.declared.ready.Cause.{Cause}
 use Rattle.exec_rules.specs.declared.ready.Cause.TheVariants as cause
@@ -23,6 +23,10 @@ doing work held = record held { work = work }
 -- a server whose goal of an identifier does this work
 abbrev pub server_with_work : GoalId → Option GoalWork → ServerEntry → ServerEntry
 server_with_work id work entry = record entry { held = change_first (is_for id) (doing work) entry.held }
+
+-- a server whose goal of an identifier arrived with this number
+abbrev pub server_arrived : GoalId → ℕ → ServerEntry → ServerEntry
+server_arrived id number entry = record entry { held = change_first (is_for id) (arrived number) entry.held }
 
 -- the same where a poll left its task so, if it was polled
 abbrev pub server_polled : GoalId → Option TaskState → ServerEntry → ServerEntry

@@ -10,6 +10,7 @@ held_goal_of entry = record {
   id = entry.0;
   client = entry.1.client;
   work = option_map work_of entry.1.task;
+  arrival = entry.1.arrival;
 }
 
 -- what the entries of a map stand for

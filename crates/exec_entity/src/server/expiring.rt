@@ -13,8 +13,8 @@ impl Server {
     ghost use Rattle.exec_goal.specs.Table.{expired};
     ghost use Rattle.exec_rules.specs.Transcript.{server_expired};
 
-    // Forgets the first goal, in the order of acceptance, whose result the server keeps no longer at a moment, and answers its
-    // identifier, or `None` where there is none.
+    // Forgets the first goal, in the order of acceptance, whose result the server keeps no longer at a moment. Answers its
+    // identifier, or `None` if there is none.
     pub(crate) fn expire(&mut self, moment: Moment) -> Option<GoalId>
         ensures first { result ≡ option_map (λ goal. goal.id) (slice_get (expired moment self.old.timeout self.old.goals) 0) }
         ensures left { expired moment self.new.timeout self.new.goals ≡ drop 1 (expired moment self.old.timeout self.old.goals) }
@@ -33,10 +33,10 @@ impl ByNumber<Server> {
     ghost use Rattle.std.specs.List.{flat_map};
     ghost use Rattle.exec_rules.specs.Transcript.{expire_lines, server_expired};
 
-    /// Forgets the goals whose results are kept no longer at a moment, each with its line, server by server.
+    /// Forgets the goals whose results are kept no longer at a moment, server by server. Each leaves its line.
     ///
     /// # Errors
-    /// [`Memory`] where a growth was refused. Goals may have been forgotten, with and without their lines.
+    /// [`Memory`] if a growth was refused. Goals may have been forgotten, with and without their lines.
     pub fn expire<L: Lines>(&mut self, moment: Moment, lines: &mut L) -> Result<(), Memory>
         ensures servers { OnOk result (self.new ≡ map (server_expired moment) self.old) }
         ensures lines { OnOk result (L.lines lines.new ≡ L.lines lines.old ++ flat_map (expire_lines moment) self.old) }

@@ -1,4 +1,4 @@
-//! Servers, each found by its number. What is asked of one that isn't there changes nothing.
+//! Servers, each found by its number. A request to a server that isn't there changes nothing.
 use super::{GoalRequest, Server};
 use crate::by_number::{ByNumber, Numbered};
 use exec_goal::{Asked, CancelAnswer, CancelRequest, Goals, State};
@@ -34,7 +34,7 @@ impl ByNumber<Server> {
     ghost use Rattle.exec_rules.specs.inner.Awake.{awake_goals};
     ghost use Rattle.exec_rules.specs.inner.Listing.{listed_behind};
     ghost use Rattle.exec_rules.specs.Callback.{poll_listed};
-    ghost use Rattle.exec_entity.specs.inner.Polling.{server_polled, server_with_work};
+    ghost use Rattle.exec_entity.specs.inner.Polling.{server_arrived, server_polled, server_with_work};
     ghost use Rattle.exec_entity.specs.inner.Servers.{asked_in, executed_in, with_goals};
 
     /// Whether a server can hold one more goal of an identifier.
@@ -54,40 +54,53 @@ impl ByNumber<Server> {
         self.find(server)?.client_of(id)
     }
 
-    /// The action client that asked for a goal's result at this place, from 0, in the order of asking, or `None` beyond them.
+    /// The number of a goal's last arrival, and 0 if no such goal is held.
+    pub fn arrival(&self, server: EntityNo, id: GoalId) -> u64
+        ensures { result ≡ option_map_or (λ held. held.arrival) (find (is_for id) (held_in server self.now)) 0 }
+    {
+        match self.find(server) {
+            None => 0,
+            Some(found) => found.arrival(id),
+        }
+    }
+
+    /// The action client that asked for a goal's result at this place, from 0, in the order of asking. It is `None` at a place
+    /// after the last one.
     pub fn asker(&self, server: EntityNo, id: GoalId, index: usize) -> Option<EntityNo>
         ensures { result ≡ slice_get (askers_in id (goals_in server self.now)) index }
     {
         self.find(server)?.asker(id, index)
     }
 
-    /// A server accepts a goal at a moment.
+    /// A server accepts a goal at a moment, with the number of its arrival. It has room for the goal, and holds none of its
+    /// identifier.
     ///
     /// # Errors
-    /// [`Memory`] where a growth was refused.
+    /// [`Memory`] if a growth was refused.
     pub fn accept(
         &mut self,
         server: EntityNo,
+        number: u64,
         moment: Moment,
         how: Acceptance,
         request: &GoalRequest,
     ) -> Result<(), Memory>
         requires room { has_room_for request.now.id (goals_in server self.old) ≡ true }
-        ensures { OnOk result (self.new ≡ change_first (is_server_at server) (server_accepting moment how request.now) self.old) }
+        ensures { OnOk result (self.new ≡ change_first (is_server_at server) (server_accepting number moment how request.now) self.old) }
     {
         let place = self.place(server);
         let Some(entry) = self.entries.get_mut(place) else {
             return Ok(());
         };
-        entry.accept(moment, how, request)?;
+        entry.accept(number, moment, how, request)?;
         Ok(())
     }
 
-    /// A server cancels by what was decided of a request's candidates, each by its identifier. One that isn't there has no
+    /// A server cancels by what was decided of a request's candidates, each by its identifier. A server that isn't there has no
     /// goals.
     ///
     /// # Errors
-    /// [`Memory`] where a growth was refused.
+    /// [`Memory`] if a growth was refused.
     pub fn cancel(
         &mut self,
         alloc: Global,
@@ -109,10 +122,11 @@ impl ByNumber<Server> {
         Ok(answer)
     }
 
-    /// What an action client is told that asks a server for a goal's result; where it comes later, the client is noted.
+    /// What an action client is answered that asks a server for a goal's result. If the result comes later, the client is
+    /// noted.
     ///
     /// # Errors
-    /// [`Memory`] where a growth was refused, for which a result that comes later alone asks.
+    /// [`Memory`] if a growth was refused. Only a result that comes later needs memory.
     pub fn ask(&mut self, server: EntityNo, id: GoalId, client: EntityNo) -> Result<Asked, Memory>
         ensures told { IfOk result (λ told. told ≡ answer_of (asked_for id (goals_in server self.old))) }
         ensures noted { OnOk result (self.new ≡ asked_in (asked_for id (goals_in server self.old)) server id client self.old) }
@@ -126,8 +140,8 @@ impl ByNumber<Server> {
         Ok(told)
     }
 
-    /// A server executes its oldest goal that is accepted and not executed yet, and answers its identifier, or `None` where
-    /// there is none.
+    /// A server executes its oldest goal that is accepted and not executed yet. Answers its identifier, or `None` if there is
+    /// none.
     pub fn execute_oldest(&mut self, server: EntityNo) -> Option<GoalId>
         ensures found { result ≡ option_map (λ goal. goal.id) (find (λ goal. is_accepted goal.state) (goals_in server self.old)) }
         ensures executed { self.new ≡ executed_in server (find (λ goal. is_accepted goal.state) (goals_in server self.old)) self.old }
@@ -137,8 +151,8 @@ impl ByNumber<Server> {
         entry.execute_oldest()
     }
 
-    /// A server ends a goal by an event at a moment with its result, and answers its terminal state. Where no such goal is
-    /// held, or the event leads its state to no terminal one, nothing changes and there is no answer.
+    /// A server ends a goal by an event at a moment with its result, and answers its terminal state. Nothing changes if no such
+    /// goal is held, or if the event leads its state to no terminal one. There is no answer then.
     pub fn end(
         &mut self,
         server: EntityNo,
@@ -156,12 +170,12 @@ impl ByNumber<Server> {
         entry.end(id, event, value, moment)
     }
 
-    /// A server polls a goal in a turn, with the variables of its callback group, in a context that the caller has made,
-    /// and answers what closes the poll. The list then has its effects, and these alone. A goal that isn't held or isn't
-    /// awake isn't polled, and pends.
+    /// A server polls a goal in a turn with the variables of its callback group, in a context that the caller has made. Answers
+    /// what closes the poll. The list then has the poll's effects alone. A goal that isn't held or isn't awake isn't polled,
+    /// and pends.
     ///
     /// # Errors
-    /// [`Memory`] where a growth was refused.
+    /// [`Memory`] if a growth was refused. Only a goal that is awake needs memory. The variables don't change.
     #[inline(always)]
     pub fn poll(
         &mut self,
@@ -188,7 +202,7 @@ impl ByNumber<Server> {
         Ok(close)
     }
 
-    /// Takes the task of a server's goal out, and answers `None` where no such goal is held or its task is out.
+    /// Takes the task of a server's goal out. Answers `None` if no such goal is held or its task is out.
     pub fn take_task(&mut self, server: EntityNo, id: GoalId) -> Option<GoalTask>
         ensures taken { option_map work_of result ≡ work_in server id self.old }
         ensures out { self.new ≡ change_first (is_server_at server) (server_with_work id None) self.old }
@@ -198,7 +212,7 @@ impl ByNumber<Server> {
         entry.take_task(id)
     }
 
-    /// Puts the task of a server's goal in its place. Where no such goal is held, nothing changes.
+    /// Puts the task of a server's goal in its place. If no such goal is held, nothing changes.
     pub fn put_task(&mut self, server: EntityNo, id: GoalId, task: GoalTask)
         ensures { self.new ≡ change_first (is_server_at server) (server_with_work id (Some (work_of task))) self.old }
     {
@@ -209,10 +223,21 @@ impl ByNumber<Server> {
         entry.put_task(id, task);
     }
 
-    /// Makes the list that of the goals that are awake at a moment, server by server, each in the order of acceptance.
+    /// Gives a server's goal the number of its new arrival. If no such goal is held, nothing changes.
+    pub fn goal_arrives(&mut self, server: EntityNo, id: GoalId, number: u64)
+        ensures { self.new ≡ change_first (is_server_at server) (server_arrived id number) self.old }
+    {
+        let place = self.place(server);
+        let Some(entry) = self.entries.get_mut(place) else {
+            return;
+        };
+        entry.goal_arrives(id, number);
+    }
+
+    /// Makes the list that of all goals that are awake at a moment, server by server, each in the order of acceptance.
     ///
     /// # Errors
-    /// [`Memory`] where a growth was refused.
+    /// [`Memory`] if a growth was refused.
     pub fn awake_goals(&self, moment: Moment, goals: &mut Vec<AwakeGoal>) -> Result<(), Memory>
         ensures { OnOk result (goals.new.items ≡ flat_map (awake_goals moment) self.now) }
     {
@@ -223,11 +248,11 @@ impl ByNumber<Server> {
         Ok(())
     }
 
-    /// Lists a poll for each goal that is awake at a moment, server by server, each in the order of acceptance. The room is used
-    /// again and again.
+    /// Lists a poll for each goal that is awake at a moment, server by server, each in the order of acceptance. The caller
+    /// lends the room, and may use it again.
     ///
     /// # Errors
-    /// [`Memory`] where a growth was refused.
+    /// [`Memory`] if a growth was refused.
     pub fn list_polls(
         &self,
         alloc: Global,

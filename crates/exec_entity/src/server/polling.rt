@@ -30,9 +30,9 @@ impl Server {
     ghost use Rattle.exec_rules.specs.inner.Awake.{awake_goal, awake_goals, goal_awake};
     ghost use Rattle.exec_rules.specs.inner.Listing.{listed_behind};
     ghost use Rattle.exec_entity.specs.inner.Keeping.{IsFor};
-    ghost use Rattle.exec_entity.specs.inner.Polling.{goal_polled, poll_by, server_polled, server_with_work};
+    ghost use Rattle.exec_entity.specs.inner.Polling.{goal_polled, poll_by, server_arrived, server_polled, server_with_work};
 
-    // How many goals the server works on; where there are none, none is awake. It looks at no goal.
+    // How many goals the server works on. If it works on none, none is awake. It looks at no goal.
     pub(crate) fn count_working(&self) -> usize
         ensures working { result ≡ working self.now.goals }
         ensures idle { result ≡ 0 → (moment : ℕ) → filter (is_goal_awake moment self.now.held) self.now.goals ≡ [] }
@@ -40,7 +40,7 @@ impl Server {
         self.goals.count_working()
     }
 
-    // Whether the goal at this place, of which this is told, is awake at a moment.
+    // Whether the goal at this place is awake at a moment. `info` is what is known of it.
     fn is_goal_awake(&self, index: usize, info: &GoalInfo, moment: Moment) -> bool
         requires { slice_get (map info_of self.now.goals) index ≡ Some info.now }
         ensures { (goal : GoalRecord) → info.now ≡ info_of goal → result ≡ is_goal_awake moment self.now.held goal }
@@ -48,7 +48,7 @@ impl Server {
         info.state.is_worked_on() && self.is_task_awake(index, info, moment)
     }
 
-    // Of a goal that isn't being canceled one moment tells, and its task isn't looked at.
+    // If a goal isn't being canceled, one moment decides it, and its task isn't looked at.
     fn is_task_awake(&self, index: usize, goal: &GoalInfo, moment: Moment) -> bool
         requires { slice_get (map info_of self.now.goals) index ≡ Some goal.now }
         ensures { result ≡ is_task_awake (turn_at moment (is_canceling goal.now.state)) (find (is_for goal.now.id) self.now.held) }
@@ -60,7 +60,7 @@ impl Server {
         }
     }
 
-    // Whether the task of the goal at this place is awake where the goal isn't being canceled.
+    // Whether the task of the goal at this place is awake, if the goal isn't being canceled.
     #[inline(always)]
     fn has_woken(&self, index: usize, moment: Moment) -> bool
         requires { index < length self.now.goals }
@@ -69,8 +69,8 @@ impl Server {
         self.wakes[index] <= moment.ticks()
     }
 
-    // The same where the goal is being canceled, which few are: it stays out of the walk over all goals. Work is kept in the
-    // order of the goals, so that it is found by its place.
+    // The same if the goal is being canceled. Few goals are, so this isn't inlined into the walk over all goals. Work is kept
+    // in the order of the goals, so that it is found by its place.
     #[inline(never)]
     fn is_canceling_awake(&self, index: usize, moment: Moment) -> bool
         requires { index < length self.now.goals }
@@ -80,7 +80,7 @@ impl Server {
         is_any_awake(&entry.1.task, moment)
     }
 
-    // Lists a poll for each goal that is awake at a moment, in the order of acceptance. The room is used again.
+    // Lists a poll for each goal that is awake at a moment, in the order of acceptance. The room may be used again.
     pub(crate) fn list_polls(
         &self,
         alloc: Global,
@@ -131,7 +131,7 @@ impl Server {
         Ok(())
     }
 
-    // Adds the goal at this place, from 0, in the order of acceptance, of which this is told, where it is awake.
+    // Adds the goal at this place, from 0, in the order of acceptance, if it is awake. `info` is what is known of it.
     #[inline(always)]
     fn add_where_awake(
         &self,
@@ -177,9 +177,9 @@ impl Server {
         )
     }
 
-    // Polls a goal in a turn, with the variables of its callback group, in a context that the caller has made, and answers what
-    // closes the poll. The list then has its effects, and these alone. A goal that isn't held or isn't awake, or whose task is
-    // out, isn't polled, and pends. Where memory is refused, the server and the bank stay as they were.
+    // Polls a goal in a turn with the variables of its callback group, in a context that the caller has made. Answers what
+    // closes the poll. The list then has its effects alone. A goal that isn't held or isn't awake, or whose task is out, isn't
+    // polled, and pends. If memory is refused, the server and the bank don't change.
     #[inline(always)]
     pub(crate) fn poll(
         &mut self,
@@ -208,7 +208,7 @@ impl Server {
         Ok(close)
     }
 
-    // The place behind this one, and the first one behind the last.
+    // The place after this one. After the last place comes the first one.
     #[inline(always)]
     fn behind(&self, place: usize) -> usize {
         let next = place.wrapping_add(1);
@@ -227,7 +227,7 @@ impl Server {
         }
     }
 
-    // The same, wherever it stands.
+    // The same, at any place.
     #[inline(never)]
     fn find_place(&self, id: GoalId) -> Option<usize>
         ensures at { IfSome result (λ place. IsFor self.now.held place id) }
@@ -236,7 +236,7 @@ impl Server {
         self.held.get_index_of(&id)
     }
 
-    // Takes the task of a goal out, and answers `None` where no such goal is held or its task is out.
+    // Takes the task of a goal out, and answers `None` if no such goal is held or its task is out.
     pub(crate) fn take_task(&mut self, id: GoalId) -> Option<GoalTask>
         ensures taken { option_map work_of result ≡ option_and_then (λ held. held.work) (find (is_for id) self.old.held) }
         ensures out { self.new ≡ server_with_work id None self.old }
@@ -244,14 +244,25 @@ impl Server {
         self.exchange_task(id, None)
     }
 
-    // Puts a goal's task in its place. Where no such goal is held, nothing changes.
+    // Puts a goal's task in its place. If no such goal is held, nothing changes.
     pub(crate) fn put_task(&mut self, id: GoalId, task: GoalTask)
         ensures { self.new ≡ server_with_work id (Some (work_of task)) self.old }
     {
         let _replaced = self.exchange_task(id, Some(task));
     }
 
-    // Puts a task, or none, in the place of a goal's, which it answers. Where no such goal is held, nothing changes.
+    // Gives a goal the number of its new arrival. If no such goal is held, nothing changes.
+    pub(crate) fn goal_arrives(&mut self, id: GoalId, number: u64)
+        ensures { self.new ≡ server_arrived id number self.old }
+    {
+        let Some(place) = self.place_of(id) else {
+            return;
+        };
+        let held = self.held.get_index_mut(place).unwrap();
+        note_arrival(held, number);
+    }
+
+    // Puts a task, or none, in the place of a goal's task, and answers that. If no such goal is held, nothing changes.
     fn exchange_task(&mut self, id: GoalId, task: Option<GoalTask>) -> Option<GoalTask>
         ensures taken { option_map work_of result ≡ option_and_then (λ held. held.work) (find (is_for id) self.old.held) }
         ensures put { self.new ≡ server_with_work id (option_map work_of task) self.old }
@@ -263,7 +274,13 @@ impl Server {
     }
 }
 
-// Puts a task, or none, in the place of a goal's, which it answers.
+fn note_arrival(held: &mut Held, number: u64)
+    ensures { held.new ≡ record held.old { arrival = number } }
+{
+    held.arrival = number;
+}
+
+// Puts a task, or none, in the place of a goal's task, and answers that.
 fn replace_task(held: &mut Held, task: Option<GoalTask>) -> Option<GoalTask>
     ensures taken { result ≡ held.old.task }
     ensures put { held.new ≡ record held.old { task = task } }
@@ -271,7 +288,7 @@ fn replace_task(held: &mut Held, task: Option<GoalTask>) -> Option<GoalTask>
     mem::replace(&mut held.task, task)
 }
 
-// Whether a task is awake where its goal is being canceled; one that is out never is.
+// Whether a task is awake if its goal is being canceled. A task that is out never is.
 fn is_any_awake(task: &Option<GoalTask>, moment: Moment) -> bool
     ensures { result ≡ option_map_or (λ work. is_awake work.task (turn_at moment true)) (option_map work_of task.now) false }
 {
@@ -281,7 +298,7 @@ fn is_any_awake(task: &Option<GoalTask>, moment: Moment) -> bool
     }
 }
 
-// From when on, in ticks, a task is awake where its goal isn't being canceled; one that is out never is.
+// The moment from which on a task is awake if its goal isn't being canceled, in ticks. A task that is out never is.
 #[inline(always)]
 fn wake_in(task: &Option<GoalTask>) -> u64
     ensures { result ≡ wake_in (option_map work_of task.now) }

@@ -12,9 +12,11 @@ impl Goals {
     ghost use Rattle.exec_goal.specs.Info.{info_of};
     ghost use Rattle.exec_goal.specs.Table.{GoalRecord, has_id};
 
-    /// The goals that a cancel request selects and that may be moved, those that are ACCEPTED or
-    /// EXECUTING, in the order of their acceptance. It answers `Memory` where no memory is left
-    /// for their list, and changes nothing.
+    /// The goals that a cancel request selects and that may be moved, because they are ACCEPTED or EXECUTING. They are in the
+    /// order of their acceptance.
+    ///
+    /// # Errors
+    /// [`Memory`] if a growth was refused.
     pub fn candidates(&self, request: &CancelRequest) -> Result<Items<GoalInfo>, Memory>
         ensures { IfOk result (λ infos. infos ≡ map info_of (candidates request.now self.now)) }
     {
@@ -28,9 +30,11 @@ impl Goals {
         Ok(infos)
     }
 
-    /// Answers a cancel request by what its handler decided of the candidates, each by its
-    /// identifier. An accepted candidate that is still ACCEPTED or EXECUTING becomes CANCELING.
-    /// Where memory is refused, all goals stay as they were: it is taken before any goal moves.
+    /// Answers a cancel request by what its handler decided of the candidates, each by its identifier. An accepted candidate
+    /// that is still ACCEPTED or EXECUTING becomes CANCELING.
+    ///
+    /// # Errors
+    /// [`Memory`] if a growth was refused. No goal changes.
     pub fn answer(
         &mut self,
         request: &CancelRequest,

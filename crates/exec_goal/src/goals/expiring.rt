@@ -13,9 +13,8 @@ impl Goals {
     ghost use Rattle.exec_goal.specs.inner.Ended.{ended_places};
     ghost use Rattle.exec_goal.specs.inner.Tally.{EndsFrom, first_with_goal};
 
-    /// Forgets the first goal, in the order of acceptance, that had ended so many ticks before a
-    /// moment or longer, and answers its identifier, or `None` where there is none. The others
-    /// keep their order.
+    /// Forgets the first goal, in the order of acceptance, that ended `timeout` ticks before a moment or earlier. Answers its
+    /// identifier, or `None` if there is none. The others keep their order.
     pub fn expire(&mut self, moment: Moment, timeout: u64) -> Option<GoalId>
         ensures first { result ≡ option_map (λ goal. goal.id) (slice_get (expired moment (Some timeout) self.old) 0) }
         ensures found { result ≡ option_map (λ goal. goal.id) (find (is_expired moment (Some timeout)) self.old) }
@@ -30,8 +29,8 @@ impl Goals {
         Some(id)
     }
 
-    // The place of the first goal that has expired. No goal is looked at while none can have
-    // expired: where all were looked at in vain, the first end is known anew.
+    // The place of the first goal that has expired. No goal is looked at while none can have expired. If all were looked at and
+    // none had, the first end is known again.
     fn next_expired(&mut self, moment: Moment, timeout: u64) -> Option<usize>
         ensures found { IfSome result (λ index. IsFirst (is_expired moment (Some timeout)) self.old index) }
         ensures none { IfNone result (expired moment (Some timeout) self.old ≡ []) }
@@ -47,7 +46,7 @@ impl Goals {
         found
     }
 
-    // A moment before which no goal has ended, or `None` where none has.
+    // A moment before which no goal has ended, or `None` if none has.
     fn first_end(&self) -> Option<Moment>
         ensures { AllByRecursion (EndsFrom result) self.now }
     {
@@ -58,7 +57,7 @@ impl Goals {
         first
     }
 
-    // The first end that is known with that of the goal at a place, where it has ended.
+    // The earlier of the first end that is known and the end of the goal at a place, if that has ended.
     fn first_with_goal(&self, index: usize, first: Option<Moment>) -> Option<Moment>
         requires { index < length self.now }
         ensures { (d : GoalRecord) → result ≡ first_with_goal (slice_index_or self.now index d) first }

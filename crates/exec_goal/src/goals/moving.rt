@@ -10,9 +10,11 @@ impl Goals {
     ghost use Rattle.exec_goal.specs.Table.{has_id, after_event, after_end};
     ghost use Rattle.exec_msg.specs.Lists.{change_first};
 
-    /// Moves a goal by an event, and answers its state then. Where no such goal is held, or its
-    /// state has no such transition, all goals stay as they were. An event that ends the goal
-    /// leaves its result 0 and its end at its stamp: [`Goals::end`] keeps both.
+    /// Moves a goal by an event, and answers its state then. The event changes neither the goal's result nor the moment of its
+    /// end. [`Goals::end`] sets both.
+    ///
+    /// # Errors
+    /// [`Illegal`] if no such goal is held, or its state has no such transition. No goal changes.
     pub fn apply(&mut self, id: GoalId, event: Event) -> Result<State, Illegal>
         ensures state { IfOk result (λ state. next_state id event self.old ≡ Some state) }
         ensures moved { OnOk result (self.new ≡ change_first (has_id id) (after_event event) self.old) }
@@ -32,9 +34,10 @@ impl Goals {
         Ok(next)
     }
 
-    /// Ends a goal by an event at a moment with its result, and answers its terminal state. Where
-    /// no such goal is held, or the event leads its state to no terminal one, all goals stay as
-    /// they were.
+    /// Ends a goal by an event at a moment with its result, and answers its terminal state.
+    ///
+    /// # Errors
+    /// [`Illegal`] if no such goal is held, or the event leads its state to no terminal one. No goal changes.
     pub fn end(
         &mut self,
         id: GoalId,

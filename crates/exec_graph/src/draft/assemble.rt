@@ -61,7 +61,7 @@ pub(crate) fn graph_of(
     Ok(Graph::from_parts(Names::of(nodes), groups, entities, Names::of(names)))
 }
 
-// What a draft declares, where all of it is well named.
+// What a draft declares, if all of it is well named.
 pub(crate) fn named_graph_of<'a>(
     alloc: Global,
     draft: &'a GraphDraft,
@@ -85,7 +85,7 @@ pub(crate) fn named_graph_of<'a>(
     }))
 }
 
-// The topics and entities at their numbers, where the scripts of these are spelt well.
+// The topics and entities at their numbers, if the scripts of the entities are spelt well.
 fn declarations_of(
     alloc: Global,
     draft: &GraphDraft,
@@ -158,7 +158,7 @@ fn declaration_of(
     }
 }
 
-// The number of what an entity refers to, where it refers to something.
+// The number of what an entity refers to, if it refers to something.
 fn entity_no(reference: Option<usize>) -> Option<EntityNo>
     requires { IfSome reference (λ number. number < 65536) }
     ensures { result ≡ reference }

@@ -53,7 +53,7 @@ impl GraphBuilder {
     /// Declares a topic.
     ///
     /// # Errors
-    /// [`Memory`] where a growth was refused. All stays as it was then.
+    /// [`Memory`] if a growth was refused. Nothing changes then.
     pub fn topic(&mut self, name: String) -> Result<(), Memory>
         ensures ok { OnOk result (self.new ≡ record self.old { topics = self.old.topics ++ string_bytes name ∷ [] }) }
         ensures unchanged { OnErr result (self.new ≡ self.old) }
@@ -62,10 +62,10 @@ impl GraphBuilder {
         Ok(())
     }
 
-    /// Declares a node with all that is its.
+    /// Declares a node with all that belongs to it.
     ///
     /// # Errors
-    /// [`Memory`] where a growth was refused. All stays as it was then.
+    /// [`Memory`] if a growth was refused. Nothing changes then.
     pub fn node(&mut self, node: NodeDraft) -> Result<(), Memory>
         ensures ok { OnOk result (self.new ≡ record self.old { nodes = self.old.nodes ++ node ∷ [] }) }
         ensures unchanged { OnErr result (self.new ≡ self.old) }
@@ -81,18 +81,18 @@ impl GraphBuilder {
         has_topic(&self.draft, name)
     }
 
-    /// Whether an action, that is its server, of this name is declared in whatever node. It looks at all entities:
-    /// [`NamedGraph`] finds one among many.
+    /// Whether an action of this name, that is its server, is declared in any node. It looks at all entities: [`NamedGraph`]
+    /// finds one among many.
     pub fn action_named(&self, name: &str) -> bool
         ensures { result ≡ is_some (server_named self.now name.now) }
     {
         has_action(&self.draft, name)
     }
 
-    /// What is declared, where all of it is well named.
+    /// What is declared, if all of it is well named.
     ///
     /// # Errors
-    /// [`GraphFault::Name`], or [`GraphFault::Memory`] where a growth was refused.
+    /// [`GraphFault::Name`] if it isn't, or [`GraphFault::Memory`] if a growth was refused.
     pub fn named_graph(&self) -> Result<NamedGraph<'_>, GraphFault>
         ensures named { IfOk result (λ named. (named ≡ self.now) × (is_well_named self.now ≡ true)) }
         ensures fault { IfErr result (λ fault. (fault ≡ GraphFault.Memory) ⊎ ((fault ≡ GraphFault.Name) × (is_well_named self.now ≡ false))) }
@@ -100,10 +100,10 @@ impl GraphBuilder {
         named_graph_of(self.alloc, &self.draft)?.ok_or(GraphFault::Name)
     }
 
-    /// The graph of what was declared. The builder is given up on a fault.
+    /// The graph of what was declared. If there is a fault, the builder is dropped.
     ///
     /// # Errors
-    /// The least fault of what was declared, or [`GraphFault::Memory`] where a growth was refused.
+    /// The least fault of what was declared, or [`GraphFault::Memory`] if a growth was refused.
     pub fn finish(self) -> Result<Graph, GraphFault>
         ensures graph { IfOk result (λ graph. (fault_in self ≡ None) × (graph_in self ≡ Some graph)) }
         ensures fault { IfErr result (λ fault. (fault ≡ GraphFault.Memory) ⊎ (fault_in self ≡ Some fault)) }

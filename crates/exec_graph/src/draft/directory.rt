@@ -22,7 +22,7 @@ use std::marker::Model;
 // Topics and entities by their names, and each node's groups by theirs.
 #[derive(Drop)]
 pub(crate) struct Directory<'a> {
-    // How many of the names are topics'. Those of the entities stand behind them.
+    // How many of the names are topics'. The names of the entities come after them.
     topics: usize,
     names: TextSet<'a>,
     groups: Vec<NodeGroups<'a>>,
@@ -38,8 +38,8 @@ impl<'a> Model for Directory<'a> {
 }
 
 impl<'a> Directory<'a> {
-    // What a draft declares, where the names of each node's groups, and those of topics and entities together,
-    // are names and differ.
+    // What a draft declares. The names of each node's groups must be names and differ. So must the names of topics and entities
+    // together.
     pub(crate) fn of(alloc: Global, draft: &'a GraphDraft) -> Result<Option<Directory<'a>>, Memory>
         ensures { IfOk result (λ found. found ≡ then_some
             (list_all has_named_groups draft.now.nodes && are_names (drafted_names draft.now))
@@ -71,8 +71,8 @@ impl<'a> Directory<'a> {
         self.entities.as_slice()
     }
 
-    // The entities with the numbers of their groups and of what they refer to, where all of these are declared, each
-    // group by the entity's node.
+    // The entities with the numbers of their groups and of what they refer to, if all of these are declared. Each group is
+    // looked up in the entity's node.
     pub(crate) fn links(&self, alloc: Global) -> Result<Option<Vec<LinkedEntity<'a>>>, Memory>
         ensures { IfOk result (λ found. option_map (λ linked. linked.items) found ≡ each (linked_in self.now) self.now.entities) }
     {
@@ -140,7 +140,7 @@ impl<'a> Directory<'a> {
         }
     }
 
-    // The number of the entity of a kind and a name, in whatever node.
+    // The number of the entity of a kind and a name, in any node.
     fn entity(&self, kind: EntityKind, name: &str) -> Option<usize>
         ensures number { result ≡ entity_number self.now (λ placed. is_of kind placed.entity.is) name.now }
         ensures within { IfSome result (λ number. number < length self.now.names) }
@@ -190,7 +190,7 @@ pub(crate) fn has_node_names(alloc: Global, draft: &GraphDraft) -> Result<bool, 
     Ok(true)
 }
 
-// The groups of each node, where their names are names and differ within each node.
+// The groups of each node, if their names are names and differ within each node.
 fn node_groups<'a>(
     alloc: Global,
     draft: &'a GraphDraft,

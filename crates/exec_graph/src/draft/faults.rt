@@ -1,4 +1,4 @@
-//! The faults of a graph's scripts, which are decoded, in their places.
+//! The faults of a graph's decoded scripts in their places.
 ghost use Rattle.std.specs.Option.{option_to_list};
 ghost use Rattle.std.specs.Prelude.{◌≡◌, ◌++◌, not, option_and_then, IfOk, OnOk};
 ghost use Rattle.std.specs.List.{flat_map, list_any};
@@ -12,7 +12,7 @@ use exec_script::{Place, ScriptFault, check};
 use indexmap::IndexMap;
 use std::alloc::Global;
 
-// The faults of all scripts in the order of the entities, one at most of each.
+// The faults of all scripts in the order of the entities. Each entity has at most one.
 pub(crate) fn script_faults(
     alloc: Global,
     entities: &IndexMap<String, Declared>,
@@ -53,7 +53,7 @@ fn append_fault(faults: &mut Vec<ScriptFault>, fault: Option<ScriptFault>) -> Re
     Ok(())
 }
 
-// The fault of a script, where it is there.
+// The fault of a script, if there is a script.
 fn fault_of(reentrant: bool, script: &Option<RoleScript<'_, Script>>) -> Option<ScriptFault>
     ensures { result ≡ option_and_then (fault_at reentrant) script.now }
 {

@@ -13,7 +13,7 @@ use std::marker::Model;
 // The callback groups of a node, by name.
 #[derive(Drop)]
 pub(crate) struct NodeGroups<'a> {
-    // The number of its default group. Those that have names stand behind it.
+    // The number of its default group. The groups with names come after it.
     first: usize,
     names: TextSet<'a>,
 }
@@ -33,8 +33,8 @@ impl<'a> NodeGroups<'a> {
     ghost use Rattle.std.specs.Prelude.{◌≡◌, ◌+◌, suc, length, Some, IfOk};
     ghost use Rattle.exec_graph.specs.inner.Directory.{number_among};
 
-    // The groups of these names, behind the default group of this number. There is no memory for so many that their
-    // numbers have more than 64 bits.
+    // The groups of these names. They come after the default group of this number. There is no memory for groups whose numbers
+    // have more than 64 bits.
     pub(crate) fn of(first: usize, names: TextSet<'a>) -> Result<NodeGroups<'a>, Memory>
         ensures { IfOk result (λ groups. groups ≡ record { first = first; names = names.entry }) }
     {

@@ -12,8 +12,8 @@ use crate::spelled::Spelled;
 use exec_msg::limits::{ENTITIES, INSTRUCTIONS, NAMED_GROUPS, NODES, TOPICS};
 use exec_plan::RoleScript;
 
-// Whether no number and no length of a graph is beyond its limit. The entities are those of the nodes in the order of
-// their numbers.
+// Whether no number and no length of a graph is beyond its limit. The entities are those of the nodes in the order of their
+// numbers.
 pub(crate) fn is_small(draft: &GraphDraft, entities: &[PlacedEntity<'_>]) -> bool
     requires { entities.now ≡ entities_of draft.now }
     ensures { result ≡ is_small draft.now }
@@ -65,7 +65,7 @@ fn are_short(scripts: &[Option<RoleScript<'_, Spelled>>]) -> bool
     scripts.iter().all(is_short)
 }
 
-// Whether a script is short, where it is there.
+// Whether a script is short, if there is one.
 fn is_short(script: &Option<RoleScript<'_, Spelled>>) -> bool
     ensures { result ≡ option_map_or (λ roled. nat_le (length roled.script) INSTRUCTIONS) script.now true }
 {

@@ -7,7 +7,7 @@ use exec_plan::{EntityKind, Graph, Referent};
 use std::alloc::Global;
 use std::marker::Model;
 
-/// What a builder declares, all of it well named, which its names find.
+/// What a builder declares, if all of it is well named. Each part is found by its name.
 #[derive(Drop)]
 pub struct NamedGraph<'a> {
     pub(crate) alloc: Global,
@@ -47,7 +47,7 @@ impl<'a> NamedGraph<'a> {
         self.directory.number(Referent::Topic, name).is_some()
     }
 
-    /// Whether an action, that is its server, of this name is declared in whatever node.
+    /// Whether an action of this name, that is its server, is declared in any node.
     pub fn action_named(&self, name: &str) -> bool
         ensures { result ≡ is_some (server_named self.now name.now) }
     {
@@ -59,7 +59,8 @@ impl<'a> NamedGraph<'a> {
     /// The graph of what is declared.
     ///
     /// # Errors
-    /// The least fault of what is declared, which is beyond its names, or [`GraphFault::Memory`] where a growth was refused.
+    /// The least fault of what is declared, or [`GraphFault::Memory`] if a growth was refused. It is no fault of names, because
+    /// all are right.
     pub fn graph(&self) -> Result<Graph, GraphFault>
         ensures graph { IfOk result (λ graph. (fault_in self.now ≡ None) × (graph_in self.now ≡ Some graph)) }
         ensures fault { IfErr result (λ fault. (fault ≡ GraphFault.Memory) ⊎ (fault_in self.now ≡ Some fault)) }

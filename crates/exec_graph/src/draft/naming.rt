@@ -8,7 +8,7 @@ use crate::draft::texts::TextSet;
 use exec_msg::Memory;
 use exec_msg::limits::NAME_LENGTH;
 
-// Adds a text behind the others where it is a name and not there yet, and answers whether it was added.
+// Adds a text after the others, if it is a name and not there yet. Answers whether it was added.
 pub(crate) fn add_name<'a>(names: &mut TextSet<'a>, text: &'a str) -> Result<bool, Memory>
     ensures added { IfOk result (λ added. added ≡ (is_name text.now && not (list_any (λ other. bytes_eq other text.now) names.old))) }
     ensures names { IfOk result (λ added. names.new ≡ (if added then names.old ++ text.now ∷ [] else names.old)) }

@@ -25,7 +25,7 @@ impl<'a> Model for PlacedEntity<'a> {
     ghost view = { λ placed. record { node = placed.node; entity = placed.entity.now } };
 }
 
-// An entity with the numbers of its node, of its group and, where it refers to something, of that.
+// An entity with the numbers of its node, of its group and, if it refers to something, of that.
 #[derive(Drop)]
 pub(crate) struct LinkedEntity<'a> {
     pub(crate) node: usize,

@@ -1,4 +1,4 @@
-//! Entities of a graph, their references resolved and their scripts decoded.
+//! Entities of a graph. Their references are resolved and their scripts decoded.
 ghost use Rattle.std.specs.Prelude.{◌≡◌};
 ghost use Rattle.exec_graph.specs.inner.Directory.{scope_in, resolved_by};
 ghost use Rattle.exec_plan.specs.Entity.{if_there};
@@ -83,7 +83,7 @@ pub(crate) fn resolve(
     })
 }
 
-// The script for results, where an action client has one.
+// The script for results, if an action client has one.
 fn result_script_in(
     alloc: Global,
     scope: &NodeScope<'_, '_>,

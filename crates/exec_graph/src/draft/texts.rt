@@ -1,11 +1,11 @@
-//! Lists of different texts that are asked by text.
+//! Lists of different texts, in which one is found by its text.
 use exec_msg::Memory;
 use std::alloc::Global;
 use std::collections::BTreeMap;
 use std::marker::Model;
 
-// Different texts in the order in which they were added, borrowed from whoever has them. Their places are found in an
-// ordered map: a document may have a million texts, and whoever writes it could pick texts that collide in a hash table.
+// Different texts, in the order in which they were added. They are borrowed. Their places are found in an ordered map. A
+// document may have a million texts, and whoever writes it could choose texts that collide in a hash table.
 #[derive(Drop)]
 pub(crate) struct TextSet<'a> {
     texts: Vec<&'a str>,
@@ -61,7 +61,7 @@ impl<'a> TextSet<'a> {
         self.texts.len()
     }
 
-    // Adds a text behind the others where it isn't there yet, and answers whether it was added.
+    // Adds a text after the others, if it isn't there yet. Answers whether it was added.
     pub(crate) fn insert(&mut self, text: &'a str) -> Result<bool, Memory>
         ensures ok { OnOk result (self.new ≡ (if list_any (λ other. bytes_eq other text.now) self.old then self.old else self.old ++ text.now ∷ [])) }
         ensures added { IfOk result (λ added. added ≡ not (list_any (λ other. bytes_eq other text.now) self.old)) }

@@ -1,13 +1,16 @@
 -- Worked examples: documents of action clients, and a goal that is deferred.
 use Rattle.std.specs.Prelude.{ℕ, List, codes, ◌++◌}
 
--- a cancel request of a client's goal, by its identifier
-abbrev pub succeeded_while_canceling_text : List ℕ
-succeeded_while_canceling_text =
-    codes "{\"version\":1,\"nodes\":[{\"name\":\"n\",\"timers\":[{\"name\":\"t\",\"period\":10,\"script\":[[\"goal\",\"ac\",5]]}],"
+-- a cancel request of a client's goal, by its identifier: what follows the version
+abbrev pub cancel_of_a_sent_goal_text : List ℕ
+cancel_of_a_sent_goal_text =
+    codes "\"nodes\":[{\"name\":\"n\",\"timers\":[{\"name\":\"t\",\"period\":10,\"script\":[[\"goal\",\"ac\",5]]}],"
     ++ codes "\"actions\":[{\"name\":\"a\",\"on_goal\":[[\"decide\",2]],\"on_cancel\":[[\"decide\",2]],\"script\":[[\"succeed\",9]]}],"
     ++ codes "\"action_clients\":[{\"name\":\"ac\",\"action\":\"a\",\"on_result\":[[\"log\",\"in\"]]}]}],\"moments\":[10,11,12,13,14],"
     ++ codes "\"feed\":[{\"round\":3,\"action\":\"a\",\"cancel\":\"00000000-0000-0001-0000-000000000001\"}]}"
+
+abbrev pub succeeded_while_canceling_text : List ℕ
+succeeded_while_canceling_text = codes "{\"version\":1," ++ cancel_of_a_sent_goal_text
 
 -- a server that keeps results for no tick
 abbrev pub awaited_result_text : List ℕ

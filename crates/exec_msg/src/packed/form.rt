@@ -10,7 +10,7 @@ use crate::kind::Kind;
 use crate::line::Line;
 use crate::numbers::{EntityNo, GoalId};
 
-// The cell of a line, and the identifier that has to be told for it; `told` where none has.
+// The cell of a line, and the identifier that must be given before it. If none must be, that is `told`.
 #[inline(always)]
 pub(super) fn form_of(line: &Line, told: GoalId) -> Option<(Cell, GoalId)>
     ensures { IfSome result (λ form. said_by form.0 form.1 ≡ a_line line.now form.1) }
@@ -143,7 +143,7 @@ fn call_form(client: EntityNo, number: u64, value: i64, told: GoalId) -> (Cell, 
     (Cell::Call { client, high, low }, with_count(told, number))
 }
 
-// The cell of a run line on a goal, where that is told before.
+// The cell of a run line on a goal, if that goal's identifier is given before.
 #[inline(always)]
 fn goal_run_cell(entity: EntityNo, kind: Kind, input: i64, aux: i64, id: GoalId) -> Option<Cell>
     ensures { IfSome result (λ cell. said_by cell id ≡ a_line (line.Run entity kind input aux (Some id)) id) }
@@ -174,7 +174,7 @@ fn goal_run_cell(entity: EntityNo, kind: Kind, input: i64, aux: i64, id: GoalId)
     })
 }
 
-// The cell of a run line on a near goal, and that goal, which is told by it.
+// The cell of a run line on a near goal, and that goal. The cell gives its identifier.
 #[inline(always)]
 pub(super) fn near_form(line: &Line) -> Option<(Cell, GoalId)>
     ensures { IfSome result (λ form. (told : _) → said_by form.0 told ≡ a_line line.now form.1) }
@@ -214,7 +214,7 @@ pub(super) fn near_form(line: &Line) -> Option<(Cell, GoalId)>
     None
 }
 
-// The cell that tells an identifier with a short upper half.
+// The cell that gives an identifier with a short upper half.
 #[inline(always)]
 pub(super) fn near_cell(maker: u16, count: u64) -> Cell
     ensures { (told : _) → said_by result told ≡ an_id (maker * 2 ^ 64 + count) }
@@ -228,7 +228,7 @@ pub(super) fn near_cell(maker: u16, count: u64) -> Cell
     }
 }
 
-// The cell that tells an identifier's upper half.
+// The cell that gives an identifier's upper half.
 #[inline(always)]
 pub(super) fn upper_cell(upper: u64) -> Cell
     ensures { (told : _) → said_by result told ≡ an_id (upper * 2 ^ 64 + told % 2 ^ 64) }
@@ -259,7 +259,7 @@ fn short_pair(one: i64, other: i64) -> Option<(u32, u32)>
     Some((u32::try_from(one).ok()?, u32::try_from(other).ok()?))
 }
 
-// An identifier of a count: the one that was told, if that has it.
+// An identifier with this count. It is the one that was given last, if that has the count.
 #[inline(always)]
 fn with_count(told: GoalId, count: u64) -> GoalId
     ensures { result % 2 ^ 64 ≡ count }
@@ -271,7 +271,7 @@ fn with_count(told: GoalId, count: u64) -> GoalId
     }
 }
 
-// An identifier with the number beside an input as its count: the one that was told, if that has it.
+// An identifier with an `aux` as its count. It is the one that was given last, if that has the count.
 #[inline(always)]
 fn with_aux(told: GoalId, aux: i64) -> GoalId
     ensures { cast_signed w64 (result % 2 ^ 64) ≡ aux }

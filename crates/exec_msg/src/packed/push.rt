@@ -7,8 +7,7 @@ use crate::numbers::GoalId;
 use crate::packed::Cell;
 use crate::packed::form::{form_of, near_cell, near_form, upper_cell};
 
-/// Tells an identifier, if it is another than the one that was told last, behind cells that have the room of
-/// three.
+/// Adds cells for an identifier, if it isn't the one that was given last. The cells have room for three more.
 #[inline(always)]
 fn tell(cells: &mut Vec<Cell>, told: &mut GoalId, id: GoalId)
     requires { vec_len cells.old + 3 ≤ vec_capacity cells.old }
@@ -30,7 +29,7 @@ fn tell(cells: &mut Vec<Cell>, told: &mut GoalId, id: GoalId)
     *told = id;
 }
 
-/// Puts a line behind cells that have the room of three, and says whether it has a form in cells.
+/// Adds a line to cells that have room for three more. Answers whether the line has a form in cells.
 #[inline(always)]
 pub(crate) fn push_line(cells: &mut Vec<Cell>, told: &mut GoalId, line: &Line) -> bool
     requires { vec_len cells.old + 3 ≤ vec_capacity cells.old }

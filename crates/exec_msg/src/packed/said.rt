@@ -1,4 +1,4 @@
-//! What cells say: lines, and the identifiers that these are on.
+//! What cells say: lines, and the identifiers that the lines are on.
 ghost use Rattle.std.specs.Prelude.{◌≡◌, ◌+◌, ◌*◌, ◌^◌, List};
 ghost use Rattle.exec_msg.specs.declared.line.Line.TheVariants as line;
 ghost use Rattle.exec_msg.specs.inner.Packed.{joined_halves, id_told, said_by, said_line, lines_in, tells_no_id};
@@ -9,7 +9,7 @@ use crate::line::Line;
 use crate::numbers::{GoalId, Moment};
 
 impl Cell {
-    // The line that it is where an identifier was told, if it is one, and the identifier that is told behind it.
+    // The line that the cell is after an identifier was given, if it is one, and the identifier that is the last one after it.
     #[inline(always)]
     pub(crate) fn line(&self, told: GoalId) -> Option<(Line, GoalId)>
         ensures { result ≡ said_line (said_by self.now told) }
@@ -236,7 +236,7 @@ fn round_line(upper: u16, number: u32, lower: u32) -> Line
     }
 }
 
-// The identifier that a cell tells where another was told: that one with another upper half, or one of a maker.
+// The identifier that a cell gives after another was given: that one with another upper half, or one of a maker.
 #[inline(always)]
 fn id_told(is_upper: bool, maker: u16, half: u64, told: GoalId) -> GoalId
     ensures { result ≡ id_told is_upper maker half told }
@@ -255,7 +255,7 @@ fn near_id(maker: u16, count: u16) -> GoalId
     GoalId::of_halves(u64::from(maker), u64::from(count))
 }
 
-/// The cells behind those that only tell identifiers, and the one that is told there.
+/// The cells after the first ones that only give identifiers, and the identifier that these gave last.
 #[inline(always)]
 pub(crate) fn skip_ids(cells: &[Cell], told: GoalId) -> (&[Cell], GoalId)
     ensures lines { (wholes : List _) → lines_in result.0.now result.1 wholes ≡ lines_in cells.now told wholes }

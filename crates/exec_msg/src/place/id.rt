@@ -10,7 +10,7 @@ use crate::numbers::GoalId;
 use crate::place::place_lanes;
 use std::simd::{u8x4, u8x16, u64x2};
 
-// What stands before the digits of an identifier, and between them.
+// What is before the digits of an identifier, and between them.
 const BETWEEN: [u8; 16] = *b" -              ";
 
 // An identifier with a space before it.

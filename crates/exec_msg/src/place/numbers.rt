@@ -18,7 +18,7 @@ pub(crate) fn place_count(bytes: &mut [u8], at: usize, count: u64) -> usize
     place_digits(bytes, at + 1, count)
 }
 
-// A value with a space before it. Most are small, and are written in place.
+// A value with a space before it. Most are small, and are written without a call.
 #[inline(always)]
 pub(crate) fn place_value(texts: &mut ValueTexts, bytes: &mut [u8], at: usize, value: i64) -> usize
     requires { at + 24 ≤ length bytes.old }
@@ -31,7 +31,7 @@ pub(crate) fn place_value(texts: &mut ValueTexts, bytes: &mut [u8], at: usize, v
     }
 }
 
-// The number that a value without a sign is, where that has up to four digits.
+// The number that a value without a sign is, if it has up to four digits.
 #[inline(always)]
 pub(crate) fn small(value: i64) -> Option<u64>
     ensures { IfSome result (λ number. (pos number ≡ value) × (number < 10000)) }
@@ -53,7 +53,7 @@ pub(crate) fn place_small(bytes: &mut [u8], at: usize, number: u64) -> usize
     place_thousands(bytes, at + 1, number)
 }
 
-// A value with a space before it, with each of its digits made anew.
+// A value with a space before it. Each of its digits is computed.
 #[inline(always)]
 pub(crate) fn place_signed(bytes: &mut [u8], at: usize, value: i64) -> usize
     requires { at + 22 ≤ length bytes.old }
@@ -68,7 +68,7 @@ pub(crate) fn place_signed(bytes: &mut [u8], at: usize, value: i64) -> usize
     place_digits(bytes, at + 2, value.unsigned_abs())
 }
 
-// Most numbers have few digits, and need no count of them.
+// Most numbers have few digits, so these are not counted.
 #[inline(always)]
 fn place_digits(bytes: &mut [u8], at: usize, number: u64) -> usize
     requires { at + 20 ≤ length bytes.old }

@@ -12,7 +12,8 @@ use crate::place::numbers::{place_small, place_value, small};
 use crate::place::{place_callback, place_kind, place_short_named};
 use crate::value_texts::ValueTexts;
 
-// A run line with 0 beside its input, as most have. A short name and an input whose text is at hand are placed with no call.
+// A run line with 0 as its `aux`, as most have. If its name is short and the text of its input is kept, it is placed without a
+// call.
 #[inline(never)]
 pub(crate) fn place_run(
     texts: &mut ValueTexts,
@@ -45,8 +46,7 @@ pub(crate) fn place_run(
     place_small(bytes, end, 0)
 }
 
-// A run line with a number beside its input. Where that is small, the name short and the input's text at hand, it is placed
-// with no call.
+// A run line with an `aux`. If that is small, its name is short and the text of its input is kept, it is placed without a call.
 #[inline(never)]
 pub(crate) fn place_run_beside(
     texts: &mut ValueTexts,

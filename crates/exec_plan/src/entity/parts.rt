@@ -1,5 +1,5 @@
-//! What is asked of an entity in drafts and in graphs alike: whether it is within its limits, what it refers to, and which
-//! scripts it has.
+//! What is asked of an entity, in drafts and in graphs: whether it is within its limits, what it refers to, and which scripts
+//! it has.
 ghost use Rattle.std.specs.Prelude.{◌≡◌, [], ◌∷◌, Some, None};
 ghost use Rattle.std.specs.List.{filter_map};
 ghost use Rattle.std.specs.Option.{option_map};
@@ -83,7 +83,7 @@ impl<N, S> EntityOf<N, S> {
         Some(Reference { to, name })
     }
 
-    /// Its scripts, with nothing behind the last.
+    /// Its scripts, in their order. The other places are `None`.
     pub fn scripts(&self) -> [Option<RoleScript<'_, S>>; 4]
         ensures { filter_map (λ script. script) result ≡ scripts_of self.now }
     {

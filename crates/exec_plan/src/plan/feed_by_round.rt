@@ -9,7 +9,7 @@ use exec_msg::{Memory, Moment};
 use std::alloc::Global;
 use std::marker::Model;
 
-/// What a plan feeds, by rounds, so that a round looks at its own entries alone.
+/// What a plan feeds, by rounds. So a round looks only at its own entries.
 #[derive(Drop)]
 pub struct FeedByRound {
     // The entries of each round, from the first.
@@ -34,7 +34,7 @@ impl FeedByRound {
     /// What a plan feeds.
     ///
     /// # Errors
-    /// [`Memory`] where a growth was refused.
+    /// [`Memory`] if a growth was refused.
     pub fn of(alloc: Global, plan: &Plan) -> Result<FeedByRound, Memory>
         ensures feed { IfOk result (λ index. index ≡ feeds_by_round plan.now) }
         ensures rounds { IfOk result (λ index. length index ≡ length plan.now.moments) }

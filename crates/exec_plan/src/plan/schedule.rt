@@ -12,8 +12,8 @@ use crate::plan::{Fed, FedOf, Feed, FeedOf};
 use exec_msg::Moment;
 use exec_msg::limits::{FEED, MOMENTS, TICKS};
 
-/// Whether moments in ticks, the number of entries of a feed, and the greatest stamp in it (0 where there is none) are
-/// within their limits.
+/// Whether moments in ticks, the number of entries of a feed, and the greatest stamp in it are within their limits. The stamp
+/// is 0 if there is none.
 pub fn schedule_fits(ticks: &[u64], entries: usize, stamp: u64) -> bool
     ensures { result ≡ schedule_fits ticks.now entries stamp }
 {
@@ -32,7 +32,7 @@ fn are_within(ticks: &[u64]) -> bool
     ticks.iter().all(|moment| *moment <= TICKS)
 }
 
-// The least fault of moments and of what is fed at them. No moment is beyond its limit, by its type.
+// The least fault of moments and of what is fed at them. No moment is beyond its limit, because its type doesn't allow it.
 #[tactic(auto, using(crate::proofs::Scheduled::moments_fit))]
 pub(crate) fn fault_of(moments: &[Moment], feed: &[Feed]) -> Option<PlanFault>
     ensures fault { result ≡ plan_fault_in moments.now feed.now }
@@ -59,7 +59,7 @@ fn is_in_order(moments: &[Moment], feed: &[Feed]) -> bool
     is_ascending(moments) && are_rounds(feed, moments.len())
 }
 
-/// The greatest stamp of a feed, or 0 where there is none.
+/// The greatest stamp of a feed, or 0 if there is none.
 pub fn greatest_stamp<N, I>(feed: &[FeedOf<N, I>]) -> u64
     ensures { result ≡ greatest_stamp feed.now }
 {
@@ -79,7 +79,7 @@ fn stamp_of<N, I>(fed: &FedOf<N, I>) -> u64
     }
 }
 
-// The walk goes on where they aren't, and so tells the proof of each moment that it is within its limit.
+// If they aren't, the walk goes on. So the proof knows of each moment that it is within its limit.
 fn is_ascending(moments: &[Moment]) -> bool
     ensures order { result ≡ is_ascending_from 0 moments.now }
     ensures bound { list_all (λ moment. nat_le moment TICKS) moments.now ≡ true }
@@ -125,7 +125,8 @@ fn is_identified(entry: &Feed) -> bool
     match entry.fed {
         Fed::Message { .. } => true,
         Fed::Goal { id, .. } => id.number() >= 1,
-        // A cancel request may have any identifier: the comparison always holds, and tells the proof that it has 128 bits.
+        // A cancel request may have any identifier. The comparison always holds, and lets the proof know that the identifier
+        // has 128 bits.
         Fed::Cancel { id, .. } => id.number() <= u128::MAX,
     }
 }

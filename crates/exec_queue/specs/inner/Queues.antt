@@ -1,6 +1,6 @@
 -- Queues in ready order, found by entity and kind.
-use Rattle.std.specs.Prelude.{◌≡◌, ℕ, suc, ◌+◌, ◌*◌, List, length, Bool, true, false, not, ◌==◌, if◌then◌else◌, Option, slice_get}
-use Rattle.std.specs.List.{Contains}
+use Rattle.std.specs.Prelude.{◌≡◌, ℕ, suc, ◌+◌, ◌*◌, List, length, Bool, true, false, not, ◌==◌, if◌then◌else◌, Option, IfSome, slice_get}
+use Rattle.std.specs.List.{AllByRecursion, Contains}
 use Rattle.std.specs.Option.{option_map_or}
 use Rattle.exec_msg.specs.Numbers.{EntityNo}
 use Rattle.exec_plan.specs.Graph.{kinds}
@@ -41,6 +41,13 @@ FindsQueues places queues = (entity : EntityNo) (kind : Kind) → place_under (s
 -- each queue with an item stands among these places
 abbrev pub CoversFilled : List ℕ → List Queue → Type 0
 CoversFilled filled queues = (place : ℕ) → is_filled_at queues place ≡ true → Contains filled place
+
+-- a queue that keeps the numbers of arrivals has one for each item
+abbrev pub HasItsNumbers : Queue → Type 0
+HasItsNumbers queue = IfSome queue.arrivals (λ numbers. length numbers ≡ length queue.items)
+
+abbrev pub HaveTheirNumbers : List Queue → Type 0
+HaveTheirNumbers queues = AllByRecursion HasItsNumbers queues
 
 -- each of these places is that of a queue with an item
 abbrev pub AreFilled : List ℕ → List Queue → Type 0

@@ -1,13 +1,14 @@
-ghost use Rattle.std.specs.Prelude.{◌≡◌, ◌==◌, ◌≤◌, List, [], Some, false, true, length, slice_get, OnOk, OnErr, IfOk};
+ghost use Rattle.std.specs.Prelude.{◌≡◌, ◌==◌, ◌≤◌, List, [], Some, false, true, if◌then◌else◌, length, slice_get, OnOk, OnErr, IfOk};
 ghost use Rattle.exec_msg.specs.KeepLast.{displaced};
 ghost use Rattle.exec_script.specs.Instruction.{Script};
-ghost use Rattle.exec_rules.specs.Ready.{candidates_for, item_ready, queue_taken, script_to_take};
+ghost use Rattle.exec_rules.specs.Ready.{candidates_for, first_number, item_ready, queue_taken, script_to_take};
 ghost use Rattle.exec_rules.specs.inner.ByKind.{is_before_polls};
 ghost use Rattle.exec_rules.specs.World.{Handler, queue_after};
 ghost use Rattle.exec_rules.specs.inner.Homes.{AreHomes, handlers_of};
-ghost use Rattle.std.specs.Option.{option_map_or};
+ghost use Rattle.std.specs.Option.{option_copied, option_map, option_map_or};
 ghost use Rattle.exec_rules.specs.inner.Listing.{listed_behind};
 ghost use Rattle.exec_queue.specs.inner.Queues.{has_item};
+ghost use Rattle.exec_queue.specs.inner.Numbers.{items_of};
 
 use super::is_before_polls;
 use exec_msg::{Items, Kind, LazyQueue, Memory, Moment};
@@ -16,35 +17,46 @@ use exec_rules::{Cause, Handler, Home, Item, ReadyList};
 use std::alloc::Global;
 use std::marker::Model;
 
+// An item that was sent, with the number of its arrival.
+#[derive(Clone, Copy)]
+pub(super) struct Sent {
+    item: Item,
+    number: u64,
+}
+
 /// The queue of an entity from which its callback of a kind takes.
 #[derive(Drop)]
 pub struct EntityQueue {
     pub(super) handler: Handler,
     pub(super) kind: Kind,
-    pub(super) queue: LazyQueue<Item>,
+    // Whether the order of ready callbacks needs the numbers. If not, they say nothing.
+    pub(super) numbered: bool,
+    pub(super) queue: LazyQueue<Sent>,
 }
 
 impl Model for EntityQueue {
     ghost use Rattle.std.specs.Prelude.{◌≤◌};
     ghost use Rattle.exec_rules.specs.World.{Queue};
+    ghost use Rattle.exec_queue.specs.inner.Numbers.{items_of, numbers_of};
 
     ghost Value = { Queue };
 
-    ghost view = { λ entry. record { handler = entry.handler; kind = entry.kind; depth = entry.queue.depth; items = entry.queue.items } };
+    ghost view = { λ entry. record { handler = entry.handler; kind = entry.kind; depth = entry.queue.depth; items = items_of entry.queue.items; arrivals = numbers_of entry.numbered entry.queue.items } };
 
     ghost invariant = { λ entry. 1 ≤ entry.queue.depth };
 }
 
 impl EntityQueue {
-    pub(super) fn send(&mut self, item: Item) -> Result<Option<Item>, Memory>
-        ensures ok { OnOk result (self.new ≡ queue_after item self.old) }
+    #[tactic(auto, using(crate::proofs::Numbered::items_sent, crate::proofs::Numbered::numbers_sent))]
+    pub(super) fn send(&mut self, item: Item, number: u64) -> Result<Option<Item>, Memory>
+        ensures ok { OnOk result (self.new ≡ queue_after number item self.old) }
         ensures has { OnOk result (has_item self.new ≡ true) }
         ensures lost { IfOk result (λ lost. lost ≡ slice_get (displaced self.old.depth item self.old.items) 0) }
         ensures unchanged { OnErr result (self.new ≡ self.old) }
         ensures memory { OnErr result (has_item self.old ≡ false) }
     {
-        let lost = self.queue.send(item)?;
-        Ok(lost)
+        let lost = self.queue.send(Sent { item, number })?;
+        Ok(item_of(lost))
     }
 
     pub(super) fn take(&mut self)
@@ -53,11 +65,22 @@ impl EntityQueue {
         self.queue.take();
     }
 
+    // The number of the first item's arrival, and 0 if there is none.
+    #[tactic(auto, using(crate::proofs::Numbered::first_kept))]
+    pub(super) fn first_number(&self) -> u64
+        ensures { result ≡ first_number self.now }
+    {
+        match self.queue.front() {
+            None => 0,
+            Some(first) => kept_number(self.numbered, first.number),
+        }
+    }
+
     /// Its oldest item.
     pub fn front(&self) -> Option<Item>
         ensures { result ≡ slice_get self.now.items 0 }
     {
-        match self.queue.front() {
+        match front_of(&self.queue) {
             None => None,
             Some(item) => Some(*item),
         }
@@ -91,8 +114,8 @@ impl EntityQueue {
         self.handler.bring_home(script);
     }
 
-    // Lists the callback that takes its first item, where there is one, unless that asks about a server's goals: says whether it
-    // does not. The queue stands at a place.
+    // Lists the callback that takes its first item, if there is one. Answers whether that is done. If the item asks about
+    // a server's goals, nothing is listed, and the answer is `false`. The queue is at this place.
     #[inline(always)]
     pub(super) fn list_plain(
         &mut self,
@@ -107,7 +130,7 @@ impl EntityQueue {
         ensures left { IfOk result (λ done. done ≡ false → list.new ≡ list.old) }
         ensures homes { OnOk result ((handlers : List Handler) → slice_get handlers place ≡ Some self.old.handler → AreHomes handlers list.old homes.old.items → AreHomes handlers list.new homes.new.items) }
     {
-        let Some(item) = self.queue.front() else {
+        let Some(item) = front_of(&self.queue) else {
             return Ok(true);
         };
         if asks_server(item) {
@@ -126,7 +149,7 @@ impl EntityQueue {
     }
 }
 
-// Lists the callback that takes from the queue at a place, where there is one, as `list_plain` does.
+// Lists the callback that takes from the queue at a place, if there is one, as `list_plain` does.
 #[inline(always)]
 pub(super) fn list_plain_at(
     entries: &mut Vec<EntityQueue>,
@@ -166,4 +189,33 @@ fn asks_server(item: &Item) -> bool
         | Item::Feedback { .. }
         | Item::Result { .. } => false,
     }
+}
+
+// The oldest item of a ring.
+#[inline(always)]
+fn front_of(ring: &LazyQueue<Sent>) -> Option<&Item>
+    ensures { option_copied result ≡ slice_get (items_of ring.now.items) 0 }
+{
+    match ring.front() {
+        None => None,
+        Some(first) => Some(&first.item),
+    }
+}
+
+// The item of what was sent.
+#[inline(always)]
+fn item_of(sent: Option<Sent>) -> Option<Item>
+    ensures { result ≡ option_map (λ one. one.item) sent }
+{
+    match sent {
+        None => None,
+        Some(one) => Some(one.item),
+    }
+}
+
+// A number if numbers are kept, and else 0.
+fn kept_number(numbered: bool, number: u64) -> u64
+    ensures { result ≡ (if numbered then number else 0) }
+{
+    if numbered { number } else { 0 }
 }

@@ -19,7 +19,7 @@ fn is_filled(entries: &[EntityQueue], place: usize) -> bool
     }
 }
 
-// Notes a place at which an item is about to stand.
+// Notes a place. An item is about to be put into its queue.
 pub(super) fn note_filled(
     filled: &mut Vec<usize>,
     entries: &[EntityQueue],
@@ -36,7 +36,7 @@ pub(super) fn note_filled(
     Ok(())
 }
 
-// Leaves the same places in ascending order, each once, where they aren't settled so yet.
+// Puts the places in ascending order, each once, if they aren't so yet.
 pub(super) fn settle(settled: &mut bool, places: &mut Vec<usize>)
     requires { settled.old ≡ true → IsStrictlyIncreasing places.old.items }
     ensures rises { IsStrictlyIncreasing places.new.items }
@@ -49,7 +49,7 @@ pub(super) fn settle(settled: &mut bool, places: &mut Vec<usize>)
     }
 }
 
-// Leaves the places of queues that have an item.
+// Keeps the places of queues that have an item.
 pub(super) fn keep_filled(places: &mut Vec<usize>, entries: &[EntityQueue])
     ensures { places.new.items ≡ filter (λ place. is_filled_at entries.now place) places.old.items }
 {
@@ -65,7 +65,7 @@ fn sort_places(places: &mut Vec<usize>)
     places.dedup();
 }
 
-// Callbacks run in ready order, so that the places rise in a few long runs: these are merged, where there is memory for it.
+// Callbacks run in ready order, so the places rise in a few long runs. If there is memory for it, these are merged.
 fn sort(places: &mut Vec<usize>)
     ensures sorted { IsSorted nat_cmp places.new.items }
     ensures permutation { IsPermutation places.old.items places.new.items }
@@ -75,8 +75,7 @@ fn sort(places: &mut Vec<usize>)
     }
 }
 
-// Leaves the places of the queues of one part that have an item. Where there is no queue of a kind behind polls it looks at
-// none.
+// Keeps the places of the queues of one part that have an item. If there is no queue of a kind after polls, it looks at none.
 pub(super) fn leave_part(
     places: &mut Vec<usize>,
     entries: &[EntityQueue],
@@ -94,7 +93,7 @@ pub(super) fn leave_part(
     }
 }
 
-// Leaves the places of the queues of one part.
+// Keeps the places of the queues of one part.
 fn keep_part(places: &mut Vec<usize>, entries: &[EntityQueue], before_polls: bool)
     ensures { places.new.items ≡ filter (λ place. is_in_part_at before_polls entries.now place) places.old.items }
 {

@@ -16,7 +16,7 @@ use std::sync::atomic::Ordering::SeqCst;
 use std::test::Fail;
 use std::thread::{Threads, join};
 
-// Whether a board is closed with one box, of whose callbacks so many ran.
+// Whether a board is closed with one box, of which this many callbacks ran.
 fn closes_at(alloc: Global, board: Board, pass: Pass, done: usize) -> Result<bool, Memory>
     requires board { pass.board ≡ board }
     requires last { IsLast pass.view }
@@ -62,7 +62,7 @@ fn two_passes_share_a_lane(rt: HostRuntime) -> Result<(), Fail> {
     Ok(())
 }
 
-// Counts the steps that two threads have taken. A thread waits for one of the other's for at most so many turns.
+// Counts the steps that two threads have taken. A thread waits for a step of the other for a limited number of turns.
 #[derive(Drop)]
 struct Steps {
     taken: AtomicU64,
@@ -73,7 +73,7 @@ impl Steps {
         self.taken.fetch_add(1, SeqCst);
     }
 
-    // Whether so many were taken.
+    // Whether this many were taken.
     fn wait_for(&self, steps: u64) -> bool {
         for _ in 0..TURNS {
             if self.taken.load(SeqCst) >= steps {
@@ -84,8 +84,8 @@ impl Steps {
     }
 }
 
-// Claims the lane, runs three callbacks of it once the other thread was refused it, and is refused it once the other ran the
-// rest.
+// Claims the lane, and runs three callbacks of it after the other thread was refused it. It is refused the lane after the other
+// thread ran the rest.
 fn lead(board: &Board, mut pass: Pass, steps: &Steps) -> (Pass, bool)
     requires board { pass.board ≡ board.now }
     requires lane { 0 < board.now.words }
@@ -105,7 +105,7 @@ fn lead(board: &Board, mut pass: Pass, steps: &Steps) -> (Pass, bool)
     (pass, refused && finished)
 }
 
-// Is refused the lane while the other thread holds it, and runs two callbacks of it once that has released it.
+// Is refused the lane while the other thread holds it. Runs two callbacks of it after that has released it.
 fn follow(board: &Board, mut pass: Pass, steps: &Steps) -> (Pass, bool)
     requires board { pass.board ≡ board.now }
     requires lane { 0 < board.now.words }
@@ -182,7 +182,7 @@ fn shares_are_halved_and_joined(rt: HostRuntime) -> Result<(), Fail> {
     Ok(())
 }
 
-// Run with each allocation refused in turn, too: the answer is Memory, or a board of all lanes.
+// This is also run with each allocation refused, one after another. The answer is Memory, or a board of all lanes.
 #[test]
 fn a_board_has_all_lanes_or_none_is_opened(rt: HostRuntime) {
     if let Ok((board, pass)) = open(rt.alloc(), &[2, 1], 3) {
@@ -202,8 +202,8 @@ fn open_logging(alloc: Global) -> Result<(Board, Pass), Refused>
     Ok(Board::open(alloc, boxes, 1)?)
 }
 
-// Claims and releases that lane three times, for one callback each. Tells whether both callbacks ran, or nothing did after one
-// that was refused memory.
+// Claims and releases that lane three times, for one callback each. Answers whether both callbacks ran, or nothing ran after
+// one that was refused memory.
 fn runs_until_refused(board: &Board, pass: &mut Pass) -> bool
     requires board { pass.old.board ≡ board.now }
     requires lane { 0 < board.now.words }
@@ -219,7 +219,7 @@ fn runs_until_refused(board: &Board, pass: &mut Pass) -> bool
     }
 }
 
-// Run with each allocation refused in turn, too: a lane that was refused one runs nothing in later claims.
+// This is also run with each allocation refused, one after another. A lane that was refused one runs nothing in later claims.
 #[test]
 fn a_lane_that_has_failed_stays_so_on_its_board(rt: HostRuntime) {
     if let Ok((board, mut pass)) = open_logging(rt.alloc()) {

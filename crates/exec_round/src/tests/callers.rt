@@ -19,15 +19,15 @@ const LENGTHS: [usize; 40] = [
 
 const CALLBACKS: usize = 486;
 
-// What a caller came to: how many callbacks it ran, and whether it found all lanes finished.
+// What a caller ends with: how many callbacks it ran, and whether it found all lanes finished.
 #[derive(Clone, Copy)]
 struct Tally {
     ran: usize,
     finished: bool,
 }
 
-// Goes over the lanes until it finds all finished, for at most so many turns. It claims each that is open, runs at most so many
-// callbacks of it and releases it.
+// Goes over the lanes until it finds all finished, for a limited number of turns. It claims each that is open, runs at most
+// `count` callbacks of it and releases it.
 fn call(board: &Board, mut pass: Pass, count: usize) -> (Pass, Tally)
     requires board { pass.board ≡ board.now }
     requires holds_none { pass.view.holds ≡ [] }
@@ -60,7 +60,7 @@ fn call(board: &Board, mut pass: Pass, count: usize) -> (Pass, Tally)
     )
 }
 
-// Calls with as many passes as a share has numbers, each in a thread of its own where one can be made, and joins them.
+// Calls with as many passes as a share has numbers, and joins them. Each is in a thread of its own if one can be made.
 fn call_by<R: Threads + Sync>(rt: &R, board: &Board, pass: Pass, count: usize) -> (Pass, Tally)
     requires board { pass.board ≡ board.now }
     requires holds_none { pass.view.holds ≡ [] }
@@ -92,7 +92,7 @@ fn call_by<R: Threads + Sync>(rt: &R, board: &Board, pass: Pass, count: usize) -
     (board.join(front, back), tally)
 }
 
-// Whether a board is closed with boxes of these lengths, in their order, all of which are finished.
+// Whether a board is closed with finished boxes of these lengths, in their order.
 fn closes_in_order(
     alloc: Global,
     board: Board,

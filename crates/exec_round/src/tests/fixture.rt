@@ -10,8 +10,8 @@ use exec_msg::Memory;
 use exec_world::World;
 use std::alloc::{AllocError, Global};
 
-// A document in whose first round there is a lane of each length, in their order: a timer of one reentrant group where it is 1,
-// and else a mutually exclusive group with as many timers.
+// A document whose first round has a lane of each length, in their order. A lane of length 1 is a timer of one reentrant group.
+// Any other lane is a mutually exclusive group with as many timers.
 fn document_of(alloc: Global, lengths: &[usize]) -> Result<String, AllocError> {
     let mut text = String::from_str(
         alloc,
@@ -77,13 +77,13 @@ fn lanes_of(alloc: Global, lengths: &[usize]) -> Result<Vec<LaneBox>, Refused> {
     Ok(lanes_in(alloc, world)?)
 }
 
-// The lanes of a world's first round. The world is made elsewhere, since a function that makes one and lends it takes minutes to
-// prove.
+// The lanes of a world's first round. The world is made elsewhere, because a function that makes one and lends it takes minutes
+// to prove.
 pub(super) fn lanes_in(alloc: Global, mut world: World) -> Result<Vec<LaneBox>, Memory> {
     split_first(alloc, &mut world)
 }
 
-// A board with lanes of these lengths, for at most so many passes, and its first pass.
+// A board with lanes of these lengths, for at most `passes` passes, and its first pass.
 pub(super) fn open(
     alloc: Global,
     lengths: &[usize],
@@ -102,12 +102,12 @@ pub(super) fn open(
     Ok(Board::open(alloc, boxes, passes)?)
 }
 
-// Whether so many callbacks of each lane ran.
+// Whether this many callbacks of each lane ran.
 pub(super) fn have_run(lanes: &[LaneBox], count: usize) -> bool {
     lanes.iter().all(|lane| lane.done() == count)
 }
 
-// Runs the next callbacks of a lane, at most so many, until one is refused memory.
+// Runs the next callbacks of a lane, at most `count` of them, until one is refused memory.
 pub(super) fn run_some(lane: &mut LaneBox, count: usize)
     ensures lane { (lane.new.variables ≡ lane.old.variables) × (lane.new.entries ≡ lane.old.entries) }
     ensures on { lane.old.done ≤ lane.new.done }
@@ -119,7 +119,8 @@ pub(super) fn run_some(lane: &mut LaneBox, count: usize)
     }
 }
 
-// Claims a lane, runs at most so many callbacks of it and releases it. Tells how many had run at the claim and at the release.
+// Claims a lane, runs at most `count` callbacks of it and releases it. Answers how many had run at the claim and at the
+// release.
 pub(super) fn visit(
     board: &Board,
     pass: &mut Pass,

@@ -8,7 +8,7 @@ use std::alloc::Global;
 use std::collections::VecDeque;
 use std::test::Fail;
 
-// Takes the last claim, which stands first, or the first one.
+// Takes the last claim, which comes first, or the first one.
 fn take(claims: &mut VecDeque<Claim>, last_first: bool) -> Option<Claim>
     ensures taken { (claims.old.items ≡ option_to_list result ++ claims.new.items) ⊎ (claims.old.items ≡ claims.new.items ++ option_to_list result) }
     ensures some { IsSome result ↔ (0 < length claims.old.items) }
@@ -21,8 +21,8 @@ fn take(claims: &mut VecDeque<Claim>, last_first: bool) -> Option<Claim>
     }
 }
 
-// Claims all lanes, one after another, and then runs a callback of each and releases it, the last one that it claimed first or
-// the first. Tells how many it held.
+// Claims all lanes, one after another. Then runs a callback of each and releases it. It begins with the lane that it claimed
+// last, or with the first one. Answers how many it held.
 fn hold_all(alloc: Global, board: &Board, pass: &mut Pass, last_first: bool) -> usize
     requires board { pass.old.board ≡ board.now }
     requires holds_none { pass.old.view.holds ≡ [] }

@@ -10,7 +10,7 @@ use std::sync::atomic::AtomicU64;
 use std::sync::atomic::Ordering::SeqCst;
 use std::test::Fail;
 
-// Two timers of one mutually exclusive group, the second of which goes on with the variable that the first one left.
+// Two timers of one mutually exclusive group. The second goes on with the variable that the first one left.
 pub(super) const EXCLUSIVE: &[u8] =
     br#"{"version":1,"nodes":[{"name":"n","timers":[{"name":"s","period":1,"script":[["set","g0","mul","g0",2],["log","g0"]]},{"name":"t","period":1,"script":[["set","g0","add","g0",1],["log","g0"]]}]}],"moments":[1]}"#;
 
@@ -18,7 +18,7 @@ pub(super) const EXCLUSIVE: &[u8] =
 const REENTRANT: &[u8] =
     br#"{"version":1,"nodes":[{"name":"n","groups":[{"name":"r","kind":"reentrant"}],"timers":[{"name":"s","period":1,"group":"r","script":[["log",5]]},{"name":"t","period":1,"group":"r","script":[["log",6]]}]}],"moments":[1]}"#;
 
-// The positions that it was told, one after another, each as a decimal digit.
+// The positions that were reported to it, one after another, each as a decimal digit.
 #[derive(Drop)]
 pub(super) struct Told {
     digits: AtomicU64,
@@ -59,7 +59,7 @@ pub(super) fn split_first(alloc: Global, world: &mut World) -> Result<Vec<LaneBo
     split(alloc, list, world)
 }
 
-// Whether lanes have so many callbacks each, none of which ran.
+// Whether lanes have this many callbacks each, and none of these ran.
 fn have_lengths(lanes: &[LaneBox], lengths: &[usize]) -> bool {
     lanes.len() == lengths.len()
         && lanes
@@ -100,7 +100,7 @@ fn commit_one(one: Ran, world: &mut World) -> Result<(), Memory> {
     Ok(())
 }
 
-// Runs the next callback of each of these lanes. Gives the positions that the gate was told.
+// Runs the next callback of each of these lanes. Gives the positions that were reported to the gate.
 fn run_each(lanes: &mut Vec<LaneBox>, numbers: &[usize]) -> Result<u64, Memory> {
     let gate = Told::new();
     for number in numbers {
@@ -109,7 +109,7 @@ fn run_each(lanes: &mut Vec<LaneBox>, numbers: &[usize]) -> Result<u64, Memory> 
     Ok(gate.digits())
 }
 
-// Brings lanes home and commits what ran. Tells whether both callbacks came home in ready order.
+// Brings lanes home and commits what ran. Answers whether both callbacks came home in ready order.
 fn come_home(alloc: Global, lanes: Vec<LaneBox>, world: &mut World) -> Result<bool, Memory> {
     let all = gather(alloc, lanes, world)?;
     let ordered = are_at(&all, &[1, 2]);
@@ -122,8 +122,9 @@ fn has_written(world: &World, lines: &[Line]) -> bool {
     !world.is_failed() && world.transcript() == lines
 }
 
-// Cuts the first round into lanes, runs the next callback of each of these and commits what ran. Tells whether the lanes had
-// these lengths, the gate was told these positions, both callbacks came home in ready order, and these lines were written.
+// Cuts the first round into lanes, runs the next callback of each of these and commits what ran. Answers whether the lanes had
+// these lengths, these positions were reported to the gate, both callbacks came home in ready order, and these lines were
+// written.
 fn run_lanes(
     alloc: Global,
     world: &mut World,
@@ -139,7 +140,7 @@ fn run_lanes(
     Ok(cut && ordered && told == digits && has_written(world, lines))
 }
 
-// The same of a world that is made elsewhere, since a function that makes one and lends it takes minutes to prove.
+// The same of a world that is made elsewhere, because a function that makes one and lends it takes minutes to prove.
 fn run_world(
     alloc: Global,
     mut world: World,
@@ -151,7 +152,7 @@ fn run_world(
     run_lanes(alloc, &mut world, lengths, numbers, digits, lines)
 }
 
-// The same of the world of a document, which writes what one thread writes.
+// The same of the world of a document. It writes what one thread writes.
 fn run_round(
     alloc: Global,
     document: &[u8],
@@ -176,7 +177,7 @@ fn callbacks_of_a_reentrant_group_are_lanes(rt: HostRuntime) -> Result<(), Fail>
     Ok(())
 }
 
-// Runs the second of two lanes alone. Tells whether its callback alone is gathered.
+// Runs only the second of two lanes. Answers whether only its callback is gathered.
 fn gathers_one(alloc: Global, world: &mut World) -> Result<bool, Memory> {
     let mut lanes = split_first(alloc, world)?;
     run_next(&mut lanes, 1, &Open)?;
@@ -195,7 +196,7 @@ fn callbacks_that_ran_alone_are_gathered(rt: HostRuntime) -> Result<(), Fail> {
     Ok(())
 }
 
-// Runs the next callback of the first lane twice. Tells how many ran, unless one did behind another that was refused memory.
+// Runs the next callback of the first lane twice. Answers how many ran, unless one ran after another that was refused memory.
 fn run_two(lanes: &mut Vec<LaneBox>) -> Option<usize> {
     let first = run_next(lanes, 0, &Open);
     let second = run_next(lanes, 0, &Open);
@@ -207,7 +208,7 @@ fn run_two(lanes: &mut Vec<LaneBox>) -> Option<usize> {
     }
 }
 
-// Whether so many callbacks are gathered, or memory is refused and the world has failed.
+// Whether this many callbacks are gathered, or memory is refused and the world has failed.
 fn gather_some(alloc: Global, lanes: Vec<LaneBox>, world: &mut World, count: usize) -> bool {
     match gather(alloc, lanes, world) {
         Ok(all) => all.len() == count,
@@ -223,7 +224,7 @@ fn stays_failed(alloc: Global, mut lanes: Vec<LaneBox>, world: &mut World) -> bo
     }
 }
 
-// The same of the first round of a world, which has failed where it is refused its lanes.
+// The same of the first round of a world. The world has failed if it is refused its lanes.
 fn fails_for_good(alloc: Global, world: &mut World) -> bool {
     match split_first(alloc, world) {
         Ok(lanes) => stays_failed(alloc, lanes, world),
@@ -231,7 +232,7 @@ fn fails_for_good(alloc: Global, world: &mut World) -> bool {
     }
 }
 
-// Run with each allocation refused in turn, too: a lane that was refused one runs nothing from then on.
+// This is also run with each allocation refused, one after another. A lane that was refused one runs nothing from then on.
 #[test]
 fn a_lane_that_has_failed_stays_so(rt: HostRuntime) {
     if let Ok(mut world) = world_of(rt.alloc(), EXCLUSIVE) {

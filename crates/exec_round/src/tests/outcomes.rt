@@ -1,4 +1,4 @@
-// Calls of a queue of outcomes, and what a lane tells of its callbacks.
+// Calls of a queue of outcomes, and what a lane gives of its callbacks.
 ghost use Rattle.std.specs.Prelude.{◌≡◌, ◌<◌, ◌∷◌, ◌++◌, [], true, map, MatchOption};
 ghost use Rattle.exec_lane.specs.declared.outcome.Outcome.{Outcome};
 ghost use Rattle.exec_round.specs.Outcomes.{first_hand};
@@ -27,7 +27,7 @@ fn outcome(alloc: Global, position: usize) -> Outcome
     }
 }
 
-// Puts an outcome with this position, and tells the position of what came back.
+// Puts an outcome with this position, and answers the position of what came back.
 fn put<R: Wait>(
     rt: &R,
     alloc: Global,
@@ -48,7 +48,7 @@ fn put<R: Wait>(
     }
 }
 
-// Takes an outcome, and tells its position.
+// Takes an outcome, and answers its position.
 fn take<R: Wait>(rt: &R, queue: &OutcomeQueue, pass: &mut OutcomePass) -> Option<usize>
     requires queue { IsPassOf queue.now pass.old }
     requires parts { 0 < (view pass.old).parts }
@@ -63,8 +63,8 @@ fn take<R: Wait>(rt: &R, queue: &OutcomeQueue, pass: &mut OutcomePass) -> Option
     }
 }
 
-// Puts one outcome more than a queue of two places has room for, takes until it is empty, and puts and takes once more. Where it
-// went so, the pass has put and taken each of the three once.
+// Puts one outcome more than a queue of two places has room for, takes until it is empty, and puts and takes once more. If that
+// succeeded, the pass has put and taken each of the three once.
 fn puts_and_takes<R: Wait>(
     rt: &R,
     alloc: Global,
@@ -110,7 +110,7 @@ fn outcomes_come_out_as_they_went_in(rt: HostRuntime) -> Result<(), Fail> {
     Ok(())
 }
 
-// Runs both callbacks of a lane, and tells what they did.
+// Runs both callbacks of a lane, and gives what they did.
 fn run_both(lane: &mut LaneBox) -> Result<(Outcome, Outcome), Memory> {
     if lane.is_finished() {
         return Err(Memory);
@@ -132,7 +132,7 @@ fn is_log(outcome: &Outcome, position: usize, value: i64) -> bool {
         && matches!(&outcome.effects.close, Close::Nothing)
 }
 
-// Whether the two callbacks of the first lane of a world's first round did these logs.
+// Whether the two callbacks of the first lane of a world's first round logged these values.
 fn logs(alloc: Global, world: &mut World, values: [i64; 2]) -> Result<bool, Memory> {
     let mut lanes = split_first(alloc, world)?;
     let Some(lane) = lanes.get_mut(0) else {

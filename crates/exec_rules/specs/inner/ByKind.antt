@@ -7,7 +7,6 @@ use Rattle.exec_msg.specs.Numbers.{Moment}
 use Rattle.exec_msg.specs.declared.kind.Kind.{Kind}
 use Rattle.exec_msg.specs.declared.kind.Kind.TheVariants as kind
 use Rattle.exec_rules.specs.Ready.{due_ready, placed_from, poll_ready, queue_ready, queue_taken, ready_list, reply_taken, timer_taken}
-use Rattle.exec_rules.specs.Transcript.{run_all}
 use Rattle.exec_rules.specs.World.{Queue, WorldState}
 use Rattle.exec_rules.specs.declared.ready.Ready.{Ready}
 
@@ -35,13 +34,9 @@ abbrev pub listed_by_kind : Moment → WorldState → List Ready
 listed_by_kind moment world = placed_from 1 (ready_before moment world ++ flat_map (poll_ready moment) world.servers ++ ready_behind moment world)
 
 -- the world after each input is taken: the queues before polls alone hand on replies
-abbrev pub taken_by_kind : Moment → WorldState → WorldState
-taken_by_kind moment world =
+abbrev pub taken_in_parts : Moment → WorldState → WorldState
+taken_in_parts moment world =
     record world { timers = map (timer_taken moment) world.timers; queues = map queue_taken world.queues; clients = fold reply_taken world.clients (queues_before_polls world) }
-
--- the world after the callbacks of this list
-abbrev pub round_by_kind : Moment → WorldState → WorldState
-round_by_kind moment world = run_all (listed_by_kind moment world) (taken_by_kind moment world)
 
 -- the ready list of a world is this list
 abbrev pub IsListedByKind : Moment → WorldState → Type 0

@@ -2,7 +2,7 @@ use std::env::{Env, FillError};
 use std::io;
 use std::io::{ErrorKind, Read, Write};
 
-/// Gives its bytes, `step` at a time at most, and fails after so many calls.
+/// Gives its bytes, at most `step` at a time, and fails after a number of calls.
 #[derive(Drop)]
 pub struct Source<'a> {
     pub bytes: &'a [u8],
@@ -21,7 +21,7 @@ impl Read for Source<'_> {
     }
 }
 
-/// Gives so many spaces.
+/// Gives this number of spaces.
 #[derive(Drop)]
 pub struct Spaces(pub usize);
 
@@ -36,14 +36,14 @@ impl Read for Spaces {
     }
 }
 
-/// How a sink takes no more.
+/// How a sink fails.
 #[derive(Clone, Copy, Debug, PartialEq, Eq)]
 pub enum End {
     Fails,
     TakesNothing,
 }
 
-/// Takes `step` bytes at a time at most, and no more after so many calls. Its flush fails then too.
+/// Takes at most `step` bytes at a time, and no more after a number of calls. Its flush fails then too.
 #[derive(Drop)]
 pub struct Sink {
     pub taken: Vec<u8>,

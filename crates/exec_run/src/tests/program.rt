@@ -72,7 +72,7 @@ fn run<H: Threads + Wait + Sync, R: Read>(
     }
 }
 
-// The program's own name is the first argument, and a space its document.
+// The first argument is the program's own name, and the document is a space.
 fn run_started_with<H: Threads + Wait + Sync>(
     rt: &H,
     alloc: Global,
@@ -105,7 +105,7 @@ fn writes_the_transcript(rt: HostRuntime) -> Result<(), Fail> {
     Ok(())
 }
 
-// The positions that it was told, one after another, each as a decimal digit.
+// The positions that were reported to it, one after another, each as a decimal digit.
 #[derive(Drop)]
 struct Order {
     digits: AtomicU64,
@@ -152,7 +152,8 @@ fn passes_its_quantum(rt: HostRuntime) -> Result<(), Fail> {
     Ok(())
 }
 
-// Run with each allocation refused in turn, too. What is refused before the run leaves nothing to look at.
+// This is also run with each allocation refused, one after another. If one is refused before the run, nothing is left to look
+// at.
 #[test]
 fn tells_a_refused_growth(rt: HostRuntime) {
     let alloc = rt.alloc();

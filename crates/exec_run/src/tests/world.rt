@@ -1,4 +1,4 @@
-//! Calls of a world, one after another, as they stand without lanes.
+//! Calls of a world, one after another, without lanes.
 use exec_doc::{Refused, read_document};
 use exec_msg::Memory;
 use exec_task::Poller;
@@ -18,7 +18,7 @@ fn timer_world(alloc: Global) -> Result<World, Refused> {
     Ok(World::new(alloc, plan)?)
 }
 
-// Begins a round, if it is the next one, and commits each callback that is ready in it: tells how many there were.
+// Begins a round, if it is the next one, and commits each callback that is ready in it. Answers how many there were.
 fn run_round(alloc: Global, world: &mut World, round: usize) -> Result<usize, WorldFault> {
     if !world.is_next(round) {
         return Ok(usize::MAX);
@@ -50,7 +50,7 @@ fn a_plan_is_run_by_calls_of_its_world(rt: HostRuntime) -> Result<(), Fail> {
     run_by_calls(&rt, rt.alloc(), timer_world(rt.alloc())?)
 }
 
-// A function that owns a world is proved over all that a world drops, once for each way out: so it lends the world, once.
+// A function that owns a world is proved over all that a world drops, once for each way out. So this one lends the world, once.
 fn run_by_calls(rt: &impl Abort, alloc: Global, mut world: World) -> Result<(), Fail> {
     run_each(rt, alloc, &mut world)
 }
@@ -89,7 +89,7 @@ fn commit_last(rt: &impl Abort, alloc: Global, world: &mut World) -> Result<(), 
     Ok(())
 }
 
-// It answers so whatever it is handed.
+// It gives this answer whatever it is handed.
 #[test]
 fn a_failed_world_answers_that_it_failed(rt: HostRuntime) -> Result<(), Fail> {
     fail(&rt, rt.alloc(), timer_world(rt.alloc())?)
@@ -119,7 +119,7 @@ fn fail_and_ask(rt: &impl Abort, alloc: Global, world: &mut World) -> Result<(),
     Ok(())
 }
 
-// Run with each allocation refused in turn, too: a call that is refused memory marks the world.
+// This is also run with each allocation refused, one after another. A call that is refused memory marks the world.
 #[test]
 fn a_world_that_is_refused_memory_has_failed(rt: HostRuntime) {
     if let Ok(world) = timer_world(rt.alloc()) {
@@ -140,7 +140,7 @@ fn take_a_snapshot(rt: &impl Abort, world: &mut World) {
     assert!(rt; !world.is_failed() && world.rounds_done() == 1);
 }
 
-// Run with each allocation refused in turn, too: the world is given up then.
+// This is also run with each allocation refused, one after another. The world is dropped then.
 #[test]
 fn a_round_is_run_whole(rt: HostRuntime) {
     if let Ok(world) = timer_world(rt.alloc()) {

@@ -50,8 +50,7 @@ impl Instr {
         }
     }
 
-    /// `["skip", A, n]`: where A isn't 0, the next n instructions are passed over. A script writes n, so it is below
-    /// 2^63.
+    /// `["skip", A, n]`: if A isn't 0, the next n instructions are passed over. A script writes n, so it is less than 2^63.
     pub fn skip(condition: Operand, count: u64) -> Instr
         requires { count < 2 ^ 63 }
         ensures { result ≡ Skip condition count }

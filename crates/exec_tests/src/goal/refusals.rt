@@ -1,6 +1,5 @@
-//! Refused memory: each call either answers as it does with ample memory, or answers Memory and
-//! leaves the goals as they were; asked again it succeeds. So these tests pass whichever
-//! allocation of a call is refused.
+//! Refused memory: each call either answers as it does with ample memory, or answers Memory and changes no goal. If it is made
+//! again, it succeeds. So these tests pass whichever allocation of a call is refused.
 use super::{id, request};
 use crate::shared::{moment, same};
 use exec_goal::{Asked, GoalInfo, Goals, Reject};

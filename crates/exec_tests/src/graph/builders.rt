@@ -1,5 +1,5 @@
-//! What a builder knows, and that it is left as it was where memory is refused: asked again it succeeds. So these tests pass
-//! whichever allocation is refused.
+//! What a builder knows, and that it doesn't change if memory is refused. If it is asked again, it succeeds. So these tests
+//! pass whichever allocation is refused.
 use crate::shared::same;
 use exec_graph::{
     EntityDraft, EntityOf, GraphBuilder, GraphFault, GroupDraft, NodeDraft, ServerEntity, Spelled,

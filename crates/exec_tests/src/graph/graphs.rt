@@ -31,7 +31,7 @@ const TWO_NODES: &str = r#"{"version":1,"topics":["x","y"],"nodes":[
    "timers":[{"name":"u","group":"h","period":4611686018427387904},
      {"name":"v","group":"r","period":1,"script":[["log","now"]]}]}]}"#;
 
-// A name, its callback group and whether that is exclusive, and its kind; a topic has none.
+// A name, its callback group and whether that is exclusive, and its kind. A topic has none.
 type Row = (&'static str, Option<(u16, bool)>, Option<EntityKind>);
 
 // The topics and entities of the two nodes at their numbers.
@@ -55,7 +55,7 @@ const AT_THEIR_NUMBERS: &[Row] = &[
     ("l", Some((3, true)), Some(EntityKind::ActionClient)),
 ];
 
-// The callback groups of the two nodes: the number, the name of the node, the group's own, and whether it is exclusive.
+// The callback groups of the two nodes: the number, the node's name, the group's own name, and whether it is exclusive.
 const GROUPS: &[(u16, &str, Option<&str>, bool)] = &[
     (0, "n", None, true),
     (1, "n", Some("g"), true),
@@ -65,7 +65,7 @@ const GROUPS: &[(u16, &str, Option<&str>, bool)] = &[
     (5, "m", Some("h"), true),
 ];
 
-// The kind of what stands at a number; a topic has none.
+// The kind of what is at a number. A topic has none.
 fn kind(graph: &Graph, no: EntityNo) -> Option<EntityKind>
     requires { no < length graph.now.entities }
 {
@@ -156,7 +156,7 @@ fn a_graph_is_as_declared(rt: HostRuntime) -> Result<(), Fail> {
     Ok(())
 }
 
-// A name, and its number where it is a topic's and where it is a server's.
+// A name, and its number if it is a topic's, and if it is a server's.
 const FOUND: &[(&str, Option<u16>, Option<u16>)] = &[
     ("x", Some(0), None),
     ("y", Some(1), None),

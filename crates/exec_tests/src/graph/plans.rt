@@ -62,7 +62,7 @@ fn is_as_fed(rt: &impl Abort, plan: &Plan) {
     same(rt, plan.feed(), fed.as_slice());
 }
 
-// Where memory is refused, the entries are listed by rounds once more.
+// If memory is refused, the entries are listed by rounds once more.
 fn by_round(alloc: Global, plan: &Plan) -> Result<FeedByRound, Memory> {
     match FeedByRound::of(alloc, plan) {
         Err(Memory) => FeedByRound::of(alloc, plan),

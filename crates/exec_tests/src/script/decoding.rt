@@ -49,7 +49,7 @@ impl Scope for Node {
     }
 }
 
-// The words of a script whose instructions stand in lines, with spaces between their items.
+// The words of a script. Each line has an instruction, with spaces between its items.
 fn words(alloc: Global, script: &str) -> Result<Vec<Vec<Word>>, Memory> {
     let mut spelled = Vec::new(alloc);
     for line in script.split('\n') {
@@ -73,7 +73,7 @@ fn word(alloc: Global, item: &str) -> Result<Word, Memory> {
     }
 }
 
-// The same script, each of its `set`s decoded where it is read.
+// The same script. Each of its `set`s is decoded when it is read.
 fn instructions(alloc: Global, script: &str) -> Result<Vec<SpelledInstr>, Memory> {
     let mut spelled = Vec::new(alloc);
     for line in script.split('\n') {
@@ -111,6 +111,10 @@ fn set_in(words: &[Word]) -> Option<SpelledInstr> {
     )
 }
 
+/// The script that this text spells. Each line has an instruction.
+///
+/// # Errors
+/// The fault of the script, or [`ScriptFault::Memory`] if a growth was refused.
 pub fn decoded(alloc: Global, script: &str) -> Result<Vec<Instr>, ScriptFault> {
     let Ok(spelled) = words(alloc, script) else {
         return Err(ScriptFault::Memory);
@@ -118,7 +122,7 @@ pub fn decoded(alloc: Global, script: &str) -> Result<Vec<Instr>, ScriptFault> {
     decoded_by(alloc, spelled.as_slice())
 }
 
-// Where memory is refused, the call is made once more.
+// If memory is refused, the call is made once more.
 fn decoded_by<W: Spelling>(alloc: Global, spelled: &[W]) -> Result<Vec<Instr>, ScriptFault> {
     match decode(alloc, spelled, &Node) {
         Err(ScriptFault::Memory) => decode(alloc, spelled, &Node),
@@ -132,7 +136,7 @@ fn printed(alloc: Global, script: &str) -> Result<String, Memory> {
     Ok(format!(in alloc; "{result:?}")?)
 }
 
-// The same of a script whose `set`s are decoded where they are read.
+// The same of a script whose `set`s are decoded when they are read.
 fn printed_at_once(alloc: Global, script: &str) -> Result<String, Memory> {
     let spelled = instructions(alloc, script)?;
     let result = decoded_by(alloc, spelled.as_slice());

@@ -1,8 +1,11 @@
--- Which closings add something to a world: a line, an item, or a client that waits for a result. The others need no memory.
+-- Which closings add something to a world: a line, an item, a client that waits for a result, or the number of an arrival, which
+-- has to fit into 64 bits. The others need no memory.
 use Rattle.std.specs.Prelude.{Bool, true, false, ◌&&◌, Option, None, Some}
 use Rattle.std.specs.Option.{is_some}
 use Rattle.exec_goal.specs.Calls.{end_state}
 use Rattle.exec_msg.specs.Numbers.{EntityNo, GoalId}
+use Rattle.exec_plan.specs.declared.order.Order.{Order}
+use Rattle.exec_plan.specs.declared.order.Order.TheVariants as order
 use Rattle.exec_script.specs.declared.effects.Close.{Close}
 use Rattle.exec_script.specs.declared.effects.Close.TheVariants as close
 use Rattle.exec_rules.specs.World.{WorldState, ActionClientEntry, goals_of, action_client_at}
@@ -26,9 +29,15 @@ item_adds entity (item.Ask id client) world = true
 item_adds entity (item.Response id accepted) world = response_adds (action_client_at entity world) accepted
 item_adds entity _ world = false
 
--- a goal ends
+-- a goal whose poll pends arrives anew, if the order asks for arrivals
+abbrev pub pend_adds : Order → Bool
+pend_adds order.Kind = false
+pend_adds order.Arrival = true
+
+-- a goal ends, or arrives anew
 abbrev pub poll_adds : EntityNo → GoalId → Close → WorldState → Bool
 poll_adds server id (close.Ended by value) world = is_some (end_state id by (goals_of server world))
+poll_adds server id close.Pending world = pend_adds world.order
 poll_adds server id _ world = false
 
 abbrev pub cause_adds : EntityNo → Cause → Close → WorldState → Bool

@@ -20,8 +20,8 @@ pub(super) trait Callback<L: Lines> {
     // The callback.
     ghost ready: { Self → Ready };
 
-    // Runs it apart from the world, with its group's variables and its goal's task where the world keeps them, and answers what
-    // closes it. The list then has its effects, and these alone.
+    // Runs it apart from the world, with its group's variables and its goal's task, which are the world's own. Answers what
+    // closes it. The list then has its effects alone.
     fn run_apart(
         &self,
         state: &mut State<L>,
@@ -92,8 +92,8 @@ impl<L: Lines> State<L> {
         }
     }
 
-    // The same of any form of it. A goal is polled in a context that the caller has made. The list has room for effects, which is
-    // used again and again.
+    // The same of any form of it. A goal is polled in a context that the caller has made. The list has room for effects, and
+    // each callback uses it again.
     #[inline(always)]
     pub(super) fn run_as<C: Callback<L>>(
         &mut self,

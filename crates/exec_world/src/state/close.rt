@@ -1,4 +1,4 @@
-//! What closes a callback in the world, behind its effects.
+//! What closes a callback in the world, after its effects.
 ghost use Rattle.std.specs.Prelude.{◌≡◌};
 ghost use Rattle.exec_rules.specs.Close.{reply_in};
 
@@ -9,6 +9,7 @@ use exec_msg::{
     Acceptance, CancelDecision, Decision, EntityNo, Event, GoalId, GoalStatus, Line, Lines, Memory,
     Moment,
 };
+use exec_plan::Order;
 use exec_rules::{Cause, Item, Ready, decision_in};
 use exec_script::Close;
 
@@ -17,15 +18,16 @@ impl<L: Lines> State<L> {
     ghost use Rattle.std.specs.List.{fold};
     ghost use Rattle.std.specs.Option.{is_some};
     ghost use Rattle.exec_goal.specs.Calls.{askers_in, end_state};
-    ghost use Rattle.exec_world.specs.inner.Adding.{closing_adds, item_adds, poll_adds, response_adds};
+    ghost use Rattle.exec_world.specs.inner.Adding.{closing_adds, item_adds, pend_adds, poll_adds, response_adds};
     ghost use Rattle.exec_msg.specs.declared.goal.GoalStatus.TheVariants as status;
     ghost use Rattle.exec_msg.specs.declared.line.Line.TheVariants as line;
     ghost use Rattle.exec_rules.specs.declared.item.Item.TheVariants as item;
     ghost use Rattle.exec_goal.specs.Table.{is_accepting};
-    ghost use Rattle.exec_rules.specs.Close.{accept, answer_goal, ask, cancel, close_callback, close_item, close_poll, decide, decisions_in, end, reply_to, respond, tell};
-    ghost use Rattle.exec_rules.specs.World.{action_client_at, add_line, add_lines, goals_of, has_room_for, push};
+    ghost use Rattle.exec_rules.specs.Close.{accept, answer_goal, ask, cancel, decide, decisions_in, end, goal_arrived, pend, reply_to, respond, tell};
+    ghost use Rattle.exec_rules.specs.Close.{close_callback, close_item, close_poll};
+    ghost use Rattle.exec_rules.specs.World.{action_client_at, add_line, add_lines, goals_of, has_room_for};
 
-    // Closes a ready callback. Memory is refused only where that adds something to the world.
+    // Closes a ready callback. Memory can be refused only if that adds something to the world.
     #[inline(always)]
     pub(super) fn close(&mut self, one: &Ready, closing: &Close) -> Result<(), Memory>
         ensures closed { OnOk result (self.new ≡ close_callback one.now closing.now self.old) }
@@ -38,7 +40,7 @@ impl<L: Lines> State<L> {
         }
     }
 
-    // Most items need nothing, which is decided where it is asked.
+    // Closes a callback that took an item. Most items need nothing, and that is decided here, without a call.
     #[inline(always)]
     fn close_item(
         &mut self,
@@ -145,7 +147,8 @@ impl<L: Lines> State<L> {
         requires { has_room_for request.now.id (goals_of server self.old) ≡ true }
         ensures { OnOk result (self.new ≡ accept server moment how request.now self.old) }
     {
-        self.servers.accept(server, moment, how, request)?;
+        let number = self.mail.arrive()?;
+        self.servers.accept(server, number, moment, how, request)?;
         self.add_state(server, request.id, GoalStatus::Accepted)?;
         match how {
             Acceptance::Execute => self.add_state(server, request.id, GoalStatus::Executing),
@@ -202,7 +205,7 @@ impl<L: Lines> State<L> {
         )
     }
 
-    // Tells of each of these goals that it is being canceled.
+    // Reports that each of these goals is being canceled.
     fn add_moved(&mut self, server: EntityNo, goals: &[GoalId]) -> Result<(), Memory>
         ensures { OnOk result (self.new ≡ add_lines (map (λ (id : ℕ). line.State server id status.Canceling) goals.now) self.old) }
     {
@@ -258,7 +261,7 @@ impl<L: Lines> State<L> {
         Ok(())
     }
 
-    // Closes a poll. Most pend, and are closed with no call.
+    // Closes a poll. Most polls pend, and are closed without a call.
     #[inline(always)]
     pub(super) fn close_poll(
         &mut self,
@@ -272,11 +275,32 @@ impl<L: Lines> State<L> {
     {
         match closing {
             Close::Ended(event, value) => self.end(server, id, *event, *value, moment),
+            Close::Pending => self.pend(server, id),
             _ => Ok(()),
         }
     }
 
-    // Ends a goal by an event, where its table lets it. Few polls come here, so it isn't written where polls are closed.
+    // Closes a poll that pends. Its goal gets the number of a new arrival, if the order needs arrivals.
+    #[inline(always)]
+    fn pend(&mut self, server: EntityNo, id: GoalId) -> Result<(), Memory>
+        ensures closed { OnOk result (self.new ≡ pend self.old.order server id self.old) }
+        ensures memory { OnErr result (pend_adds self.old.order ≡ true) }
+    {
+        match self.mail.order() {
+            Order::Kind => Ok(()),
+            Order::Arrival => self.goal_arrives(server, id),
+        }
+    }
+
+    fn goal_arrives(&mut self, server: EntityNo, id: GoalId) -> Result<(), Memory>
+        ensures { OnOk result (self.new ≡ goal_arrived server id self.old) }
+    {
+        let number = self.mail.arrive()?;
+        self.servers.goal_arrives(server, id, number);
+        Ok(())
+    }
+
+    // Ends a goal by an event, if its table has that transition. It isn't inlined, because few polls end a goal.
     #[inline(never)]
     fn end(
         &mut self,
@@ -295,7 +319,7 @@ impl<L: Lines> State<L> {
         }
     }
 
-    // Tells that a goal ended with a status and a result.
+    // Reports that a goal ended with a status and a result.
     fn tell_end(
         &mut self,
         server: EntityNo,
@@ -303,13 +327,14 @@ impl<L: Lines> State<L> {
         status: GoalStatus,
         value: i64,
     ) -> Result<(), Memory>
-        ensures { OnOk result (self.new ≡ fold (λ before client. tell server id status value client before) (add_line (line.State server id status) self.old) (askers_in id (goals_of server self.old))) }
+        ensures { OnOk result (self.new ≡ fold (λ before client. tell server id status value client before)
+            (add_line (line.State server id status) self.old) (askers_in id (goals_of server self.old))) }
     {
         self.add_state(server, id, status)?;
         self.tell_askers(server, id, status, value)
     }
 
-    // Tells each action client that asked for a goal's result, in the order of asking.
+    // Answers each action client that asked for a goal's result, in the order of asking.
     fn tell_askers(
         &mut self,
         server: EntityNo,
@@ -317,7 +342,8 @@ impl<L: Lines> State<L> {
         status: GoalStatus,
         value: i64,
     ) -> Result<(), Memory>
-        ensures { OnOk result (self.new ≡ fold (λ before client. tell server id status value client before) self.old (askers_in id (goals_of server self.old))) }
+        ensures { OnOk result (self.new
+            ≡ fold (λ before client. tell server id status value client before) self.old (askers_in id (goals_of server self.old))) }
     {
         let mut index: usize = 0;
         while let Some(client) = self.servers.asker(server, id, index) {

@@ -65,7 +65,7 @@ impl<L: Lines> State<L> {
             .send_each(found.subscribers(), &Item::Message { value })
     }
 
-    // An item is sent to an entity: what its queue loses by it is dropped with a line.
+    // An item is sent to an entity. What its queue loses by it is dropped with a line.
     pub(super) fn push(&mut self, entity: EntityNo, item: Item) -> Result<(), Memory>
         ensures { OnOk result (self.new ≡ push entity item self.old) }
     {
@@ -157,7 +157,8 @@ impl<L: Lines> State<L> {
         id: GoalId,
         stamp: u64,
     ) -> Result<(), Memory>
-        ensures { OnOk result (self.new ≡ push server (item.Cancel (record { id = id; stamp = stamp }) (Some client)) (add_line (line.Cancel client id stamp) self.old)) }
+        ensures { OnOk result (self.new
+            ≡ push server (item.Cancel (record { id = id; stamp = stamp }) (Some client)) (add_line (line.Cancel client id stamp) self.old)) }
     {
         let request = CancelRequest { id, stamp };
         let sender = Some(client);

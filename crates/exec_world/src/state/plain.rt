@@ -1,4 +1,4 @@
-//! Callbacks that run their script once, that nothing closes, and whose line has no identifier: most callbacks are such.
+//! Callbacks that run their script once, that nothing closes, and whose line has no identifier. Most callbacks are such.
 use super::State;
 use super::callback::Callback;
 use exec_msg::{Kind, Line, Lines, Memory};
@@ -26,7 +26,8 @@ impl<'a> Model for Plain<'a> {
 
     ghost view = { λ plain. plain.one.now };
 
-    ghost invariant = { λ plain. (is_plain plain.one.now.cause ≡ true) × (kind_of plain.one.now.cause ≡ plain.kind) × (input_of plain.one.now ≡ plain.input) };
+    ghost invariant = { λ plain. (is_plain plain.one.now.cause ≡ true)
+        × (kind_of plain.one.now.cause ≡ plain.kind) × (input_of plain.one.now ≡ plain.input) };
 }
 
 impl<'a> Plain<'a> {
@@ -34,7 +35,7 @@ impl<'a> Plain<'a> {
     ghost use Rattle.exec_rules.specs.Ready.{input_of, kind_of};
     ghost use Rattle.exec_world.specs.inner.Plain.{is_plain};
 
-    // A callback of this kind, which is handed these numbers.
+    // A callback of this kind. It is handed these numbers.
     #[inline(always)]
     pub(super) fn of(one: &'a Ready, kind: Kind, first: i64, aux: i64) -> Plain<'a>
         requires plain { is_plain one.now.cause ≡ true }

@@ -7,7 +7,7 @@ use exec_script::{Close, Effect, EffectList};
 use exec_task::Turn;
 use futures::task::Context;
 
-// A poll of a goal at a moment. Its ready callback is made for its effects alone, which most polls don't have.
+// A poll of a goal at a moment. Its ready callback is made only for its effects, and most polls have none.
 #[derive(Drop)]
 struct Poll<'a> {
     moment: Moment,

@@ -9,7 +9,7 @@ use crate::scratch::Scratch;
 use exec_entity::{Client, Numbered};
 use exec_goal::CancelRequest;
 use exec_msg::{Line, Lines, Memory, Moment};
-use exec_plan::{Fed, Feed};
+use exec_plan::{Fed, Feed, Order};
 use exec_queue::bring_home_to_timers;
 use exec_rules::Item;
 use futures::task::Context;
@@ -17,14 +17,14 @@ use futures::task::Context;
 impl<L: Lines> State<L> {
     ghost use Rattle.std.specs.Prelude.{◌≡◌, ◌≤◌, length, map, take, drop, OnOk};
     ghost use Rattle.exec_msg.specs.declared.line.Line.TheVariants as line;
+    ghost use Rattle.exec_plan.specs.declared.order.Order.TheVariants as order;
     ghost use Rattle.exec_rules.specs.Transcript.{expire, feed, feed_one, finish, run_all};
     ghost use Rattle.exec_rules.specs.World.{add_line};
     ghost use Rattle.exec_rules.specs.inner.Awake.{poll_at};
-    ghost use Rattle.exec_rules.specs.inner.ByKind.{listed_by_kind, round_by_kind, taken_by_kind};
-    ghost use Rattle.exec_world.specs.inner.Snapshots.{ScriptsComeFrom};
+    ghost use Rattle.exec_rules.specs.inner.ByKind.{taken_in_parts};
+    ghost use Rattle.exec_world.specs.inner.Snapshots.{ScriptsComeFrom, listed_in, round_in, round_under};
 
-    // Begins the round of a number at a moment, and takes each input. The list then has the callbacks that are ready, and these
-    // alone.
+    // Begins the round of a number at a moment, and takes each input. The list then has only the callbacks that are ready.
     pub(crate) fn begin_round(
         &mut self,
         number: u64,
@@ -32,8 +32,8 @@ impl<L: Lines> State<L> {
         fed: &[Feed],
         scratch: &mut Scratch,
     ) -> Result<(), Memory>
-        ensures list { OnOk result (scratch.new.list ≡ listed_by_kind moment (feed fed.now (expire moment (add_line (line.Round number moment) self.old)))) }
-        ensures taken { OnOk result (self.new ≡ taken_by_kind moment (feed fed.now (expire moment (add_line (line.Round number moment) self.old)))) }
+        ensures list { OnOk result (scratch.new.list ≡ listed_in moment (feed fed.now (expire moment (add_line (line.Round number moment) self.old)))) }
+        ensures taken { OnOk result (self.new ≡ taken_in_parts moment (feed fed.now (expire moment (add_line (line.Round number moment) self.old)))) }
     {
         self.open_round(number, moment, fed)?;
         self.snapshot(moment, scratch)?;
@@ -49,9 +49,24 @@ impl<L: Lines> State<L> {
         scratch: &mut Scratch,
         cx: &mut Context<'_>,
     ) -> Result<(), Memory>
-        ensures { OnOk result (self.new ≡ round_by_kind moment (feed fed.now (expire moment (add_line (line.Round number moment) self.old)))) }
+        ensures { OnOk result (self.new ≡ round_in moment (feed fed.now (expire moment (add_line (line.Round number moment) self.old)))) }
     {
         self.open_round(number, moment, fed)?;
+        match self.mail.order() {
+            Order::Kind => self.run_by_kind(moment, scratch, cx),
+            Order::Arrival => self.run_by_arrival(moment, scratch, cx),
+        }
+    }
+
+    // Takes each input at a moment under the order of kinds, and runs the callbacks that are ready.
+    fn run_by_kind(
+        &mut self,
+        moment: Moment,
+        scratch: &mut Scratch,
+        cx: &mut Context<'_>,
+    ) -> Result<(), Memory>
+        ensures { OnOk result (self.new ≡ round_under order.Kind moment self.old) }
+    {
         let before = self.snapshot_in_parts(moment, scratch)?;
         self.run_parts(moment, before, scratch, cx)?;
         self.bring_scripts_home(scratch);
@@ -59,7 +74,7 @@ impl<L: Lines> State<L> {
     }
 
     // Brings home the scripts of callbacks that ran.
-    fn bring_scripts_home(&mut self, scratch: &mut Scratch)
+    pub(super) fn bring_scripts_home(&mut self, scratch: &mut Scratch)
         requires { ScriptsComeFrom self.old scratch.old.list scratch.old.homes }
         ensures { self.new ≡ self.old }
     {
@@ -68,7 +83,7 @@ impl<L: Lines> State<L> {
             .bring_scripts_home(&mut scratch.list, &scratch.homes.queues);
     }
 
-    // Runs the callbacks of the list that come before polls, polls the goals, and runs the others of the list, one after another.
+    // Runs the callbacks of the list that come before polls, then polls the goals, and then runs the others of the list.
     fn run_parts(
         &mut self,
         moment: Moment,
@@ -137,7 +152,7 @@ impl<L: Lines> State<L> {
         }
     }
 
-    // Closes the transcript after so many rounds.
+    // Closes the transcript after this many rounds.
     pub(crate) fn finish(&mut self, rounds: u64) -> Result<(), Memory>
         ensures { OnOk result (self.new ≡ finish rounds self.old) }
     {
@@ -148,7 +163,8 @@ impl<L: Lines> State<L> {
 
 // Adds a line for each client that has calls without a reply.
 fn add_pending<L: Lines>(clients: &[Client], mail: &mut Mail<L>) -> Result<(), Memory>
-    ensures { OnOk result (mail.new ≡ record mail.old { lines = mail.old.lines ++ flat_map (λ entry. pending_by entry.entity (length entry.pending)) clients.now }) }
+    ensures { OnOk result (mail.new
+        ≡ record mail.old { lines = mail.old.lines ++ flat_map (λ entry. pending_by entry.entity (length entry.pending)) clients.now }) }
 {
     for client in clients {
         add_pending_of(client, mail)?;

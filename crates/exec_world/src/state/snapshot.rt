@@ -8,36 +8,49 @@ use crate::fronts::Fronts;
 use crate::scratch::Scratch;
 use exec_entity::Clients;
 use exec_msg::{EntityNo, Lines, Memory, Moment};
+use exec_plan::Order;
 use exec_queue::{Queues, take_due_into};
 use exec_rules::Item;
 
 impl<L: Lines> State<L> {
     ghost use Rattle.std.specs.Prelude.{◌≡◌, ◌+◌, ◌≤◌, length, map, take, drop, IfOk, OnOk};
     ghost use Rattle.std.specs.List.{flat_map, fold};
-    ghost use Rattle.exec_rules.specs.Ready.{placed_from, queue_ready, reply_taken, timer_taken};
-    ghost use Rattle.exec_rules.specs.inner.ByKind.{listed_by_kind, queues_before_polls, taken_by_kind};
+    ghost use Rattle.exec_plan.specs.declared.order.Order.TheVariants as order;
+    ghost use Rattle.exec_rules.specs.Ready.{placed_from, queue_ready, queue_taken, reply_taken, timer_taken};
+    ghost use Rattle.exec_rules.specs.inner.ByKind.{queues_before_polls, taken_in_parts};
     ghost use Rattle.exec_rules.specs.inner.Awake.{awake_goals};
     ghost use Rattle.exec_rules.specs.inner.ByKind.{ready_before, ready_behind};
     ghost use Rattle.exec_rules.specs.World.{WorldState};
     ghost use Rattle.exec_rules.specs.inner.Homes.{queue_handlers};
     ghost use Rattle.exec_rules.specs.inner.Listing.{listed_behind};
-    ghost use Rattle.exec_world.specs.inner.Snapshots.{ScriptsComeFrom, filled_places, queues_in_part};
+    ghost use Rattle.exec_world.specs.inner.Snapshots.{ScriptsComeFrom, filled_places, listed_in, listed_under, queues_in_part};
 
-    // Takes each input at a moment. The list then has the callbacks that are ready, and these alone.
+    // Takes each input at a moment. The list then has only the callbacks that are ready.
     pub(super) fn snapshot(&mut self, moment: Moment, scratch: &mut Scratch) -> Result<(), Memory>
-        ensures list { OnOk result (scratch.new.list ≡ listed_by_kind moment self.old) }
-        ensures taken { OnOk result (self.new ≡ taken_by_kind moment self.old) }
+        ensures list { OnOk result (scratch.new.list ≡ listed_in moment self.old) }
+        ensures taken { OnOk result (self.new ≡ taken_in_parts moment self.old) }
+    {
+        match self.mail.order() {
+            Order::Kind => self.snapshot_by_kind(moment, scratch),
+            Order::Arrival => self.snapshot_by_arrival(moment, scratch),
+        }
+    }
+
+    // The same under the order of kinds: each part is listed at its place.
+    fn snapshot_by_kind(&mut self, moment: Moment, scratch: &mut Scratch) -> Result<(), Memory>
+        ensures list { OnOk result (scratch.new.list ≡ listed_under order.Kind moment self.old) }
+        ensures taken { OnOk result (self.new ≡ taken_in_parts moment self.old) }
     {
         self.list_first(moment, scratch)?;
         self.servers
             .list_polls(self.alloc, moment, &mut scratch.goals, &mut scratch.list)?;
         self.list_queues(false, moment, scratch)?;
-        self.mail.take_first();
+        self.take_first();
         Ok(())
     }
 
-    // Takes each input at a moment, and lists the goals that are awake. The ready list then has the other callbacks that are
-    // ready, and these alone. The answer is how many of them come before polls.
+    // Takes each input at a moment under the order of kinds, and lists the goals that are awake. The ready list then has only
+    // the other callbacks that are ready. The answer is how many of them come before polls.
     pub(super) fn snapshot_in_parts(
         &mut self,
         moment: Moment,
@@ -47,19 +60,46 @@ impl<L: Lines> State<L> {
         ensures first { IfOk result (λ before. take before scratch.new.list ≡ placed_from 1 (ready_before moment self.old)) }
         ensures goals { OnOk result (scratch.new.goals.items ≡ flat_map (awake_goals moment) self.old.servers) }
         ensures last { IfOk result (λ before. drop before scratch.new.list ≡ placed_from (before + 1) (ready_behind moment self.old)) }
-        ensures taken { OnOk result (self.new ≡ taken_by_kind moment self.old) }
+        ensures taken { OnOk result (self.new ≡ taken_in_parts moment self.old) }
+        ensures homes { OnOk result (ScriptsComeFrom self.old scratch.new.list scratch.new.homes) }
+    {
+        let before = self.list_in_parts(moment, scratch)?;
+        self.take_first();
+        Ok(before)
+    }
+
+    // The same before queues lose their first items.
+    pub(super) fn list_in_parts(
+        &mut self,
+        moment: Moment,
+        scratch: &mut Scratch,
+    ) -> Result<usize, Memory>
+        ensures within { IfOk result (λ before. before ≤ length scratch.new.list) }
+        ensures first { IfOk result (λ before. take before scratch.new.list ≡ placed_from 1 (ready_before moment self.old)) }
+        ensures goals { OnOk result (scratch.new.goals.items ≡ flat_map (awake_goals moment) self.old.servers) }
+        ensures last { IfOk result (λ before. drop before scratch.new.list ≡ placed_from (before + 1) (ready_behind moment self.old)) }
+        ensures taken { OnOk result (self.new ≡ record self.old {
+          timers = map (timer_taken moment) self.old.timers;
+          clients = fold reply_taken self.old.clients (queues_before_polls self.old);
+        }) }
         ensures homes { OnOk result (ScriptsComeFrom self.old scratch.new.list scratch.new.homes) }
     {
         self.list_first(moment, scratch)?;
         let before = scratch.list.as_slice().len();
         self.list_queues(false, moment, scratch)?;
         self.servers.awake_goals(moment, &mut scratch.goals)?;
-        self.mail.take_first();
         Ok(before)
     }
 
-    // Lists the callbacks that come before polls, and these alone. Timers are called, and calls have the replies that are taken.
-    fn list_first(&mut self, moment: Moment, scratch: &mut Scratch) -> Result<(), Memory>
+    // Takes the first item of each queue that has one.
+    pub(super) fn take_first(&mut self)
+        ensures { self.new ≡ record self.old { queues = map queue_taken self.old.queues } }
+    {
+        self.mail.take_first();
+    }
+
+    // Lists only the callbacks that come before polls. Timers are called, and calls have the replies that are taken.
+    pub(super) fn list_first(&mut self, moment: Moment, scratch: &mut Scratch) -> Result<(), Memory>
         ensures list { OnOk result (scratch.new.list ≡ placed_from 1 (ready_before moment self.old)) }
         ensures taken { OnOk result (self.new ≡ record self.old {
           timers = map (timer_taken moment) self.old.timers;
@@ -83,7 +123,7 @@ impl<L: Lines> State<L> {
 
     // Lists the callbacks that take from the queues of kinds before polls, or of the other kinds. The places are then those of
     // the queues with an item.
-    fn list_queues(
+    pub(super) fn list_queues(
         &mut self,
         before_polls: bool,
         moment: Moment,

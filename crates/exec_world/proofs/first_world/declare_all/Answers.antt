@@ -8,6 +8,6 @@ use Rattle.exec_world.proofs.first_world.declare_all.Goals as goal
 
 pub loop-number-preserved : goal.loop-number-preserved
 loop-number-preserved c =
-    next_made (new_queue_of c.args.graph.now c.args.kind) (has_kind c.args.kind) c.args.graph.now c.loop-number.number c.loop-number.queues _ _ (omega arith)
-    (c.in_ok-declare_queue.ensures ∙ ap (λ (declared : Declared). c.loop-number.queues ++ cons_if (has_kind c.args.kind declared) (queue_for c.args.graph.now c.args.kind c.loop-number.number (as_entity declared)) []) c.declaration.ensures)
+    next_made (new_queue_of c.args.order c.args.graph.now c.args.kind) (has_kind c.args.kind) c.args.graph.now c.loop-number.number c.loop-number.queues _ _ (omega arith)
+    (c.in_ok-declare_queue.ensures ∙ ap (λ (declared : Declared). c.loop-number.queues ++ cons_if (has_kind c.args.kind declared) (queue_for c.args.order c.args.graph.now c.args.kind c.loop-number.number (as_entity declared)) []) c.declaration.ensures)
     c.loop-number.invariant

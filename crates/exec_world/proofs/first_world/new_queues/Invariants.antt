@@ -7,4 +7,4 @@ use Rattle.exec_world.proofs.first_world.new_queues.Given as goal
 
 -- the queues so far are followed by those of the kinds that are left
 abbrev pub invariant-loop-kind : goal.invariant-loop-kind
-invariant-loop-kind l = l.queues ++ queues_from l.graph (drop l.kind-index l.kind-items) ≡ map (new_queue l.graph) (filter (λ waitable. takes_from_queue waitable.kind) (wait_set l.graph))
+invariant-loop-kind l = l.queues ++ queues_from l.order l.graph (drop l.kind-index l.kind-items) ≡ map (new_queue l.order l.graph) (filter (λ waitable. takes_from_queue waitable.kind) (wait_set l.graph))

@@ -22,5 +22,5 @@ invariant_of-self-2 c =
           _ _ c.in-Ok.ensures.accepted (ap held_goals_of c.in_ok-reserve.ensures.entries) c.insert_new.ensures refl none c.self.invariant.0,
       c.push_reserved.ensures.items ∙ ap (λ (wakes : List ℕ). wakes ++ 0 ∷ []) (c.in_ok-reserve-2.ensures.items ∙ c.self.invariant.1)
           ∙ sym (wake-added (held_goals_of c.self.inside.held.entries) (held_goals_of c.reserve.new.self.entries) (held_goals_of c.insert_new.new.held.entries)
-          (held_goal_of (c.request.inside.id, record { task = Some c.in_ok-task.task; client = c.request.inside.client })) (ap held_goals_of c.in_ok-reserve.ensures.entries) c.insert_new.ensures (ap wake_of c.in_ok-task.ensures.task)),
+          (held_goal_of (c.request.inside.id, record { task = Some c.in_ok-task.task; client = c.request.inside.client; arrival = c.args.number })) (ap held_goals_of c.in_ok-reserve.ensures.entries) c.insert_new.ensures (ap wake_of c.in_ok-task.ensures.task)),
     )

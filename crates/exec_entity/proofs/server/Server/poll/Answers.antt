@@ -26,7 +26,7 @@ invariant_of-self c =
     let is : held_goals_of c.self.inside.held.entries ≡ c.args.self.now.held = ap (λ (server : ServerEntry). server.held) c.self.view_is in
     let kept : Some c.unwrap-held.result.now ≡ slice_get (values_of c.self.inside.held.entries) c.in-Some.place = search rules in
     let at = kept-at c.args.id c.unwrap-held.result.now c.self.inside.goals c.self.inside.held.entries c.args.self.now.held c.in-Some.place is c.self.invariant.0 c.in-Some.ensures.at kept in
-    let after : Held = record { task = c.poll_any.new.task; client = c.unwrap-held.result.now.client } in
+    let after : Held = record { task = c.poll_any.new.task; client = c.unwrap-held.result.now.client; arrival = c.unwrap-held.result.now.arrival } in
     let changes : held_goal_of (c.args.id, after) ≡ held_goal_of (c.args.id, c.unwrap-held.result.now) = ap (λ (work : Option GoalWork). record (held_goal_of (c.args.id, c.unwrap-held.result.now)) { work = work }) c.in_err-close.ensures.unchanged in
     let stays : held_goals_of (set_value_at c.self.inside.held.entries c.in-Some.place after) ≡ held_goals_of c.self.inside.held.entries =
     changed-at at after (λ (one : HeldGoal). one) changes ∙ unchanged_first (is_for c.args.id) (held_goals_of c.self.inside.held.entries) in
@@ -37,7 +37,7 @@ returns-in_err-close-clause-unchanged c =
     let is : held_goals_of c.self.inside.held.entries ≡ c.args.self.now.held = ap (λ (server : ServerEntry). server.held) c.self.view_is in
     let kept : Some c.unwrap-held.result.now ≡ slice_get (values_of c.self.inside.held.entries) c.in-Some.place = search rules in
     let at = kept-at c.args.id c.unwrap-held.result.now c.self.inside.goals c.self.inside.held.entries c.args.self.now.held c.in-Some.place is c.self.invariant.0 c.in-Some.ensures.at kept in
-    let after : Held = record { task = c.poll_any.new.task; client = c.unwrap-held.result.now.client } in
+    let after : Held = record { task = c.poll_any.new.task; client = c.unwrap-held.result.now.client; arrival = c.unwrap-held.result.now.arrival } in
     let changes : held_goal_of (c.args.id, after) ≡ held_goal_of (c.args.id, c.unwrap-held.result.now) = ap (λ (work : Option GoalWork). record (held_goal_of (c.args.id, c.unwrap-held.result.now)) { work = work }) c.in_err-close.ensures.unchanged in
     let stays : held_goals_of (set_value_at c.self.inside.held.entries c.in-Some.place after) ≡ held_goals_of c.self.inside.held.entries =
     changed-at at after (λ (one : HeldGoal). one) changes ∙ unchanged_first (is_for c.args.id) (held_goals_of c.self.inside.held.entries) in
@@ -49,7 +49,7 @@ invariant_of-self-2 c =
     let is : held_goals_of c.self.inside.held.entries ≡ c.args.self.now.held = ap (λ (server : ServerEntry). server.held) c.self.view_is in
     let kept : Some c.unwrap-held.result.now ≡ slice_get (values_of c.self.inside.held.entries) c.in-Some.place = search rules in
     let at = kept-at c.args.id c.unwrap-held.result.now c.self.inside.goals c.self.inside.held.entries c.args.self.now.held c.in-Some.place is c.self.invariant.0 c.in-Some.ensures.at kept in
-    let after : Held = record { task = c.poll_any.new.task; client = c.unwrap-held.result.now.client } in
+    let after : Held = record { task = c.poll_any.new.task; client = c.unwrap-held.result.now.client; arrival = c.unwrap-held.result.now.arrival } in
     let task : Option TaskState = (poll_listed c.args.turn.now (option_map work_of c.unwrap-held.result.now.task) c.args.bank.now).task in
     let changes : held_goal_of (c.args.id, after) ≡ after_poll_of task (held_goal_of (c.args.id, c.unwrap-held.result.now)) = ap (λ (work : Option GoalWork). record (held_goal_of (c.args.id, c.unwrap-held.result.now)) { work = work }) c.in_ok-close.ensures.task in
     let moved : held_goals_of (set_value_at c.self.inside.held.entries c.in-Some.place after) ≡ change_first (is_for c.args.id) (after_poll_of task) (held_goals_of c.self.inside.held.entries) = changed-at at after (after_poll_of task) changes in
@@ -93,7 +93,7 @@ returns-clause-task c =
     let at = kept-at c.args.id c.unwrap-held.result.now c.self.inside.goals c.self.inside.held.entries c.args.self.now.held c.in-Some.place is c.self.invariant.0 c.in-Some.ensures.at kept in
     let found : find (is_for c.args.id) c.args.self.now.held ≡ Some (held_goal_of (c.args.id, c.unwrap-held.result.now)) = subst (λ (helds : List HeldGoal). find (is_for c.args.id) helds ≡ Some (held_goal_of (c.args.id, c.unwrap-held.result.now))) is (found-at c.args.id c.unwrap-held.result.now c.self.inside.held.entries c.in-Some.place at) in
     let polled = polled-in c.args.turn.now c.args.id c.args.self.now c.args.bank.now (Some (held_goal_of (c.args.id, c.unwrap-held.result.now))) found in
-    let after : Held = record { task = c.poll_any.new.task; client = c.unwrap-held.result.now.client } in
+    let after : Held = record { task = c.poll_any.new.task; client = c.unwrap-held.result.now.client; arrival = c.unwrap-held.result.now.arrival } in
     let task : Option TaskState = (poll_listed c.args.turn.now (option_map work_of c.unwrap-held.result.now.task) c.args.bank.now).task in
     let changes : held_goal_of (c.args.id, after) ≡ after_poll_of task (held_goal_of (c.args.id, c.unwrap-held.result.now)) = ap (λ (work : Option GoalWork). record (held_goal_of (c.args.id, c.unwrap-held.result.now)) { work = work }) c.in_ok-close.ensures.task in
     let moved : held_goals_of (set_value_at c.self.inside.held.entries c.in-Some.place after) ≡ change_first (is_for c.args.id) (after_poll_of task) (held_goals_of c.self.inside.held.entries) = changed-at at after (after_poll_of task) changes in

@@ -11,6 +11,7 @@ invariant_of-self c = (
   filled_settled c.self.inside.entries.items c.self.inside.filled.items c.settle.new.places.items c.settle.ensures.only c.self.invariant.2,
   λ _. c.settle.ensures.rises,
   c.self.invariant.4,
+  c.self.invariant.5,
 )
 
 pub invariant_of-self-2 : goal.invariant_of-self-2
@@ -20,6 +21,7 @@ invariant_of-self-2 c = (
   filled_settled c.self.inside.entries.items c.self.inside.filled.items c.settle.new.places.items c.settle.ensures.only c.self.invariant.2,
   λ _. c.settle.ensures.rises,
   c.self.invariant.4,
+  c.self.invariant.5,
 )
 
 pub leave_part-requires-clause-filled : goal.leave_part-requires-clause-filled

@@ -6,7 +6,7 @@ use Rattle.exec_rules.specs.World.{has_room_for, is_server_at}
 use Rattle.exec_entity.proofs.server.found.ByNumber+Server.accept.Goals as goal
 
 pub returns-in_default : goal.returns-in_default
-returns-in_default c = unchanged (is_server_at c.args.server) c.self.inside.entries.items c.args.self.now c.place-place.result c.self.view_is c.place-place.ensures (server_accepting c.args.moment c.args.how c.args.request.now) c.in_default.ensures.item.0
+returns-in_default c = unchanged (is_server_at c.args.server) c.self.inside.entries.items c.args.self.now c.place-place.result c.self.view_is c.place-place.ensures (server_accepting c.args.number c.args.moment c.args.how c.args.request.now) c.in_default.ensures.item.0
 
 pub accept-requires : goal.accept-requires
 accept-requires c =
@@ -19,5 +19,5 @@ invariant_of-self-2 c =
 
 pub returns : goal.returns
 returns c =
-    changed_at (is_server_at c.args.server) c.self.inside.entries.items c.args.self.now c.place-place.result c.self.view_is c.place-place.ensures (server_accepting c.args.moment c.args.how c.args.request.now) c.in-Some.entry.now c.accept.new.self c.in-Some.ensures.item.0 c.in-Some.ensures.value
+    changed_at (is_server_at c.args.server) c.self.inside.entries.items c.args.self.now c.place-place.result c.self.view_is c.place-place.ensures (server_accepting c.args.number c.args.moment c.args.how c.args.request.now) c.in-Some.entry.now c.accept.new.self c.in-Some.ensures.item.0 c.in-Some.ensures.value
     c.in_ok-accept.ensures.accepted

@@ -1,7 +1,7 @@
 use Rattle.std.proofs.Common.{ap}
 use Rattle.exec_world.proofs.Snapshots.{all_listed}
 use Rattle.exec_rules.specs.World.{WorldState}
-use Rattle.exec_world.proofs.state.State.snapshot.Goals as goal
+use Rattle.exec_world.proofs.state.State.snapshot_by_kind.Goals as goal
 
 pub returns-clause-list : goal.returns-clause-list
 returns-clause-list g c =

@@ -1,6 +1,6 @@
 use Rattle.std.proofs.Common.{ap, sym}
 use Rattle.exec_rules.specs.inner.Homes.{queue_handlers}
-use Rattle.exec_world.proofs.state.State.snapshot_in_parts.Goals as goal
+use Rattle.exec_world.proofs.state.State.list_in_parts.Goals as goal
 
 pub returns-clause-homes : goal.returns-clause-homes
 returns-clause-homes g c =

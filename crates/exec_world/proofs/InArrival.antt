@@ -1,0 +1,204 @@
+-- Callbacks that are run by the numbers of their arrivals, from wherever they are listed, run as the ready list does.
+use Rattle.std.proofs.Common.{◌≡◌, ℕ, zero, suc, ◌+◌, ◌-◌, ◌<◌, ◌≤◌, get_or, Option, Bool, true, false, if◌then◌else◌, nat_le, List, [], ◌∷◌, ◌++◌, length, map, take, drop, slice_get, Some, refl, sym, subst, ap, ◌∙◌, arith, append_assoc, length-append}
+use Rattle.std.specs.List.{AllZip, filter, flat_map, fold}
+use Rattle.std.specs.Option.{option_map_or}
+use Rattle.std.proofs.lemmas.List.Sums.{fold_more}
+use Rattle.std.proofs.lemmas.Option.{slice_get_past}
+use Rattle.exec_plan.proofs.Positions.{slice_get-behind}
+use Rattle.std.proofs.lemmas.List.{append-nil, length-map, map-append, take-append-drop}
+use Rattle.exec_goal.specs.Table.{GoalRecord}
+use Rattle.exec_msg.specs.Numbers.{Moment}
+use Rattle.exec_plan.specs.declared.order.Order.TheVariants as order
+use Rattle.exec_rules.proofs.PolledAlike.{placed_alike, poll_alike, runs_alike}
+use Rattle.exec_rules.specs.Ready.{is_goal_awake, placed_from, poll_ready, rank_under, ready_for, woken}
+use Rattle.exec_rules.specs.Run.{run}
+use Rattle.exec_rules.specs.Sorting.{inserted_by, sorted_by}
+use Rattle.exec_rules.specs.Transcript.{run_all}
+use Rattle.exec_rules.specs.World.{ClientEntry, ServerEntry, TimerEntry, WorldState}
+use Rattle.exec_rules.specs.declared.ready.AwakeGoal.{AwakeGoal}
+use Rattle.exec_rules.specs.declared.ready.Ready.{Ready}
+use Rattle.exec_rules.specs.inner.Awake.{awake_goals, goal_awake, poll_at}
+use Rattle.exec_rules.specs.inner.ByKind.{ready_before, ready_behind}
+use Rattle.exec_world.proofs.Arranged.{arrival_same}
+use Rattle.exec_world.specs.declared.arrived.Arrived.{Arrived}
+use Rattle.exec_world.specs.inner.Arrivals.{arrived_in, run_arrived, run_at, with_arrived}
+use Rattle.exec_world.specs.inner.Snapshots.{ready_in_parts}
+
+-- ---- two lists of one length, by each two of one place
+
+-- both sorted, where each two have one rank
+module _ {A B : Type 0} (R : A → B → Type 0) (rank : A → ℕ) (other : B → ℕ) (same : (x : A) (y : B) → R x y → rank x ≡ other y) where
+  zip_inserted : (x : A) (y : B) (xs : List A) (ys : List B) → R x y → AllZip R xs ys → AllZip R (inserted_by rank x xs) (inserted_by other y ys)
+  zip_inserted x y [] [] r p = (r, tt)
+  zip_inserted x y [] (v ∷ ys) r p = absurd p
+  zip_inserted x y (u ∷ xs) [] r p = absurd p
+  zip_inserted x y (u ∷ xs) (v ∷ ys) r p =
+      subst (λ (b : Bool). AllZip R (inserted_by rank x (u ∷ xs)) (if b then y ∷ v ∷ ys else v ∷ inserted_by other y ys)) (λ i. nat_le (same x y r i) (same u v p.0 i))
+      (by (nat_le (rank x) (rank u)) (zip_inserted x y xs ys r p.1))
+    where
+      by : (b : Bool) → AllZip R (inserted_by rank x xs) (inserted_by other y ys) → AllZip R (if b then x ∷ u ∷ xs else u ∷ inserted_by rank x xs) (if b then y ∷ v ∷ ys else v ∷ inserted_by other y ys)
+      by true rest = (r, p)
+      by false rest = (p.0, rest)
+
+  zip_sorted : (xs : List A) (ys : List B) → AllZip R xs ys → AllZip R (sorted_by rank xs) (sorted_by other ys)
+  zip_sorted [] [] p = tt
+  zip_sorted [] (v ∷ ys) p = absurd p
+  zip_sorted (u ∷ xs) [] p = absurd p
+  zip_sorted (u ∷ xs) (v ∷ ys) p = zip_inserted u v (sorted_by rank xs) (sorted_by other ys) p.0 (zip_sorted xs ys p.1)
+
+zip_append : {A B : Type 0} (R : A → B → Type 0) (xs zs : List A) (ys ws : List B) → AllZip R xs ys → AllZip R zs ws → AllZip R (xs ++ zs) (ys ++ ws)
+zip_append R [] zs [] ws p q = q
+zip_append R [] zs (v ∷ ys) ws p q = absurd p
+zip_append R (u ∷ xs) zs [] ws p q = absurd p
+zip_append R (u ∷ xs) zs (v ∷ ys) ws p q = (p.0, zip_append R xs zs ys ws p.1 q)
+
+-- ---- the callback at a place, as a list of one
+
+-- one of the list
+module _ (world : WorldState) where
+  alone : (list more : List Ready) (place : ℕ) → place < length list → run_all (take 1 (drop place list)) world ≡ run_at (list ++ more) world place
+  alone [] more place within = absurd (omega (arith, within))
+  alone (one ∷ list) more zero within = refl
+  alone (one ∷ list) more (suc place) within = alone list more place (omega (arith, within))
+
+  pub runs_listed : (list more all : List Ready) (place : ℕ) → list ++ more ≡ all → place < length list → run_all (take ((place + 1) - place) (drop place list)) world ≡ run_at all world place
+  runs_listed list more all place are within =
+      let single : (place + 1) - place ≡ 1 = omega arith in
+      ap (λ (n : ℕ). run_all (take n (drop place list)) world) single
+      ∙ alone list more place within
+      ∙ ap (λ (some : List Ready). run_at some world place) are
+
+  -- the poll of a goal after it
+  polled : (moment : Moment) (goals : List AwakeGoal) (at : ℕ) → at < length goals → run_all (map (poll_at moment) (take 1 (drop at goals))) world ≡ run_at (map (poll_at moment) goals) world at
+  polled moment [] at within = absurd (omega (arith, within))
+  polled moment (goal ∷ goals) zero within = refl
+  polled moment (goal ∷ goals) (suc at) within = polled moment goals at (omega (arith, within))
+
+  pub polls_listed : (list all : List Ready) (moment : Moment) (goals : List AwakeGoal) (place at : ℕ) → list ++ map (poll_at moment) goals ≡ all → length list ≤ place → at ≡ place - length list → at < length goals
+      → run_all (map (poll_at moment) (take ((at + 1) - at) (drop at goals))) world ≡ run_at all world place
+  polls_listed list all moment goals place at are after is within =
+      let single : (at + 1) - at ≡ 1 = omega arith in
+      let there : length list + at ≡ place = omega (arith, after, is) in
+      ap (λ (n : ℕ). run_all (map (poll_at moment) (take n (drop at goals))) world) single
+      ∙ polled moment goals at within
+      ∙ ap (λ (found : Option Ready). option_map_or (λ (some : Ready). run some world) found world) (sym (slice_get-behind list (map (poll_at moment) goals) at))
+      ∙ ap (run_at (list ++ map (poll_at moment) goals) world) there
+      ∙ ap (λ (some : List Ready). run_at some world place) are
+
+  -- nothing beyond both
+  pub none_listed : (list all : List Ready) (moment : Moment) (goals : List AwakeGoal) (place at : ℕ) → list ++ map (poll_at moment) goals ≡ all → length list ≤ place → at ≡ place - length list → length goals ≤ at → world ≡ run_at all world place
+  none_listed list all moment goals place at are after is beyond =
+      let both : length (list ++ map (poll_at moment) goals) ≡ length list + length (map (poll_at moment) goals) = length-append list (map (poll_at moment) goals) in
+      sym (ap (λ (some : List Ready). run_at some world place) (sym are)
+      ∙ ap (λ (found : Option Ready). option_map_or (λ (some : Ready). run some world) found world)
+      (slice_get_past (list ++ map (poll_at moment) goals) place (omega (arith, both, length-map goals (poll_at moment), after, is, beyond))))
+
+-- nothing arrived, as which an arrival is read beyond the last one
+abbrev pub no_arrival : Arrived
+no_arrival = record { number = 0; place = 0 }
+
+-- the callback of one arrival more
+pub ran_next : (all : List Ready) (now before after : WorldState) (arrivals : List Arrived) (i : ℕ) → after ≡ run_at all before (get_or arrivals i no_arrival).place → before ≡ run_arrived all now (take i arrivals) → i < length arrivals
+    → after ≡ run_arrived all now (take (i + 1) arrivals)
+ran_next all now before after arrivals i ran so_far within =
+    ran
+    ∙ ap (λ (world : WorldState). run_at all world (get_or arrivals i no_arrival).place) so_far
+    ∙ sym (fold_more (λ (world : WorldState) (arrived : Arrived). run_at all world arrived.place) now arrivals i no_arrival within)
+
+module _ (rank : Ready → ℕ) where
+  -- ---- callbacks that run alike
+
+  -- callbacks of one rank that run alike
+  abbrev Alike : Ready → Ready → Type 0
+  Alike one other = (rank one ≡ rank other) × ((world : WorldState) → run one world ≡ run other world)
+
+  placed_zip : ((position : ℕ) (one : Ready) → rank (record one { position = position }) ≡ rank one) → (position : ℕ) (list : List Ready) → AllZip Alike (placed_from position list) list
+  placed_zip same position [] = tt
+  placed_zip same position (one ∷ list) = ((same position one, runs_alike position one), placed_zip same (suc position) list)
+
+  -- ---- callbacks at the places of arrivals
+
+  -- the arrivals of a list whose first has this place
+  abbrev arrived_from : ℕ → List Ready → List Arrived
+  arrived_from place [] = []
+  arrived_from place (one ∷ list) = record { number = rank one; place = place } ∷ arrived_from (suc place) list
+
+  pub arrived_is : (so_far : List Arrived) (list : List Ready) → fold (λ arrivals one. with_arrived arrivals (rank one)) so_far list ≡ so_far ++ arrived_from (length so_far) list
+  arrived_is so_far [] = sym (append-nil so_far)
+  arrived_is so_far (one ∷ list) =
+      let next : Arrived = record { number = rank one; place = length so_far } in
+      let more : length (so_far ++ next ∷ []) ≡ length so_far + 1 = length-append so_far (next ∷ []) in
+      arrived_is (so_far ++ next ∷ []) list
+      ∙ append_assoc so_far (next ∷ []) (arrived_from (length (so_far ++ next ∷ [])) list)
+      ∙ ap (λ (place : ℕ). so_far ++ (next ∷ arrived_from place list)) (omega (arith, more))
+
+  module _ (all : List Ready) where
+    -- an arrival of a callback's rank, at whose place one stands that runs alike
+    abbrev RunsAs : Arrived → Ready → Type 0
+    RunsAs arrived one = (arrived.number ≡ rank one) × ((world : WorldState) → run_at all world arrived.place ≡ run one world)
+
+    zip_from : (place : ℕ) (rest parts : List Ready) → ((k : ℕ) → slice_get all (place + k) ≡ slice_get rest k) → AllZip Alike rest parts → AllZip RunsAs (arrived_from place rest) parts
+    zip_from place [] [] reads p = tt
+    zip_from place [] (one ∷ parts) reads p = absurd p
+    zip_from place (one ∷ rest) [] reads p = absurd p
+    zip_from place (one ∷ rest) (other ∷ parts) reads p =
+        let here : place ≡ place + 0 = omega arith in
+        let there : slice_get all place ≡ Some one = ap (slice_get all) here ∙ reads 0 in (
+          (p.0.0, λ world. ap (λ (found : _). option_map_or (λ (some : Ready). run some world) found world) there ∙ p.0.1 world),
+          zip_from (suc place) rest parts (λ k. let next : suc place + k ≡ place + suc k = omega arith in ap (slice_get all) next ∙ reads (suc k)) p.1,
+        )
+
+    zip_run : (arrivals : List Arrived) (list : List Ready) → AllZip RunsAs arrivals list → (world : WorldState) → run_arrived all world arrivals ≡ run_all list world
+    zip_run [] [] p world = refl
+    zip_run [] (one ∷ list) p world = absurd p
+    zip_run (arrived ∷ arrivals) [] p world = absurd p
+    zip_run (arrived ∷ arrivals) (one ∷ list) p world = ap (λ (after : WorldState). run_arrived all after arrivals) (p.0.1 world) ∙ zip_run arrivals list p.1 (run one world)
+
+    pub sorted_run : (parts : List Ready) → AllZip Alike all parts → (world : WorldState) → run_arrived all world (sorted_by (λ one. one.number) (arrived_from 0 all)) ≡ run_all (sorted_by rank parts) world
+    sorted_run parts p world =
+        zip_run (sorted_by (λ one. one.number) (arrived_from 0 all)) (sorted_by rank parts)
+        (zip_sorted RunsAs (λ one. one.number) rank (λ arrived one q. q.0) (arrived_from 0 all) parts (zip_from 0 all parts (λ k. let same : 0 + k ≡ k = omega arith in ap (slice_get all) same) p)) world
+
+-- ---- what a snapshot listed
+
+module _ (moment : Moment) (world : WorldState) where
+  abbrev number_of : Ready → ℕ
+  number_of = rank_under order.Arrival world
+
+  goals_zip : (entry : ServerEntry) (goals : List GoalRecord) → AllZip (Alike number_of) (map (poll_at moment) (flat_map (goal_awake moment entry) goals))
+      (map (λ one. ready_for moment entry.handler (woken one) [] (Some entry.handler.script)) (filter (is_goal_awake moment entry.held) goals))
+  goals_zip entry [] = tt
+  goals_zip entry (goal ∷ goals) = by (is_goal_awake moment entry.held goal) refl (goals_zip entry goals)
+    where
+      by : (b : Bool) → is_goal_awake moment entry.held goal ≡ b
+          → AllZip (Alike number_of) (map (poll_at moment) (flat_map (goal_awake moment entry) goals)) (map (λ one. ready_for moment entry.handler (woken one) [] (Some entry.handler.script)) (filter (is_goal_awake moment entry.held) goals))
+          → AllZip (Alike number_of) (map (poll_at moment) (flat_map (goal_awake moment entry) (goal ∷ goals))) (map (λ one. ready_for moment entry.handler (woken one) [] (Some entry.handler.script)) (filter (is_goal_awake moment entry.held) (goal ∷ goals)))
+      by true is rest = rw is ((refl, λ before. sym (poll_alike moment entry goal before)), rest)
+      by false is rest = rw is rest
+
+  polls_zip : (servers : List ServerEntry) → AllZip (Alike number_of) (map (poll_at moment) (flat_map (awake_goals moment) servers)) (flat_map (poll_ready moment) servers)
+  polls_zip [] = tt
+  polls_zip (entry ∷ servers) =
+      subst (λ (list : List Ready). AllZip (Alike number_of) list (flat_map (poll_ready moment) (entry ∷ servers))) (sym (map-append (poll_at moment) (awake_goals moment entry) (flat_map (awake_goals moment) servers)))
+      (zip_append (Alike number_of) (map (poll_at moment) (awake_goals moment entry)) (map (poll_at moment) (flat_map (awake_goals moment) servers)) (poll_ready moment entry) (flat_map (poll_ready moment) servers) (goals_zip entry entry.goals) (polls_zip servers))
+
+  parts_zip : (list : List Ready) (goals : List AwakeGoal) (split position : ℕ) → take split list ≡ placed_from 1 (ready_before moment world) → drop split list ≡ placed_from position (ready_behind moment world)
+      → goals ≡ flat_map (awake_goals moment) world.servers → AllZip (Alike number_of) (list ++ map (poll_at moment) goals) (ready_in_parts moment world)
+  parts_zip list goals split position first last awake =
+      zip_append (Alike number_of) list (map (poll_at moment) goals) (ready_before moment world ++ ready_behind moment world) (flat_map (poll_ready moment) world.servers)
+      (subst (λ (both : List Ready). AllZip (Alike number_of) both (ready_before moment world ++ ready_behind moment world)) (sym (λ i. first i ++ last i) ∙ take-append-drop split list)
+      (zip_append (Alike number_of) (placed_from 1 (ready_before moment world)) (placed_from position (ready_behind moment world)) (ready_before moment world) (ready_behind moment world)
+      (placed_zip number_of (λ place one. refl) 1 (ready_before moment world)) (placed_zip number_of (λ place one. refl) position (ready_behind moment world))))
+      (subst (λ (some : List AwakeGoal). AllZip (Alike number_of) (map (poll_at moment) some) (flat_map (poll_ready moment) world.servers)) (sym awake) (polls_zip world.servers))
+
+  -- callbacks run by the numbers of their arrivals, which a world told that has other timers and clients
+  pub ran_by_number : {counted : WorldState} (timers : List TimerEntry) (clients : List ClientEntry) (now : WorldState) (list : List Ready) (goals : List AwakeGoal) (split position : ℕ) (arrivals sorted : List Arrived)
+      → take split list ≡ placed_from 1 (ready_before moment world) → drop split list ≡ placed_from position (ready_behind moment world) → goals ≡ flat_map (awake_goals moment) world.servers
+      → counted ≡ record world { timers = timers; clients = clients } → arrivals ≡ arrived_in counted (list ++ map (poll_at moment) goals) → sorted ≡ sorted_by (λ one. one.number) arrivals
+      → run_arrived (list ++ map (poll_at moment) goals) now sorted ≡ run_all (placed_from 1 (sorted_by number_of (ready_in_parts moment world))) now
+  ran_by_number {counted} timers clients now list goals split position arrivals sorted first last awake later noted is_sorted =
+      let all : List Ready = list ++ map (poll_at moment) goals in
+      let same : rank_under order.Arrival counted ≡ number_of = (λ i one. (ap (λ (held : WorldState). rank_under order.Arrival held one) later ∙ arrival_same one.entity one.cause world timers clients) i) in
+      ap (run_arrived all now) (is_sorted ∙ ap (sorted_by (λ (one : Arrived). one.number)) (noted ∙ (λ i. fold (λ arrivals one. with_arrived arrivals (same i one)) [] all) ∙ arrived_is number_of [] all))
+      ∙ sorted_run number_of all (ready_in_parts moment world) (parts_zip list goals split position first last awake) now
+      ∙ sym (placed_alike 1 (sorted_by number_of (ready_in_parts moment world)) now)

@@ -1,0 +1,25 @@
+-- The numbers of arrivals of what a snapshot listed, and the callbacks run by them.
+use Rattle.std.specs.Prelude.{ℕ, List, [], ◌∷◌, ◌++◌, length, slice_get}
+use Rattle.std.specs.List.{fold}
+use Rattle.std.specs.Option.{option_map_or}
+use Rattle.exec_rules.specs.Ready.{arrival_for}
+use Rattle.exec_rules.specs.Run.{run}
+use Rattle.exec_rules.specs.World.{WorldState}
+use Rattle.exec_rules.specs.declared.ready.Ready.{Ready}
+use Rattle.exec_world.specs.declared.arrived.Arrived.{Arrived}
+
+-- arrivals with the number of the next callback's behind them
+abbrev pub with_arrived : List Arrived → ℕ → List Arrived
+with_arrived arrivals number = arrivals ++ record { number = number; place = length arrivals } ∷ []
+
+-- the arrivals of callbacks in a world
+abbrev pub arrived_in : WorldState → List Ready → List Arrived
+arrived_in world all = fold (λ arrivals one. with_arrived arrivals (arrival_for one.entity one.cause world)) [] all
+
+-- the world after the callback at a place, from 0, if there is one
+abbrev pub run_at : List Ready → WorldState → ℕ → WorldState
+run_at all world place = option_map_or (λ one. run one world) (slice_get all place) world
+
+-- the world after the callbacks at the places of arrivals
+abbrev pub run_arrived : List Ready → WorldState → List Arrived → WorldState
+run_arrived all world arrivals = fold (λ before arrived. run_at all before arrived.place) world arrivals
