@@ -15,7 +15,7 @@ from codes import hyphenated, identifier
 ACCEPTED, EXECUTING, CANCELING, SUCCEEDED, CANCELED, ABORTED = 1, 2, 3, 4, 5, 6
 REJECT, ACCEPT_AND_EXECUTE, ACCEPT_AND_DEFER = 1, 2, 3
 GOALS = 64
-# The words of callbacks in their ready order, each with its kind of entity.
+# The words of callbacks in the order of their kinds, each with its kind of entity.
 KINDS = {
     "timer": "timers",
     "message": "subscriptions",
@@ -36,7 +36,8 @@ KINDS = {
 
 
 class Entity:
-    """An entity with its queues, which are lists of items by the word of their callbacks. The first of an item is its `in`."""
+    """An entity with its queues by the word of their callbacks. A queue has items with the numbers in which they arrived, and the
+    first of an item is its `in`."""
 
     def __init__(self, kind, fields, variables):
         self.name, self.fields, self.variables = fields["name"], fields, variables
@@ -50,10 +51,10 @@ class Entity:
 
 
 class Goal:
-    """A goal that a server holds."""
+    """A goal that a server holds, with the number in which it arrived: as it was accepted, or at its last poll that pended."""
 
-    def __init__(self, name, value, client, stamp):
-        self.name, self.value, self.client, self.stamp = name, value, client, stamp
+    def __init__(self, name, value, client, stamp, arrival):
+        self.name, self.value, self.client, self.stamp, self.arrival = name, value, client, stamp, arrival
         self.status, self.result, self.ended = ACCEPTED, 0, None
         self.registers, self.place, self.until, self.polled_as_canceling = [0] * 8, 0, 0, False
         self.noted = []
@@ -110,7 +111,8 @@ def wrapped(number):
 
 class World:
     def __init__(self, document):
-        self.lines, self.now = [], 0
+        self.lines, self.now, self.arrivals = [], 0, 0
+        self.is_by_arrival = document["version"] == 2 and document.get("order") == "arrival"
         self.entities = {kind: [] for kind in codes.ENTITIES}
         self.named = {}
         for node in document.get("nodes", []):
@@ -130,14 +132,20 @@ class World:
     def tell(self, *words):
         self.lines.append(" ".join(map(str, words)))
 
+    def arrive(self):
+        """The number of what arrives now."""
+        self.arrivals += 1
+        return self.arrivals
+
     def push(self, entity, word, *item):
         """Pushes an item to an entity; fed requests have no client, and nothing is pushed to none."""
         if entity is None:
             return
         queue = entity.queues[word]
-        queue.append(item)
+        queue.append((self.arrive(), item))
         if len(queue) > entity.depth:
-            self.tell("drop", entity.name, word, queue.popleft()[0])
+            _, displaced = queue.popleft()
+            self.tell("drop", entity.name, word, displaced[0])
 
     def run(self, script, call, place=0):
         """Runs a script from a place until it ends, or until a goal pends or ends: how it does, and where the next poll goes on."""
@@ -217,7 +225,7 @@ class World:
             self.expire(server)
         for entry in fed:
             self.feed(entry)
-        for word, entity, item in self.snapshot():
+        for _, word, entity, item in self.snapshot():
             CALLBACKS[word](self, word, entity, *item)
 
     def expire(self, server):
@@ -236,20 +244,23 @@ class World:
             self.push(self.named[entry["action"]], "cancel", entry.get("stamp", 0), identifier(entry["cancel"]), None)
 
     def snapshot(self):
-        """The ready list: words of callbacks, their entities, and what each takes."""
-        return [(word, entity, item) for word, kind in KINDS.items() for entity in self.entities[kind] for item in self.taken(word, entity)]
+        """The ready list: numbers of arrival, words of callbacks, their entities, and what each takes."""
+        ready = [(number, word, entity, item) for word, kind in KINDS.items() for entity in self.entities[kind] for number, item in self.taken(word, entity)]
+        # The sort leaves timers, which all have the number 0, in their order.
+        return sorted(ready, key=lambda one: one[0]) if self.is_by_arrival else ready
 
     def taken(self, word, entity):
+        """What an entity's callbacks of a word take, with the numbers in which it arrived."""
         if word == "timer":
-            return [()] if self.is_called(entity) else []
+            return [(0, ())] if self.is_called(entity) else []
         if word == "poll":
-            return [(goal, goal.status == CANCELING) for goal in entity.goals.values() if goal.is_awake(self.now)]
+            return [(goal.arrival, (goal, goal.status == CANCELING)) for goal in entity.goals.values() if goal.is_awake(self.now)]
         if not entity.queues[word]:
             return []
-        item = entity.queues[word].popleft()
+        number, item = entity.queues[word].popleft()
         if word == "reply":
             entity.pending.discard(item[1])
-        return [(*item, self.candidates(entity, *item[:2])) if word == "cancel" else item]
+        return [(number, (*item, self.candidates(entity, *item[:2])) if word == "cancel" else item)]
 
     def is_called(self, timer):
         """Whether a timer is due; then its call is made."""
@@ -293,7 +304,7 @@ class World:
             decision = REJECT
         self.tell("decide", server.name, hyphenated(name), decision)
         if decision != REJECT:
-            goal = server.goals[name] = Goal(name, given, client, self.now)
+            goal = server.goals[name] = Goal(name, given, client, self.now, self.arrive())
             self.move(server, goal, ACCEPTED)
         if decision == ACCEPT_AND_EXECUTE:
             self.move(server, goal, EXECUTING)
@@ -318,6 +329,7 @@ class World:
         goal.polled_as_canceling = canceling
         if how in ("wait", "yield"):
             goal.until = self.now + max(value, 0) if how == "wait" else 0
+            goal.arrival = self.arrive()
         else:
             self.end_goal(server, goal, how if canceling or how != "canceled" else "abort", value)
 
@@ -362,13 +374,12 @@ class World:
         moved = [goal for goal in accepted if goal.status in (ACCEPTED, EXECUTING)]
         for goal in moved:
             self.move(server, goal, CANCELING)
-        code = self.return_code(server, name, candidates, moved)
+        code = 0 if moved else 1 if candidates and not accepted else self.code_of_none(server, name)
         self.tell("code", server.name, code, len(moved))
         self.push(client, "code", code, len(moved))
 
-    def return_code(self, server, name, candidates, moved):
-        if moved or candidates:
-            return 0 if moved else 1
+    def code_of_none(self, server, name):
+        """The return code of a request that moved no goal, and whose candidates weren't all refused, by the goals as they are."""
         if name and name not in server.goals:
             return 2
         return 3 if name and not server.goals[name].is_active() else 1

@@ -1,8 +1,9 @@
 """Lawful documents by a seed, written from docs/document.md and docs/rules.md: random ones, and ones that are directed at a
 rule, each with some chance in it.
 
-drawn(seed) gives the bytes of a random document, and directed(rule, seed) those of one at a rule of RULES. As a program it
-writes the document of `generate.py SEED [RULE]`, or the names of the rules where it gets no word."""
+drawn(seed) gives the bytes of a random document, and directed(rule, seed) those of one at a rule of RULES, both of version 1.
+ordered(given, order) gives those of the same document in version 2, with one of ORDERS. As a program it writes the document of
+`generate.py SEED [RULE] [ORDER]`, or the names of the rules and of the orders where it gets no word."""
 import json
 import random
 import sys
@@ -12,6 +13,25 @@ LATEST, MOST, LEAST = 2**62, 2**63 - 1, -(2**63)
 
 def plan(nodes, moments, feed=(), topics=()):
     return json.dumps({"version": 1, "topics": list(topics), "nodes": nodes, "moments": moments, "feed": list(feed)}).encode()
+
+
+# What a document of version 2 says of the order of its ready callbacks: one of the two, or nothing.
+ORDERS = {"arrival": {"order": "arrival"}, "kind": {"order": "kind"}, "unsaid": {}}
+# Of the documents of version 2 a half are by arrival.
+SHARES = ("arrival", "kind", "arrival", "unsaid")
+
+
+def ordered(given, order):
+    """The bytes of a document in version 2, with an order."""
+    return json.dumps({**json.loads(given), "version": 2, **ORDERS[order]}).encode()
+
+
+def made(seed, rule=None, order=None):
+    """The document of a seed, which is drawn or directed at a rule, in version 1 or with an order; and the words by which this program
+    writes it."""
+    given = directed(rule, seed) if rule else drawn(seed)
+    words = " ".join(filter(None, ("generate.py", str(seed), rule, order)))
+    return words, ordered(given, order) if order else given
 
 
 def identifier(chance, name):
@@ -429,6 +449,41 @@ def crowds_that_are_canceled(chance):
     return plan([{"name": "n", "groups": groups, "actions": servers}], list(range(1, 68)), feed)
 
 
+def cancels_of_goals_that_are_polled(chance):
+    """Goals that end or pend in the rounds in which cancel requests for them are taken: before these, if the order is that of arrival."""
+    ends = chance.choice((["succeed", 5], ["abort", 5], ["canceled", 5], ["wait", 2], ["wait", 9], ["yield"]))
+    sends = chance.choice(([], [["feedback", "aux"]], [["pub", "x", "now"]]))
+    script = [*[["yield"]] * chance.choice((0, 1, 2)), *sends, ends, *chance.choice(([], [["canceled", 6]]))]
+    names = (0, 0, 1, 2, 3, 9, goal_name(0, 1))
+    feed = [fed_goal(chance, at, name, at) for at, name in ((1, 1), (chance.choice((1, 2)), 2), (3, 3))]
+    feed += [fed_cancel(chance, chance.choice((2, 3, 4, 5, 6)), chance.choice(names), stamp=chance.choice((0, 0, 1, 4))) for _ in range(chance.choice((2, 4, 6)))]
+    chance.shuffle(feed)
+    timers = [first(["goal", "k", 4]), first(["cancel", "k", "goal", 1], name="u", at=chance.choice((3, 4, 5)))]
+    servers = [server(chance, script, chance.choice((2, 2, 3)), chance.choice((1, 2, 2, "in")), result_timeout=chance.choice((0, 1, 9)))]
+    subscriptions = [{"name": "s", "topic": "x", "script": [["execute", "a"]]}]
+    return plan([node(timers=timers, subscriptions=subscriptions, actions=servers, action_clients=[client()])], from_one(moments(chance, 9)), feed, ["x"])
+
+
+def callbacks_that_send_on(chance):
+    """Callbacks of all kinds that send to others, and are fed too, so that several kinds are ready in most rounds."""
+    sends = [["pub", "x", "now"], ["pub", "y", 1], ["call", "c", 2], ["call", "d", 3], ["goal", "k", 4], ["goal", "i", 5], ["cancel", "k", "all"], ["log", "in"]]
+    some = lambda: [chance.choice(sends) for _ in range(chance.choice((0, 1, 1, 2)))]
+    name = lambda letter, at: {"name": f"{letter}{at}", "depth": chance.choice((1, 2, 5)), "script": some()}
+    works = chance.choice(([["yield"]], [["wait", 1]], [["feedback", 1], ["yield"], *some()], [["yield"], *some(), ["wait", 2]]))
+    lists = {
+        "timers": [{"name": f"t{at}", "period": chance.choice((1, 2, 3)), "script": some()} for at in range(chance.choice((1, 2)))],
+        "subscriptions": [{**name("s", at), "topic": chance.choice("xy")} for at in range(3)],
+        "services": [{**name("v", at), "script": [*some(), ["reply", "in"]]} for at in range(2)],
+        "clients": [{"name": letter, "service": chance.choice(("v0", "v1")), "script": [["log", "aux"]]} for letter in "cd"],
+        "actions": [server(chance, [*works, ["succeed", "in"]], chance.choice((2, 2, 3)), depth=chance.choice((1, 3)))],
+        "action_clients": [client(), client("i", on_feedback=some())],
+    }
+    feed = [{"round": chance.randint(1, 8), "topic": chance.choice("xy"), "value": at} for at in range(6)]
+    feed += [fed_goal(chance, chance.randint(1, 8), at, at) for at in (1, 2, 3)] + [fed_cancel(chance, chance.randint(3, 8), chance.choice((0, 1, 2)))]
+    chance.shuffle(feed)
+    return plan([node(**lists)], moments(chance, 10), feed, ["x", "y"])
+
+
 RULES = {
     rule.__name__: rule
     for rule in (
@@ -452,6 +507,8 @@ RULES = {
         skips,
         variables_of_groups,
         crowds_that_are_canceled,
+        cancels_of_goals_that_are_polled,
+        callbacks_that_send_on,
     )
 }
 
@@ -461,11 +518,13 @@ def directed(rule, seed):
 
 
 def main():
-    if len(sys.argv) == 1:
-        print("\n".join(RULES))
-    else:
-        made = directed(sys.argv[2], int(sys.argv[1])) if len(sys.argv) > 2 else drawn(int(sys.argv[1]))
-        sys.stdout.buffer.write(made + b"\n")
+    seed, *words = sys.argv[1:] or [None]
+    if seed is None:
+        print("\n".join((*RULES, *ORDERS)))
+        return 0
+    order = words.pop() if words and words[-1] in ORDERS else None
+    _, given = made(int(seed), *words, order=order)
+    sys.stdout.buffer.write(given + b"\n")
     return 0
 
 
