@@ -35,6 +35,7 @@ FOLLOWED = {
     "a_topic_of_true": ('["pub",true,', '["pub","speed",'),
     "a_variable_of_a_reentrant_group": ('[["log","g0"]]', '[["log","r0"]]'),
     "an_identifier_that_is_too_short": ("0000a", "00000a"),
+    "an_order_in_version_1": ('"version":1', '"version":2'),
     "an_item_that_is_missing": ('["set","r1","lt","r0"]', '["set","r1","lt","r0","in"]'),
 }
 
@@ -210,6 +211,8 @@ def of_tables():
             yield from tried(renamed(owner, field, other), f"{other} of {owner} in place of {field}")
     for word, kind in hints.KINDS.items():
         yield from tried(changed('"kind":"reentrant"', f'"kind":"{word}"'), f"the kind {word}")
+    for word in hints.ORDERS:
+        yield from tried(changed('"version":1', f'"version":2,"order":"{word}"'), f"the order {word}")
     for word in (it for it, meant in hints.OPERATIONS.items() if meant):
         yield from tried(changed('["set","r1","lt","r0","in"]', f'["set","r1","{word}","r0","in"]'), f"the operation {word}")
     for word in repairs.NEGATED:
@@ -251,7 +254,9 @@ VALUES = (
     *(('"goal":"00000000-0000-0000-0000-00000000000a"', it) for it in ('"goal":10', '"goal":"a"', '"goal":"0a"', '"uuid":"0a"', '"x":1')),
     *(('"cancel":"00000000-0000-0000-0000-000000000000"', it) for it in ('"cancel":0', '"id":"0"', '"x":1')),
     *(('{"name":"laser",', f'{{"name":{it},') for it in ('"front laser"', '"laser-1"', "7", '"láser"', '{"name":"laser"}')),
-    *(('"version":1', f'"version":{it}') for it in ("null", "true", '"1"', "1.0", "2", "01")),
+    *(('"version":1', f'"version":{it}') for it in ("null", "true", '"1"', "1.0", "3", "01", '3,"order":"arrival"', '0,"order":7')),
+    *(('"version":1', f'"version":2,"order":{it}') for it in ("null", '"Arrival"', '"arival"', "'kind'", "kind")),
+    ('{"version":1,', '{"order":"arrival",'),
     *(('"services":[{"name":"map","script":[["set","r0","mul","in","in"],["reply","r0"]]}]', f'"services":{it}') for it in ('["map"]', '{"name":"map"}', '{"map":{}}', "null", "{}")),
     ('{"version":1,\n "topics"', '{"topics"'),
 )

@@ -18,6 +18,7 @@ import generate
 FOLLOWED, SPOILED = 400, 600
 def answers(_program):
     yield from of_examples()
+    yield from of_orders()
     yield from of_moments()
     yield from of_lines()
     yield from of_words()
@@ -35,6 +36,15 @@ def of_examples():
     for told in sorted((tool.TESTS / "differing").glob("*.told")):
         one, other = (str(path.relative_to(tool.TOP)) for path in (tool.TOP / "examples/robot.txt", told.with_suffix(".txt")))
         yield f"differ {told.name}", tool.run("differ", one, other, "--document", "examples/robot.json"), (1, told.read_text())
+
+
+def of_orders():
+    """Two runs in other orders differ, and it is told that the orders do."""
+    names = [f"cases/{name}" for name in ("kind_of_two_messages", "arrival_of_two_messages")]
+    words = [*(f"{name}.txt" for name in names), *(word for name in names for word in ("--document", f"{name}.json"))]
+    status, told = tool.run("differ", *words)
+    should = f"ready callbacks run by kind in {names[0]}.json, by arrival in {names[1]}.json"
+    yield f"differ of two orders: {told}", (status, told.split("\n")[-2]), (1, should)
 
 
 def differences(one, other, **more):
@@ -220,7 +230,8 @@ def followed():
     """Flow's origins in drawn documents, whose transcripts are those of the interpreter of the docs."""
     names = list(generate.RULES)
     for seed in range(FOLLOWED):
-        given = generate.drawn(seed) if seed % 2 else generate.directed(names[seed // 2 % len(names)], seed)
+        turn, place = divmod(seed // 2, len(names))
+        name, given = generate.made(seed, None if seed % 2 else names[place], "arrival" if turn % 2 else None)
         document = json.loads(given)
         following, wrong = flow.Flow(document), []
         for number, line in enumerate(executor.lines_of(document), 1):
@@ -230,4 +241,4 @@ def followed():
                 wrong.append((line, following.run.cause))
             if words[0] == "drop" and following.dropped() is None:
                 wrong.append((line, "nothing was displaced"))
-        yield f"what callbacks take in document {seed}", wrong[:2], []
+        yield f"what callbacks take in the document of {name}", wrong[:2], []

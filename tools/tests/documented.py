@@ -52,7 +52,7 @@ def answers(_program):
     yield from notices()
 
 
-MISTAKES = """# 100 mistakes
+MISTAKES = """# 102 mistakes
 
 Each is a document in `tools/tests/mistakes`, made from `tools/tests/right.json` by one change. The same folder has all that [explain](explain.md) reports of it. This table has the lines of the mistake itself. Each advice was followed: the document is then accepted, or its next fault is another one (`tools/tests/advised.py`).
 

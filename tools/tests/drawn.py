@@ -13,7 +13,8 @@ import executor
 
 SVG = "{http://www.w3.org/2000/svg}"
 KINDS = ("timer", "message", "request, reply", "action", "dropped")
-PICTURES = {"robot": ("--rounds", "1-11"), "keep_last": ()}
+# The words with which the pictures of docs/pictures are drawn that show a part of an example.
+PARTS = {"robot": ("--rounds", "1-11")}
 
 
 def drawn(name, *words):
@@ -56,8 +57,9 @@ def answers(_program):
             told, *counts = parts(text)
             should, *numbers = wanted(path.stem)
             yield f"the parts of picture {path.stem}", (sorted(told), counts), (sorted(should), numbers)
-    for name, words in PICTURES.items():
-        yield f"docs/pictures/{name}.svg", drawn(name, *words), (0, (tool.TOP / "docs/pictures" / f"{name}.svg").read_text())
+    for path in sorted((tool.TOP / "docs/pictures").glob("*.svg")):
+        if (tool.TOP / "examples" / f"{path.stem}.json").exists():
+            yield f"docs/pictures/{path.name}", drawn(path.stem, *PARTS.get(path.stem, ())), (0, path.read_text())
     yield from of_rounds()
     yield from of_many_rounds()
     yield from of_others()

@@ -2,7 +2,7 @@
 import json
 import random
 
-from virraupez import json_text
+from virraupez import json_text, report
 
 from . import tool
 
@@ -22,9 +22,35 @@ def answers(_program):
     yield "what explain tells of no mistake", told, ""
     should = "".join(EMPTY.get(it.name, "{0}: not refused: {1}, no warning\n").format(tool.text(it), rounds_of(it)) for it in examples)
     yield "explain of all examples", tool.run("explain", *map(tool.text, examples)), (0, should)
+    yield from of_versions()
     yield from of_lists()
     yield from as_json(mistakes)
     yield from of_words()
+
+
+# Documents with their codes, and the hint of the first thing that is told of each beside its moments: the version is that which
+# has the order.
+VERSIONS = (
+    ('{"version":1,"order":7}', 0, "it is a field of documents of version 2"),
+    ('{"version":2,"order":"age"}', 2, ""),
+    ('{"version":2,"order":"Kind"}', 2, 'write "kind"'),
+    ('{"version":2,"order":null}', 2, "leave the field out"),
+    ('{"version":2,"order":-0}', 2, ""),
+    ('{"version":3}', 3, "write 1"),
+    ('{"version":3,"order":"arrival"}', 3, "write 2"),
+    ('{"version":3,"order":7}', 3, "write 1"),
+    ('{"order":"kind"}', 2, 'add "version": 2'),
+    ('{"order":"age"}', 2, 'add "version": 1'),
+    ('{"version":"2","order":"age"}', 2, "write 2 without quotes"),
+    ('{"version":2,"Order":"kind"}', 0, "did you mean order?"),
+)
+
+
+def of_versions():
+    for text, code, hint in VERSIONS:
+        told = report.Report(text.encode())
+        first = next(it for it in told.entries if it.path != ("moments",))
+        yield f"what is told of {text}", (told.code, first.hint), (code, hint)
 
 
 ITEMS = ("0", "-0", "1", "-1", "12", "1.5", "null", '"a"', "[1, 2]", "9223372036854775807", "18446744073709551616", "-0.0", "{}", "-7", "5", "40", "33", "8")
@@ -69,5 +95,5 @@ def of_words():
     yield "explain --help", (status, "DOCUMENT" in text), (0, True)
     yield "explain without a document", tool.run("explain")[0], 2
     yield "explain of no file", tool.run("explain", "nowhere.json")[0], 2
-    yield "explain -", tool.run("explain", "-", given=b'{"version":2}')[1].split("\n")[0], "-:1:12: refused 3 (Version): version"
+    yield "explain -", tool.run("explain", "-", given=b'{"version":3}')[1].split("\n")[0], "-:1:12: refused 3 (Version): version"
     yield "explain of a document that is too long", tool.run("explain", "-", given=b'{"version":1}'.ljust(2**24 + 1))[0], 2

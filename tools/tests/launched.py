@@ -82,6 +82,9 @@ def of_reference():
     for document in sorted((tool.TOP / "examples").glob("*.json")):
         should = document.with_suffix(".txt").read_text() + says
         yield f"run --reference {document.name}", tool.run(COMMAND, "run", "--reference", document), (0, should)
+    for document in sorted((tool.TOP / "cases").glob("arrival_*.json")):
+        should = document.with_suffix(".txt").read_text() + says
+        yield f"run --reference {document.name}", tool.within("run", "--reference", document), (0, should)
     given = (tool.TOP / "examples/timer.json").read_bytes()
     yield "run --reference -", tool.run(COMMAND, "run", "--reference", "-", given=given)[1], (tool.TOP / "examples/timer.txt").read_text() + says
     yield "run --reference of a refused document", tool.run(COMMAND, "run", "--reference", MISTAKE), (1, f"refused 4\n{tool.run('explain', MISTAKE)[1]}")
@@ -120,7 +123,7 @@ def of_program(top):
     yield "run -", started(top, "run", "-", given=given), (0, (tool.TOP / "examples/timer.txt").read_text())
     status = started(top, "run", "-o", "kept.txt", "examples/timer.json")
     yield "run -o", (status, (top / "kept.txt").read_text()), ((0, ""), (tool.TOP / "examples/timer.txt").read_text())
-    status, text = started(top, "run", "-o", "kept.txt", "-", given=b'{"version":2}')
+    status, text = started(top, "run", "-o", "kept.txt", "-", given=b'{"version":3}')
     yield f"run of a refused document: {text}", (status, text.split("\n")[:2]), (1, ["refused 3", "-:1:12: refused 3 (Version): version"])
     yield "run -o of a refused document", (top / "kept.txt").read_text(), (tool.TOP / "examples/timer.txt").read_text()
 

@@ -19,8 +19,8 @@ COUNT, AT_ONCE = 20000, 400
 # Signs and words that are put into documents.
 SIGNS = '"\\,:[]{}0123456789.-eE/ \n'
 VALUES = (
-    *(None, True, 0, 1, -1, 2, 63, 64, 65, 1024, 1025, 1.5, 2**62, 2**62 + 1, 2**63, 2**64, "", "x", "a", "t", "in", "g0", "r0", "r8", "now", "log", "a b"),
-    *([], {}, [[]], [["log", 1]], [["log", "g0"]], [["reply", 1]], [["decide", 2]], [["yield"]], [["skip", 1, 1]], "0" * 32, "1" * 32, "exclusive", "reentrant"),
+    *(None, True, 0, 1, -1, 2, 3, 63, 64, 65, 1024, 1025, 1.5, 2**62, 2**62 + 1, 2**63, 2**64, "", "x", "a", "t", "in", "g0", "r0", "r8", "now", "log", "a b"),
+    *([], {}, [[]], [["log", 1]], [["log", "g0"]], [["reply", 1]], [["decide", 2]], [["yield"]], [["skip", 1, 1]], "0" * 32, "1" * 32, "exclusive", "reentrant", "kind", "arrival"),
 )
 
 
@@ -70,7 +70,8 @@ def spoil(chance, text):
 
 def mutated(seed):
     chance = random.Random(seed)
-    given = generate.drawn(seed % 997) if seed % 2 else generate.directed(chance.choice(list(generate.RULES)), seed % 997)
+    order = generate.SHARES[seed // 4 % len(generate.SHARES)] if seed // 2 % 2 else None
+    _, given = generate.made(seed % 997, None if seed % 2 else chance.choice(list(generate.RULES)), order)
     document = json.loads(given)
     if chance.random() < 0.1:
         for group in (group for node in document["nodes"] for group in node.get("groups", [])):

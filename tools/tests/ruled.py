@@ -237,7 +237,7 @@ def of_scripts():
 def of_recipe(program):
     """The recipe of the page: a run passes that keeps the rules, and a document that is refused fails the job."""
     recipe = re.search("```sh\n(.*?)```", (tool.TOP / "docs/holds.md").read_text(), re.S)[1]
-    for name, change, passes in (("a run", None, True), ("a refused document", ('"version":1', '"version":2'), False), ("another run", ('"period":5', '"period":1000'), False)):
+    for name, change, passes in (("a run", None, True), ("a refused document", ('"version":1', '"version":3'), False), ("another run", ('"period":5', '"period":1000'), False)):
         with tempfile.TemporaryDirectory() as folder:
             there = pathlib.Path(folder)
             (there / "tools").symlink_to(tool.TOOLS)

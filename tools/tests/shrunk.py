@@ -32,7 +32,7 @@ WRONG = (
     (("shrink", "nowhere", "--rules", RULES), "virraupez shrink: nowhere: No such file or directory\n"),
     (("shrink", "later.json"), "required: --rules"),
     (("shrink", "later.json", "--rules", RULES, "--unless", "later.json"), "later.json breaks the rule too: line 357"),
-    (("shrink", "later.json", "--rules", RULES, "--unless", "examples/robot.json"), "its nodes are others"),
+    (("shrink", "later.json", "--rules", RULES, "--unless", "examples/robot.json"), "its nodes or its order are others"),
     (("shrink", "later.json", "--rules", RULES, "--unless", "nowhere"), "nowhere: No such file or directory"),
 )
 
@@ -47,6 +47,7 @@ def answers(program):
         (top / "later.json").write_text(json.dumps(held))
         yield from of_navigation(top)
         yield from of_kept(top)
+        yield from of_orders(top)
         for words, part in WRONG:
             status, told = searched.started(top, *words)
             yield f"{words}: {told}", (status, part in told), (2, True)
@@ -106,6 +107,19 @@ def of_kept(top):
     yield f"a rule with an unknown name: {most}", (most[0], "did you mean" in most[1] or "declares no" in most[1]), (2, True)
     empty = searched.started(top, "shrink", "examples/robot.json", *searched.ruled(top, "some log motor 99"))
     yield f"what needs nothing at all: {empty}", (empty[0], empty[1].split("\n")[0]), (0, '{"version":1}')
+
+
+def of_orders(top):
+    """An order that the breaking of a rule needs stays, and another goes. With another order a document differs in more than its timing."""
+    document = json.loads((tool.TOP / "cases/arrival_of_two_messages.json").read_text())
+    (top / "race.json").write_text(json.dumps(document))
+    (top / "other.json").write_text(json.dumps({**document, "order": "kind"}))
+    before, both = searched.ruled(top, "never run s2 before run s1"), ("--keep", "run s1")
+    for words, order in ((both, "arrival"), ((), None)):
+        status, told, small = shrunk(top, "race.json", *before, *words)
+        yield f"the order of a document that is shrunk {words}: {told}", (status, small.get("order")), (0, order)
+    status, told = searched.started(top, "shrink", "race.json", *before, "--unless", "other.json")
+    yield f"shrink with another order: {told}", (status, "its nodes or its order are others" in told), (2, True)
 
 
 def of_interrupt(top):

@@ -118,6 +118,7 @@ def answers(_program):
     yield "write --script of what is no text", tool.unread("write", "--script", "-", given=b"log 1\nlog \xff"), (2, True, 1)
     for words in (("--script", "nowhere"), ("--script", tool.TOP), ("nowhere.py",)):
         yield f"write of no file {words}", tool.unread("write", *words), (2, True, 1)
+    yield from of_orders()
     yield from of_moments()
     yield from refused()
     for words, name in (((), "document.schema.json"), (("--strict",), "document.strict.schema.json")):
@@ -125,6 +126,12 @@ def answers(_program):
     if importlib.util.find_spec("jsonschema"):
         told = tool.run("../docs/check_schema")
         yield f"check_schema: {told}", (told[0], told[1].endswith(" 0 told wrongly\n")), (0, True)
+
+
+def of_orders():
+    """A document with an order is of the version that has it."""
+    for words, head in (({}, {"version": 1}), ({"order": "kind"}, {"version": 2, "order": "kind"}), ({"order": "arrival"}, {"version": 2, "order": "arrival"})):
+        yield f"a document with {words}", virraupez.Document(**words).value(), head
 
 
 def of_moments():

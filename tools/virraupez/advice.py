@@ -31,15 +31,23 @@ def fields_of(value, form, path=()):
     of = form_of(value, form) if isinstance(value, dict) else None
     if of is None or of in g.SINGLE:
         return
-    forms = g.OBJECTS[of]
+    forms = g.forms_in(of, value)
     for name in value:
         if name in forms:
             if isinstance(value[name], (dict, list)):  # most are numbers and texts, which have no fields
                 yield from fields_of(value[name], forms[name], path + (name,))
-        else:
+        elif name not in g.OBJECTS[of]:
             yield unknown_field(name, of, path, value)
+        elif g.is_count(value.get("version")) and value["version"] in g.VERSIONS:
+            yield later_field(name, value["version"], path)
     for name in sorted(getattr(value, "twice", ())):
         yield warning(path + (name,), f"`{name}` stands more than once in this object, and the last one counts", at=NAME)
+
+
+def later_field(name, version, path):
+    """The warning of a field that another version has."""
+    text = f"a document of version {version} has no field `{name}`: it is ignored"
+    return warning(path + (name,), text, f"it is a field of documents of version {g.SINCE[name]}", at=NAME)
 
 
 def unknown_field(name, of, path, fields):

@@ -85,9 +85,11 @@ class Node:
 
 
 class Document:
-    """A document of version 1, to which topics, nodes, moments and what is fed are added in any order."""
+    """A document, to which topics, nodes, moments and what is fed are added in any order. It is of version 1, or of version 2 if the
+    order of its ready callbacks is given, "kind" or "arrival"."""
 
-    def __init__(self, topics=()):
+    def __init__(self, topics=(), order=None):
+        self.order = order
         self.call, self.wrong, self.warnings = Call(Document.__init__), [], []
         self.written, self.written_elsewhere = [], False
         self.topics, self.nodes = list(topics), []

@@ -31,7 +31,7 @@ class Fault:
 # What is wanted in some fields, which is less than their form.
 TICKS = f"ticks, an integer from 0 to {g.LATEST}"
 WANTED = {
-    "version": "1, the only version",
+    "version": "1 or 2",
     "period": f"ticks, an integer from 1 to {g.LATEST}",
     "depth": f"an integer from 1 to {g.DEPTH}",
     "round": "the number of a round, an integer from 1",
@@ -115,7 +115,7 @@ def instruction_shape(items, path):
 
 
 def object_shape(fields, form, path):
-    forms = g.OBJECTS[form]
+    forms = g.forms_in(form, fields)
     for name in g.REQUIRED[form]:
         if name not in fields:
             others = [other for other in fields if other not in forms]
@@ -203,7 +203,7 @@ class Declared:
         document = document if isinstance(document, dict) else {}
         # Whether all has its form. What hasn't counts as missing, and nobody is told then that it isn't there.
         self.is_whole = True
-        self.version = document.get("version")
+        self.version, self.order = document.get("version"), document.get("order")
         self.topics = listed(document, "topics", "text")
         self.nodes = [Node(("nodes", at), node) for at, node in listed(document, "nodes", "node")]
         self.entities = [
@@ -336,8 +336,8 @@ def entity_limits(entity):
 
 
 def version(declared):
-    if g.is_count(declared.version) and declared.version != 1:
-        yield Fault(3, ("version",), "1, the only version", "write 1")
+    if g.is_count(declared.version) and declared.version not in g.VERSIONS:
+        yield Fault(3, ("version",), WANTED["version"], repairs.write(repairs.version_with(declared.order)))
 
 
 def clock(declared):

@@ -2,6 +2,7 @@
 import re
 
 MOST_BYTES = 16777216
+VERSIONS, ORDERS = (1, 2), ("kind", "arrival")
 LATEST, DEPTH, INSTRUCTIONS = 2**62, 1024, 64
 TOPICS, NODES, GROUPS, ENTITIES_AT_MOST, MOMENTS, ENTRIES = 256, 64, 256, 512, 65536, 65536
 CODES = {
@@ -42,6 +43,10 @@ def is_kind(value):
     return value in ("exclusive", "reentrant") if is_text(value) else False
 
 
+def is_order(value):
+    return value in ORDERS if is_text(value) else False
+
+
 def is_word(value):
     return isinstance(value, str) or is_value(value)
 
@@ -60,13 +65,14 @@ SINGLE = {
     "value": (is_value, "an integer from -9223372036854775808 to 9223372036854775807"),
     "text": (is_text, "a text in double quotes"),
     "kind": (is_kind, '"exclusive" or "reentrant"'),
+    "order": (is_order, '"kind" or "arrival"'),
     "word": (is_word, "a text or an integer of 64 bits"),
 }
 SCRIPT = [["word"]]
 ENTITY = {"name": "text", "group": "text"}
 # Each object's fields with their forms: one of SINGLE, another object, or a list of one.
 OBJECTS = {
-    "document": {"version": "count", "topics": ["text"], "nodes": ["node"], "moments": ["count"], "feed": ["entry"]},
+    "document": {"version": "count", "order": "order", "topics": ["text"], "nodes": ["node"], "moments": ["count"], "feed": ["entry"]},
     "node": {
         "name": "text",
         "groups": ["group"],
@@ -110,6 +116,8 @@ REQUIRED = {
     "goal request": ("round", "action", "goal", "value"),
     "cancel request": ("round", "action", "cancel"),
 }
+# The fields of a document that version 1 hasn't, with the version that has them.
+SINCE = {"order": 2}
 # The field by which each form of an entry is known.
 FED = {"topic": "message", "goal": "goal request", "cancel": "cancel request"}
 # Each list of entities with its object, in the order of their numbers.
@@ -132,6 +140,19 @@ SCRIPTS = {
 }
 # What an entity refers to: its field, and whose names count.
 REFERS = {"subscriptions": ("topic", "topics"), "clients": ("service", "services"), "action_clients": ("action", "actions")}
+
+
+def forms_in(owner, fields):
+    """The fields that an object may have, with their forms: those of a document by its version."""
+    if owner != "document":
+        return OBJECTS[owner]
+    return {name: form for name, form in OBJECTS[owner].items() if name not in SINCE or fields.get("version") == SINCE[name]}
+
+
+def order_of(document):
+    """The order of ready callbacks that a lawful document says."""
+    return document.get("order", ORDERS[0]) if document["version"] == SINCE["order"] else ORDERS[0]
+
 
 # ---- scripts
 

@@ -2,6 +2,7 @@
 value of another form is written."""
 import difflib
 
+from . import grammar as g
 from . import json_text
 
 # What is often written, with the fields that this grammar has for it.
@@ -72,6 +73,12 @@ KINDS = {
     "re-entrant": "reentrant",
     "parallel": "reentrant",
 }
+ORDERS = {
+    **dict.fromkeys(("arrivals", "fifo", "events", "eventsexecutor", "events_executor"), "arrival"),
+    **dict.fromkeys(("kinds", "waitset", "wait_set", "singlethreadedexecutor", "single_threaded_executor"), "kind"),
+}
+# The texts that a form has, with what is often written for them.
+TEXTS = {"kind": (("exclusive", "reentrant"), KINDS), "order": (g.ORDERS, ORDERS)}
 # A word that is compared with more names than these takes too long.
 NAMES = 2000
 
@@ -115,9 +122,10 @@ def hint(fault, stands):
 def of_form(fault, stands, bare):
     """A hint for a number in quotes, one that isn't whole, and what stands in place of a text."""
     is_number = fault.form in ("count", "value", "word")
-    if fault.form == "kind" and stands[:1] == '"':
-        kind = bare.lower() if bare.lower() in ("exclusive", "reentrant") else KINDS.get(bare.lower())
-        return f'write "{kind}"' if kind else meant(bare, ("exclusive", "reentrant"))
+    if isinstance(fault.form, str) and fault.form in TEXTS and stands[:1] == '"':
+        texts, others = TEXTS[fault.form]
+        text = bare.lower() if bare.lower() in texts else others.get(bare.lower())
+        return f'write "{text}"' if text else meant(bare, texts)
     if json_text.INTEGER(bare + " ") and not bare.lstrip("-").strip("0123456789"):
         return of_integer(stands, bare, is_number, fault.form)
     number = json_text.DECIMAL(bare + " ")
@@ -129,7 +137,7 @@ def of_integer(stands, bare, is_number, form):
         return f"write {bare} without quotes" if is_number else ""
     if form == "text":
         return f'write "{bare}"'
-    return "write 0" if bare == "-0" else "numbers end at 64 bits" if len(bare) > 18 else ""
+    return "" if not is_number else "write 0" if bare == "-0" else "numbers end at 64 bits" if len(bare) > 18 else ""
 
 
 def of_fraction(number):

@@ -24,7 +24,8 @@ class Made:
         fed = sorted((it for it in fed if it[1]["round"] != NONE), key=lambda it: it[1]["round"] if grammar.is_count(it[1]["round"]) else 0)
         self.fed = [call for call, _ in fed]
         parts = {"topics": document.topics, "nodes": [node.fields for node in document.nodes], "moments": self.moments, "feed": [it for _, it in fed]}
-        self.value = {"version": 1, **{name: part for name, part in parts.items() if part}}
+        head = {"version": grammar.VERSIONS[0]} if document.order is None else {"version": grammar.SINCE["order"], "order": document.order}
+        self.value = {**head, **{name: part for name, part in parts.items() if part}}
 
     def all_moments(self):
         """All moments in order: those that were computed once each, if they weren't written. Others than numbers stay as they
@@ -66,7 +67,7 @@ class Made:
         if path[:1] == ("moments",) and len(path) > 1:
             return next(call for call, found in self.timed if self.moments[path[1]] in found), {}, ()
         if path[:1] != ("nodes",) or len(path) < 2:
-            return document.call, {}, ()
+            return document.call, {}, path
         node = document.nodes[path[1]]
         return (*node.said[path[2:4]], path[4:]) if path[2:4] in node.said else (node.call, {}, path[2:])
 

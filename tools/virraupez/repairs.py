@@ -65,7 +65,7 @@ def of_null(field, owner):
     if isinstance(field, int):
         return "leave it out"
     if field in g.REQUIRED.get(owner, ()):
-        return f"{article(owner)} needs it" if field != "version" else write(1, "the only version")
+        return f"{article(owner)} needs it" if field != "version" else write(1, "2 is the version that has the field `order`")
     return "leave the field out"
 
 
@@ -265,10 +265,15 @@ def article(noun):
     return f"{'an' if noun[0] in 'aeiou' else 'a'} {noun}"
 
 
+def version_with(order):
+    """The version that a document is meant to have, by its order."""
+    return g.SINCE["order"] if g.is_order(order) else g.VERSIONS[0]
+
+
 def of_missing(name, owner, fields):
     """A hint for a field that is missing, by those that the object has."""
     if name == "version":
-        return 'add "version": 1'
+        return f'add "version": {version_with(fields.get("order"))}'
     other = next((it for it in ALIASES.get(name, ()) if it in fields and it not in g.OBJECTS[owner]), None)
     if other is None:
         return ""

@@ -28,7 +28,8 @@ NAME = "One of the names of the document: 1 to 64 characters of A-Z a-z 0-9 _ /"
 GROUP = "A callback group of the same node. Where it is missing, the node's default group, which is mutually exclusive."
 # Each field: what it says, its default where it has one, and an example where a form alone doesn't show it.
 FIELDS = {
-    "version": ("The version of the grammar: 1.", None, 1),
+    "version": ("The version of the grammar: 1, or 2, which has `order`.", None, 1),
+    "order": ("The order in which the ready callbacks of a round run: by `kind`, or, after the timers, by the `arrival` of what they take. Version 2 has it.", "kind", "arrival"),
     "topics": ("The topics, for all nodes.", [], ["scan", "cmd_vel"]),
     "nodes": ("The nodes.", [], None),
     "moments": ("When the executor looks at the world: one round each, in ticks, none below the one before it.", [], [10, 20, 30]),
@@ -157,7 +158,9 @@ def form_of(form, name, owner):
 
 
 SPECIAL = {
-    "version": {"const": 1},
+    "version": {"enum": list(g.VERSIONS)},
+    # Its form is that of documents of one version (by_version).
+    "order": {},
     "period": of_range(1, g.LATEST),
     "depth": of_range(1, g.DEPTH),
     "result_timeout": of_range(0, g.LATEST),
@@ -184,7 +187,16 @@ def object_of(owner, strict):
     made = {"type": "object", "required": list(g.REQUIRED[owner]), "properties": fields}
     if owner != "document":
         made = {"description": OBJECTS[owner], **made}
+    else:
+        made = {**made, **by_version(strict)}
     return {**made, "additionalProperties": False} if strict else made
+
+
+def by_version(strict):
+    """The form of `order` in documents of the version that has it. In others it is a field that isn't named."""
+    has = {"properties": {"version": {"const": g.SINCE["order"]}}, "required": ["version"]}
+    made = {"if": has, "then": {"properties": {"order": {"enum": list(g.ORDERS)}}}}
+    return {**made, "else": {"properties": {"order": False}}} if strict else made
 
 
 def entry():

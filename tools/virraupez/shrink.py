@@ -3,7 +3,7 @@ accepted and its run breaks the rule in the same way."""
 import difflib
 import re
 
-from . import cuts, judge, made, rules, runs
+from . import cuts, grammar, judge, made, rules, runs
 
 
 class Way:
@@ -165,7 +165,8 @@ def said_of(entry):
 
 def differ_in_timing(one, other):
     """Whether two documents differ in their timing alone: in moments, what is fed, and periods."""
-    return [without_timing(it) for it in one.get("nodes", [])] == [without_timing(it) for it in other.get("nodes", [])]
+    same = grammar.order_of(one) == grammar.order_of(other)
+    return same and [without_timing(it) for it in one.get("nodes", [])] == [without_timing(it) for it in other.get("nodes", [])]
 
 
 def without_timing(node):

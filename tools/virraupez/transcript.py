@@ -6,7 +6,7 @@ import re
 
 from . import command, grammar
 
-# The words of callbacks, in the order in which they are ready.
+# The words of callbacks, in the order of their kinds.
 KINDS = ("timer", "message", "request", "reply", "goal", "cancel", "ask", "poll", "response", "code", "feedback", "result")
 # Those whose line has an identifier.
 IDENTIFIED = ("goal", "cancel", "ask", "poll", "response", "feedback", "result")

@@ -4,7 +4,7 @@
 Rounds are matched by their moments: a round that one of the two has alone is one difference."""
 import sys
 
-from .. import command, difference, fit, flow
+from .. import command, difference, fit, flow, grammar
 
 STATUS = "The status is 0 if they are the same, 1 if they differ, and 2 if one can't be read or is cut off."
 
@@ -28,6 +28,9 @@ def run(asked, out):
     found.read((own * 2)[:2] or [None, None])
     for line in found.lines(out.paint):
         out.line(line)
+    orders = list(map(grammar.order_of, documents))
+    if found.differ and len(set(orders)) == 2:
+        out.line("ready callbacks run " + ", ".join(f"by {order} in {command.shown(name)}" for order, name in zip(orders, asked.document)))
     if found.trouble:
         raise found.trouble
     return command.FOUND if found.differ else command.FINE

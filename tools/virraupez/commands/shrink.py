@@ -62,7 +62,7 @@ def other_timing(asked, document, judging):
     """The document of --unless, which keeps the rule."""
     good = flow.read_document(asked.unless)
     if not shrink.differ_in_timing(document, good):
-        raise command.Trouble(f"{command.shown(asked.unless)}: its nodes are others: --unless is the same robot with another timing")
+        raise command.Trouble(f"{command.shown(asked.unless)}: its nodes or its order are others: --unless is the same robot with another timing")
     judging.run(good)
     if judging.rules[0].failure:
         raise command.Trouble(f"{command.shown(asked.unless)} breaks the rule too: {judge.said(judging.rules[0].failure)}")
