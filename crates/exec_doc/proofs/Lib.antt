@@ -1,6 +1,8 @@
 pub mod Bits
 pub mod Bytes
 pub mod Feeding
+pub mod Found
+pub mod Gathered
 pub mod Identifiers
 pub mod Kept
 pub mod Lawful
@@ -9,8 +11,13 @@ pub mod Lists
 pub mod OnLiterals
 pub mod Placed
 pub mod Picks
+pub mod Plain
 pub mod Planned
 pub mod Ready
 pub mod Refusing
+pub mod SameForms
+pub mod SamePlan
 pub mod Scheduled
 pub mod Sets
+pub mod Twice
+pub mod Upgrades

@@ -2,3 +2,4 @@ pub mod Goals
 pub mod Groups
 pub mod Orders
 pub mod Services
+pub mod Upgrades

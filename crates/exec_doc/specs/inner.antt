@@ -1,4 +1,5 @@
 pub mod Answering
+pub mod Gathering
 pub mod Picking
 pub mod Placing
 pub mod Reading

@@ -29,7 +29,7 @@ pub fn read_document(alloc: Global, bytes: &[u8]) -> Result<Plan, Refused>
     plan_of(alloc, draft)
 }
 
-fn document_value(alloc: Global, bytes: &[u8]) -> Result<Value, Refused>
+pub fn document_value(alloc: Global, bytes: &[u8]) -> Result<Value, Refused>
     ensures value { IfOk result (λ value. document_value bytes.now ≡ Some (view value)) }
     ensures refused { IfErr result (λ code. (code ≡ Refused.Memory) ⊎ ((code ≡ Refused.NotJson) × (document_value bytes.now ≡ None))) }
 {

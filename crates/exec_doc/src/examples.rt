@@ -1,11 +1,15 @@
 //! Worked examples: each function's contract says which plan a document says.
 #![tactic(auto, unfolding(crate::proofs::OnLiterals::document_on_literals))]
 
-ghost use Rattle.std.specs.Prelude.{◌≡◌, ◌++◌, Some, codes};
+ghost use Rattle.std.specs.Prelude.{◌≡◌, ◌++◌, Some, None, codes};
 ghost use Rattle.exec_doc.specs.Document.{document_of};
 ghost use Rattle.exec_doc.specs.Examples.Services.{across_nodes_text, across_nodes};
 ghost use Rattle.exec_doc.specs.Examples.Goals.{feedback_text, feedback, cancel_forms_text, cancel_forms};
 ghost use Rattle.exec_doc.specs.Examples.Orders.{two_subscriptions_text, two_subscriptions, two_subscriptions_by_arrival};
+ghost use Rattle.exec_doc.specs.Examples.Upgrades.{timer_text, timer_upgraded, all_objects_text, all_objects_upgraded};
+ghost use Rattle.exec_doc.specs.Refusals.{refusal_of};
+ghost use Rattle.exec_doc.specs.Upgrade.{upgraded_text};
+ghost use Rattle.exec_doc.specs.declared.refused.Refused.TheVariants as Refused;
 ghost use Rattle.exec_doc.specs.Examples.Groups.{many_goals_text, many_goals, unknown_fields_text, unknown_fields};
 
 /// A client of a service of a later node: services come before clients, and each node has a default group of its own.
@@ -40,4 +44,32 @@ pub fn orders()
     ensures kind { document_of (codes "{\"version\":2,\"order\":\"kind\"," ++ two_subscriptions_text) ≡ Some two_subscriptions }
     ensures none { document_of (codes "{\"version\":2," ++ two_subscriptions_text) ≡ Some two_subscriptions }
     ensures version_1 { document_of (codes "{\"version\":1,\"order\":\"arrival\"," ++ two_subscriptions_text) ≡ Some two_subscriptions }
+{}
+
+/// Documents that say the empty plan, in either version and with fields that are ignored, and their one upgrade.
+#[tactic(auto, unfolding(crate::proofs::OnLiterals::upgrade_on_literals))]
+pub fn upgrades_of_the_empty_plan()
+    ensures version_1 { upgraded_text (codes "{\"version\":1}") ≡ Some (codes "{\"order\":\"kind\",\"version\":2}") }
+    ensures version_2 { upgraded_text (codes "{\"version\":2}") ≡ Some (codes "{\"order\":\"kind\",\"version\":2}") }
+    ensures ignored { upgraded_text (codes "{\"version\":1,\"order\":7,\"extra\":[true]}") ≡ Some (codes "{\"order\":\"kind\",\"version\":2}") }
+{}
+
+/// What is refused has no upgrade.
+pub fn no_upgrade()
+    ensures refused { refusal_of (codes "{\"version\":3}") ≡ Some Refused.Version }
+    ensures version { upgraded_text (codes "{\"version\":3}") ≡ None }
+    ensures shape { upgraded_text (codes "{\"version\":2,\"order\":7}") ≡ None }
+{}
+
+/// A timer alone: the fields of each object come in the order of their names.
+#[tactic(auto, unfolding(crate::proofs::OnLiterals::upgrade_on_literals))]
+pub fn upgrade_of_a_timer()
+    ensures { upgraded_text timer_text ≡ Some timer_upgraded }
+{}
+
+/// One of each object and of each form of an entry: fields that their object or form doesn't have are left out, and the others
+/// stay as they are.
+#[tactic(auto, unfolding(crate::proofs::OnLiterals::upgrade_on_literals))]
+pub fn upgrade_of_all_objects()
+    ensures { upgraded_text all_objects_text ≡ Some all_objects_upgraded }
 {}

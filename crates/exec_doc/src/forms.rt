@@ -4,7 +4,7 @@ mod feed;
 mod fields;
 mod graph;
 mod nodes;
-mod owned;
+pub mod owned;
 mod picked;
 mod scripts;
 

@@ -1,6 +1,8 @@
 //! Laws of documents: each function's contract says one, and its body is empty or calls the laws that it rests on.
 ghost use Rattle.std.specs.Prelude.{◌≡◌, ℕ, ◌<◌, List, Some, None, is_some, true, false};
-ghost use Rattle.exec_doc.specs.Document.{document_of};
+ghost use Rattle.serde_json.specs.Data.{Data};
+ghost use Rattle.exec_doc.specs.Document.{document_of, plan_in};
+ghost use Rattle.exec_doc.specs.Upgrade.{upgraded};
 ghost use Rattle.exec_doc.specs.Refusals.{document_value, number_of, holds, refusal_of};
 ghost use Rattle.exec_doc.specs.declared.refused.Refused.{Refused};
 ghost use Rattle.exec_plan.specs.Lawful.{IsLawfulPlan};
@@ -35,3 +37,8 @@ pub fn plans_are_lawful()
     exec_graph::laws::names_find_what_they_are_declared_as();
     exec_plan::laws::plans_without_faults_are_lawful();
 }
+
+/// The upgrade of a value that says a plan says the same plan.
+pub fn upgrades_say_the_same_plan()
+    ensures { (value : Data) (plan : PlanData) → plan_in (Some value) ≡ Some plan → plan_in (Some (upgraded plan.order value)) ≡ Some plan }
+{}

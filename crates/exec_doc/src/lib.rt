@@ -10,6 +10,8 @@ pub mod laws;
 pub mod refusals;
 mod refused;
 mod schedule;
+mod upgrading;
 
 pub use document::read_document;
 pub use refused::Refused;
+pub use upgrading::upgrade;

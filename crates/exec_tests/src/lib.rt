@@ -16,3 +16,5 @@ mod script;
 mod shared;
 #[cfg(test)]
 mod task;
+#[cfg(test)]
+mod upgrade;
