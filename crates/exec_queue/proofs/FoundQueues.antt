@@ -1,10 +1,9 @@
 -- A look-up by entity and kind gives the place of the first such queue, and places with items are covered.
-use Rattle.std.proofs.Common.{◌≡◌, ℕ, Bool, zero, suc, ◌+◌, ◌*◌, ◌-◌, ◌<◌, ◌≤◌, ◌&&◌, ◌==◌, ⊎_elim, true, false, not, length, List, [], ◌∷◌, ◌++◌, Option, Some, None, IfSome, if◌then◌else◌, inl, inr, ◌⊎◌, slice_get, take, refl, sym, ap, subst, ◌∙◌, true≢false, arith}
+use Rattle.std.proofs.Common.{◌≡◌, ℕ, Bool, zero, suc, ◌+◌, ◌*◌, ◌-◌, ◌<◌, ◌≤◌, ◌&&◌, ◌==◌, ⊎_elim, true, false, not, length, List, [], ◌∷◌, ◌++◌, Option, Some, None, IfSome, if◌then◌else◌, inl, inr, ◌⊎◌, slice_get, take, refl, sym, ap, subst, ◌∙◌, arith}
 use Rattle.std.specs.List.{Contains, find}
 use Rattle.std.specs.Option.{option_map_or, option_to_list}
 use Rattle.std.proofs.lemmas.Bool.{eqb-true, eq-eqb, both_ways, and_parts}
 use Rattle.std.proofs.lemmas.List.{length_push}
-use Rattle.std.proofs.Math.Seq.{take-append_seam}
 use Rattle.std.proofs.lemmas.List.Elements.{Contains-append_left, Contains-push, Contains-push_cases}
 use Rattle.exec_msg.specs.KeepLast.{displaced}
 use Rattle.exec_msg.specs.Kind.{ready_number}
@@ -69,15 +68,6 @@ module _ (old new : List ℕ) (queues after : List Queue) (place : ℕ) (change 
       (λ before. ap (λ these. is_filled_at these other) is ∙ ap (λ found. option_map_or has_item found false) kept ∙ filled other before)
       (only_by (is_filled_at queues place) old place other (subst (λ places. Contains places other) noted held)))
       (there_or_same change place other queues)
-
--- a place that was noted last is taken away
-pub unnoted : (b : Bool) (old new left : List ℕ) (place n : ℕ) → b ≡ false → new ≡ (if b then old else old ++ place ∷ []) → n ≡ length new → left ≡ take (n - 1) new → left ≡ old
-unnoted true old new left place n empty noted counted is = absurd (true≢false empty)
-unnoted false old new left place n empty noted counted is =
-    let long = length_push old place in
-    let same : length new ≡ length (old ++ place ∷ []) = ap length noted in
-    let fewer : n - 1 ≡ length old = omega (arith, long, same, counted) in
-    is ∙ (λ i. take (fewer i) (noted i)) ∙ take-append_seam old (place ∷ [])
 
 -- ---- one queue more
 

@@ -1,6 +1,6 @@
 //! The queues of a plan's entities in ready order, found by entity and kind. A snapshot walks over those that have an item, and
 //! over no other.
-ghost use Rattle.std.specs.Prelude.{◌≡◌, ◌&&◌, ◌||◌, List, ◌<◌, ◌≤◌, ◌^◌, [], ◌∷◌, ◌++◌, false, true, not, None, Some, length, map, find, slice_get, vec_capacity, OnOk, OnErr, IfOk};
+ghost use Rattle.std.specs.Prelude.{◌≡◌, ◌&&◌, ◌||◌, List, ◌<◌, ◌≤◌, ◌^◌, [], ◌∷◌, ◌++◌, false, true, not, None, Some, length, map, find, slice_get, vec_capacity, OnOk, OnErr, IfOk, IfSome};
 ghost use Rattle.std.specs.Option.{option_copied, option_map, option_map_or, option_to_list};
 ghost use Rattle.exec_msg.specs.KeepLast.{displaced};
 ghost use Rattle.exec_msg.specs.Kind.{ready_number};
@@ -17,7 +17,7 @@ ghost use Rattle.exec_rules.specs.inner.Listing.{listed_behind};
 ghost use Rattle.exec_msg.specs.Places.{change_at};
 ghost use Rattle.exec_rules.specs.inner.Places.{change_each, places_where};
 ghost use Rattle.exec_queue.specs.inner.Numbers.{numbers_of};
-ghost use Rattle.exec_queue.specs.inner.Queues.{slot_of, has_item, is_filled_at, is_in_part};
+ghost use Rattle.exec_queue.specs.inner.Queues.{slot_of, has_item, is_filled_at, is_in_part, noted_if};
 
 mod entry;
 mod filled;
@@ -127,15 +127,8 @@ impl Queues {
             return Ok(None);
         };
         self.settled = false;
-        note_filled(&mut self.filled, &self.entries, place)?;
-        match send_at(&mut self.entries, place, item, number) {
-            Ok(lost) => Ok(lost),
-            Err(refused) => {
-                // The queue is still empty, and its place is the last one.
-                self.filled.pop();
-                Err(refused)
-            }
-        }
+        let lost = send_at(&mut self.entries, &mut self.filled, place, item, number)?;
+        Ok(lost)
     }
 
     /// Makes `places` those of the queues that have an item, in ascending order. Either they are the queues of the kinds before
@@ -325,23 +318,56 @@ fn count(entries: &[EntityQueue]) -> usize
     entries.len()
 }
 
+// Sends an item to the queue at a place. If the queue was empty, its place is noted.
 fn send_at(
     entries: &mut Vec<EntityQueue>,
+    filled: &mut Vec<usize>,
     place: usize,
     item: Item,
     number: u64,
 ) -> Result<Option<Item>, Memory>
     ensures ok { OnOk result (entries.new.items ≡ change_at place (queue_after number item) entries.old.items) }
     ensures filled { OnOk result (place < length entries.old.items → is_filled_at entries.new.items place ≡ true) }
+    ensures noted { OnOk result (place < length entries.old.items → filled.new.items ≡ noted_if (is_filled_at entries.old.items place) place filled.old.items) }
     ensures lost { IfOk result (λ lost. lost ≡ option_map_or (λ queue. slice_get (displaced queue.depth item queue.items) 0) (slice_get entries.old.items place) None) }
+    ensures bound { IfSome (slice_get entries.old.items place) (λ queue. length queue.items ≤ queue.depth) }
     ensures unchanged { OnErr result (entries.new.items ≡ entries.old.items) }
+    ensures same { OnErr result (filled.new.items ≡ filled.old.items) }
     ensures memory { OnErr result (is_filled_at entries.old.items place ≡ false) }
 {
     match entries.get_mut(place) {
         None => Ok(None),
         Some(entry) => {
-            let lost = entry.send(item, number)?;
+            let lost = send_to(entry, filled, place, item, number)?;
             Ok(lost)
+        }
+    }
+}
+
+// Sends an item to the queue that is at a place. If the queue was empty, its place is noted.
+fn send_to(
+    entry: &mut EntityQueue,
+    filled: &mut Vec<usize>,
+    place: usize,
+    item: Item,
+    number: u64,
+) -> Result<Option<Item>, Memory>
+    ensures ok { OnOk result (entry.new ≡ queue_after number item entry.old) }
+    ensures has { OnOk result (has_item entry.new ≡ true) }
+    ensures noted { OnOk result (filled.new.items ≡ noted_if (has_item entry.old) place filled.old.items) }
+    ensures lost { IfOk result (λ lost. lost ≡ slice_get (displaced entry.old.depth item entry.old.items) 0) }
+    ensures bound { length entry.old.items ≤ entry.old.depth }
+    ensures unchanged { OnErr result (entry.new ≡ entry.old) }
+    ensures same { OnErr result (filled.new.items ≡ filled.old.items) }
+    ensures memory { OnErr result (has_item entry.old ≡ false) }
+{
+    note_filled(filled, entry, place)?;
+    match entry.send(item, number) {
+        Ok(lost) => Ok(lost),
+        Err(refused) => {
+            // The queue is still empty, and its place is the last one.
+            filled.pop();
+            Err(refused)
         }
     }
 }

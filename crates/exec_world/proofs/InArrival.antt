@@ -8,8 +8,9 @@ use Rattle.exec_plan.proofs.Positions.{slice_get-behind}
 use Rattle.std.proofs.lemmas.List.{append-nil, length-map, map-append, take-append-drop}
 use Rattle.exec_goal.specs.Table.{GoalRecord}
 use Rattle.exec_msg.specs.Numbers.{Moment}
+use Rattle.exec_plan.specs.declared.order.Order.{Order}
 use Rattle.exec_plan.specs.declared.order.Order.TheVariants as order
-use Rattle.exec_rules.proofs.PolledAlike.{placed_alike, poll_alike, runs_alike}
+use Rattle.exec_rules.proofs.PolledAlike.{parts_alike, placed_alike, poll_alike, runs_alike}
 use Rattle.exec_rules.specs.Ready.{is_goal_awake, placed_from, poll_ready, rank_under, ready_for, woken}
 use Rattle.exec_rules.specs.Run.{run}
 use Rattle.exec_rules.specs.Sorting.{inserted_by, sorted_by}
@@ -18,11 +19,11 @@ use Rattle.exec_rules.specs.World.{ClientEntry, ServerEntry, TimerEntry, WorldSt
 use Rattle.exec_rules.specs.declared.ready.AwakeGoal.{AwakeGoal}
 use Rattle.exec_rules.specs.declared.ready.Ready.{Ready}
 use Rattle.exec_rules.specs.inner.Awake.{awake_goals, goal_awake, poll_at}
-use Rattle.exec_rules.specs.inner.ByKind.{ready_before, ready_behind}
+use Rattle.exec_rules.specs.inner.ByKind.{ready_before, ready_behind, taken_in_parts}
 use Rattle.exec_world.proofs.Arranged.{arrival_same}
 use Rattle.exec_world.specs.declared.arrived.Arrived.{Arrived}
-use Rattle.exec_world.specs.inner.Arrivals.{arrived_in, run_arrived, run_at, with_arrived}
-use Rattle.exec_world.specs.inner.Snapshots.{ready_in_parts}
+use Rattle.exec_world.specs.inner.Arrivals.{AreListed, arrived_in, run_arrived, run_at, run_listed, with_arrived}
+use Rattle.exec_world.specs.inner.Snapshots.{listed_in, listed_under, ready_in_parts}
 
 -- ---- two lists of one length, by each two of one place
 
@@ -202,3 +203,30 @@ module _ (moment : Moment) (world : WorldState) where
       ap (run_arrived all now) (is_sorted ∙ ap (sorted_by (λ (one : Arrived). one.number)) (noted ∙ (λ i. fold (λ arrivals one. with_arrived arrivals (same i one)) [] all) ∙ arrived_is number_of [] all))
       ∙ sorted_run number_of all (ready_in_parts moment world) (parts_zip list goals split position first last awake) now
       ∙ sym (placed_alike 1 (sorted_by number_of (ready_in_parts moment world)) now)
+
+-- ---- what a snapshot listed
+
+-- it runs as the ready list does, under either order, which a world told that has other timers and clients
+ran_in_order : (moment : Moment) (world : WorldState) (under : Order) {counted : WorldState} (timers : List TimerEntry) (clients : List ClientEntry) (now : WorldState)
+    (list : List Ready) (goals : List AwakeGoal) (before : ℕ) (arrivals : List Arrived)
+    → take before list ≡ placed_from 1 (ready_before moment world) → drop before list ≡ placed_from (before + 1) (ready_behind moment world) → goals ≡ flat_map (awake_goals moment) world.servers
+    → counted ≡ record world { timers = timers; clients = clients } → AreListed under counted (list ++ map (poll_at moment) goals) arrivals
+    → run_listed under before list (map (poll_at moment) goals) arrivals now ≡ run_all (listed_under under moment world) now
+ran_in_order moment world order.Kind timers clients now list goals before arrivals first last awake later listed =
+    ap (λ (some : List AwakeGoal). run_all (drop before list) (run_all (map (poll_at moment) some) (run_all (take before list) now))) awake
+    ∙ parts_alike moment world now list before (before + 1) first last
+ran_in_order moment world order.Arrival {counted} timers clients now list goals before arrivals first last awake later listed =
+    ran_by_number moment world timers clients now list goals before (before + 1) (arrived_in counted (list ++ map (poll_at moment) goals)) arrivals first last awake later refl listed
+
+-- and so it does under the order of the world
+pub ran_listed : (moment : Moment) (world counted now after : WorldState) (timers : List TimerEntry) (clients : List ClientEntry) (list some : List Ready) (goals others : List AwakeGoal)
+    (before : ℕ) (arrivals : List Arrived)
+    → take before list ≡ placed_from 1 (ready_before moment world) → drop before list ≡ placed_from (before + 1) (ready_behind moment world) → goals ≡ flat_map (awake_goals moment) world.servers
+    → counted ≡ record world { timers = timers; clients = clients } → now ≡ taken_in_parts moment world
+    → AreListed counted.order counted (list ++ map (poll_at moment) goals) arrivals → some ≡ list → others ≡ goals
+    → after ≡ run_listed now.order before some (map (poll_at moment) others) arrivals now → after ≡ run_all (listed_in moment world) now
+ran_listed moment world counted now after timers clients list some goals others before arrivals first last awake later taken listed some_is others_is is =
+    is
+    ∙ (λ i. run_listed (taken i).order before (some_is i) (map (poll_at moment) (others_is i)) arrivals now)
+    ∙ ran_in_order moment world world.order timers clients now list goals before arrivals first last awake later
+    (subst (λ (under : Order). AreListed under counted (list ++ map (poll_at moment) goals) arrivals) (ap (λ (held : WorldState). held.order) later) listed)

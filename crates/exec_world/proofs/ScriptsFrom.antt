@@ -10,14 +10,12 @@ use Rattle.exec_rules.specs.inner.ByKind.{taken_in_parts}
 use Rattle.exec_rules.specs.inner.Homes.{AreHomes, queue_handlers, timer_handlers}
 use Rattle.exec_world.specs.inner.Snapshots.{ScriptsComeFrom}
 
-pub come_after : (moment : Moment) (world taken after : WorldState) (first polls last list left : List Ready) (homes kept : Homes)
-    → ScriptsComeFrom world list homes → taken ≡ taken_in_parts moment world → after ≡ run_all last (run_all polls (run_all first taken)) → left ≡ list → kept ≡ homes
+pub come_after : (moment : Moment) (world taken after : WorldState) (ran list left : List Ready) (homes kept : Homes)
+    → ScriptsComeFrom world list homes → taken ≡ taken_in_parts moment world → after ≡ run_all ran taken → left ≡ list → kept ≡ homes
     → ScriptsComeFrom after left kept
-come_after moment world taken after first polls last list left homes kept come taken_is ran list_is homes_is =
-    let begun = run_all first taken in
-    let polled = run_all polls begun in
-    let timers = ap timer_handlers ran ∙ timers_stay last polled ∙ timers_stay polls begun ∙ timers_stay first taken ∙ ap timer_handlers taken_is ∙ timers_left moment world in
-    let queues = ap queue_handlers ran ∙ queues_stay last polled ∙ queues_stay polls begun ∙ queues_stay first taken ∙ ap queue_handlers taken_is ∙ queues_left moment world in
+come_after moment world taken after ran list left homes kept come taken_is is list_is homes_is =
+    let timers = ap timer_handlers is ∙ timers_stay ran taken ∙ ap timer_handlers taken_is ∙ timers_left moment world in
+    let queues = ap queue_handlers is ∙ queues_stay ran taken ∙ ap queue_handlers taken_is ∙ queues_left moment world in
     let there : ScriptsComeFrom after list homes = record {
       timers = subst (λ (of : List Handler). AreHomes of list homes.timers.items) (sym timers) come.timers;
       queues = subst (λ (of : List Handler). AreHomes of list homes.queues.items) (sym queues) come.queues;

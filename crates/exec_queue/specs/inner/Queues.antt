@@ -1,5 +1,5 @@
 -- Queues in ready order, found by entity and kind.
-use Rattle.std.specs.Prelude.{◌≡◌, ℕ, suc, ◌+◌, ◌*◌, List, length, Bool, true, false, not, ◌==◌, if◌then◌else◌, Option, IfSome, slice_get}
+use Rattle.std.specs.Prelude.{◌≡◌, ℕ, suc, ◌+◌, ◌*◌, List, [], ◌∷◌, ◌++◌, length, Bool, true, false, not, ◌==◌, if◌then◌else◌, Option, IfSome, slice_get}
 use Rattle.std.specs.List.{AllByRecursion, Contains}
 use Rattle.std.specs.Option.{option_map_or}
 use Rattle.exec_msg.specs.Numbers.{EntityNo}
@@ -21,6 +21,10 @@ has_item queue = not (length queue.items == 0)
 -- whether the queue at a place has one
 abbrev pub is_filled_at : List Queue → ℕ → Bool
 is_filled_at queues place = option_map_or has_item (slice_get queues place) false
+
+-- places with one more behind them, unless its queue has an item
+abbrev pub noted_if : Bool → ℕ → List ℕ → List ℕ
+noted_if has place places = if has then places else places ++ place ∷ []
 
 -- whether a queue is of a kind before polls, or of one behind them
 abbrev pub is_in_part : Bool → Queue → Bool

@@ -4,14 +4,13 @@ ghost use Rattle.std.specs.List.{Contains, filter};
 ghost use Rattle.std.specs.List.Sorted.{IsPermutation, IsSorted, IsStrictlyIncreasing};
 ghost use Rattle.std.specs.Ordering.{nat_cmp};
 ghost use Rattle.exec_rules.specs.inner.Places.{places_where};
-ghost use Rattle.exec_queue.specs.inner.Queues.{AreBeforePolls, has_item, is_filled_at, is_in_part, is_in_part_at};
+ghost use Rattle.exec_queue.specs.inner.Queues.{AreBeforePolls, has_item, is_filled_at, is_in_part, is_in_part_at, noted_if};
 
 use super::entry::EntityQueue;
 use exec_msg::Memory;
 
 fn is_filled(entries: &[EntityQueue], place: usize) -> bool
-    ensures value { result ≡ is_filled_at entries.now place }
-    ensures bound { IfSome (slice_get entries.now place) (λ queue. length queue.items ≤ queue.depth) }
+    ensures { result ≡ is_filled_at entries.now place }
 {
     match entries.get(place) {
         None => false,
@@ -19,18 +18,18 @@ fn is_filled(entries: &[EntityQueue], place: usize) -> bool
     }
 }
 
-// Notes a place. An item is about to be put into its queue.
+// Notes the place of a queue if it is empty. An item is about to be put into it.
 pub(super) fn note_filled(
     filled: &mut Vec<usize>,
-    entries: &[EntityQueue],
+    queue: &EntityQueue,
     place: usize,
 ) -> Result<(), Memory>
-    ensures noted { OnOk result (filled.new.items ≡ (if is_filled_at entries.now place then filled.old.items else filled.old.items ++ place ∷ [])) }
+    ensures noted { OnOk result (filled.new.items ≡ noted_if (has_item queue.now) place filled.old.items) }
     ensures unchanged { OnErr result (filled.new.items ≡ filled.old.items) }
-    ensures memory { OnErr result (is_filled_at entries.now place ≡ false) }
-    ensures bound { IfSome (slice_get entries.now place) (λ queue. length queue.items ≤ queue.depth) }
+    ensures memory { OnErr result (has_item queue.now ≡ false) }
+    ensures bound { length queue.now.items ≤ queue.now.depth }
 {
-    if !is_filled(entries, place) {
+    if queue.is_empty() {
         filled.push(place)?;
     }
     Ok(())

@@ -6,6 +6,7 @@ use super::State;
 use crate::arrived::{Arrived, note_arrival, sort_arrivals};
 use crate::scratch::Scratch;
 use exec_msg::{Lines, Memory, Moment};
+use exec_plan::Order;
 use exec_rules::{AwakeGoal, Cause, Ready, ReadyList};
 use exec_script::EffectList;
 use futures::task::Context;
@@ -38,33 +39,30 @@ impl<L: Lines> State<L> {
     ghost use Rattle.exec_rules.specs.Ready.{arrival_for, goal_arrival};
     ghost use Rattle.exec_rules.specs.inner.Awake.{poll_at};
     ghost use Rattle.exec_rules.specs.inner.ByKind.{taken_in_parts};
-    ghost use Rattle.exec_world.specs.inner.Arrivals.{arrived_in, run_arrived, run_at, with_arrived};
-    ghost use Rattle.exec_world.specs.inner.Snapshots.{listed_under, numbered_in, round_under};
+    ghost use Rattle.exec_world.specs.inner.Arrivals.{AreListed, run_arrived, run_at, with_arrived};
+    ghost use Rattle.exec_world.specs.inner.Snapshots.{listed_under, numbered_in};
 
-    // Takes each input at a moment, and runs the callbacks that are ready. Only the numbers of arrivals are sorted. The
-    // callbacks and their scripts are not moved.
-    pub(super) fn run_by_arrival(
-        &mut self,
-        moment: Moment,
-        scratch: &mut Scratch,
-        cx: &mut Context<'_>,
-    ) -> Result<(), Memory>
-        ensures { OnOk result (self.new ≡ round_under order.Arrival moment self.old) }
+    // Under the order of arrival, lists the numbers of the arrivals of what a snapshot listed, each with the place of its callback,
+    // the earliest first. Polls come after the callbacks of the list. Only the numbers are sorted: callbacks and their scripts
+    // are not moved. Under the order of kinds it lists nothing.
+    pub(super) fn list_arrivals(&self, moment: Moment, scratch: &mut Scratch) -> Result<(), Memory>
+        ensures arrivals { OnOk result (AreListed self.now.order self.now (scratch.old.list ++ map (poll_at moment) scratch.old.goals.items)
+            scratch.new.arrivals.items) }
+        ensures list { scratch.new.list ≡ scratch.old.list }
+        ensures goals { scratch.new.goals.items ≡ scratch.old.goals.items }
+        ensures homes { scratch.new.homes ≡ scratch.old.homes }
     {
-        self.list_in_parts(moment, scratch)?;
-        self.list_arrivals(moment, scratch)?;
-        self.take_first();
-        sort_arrivals(&mut scratch.arrivals)?;
-        self.run_listed(moment, scratch, cx)?;
-        self.bring_scripts_home(scratch);
-        Ok(())
+        match self.mail.order() {
+            Order::Kind => Ok(()),
+            Order::Arrival => self.list_sorted(moment, scratch),
+        }
     }
 
-    // Lists the numbers of the arrivals of what a snapshot listed, each with the place of its callback. Polls come after the
-    // others.
-    fn list_arrivals(&self, moment: Moment, scratch: &mut Scratch) -> Result<(), Memory>
-        ensures arrivals { OnOk result (scratch.new.arrivals.items
-            ≡ arrived_in self.now (scratch.old.list ++ map (poll_at moment) scratch.old.goals.items)) }
+    // The same under the order of arrival.
+    #[inline(never)]
+    fn list_sorted(&self, moment: Moment, scratch: &mut Scratch) -> Result<(), Memory>
+        ensures arrivals { OnOk result (AreListed order.Arrival self.now (scratch.old.list ++ map (poll_at moment) scratch.old.goals.items)
+            scratch.new.arrivals.items) }
         ensures list { scratch.new.list ≡ scratch.old.list }
         ensures goals { scratch.new.goals.items ≡ scratch.old.goals.items }
         ensures homes { scratch.new.homes ≡ scratch.old.homes }
@@ -72,11 +70,13 @@ impl<L: Lines> State<L> {
         scratch.arrivals.clear();
         self.note_arrivals(scratch.list.as_slice(), &mut scratch.arrivals)?;
         self.note_polls(&scratch.goals, &mut scratch.arrivals)?;
+        sort_arrivals(&mut scratch.arrivals)?;
         Ok(())
     }
 
     // Runs the callbacks at the places of arrivals, one after another.
-    fn run_listed(
+    #[inline(never)]
+    pub(super) fn run_sorted(
         &mut self,
         moment: Moment,
         scratch: &mut Scratch,

@@ -17,12 +17,12 @@ use futures::task::Context;
 impl<L: Lines> State<L> {
     ghost use Rattle.std.specs.Prelude.{◌≡◌, ◌≤◌, length, map, take, drop, OnOk};
     ghost use Rattle.exec_msg.specs.declared.line.Line.TheVariants as line;
-    ghost use Rattle.exec_plan.specs.declared.order.Order.TheVariants as order;
     ghost use Rattle.exec_rules.specs.Transcript.{expire, feed, feed_one, finish, run_all};
     ghost use Rattle.exec_rules.specs.World.{add_line};
     ghost use Rattle.exec_rules.specs.inner.Awake.{poll_at};
     ghost use Rattle.exec_rules.specs.inner.ByKind.{taken_in_parts};
-    ghost use Rattle.exec_world.specs.inner.Snapshots.{ScriptsComeFrom, listed_in, round_in, round_under};
+    ghost use Rattle.exec_world.specs.inner.Arrivals.{run_listed};
+    ghost use Rattle.exec_world.specs.inner.Snapshots.{ScriptsComeFrom, listed_in, round_in};
 
     // Begins the round of a number at a moment, and takes each input. The list then has only the callbacks that are ready.
     pub(crate) fn begin_round(
@@ -52,35 +52,55 @@ impl<L: Lines> State<L> {
         ensures { OnOk result (self.new ≡ round_in moment (feed fed.now (expire moment (add_line (line.Round number moment) self.old)))) }
     {
         self.open_round(number, moment, fed)?;
-        match self.mail.order() {
-            Order::Kind => self.run_by_kind(moment, scratch, cx),
-            Order::Arrival => self.run_by_arrival(moment, scratch, cx),
-        }
+        self.run_ready(moment, scratch, cx)
     }
 
-    // Takes each input at a moment under the order of kinds, and runs the callbacks that are ready.
-    fn run_by_kind(
+    // Takes each input at a moment, and runs the callbacks that are ready.
+    fn run_ready(
         &mut self,
         moment: Moment,
         scratch: &mut Scratch,
         cx: &mut Context<'_>,
     ) -> Result<(), Memory>
-        ensures { OnOk result (self.new ≡ round_under order.Kind moment self.old) }
+        ensures { OnOk result (self.new ≡ round_in moment self.old) }
     {
-        let before = self.snapshot_in_parts(moment, scratch)?;
-        self.run_parts(moment, before, scratch, cx)?;
+        let before = self.list_in_parts(moment, scratch)?;
+        self.list_arrivals(moment, scratch)?;
+        self.take_first();
+        self.run_listed(moment, before, scratch, cx)?;
         self.bring_scripts_home(scratch);
         Ok(())
     }
 
     // Brings home the scripts of callbacks that ran.
-    pub(super) fn bring_scripts_home(&mut self, scratch: &mut Scratch)
+    fn bring_scripts_home(&mut self, scratch: &mut Scratch)
         requires { ScriptsComeFrom self.old scratch.old.list scratch.old.homes }
         ensures { self.new ≡ self.old }
     {
         bring_home_to_timers(&mut self.timers, &mut scratch.list, &scratch.homes.timers);
         self.mail
             .bring_scripts_home(&mut scratch.list, &scratch.homes.queues);
+    }
+
+    // Runs what was listed in the order of the plan. The first callbacks of the list, this many, come before polls under the order
+    // of kinds.
+    fn run_listed(
+        &mut self,
+        moment: Moment,
+        before: usize,
+        scratch: &mut Scratch,
+        cx: &mut Context<'_>,
+    ) -> Result<(), Memory>
+        requires { before ≤ length scratch.old.list }
+        ensures ran { OnOk result (self.new
+            ≡ run_listed self.old.order before scratch.old.list (map (poll_at moment) scratch.old.goals.items) scratch.old.arrivals.items self.old) }
+        ensures list { scratch.new.list ≡ scratch.old.list }
+        ensures homes { scratch.new.homes ≡ scratch.old.homes }
+    {
+        match self.mail.order() {
+            Order::Kind => self.run_parts(moment, before, scratch, cx),
+            Order::Arrival => self.run_sorted(moment, scratch, cx),
+        }
     }
 
     // Runs the callbacks of the list that come before polls, then polls the goals, and then runs the others of the list.

@@ -49,26 +49,8 @@ impl<L: Lines> State<L> {
         Ok(())
     }
 
-    // Takes each input at a moment under the order of kinds, and lists the goals that are awake. The ready list then has only
-    // the other callbacks that are ready. The answer is how many of them come before polls.
-    pub(super) fn snapshot_in_parts(
-        &mut self,
-        moment: Moment,
-        scratch: &mut Scratch,
-    ) -> Result<usize, Memory>
-        ensures within { IfOk result (λ before. before ≤ length scratch.new.list) }
-        ensures first { IfOk result (λ before. take before scratch.new.list ≡ placed_from 1 (ready_before moment self.old)) }
-        ensures goals { OnOk result (scratch.new.goals.items ≡ flat_map (awake_goals moment) self.old.servers) }
-        ensures last { IfOk result (λ before. drop before scratch.new.list ≡ placed_from (before + 1) (ready_behind moment self.old)) }
-        ensures taken { OnOk result (self.new ≡ taken_in_parts moment self.old) }
-        ensures homes { OnOk result (ScriptsComeFrom self.old scratch.new.list scratch.new.homes) }
-    {
-        let before = self.list_in_parts(moment, scratch)?;
-        self.take_first();
-        Ok(before)
-    }
-
-    // The same before queues lose their first items.
+    // Lists the callbacks that are ready at a moment and no polls, and the goals that are awake. Queues still have their first
+    // items. The answer is how many of the callbacks come before polls under the order of kinds.
     pub(super) fn list_in_parts(
         &mut self,
         moment: Moment,

@@ -29,4 +29,4 @@ returns-in-None-clause-filled g within =
     absurd (omega (arith, past, within))
 
 pub returns-in_ok-lost-in-Some-clause-filled : goal.returns-in_ok-lost-in-Some-clause-filled
-returns-in_ok-lost-in-Some-clause-filled g within = filled_written g.args.entries.now.items g.args.place g.send.new.self g.in_ok-lost-in-Some.ensures.has within
+returns-in_ok-lost-in-Some-clause-filled g within = filled_written g.args.entries.now.items g.args.place g.send_to.new.entry g.in_ok-lost-in-Some.ensures.has within
