@@ -298,7 +298,7 @@ fn fails_where_its_writer_fails(rt: HostRuntime) -> Result<(), Fail> {
                     &mut output,
                     &mut errors,
                 );
-                let taken = text.len().min(calls * step);
+                let taken = text.len().min(calls.saturating_mul(step));
                 assert_eq!(rt; status, Status::WriteFailed);
                 assert_eq!(rt; output.writer.taken.as_slice(), &text[..taken]);
                 assert_eq!(rt; errors.writer.as_slice(), b"write failed\n".as_slice());
