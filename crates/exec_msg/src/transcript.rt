@@ -179,6 +179,8 @@ impl<'a> TextReader<'a> {
 
     /// Puts the text of the next lines at a place of a buffer that has the room of one line. It puts as many lines as there is
     /// room for. Gives the end of the text, or `None` if no line is left. The bytes after the end may change.
+    // It isn't inlined, because the registers of a caller would leave its loop too few.
+    #[inline(never)]
     pub fn fill(&mut self, buffer: &mut [u8], at: usize) -> Option<usize>
         requires { at + line_room self.old.names ≤ length buffer.old }
         ensures text { IfSome result (λ end. take at buffer.old ++ transcript_text self.old.names self.old.lines ≡ take end buffer.new ++ transcript_text self.old.names self.new.lines) }

@@ -112,6 +112,7 @@ impl Queues {
     ///
     /// # Errors
     /// [`Memory`] if a growth was refused. A queue that has an item needs no memory. The queues don't change.
+    #[inline(always)]
     pub fn send(
         &mut self,
         entity: EntityNo,

@@ -161,11 +161,32 @@ impl<L: Lines> Mail<L> {
         servers.expire(moment, &mut self.lines)
     }
 
-    // Sends an item to an entity, which is an arrival. What its queue loses by it is dropped with a line.
+    // Sends an item to an entity, which is an arrival. What its queue loses by it is dropped with a line. Each order has an
+    // instance of the body, so that the order of kinds pays nothing for numbers.
     pub(crate) fn send(&mut self, entity: EntityNo, item: Item) -> Result<(), Memory>
         ensures { OnOk result (self.new ≡ sent_to entity item self.old) }
     {
+        match self.order {
+            Order::Kind => self.send_as(entity, item, 0),
+            Order::Arrival => self.send_next(entity, item),
+        }
+    }
+
+    // Sends an item with the number of the next arrival.
+    #[inline(never)]
+    fn send_next(&mut self, entity: EntityNo, item: Item) -> Result<(), Memory>
+        ensures { OnOk result (self.new ≡ sent_to entity item self.old) }
+    {
         let number = self.next_number()?;
+        self.send_as(entity, item, number)
+    }
+
+    // Sends an item with the number of its arrival.
+    #[inline(always)]
+    fn send_as(&mut self, entity: EntityNo, item: Item, number: u64) -> Result<(), Memory>
+        requires { number ≡ next_number self.old }
+        ensures { OnOk result (self.new ≡ sent_to entity item self.old) }
+    {
         let lost = self.queues.send(entity, item, number)?;
         self.arrivals = number;
         self.add_lost(entity, lost)
