@@ -19,7 +19,7 @@ use std::alloc::Global;
 /// The plan that a document says.
 ///
 /// # Errors
-/// The least code that holds of the bytes, or [`Refused::Memory`] where a growth was refused.
+/// The least code that holds of the bytes, or [`Refused::Memory`] if a growth was refused.
 pub fn read_document(alloc: Global, bytes: &[u8]) -> Result<Plan, Refused>
     ensures plan { IfOk result (λ plan. document_of bytes.now ≡ Some plan) }
     ensures refused { IfErr result (λ code. (code ≡ Refused.Memory) ⊎ (refusal_of bytes.now ≡ Some code)) }
@@ -86,7 +86,7 @@ fn refusal_by(
     )
 }
 
-// The code of a graph's fault, where the schedule may be beyond its limits too.
+// The code of a graph's fault. The schedule may be beyond its limits too.
 fn code_of(fault: GraphFault, fits: bool) -> Refused
     ensures memory { fault ≡ GraphFault.Memory → result ≡ Refused.Memory }
     ensures code { (graph : GraphDraft) → fault_in graph ≡ Some fault → graph_refusal graph fits ≡ Some result }

@@ -3,13 +3,13 @@ use exec_msg::GoalId;
 use exec_script::WordText;
 use std::marker::Model;
 
-/// What is said to be fed, to topics and action servers by their names. An identifier is `None` where its text is none.
+/// What is fed, to topics and action servers by their names. An identifier is `None` if its text is no identifier.
 pub type FedDraft = FedOf<WordText, Option<GoalId>>;
 
 /// An entry of a feed, as a document says it.
 pub type EntryDraft = FeedOf<WordText, Option<GoalId>>;
 
-/// What a document says, its references still names, and its scripts still words.
+/// What a document says. Its references are still names, and its scripts are still words.
 #[derive(Drop)]
 pub struct DocumentDraft {
     /// Its version.

@@ -12,12 +12,12 @@ ghost use Rattle.exec_doc.specs.Upgrade.{upgraded_text};
 ghost use Rattle.exec_doc.specs.declared.refused.Refused.TheVariants as Refused;
 ghost use Rattle.exec_doc.specs.Examples.Groups.{many_goals_text, many_goals, unknown_fields_text, unknown_fields};
 
-/// A client of a service of a later node: services come before clients, and each node has a default group of its own.
+/// A client of a service of a later node. Services come before clients, and each node has a default group of its own.
 pub fn across_nodes()
     ensures { document_of across_nodes_text ≡ Some across_nodes }
 {}
 
-/// A goal that gives feedback; an empty list for results asks for them all the same, and results are kept for no ticks.
+/// A goal that gives feedback. An empty list for results asks for them too, and results are kept for no ticks.
 pub fn feedback()
     ensures { document_of feedback_text ≡ Some feedback }
 {}
@@ -27,17 +27,17 @@ pub fn cancel_forms()
     ensures { document_of cancel_forms_text ≡ Some cancel_forms }
 {}
 
-/// Timers in two exclusive groups and a server in a reentrant one: a node's default group is its first.
+/// Timers in two exclusive groups and a server in a reentrant one. A node's default group is its first.
 pub fn many_goals()
     ensures { document_of many_goals_text ≡ Some many_goals }
 {}
 
-/// Fields that their object doesn't have are ignored, whatever they hold, and the last of two fields of one name counts.
+/// A field that its object doesn't have is ignored, whatever it holds. The last of two fields of one name counts.
 pub fn unknown_fields()
     ensures { document_of unknown_fields_text ≡ Some unknown_fields }
 {}
 
-/// A document of version 2 names its order, which is that of kinds if it names none. In version 1 `order` is a field that is
+/// A document of version 2 names its order. If it names none, the order is that of kinds. In version 1 a field `order` is
 /// ignored.
 pub fn orders()
     ensures arrival { document_of (codes "{\"version\":2,\"order\":\"arrival\"," ++ two_subscriptions_text) ≡ Some two_subscriptions_by_arrival }
@@ -46,7 +46,7 @@ pub fn orders()
     ensures version_1 { document_of (codes "{\"version\":1,\"order\":\"arrival\"," ++ two_subscriptions_text) ≡ Some two_subscriptions }
 {}
 
-/// Documents that say the empty plan, in either version and with fields that are ignored, and their one upgrade.
+/// Documents of either version that say the empty plan, one of them with fields that are ignored. They have one upgrade.
 #[tactic(auto, unfolding(crate::proofs::OnLiterals::upgrade_on_literals))]
 pub fn upgrades_of_the_empty_plan()
     ensures version_1 { upgraded_text (codes "{\"version\":1}") ≡ Some (codes "{\"order\":\"kind\",\"version\":2}") }
@@ -54,20 +54,20 @@ pub fn upgrades_of_the_empty_plan()
     ensures ignored { upgraded_text (codes "{\"version\":1,\"order\":7,\"extra\":[true]}") ≡ Some (codes "{\"order\":\"kind\",\"version\":2}") }
 {}
 
-/// What is refused has no upgrade.
+/// A document that is refused has no upgrade.
 pub fn no_upgrade()
     ensures refused { refusal_of (codes "{\"version\":3}") ≡ Some Refused.Version }
     ensures version { upgraded_text (codes "{\"version\":3}") ≡ None }
     ensures shape { upgraded_text (codes "{\"version\":2,\"order\":7}") ≡ None }
 {}
 
-/// A timer alone: the fields of each object come in the order of their names.
+/// A document with one timer. The fields of each object come in the order of their names.
 #[tactic(auto, unfolding(crate::proofs::OnLiterals::upgrade_on_literals))]
 pub fn upgrade_of_a_timer()
     ensures { upgraded_text timer_text ≡ Some timer_upgraded }
 {}
 
-/// One of each object and of each form of an entry: fields that their object or form doesn't have are left out, and the others
+/// One of each object and of each form of an entry. Fields that their object or form doesn't have are left out. The others
 /// stay as they are.
 #[tactic(auto, unfolding(crate::proofs::OnLiterals::upgrade_on_literals))]
 pub fn upgrade_of_all_objects()

@@ -33,7 +33,7 @@ fn is_declared(named: &NamedGraph<'_>, fed: &FedDraft) -> bool
     }
 }
 
-/// Whether each cancel request has an identifier. A goal request's is asked for by the plan.
+/// Whether each cancel request has an identifier. That of a goal request is checked by the plan.
 pub fn are_cancels_identified(feed: &[EntryDraft]) -> bool
     ensures { result ≡ list_all (λ entry. is_cancel_identified entry.fed) feed.now }
 {
@@ -52,7 +52,7 @@ fn is_cancel_identified(fed: &FedDraft) -> bool
 /// What is fed to the topics and action servers of a graph, with the identifier 0 in place of one that is missing.
 ///
 /// # Errors
-/// [`Refused::Name`] where the graph hasn't a name, [`Refused::Memory`] where a growth was refused.
+/// [`Refused::Name`] if the graph hasn't a name, and [`Refused::Memory`] if a growth was refused.
 pub fn feed_of(alloc: Global, graph: &Graph, entries: &[EntryDraft]) -> Result<Vec<Feed>, Refused>
     ensures goes { IfOk result (λ feed. All (λ entry. IsTrue (goes_somewhere graph.now entry.fed)) feed.items) }
     ensures feed { IfOk result (λ feed. each (entry_by graph.now) entries.now ≡ Some feed.items) }

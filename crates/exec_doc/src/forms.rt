@@ -21,11 +21,11 @@ use graph::declarations;
 use serde_json::Value;
 use std::alloc::Global;
 
-/// The draft of a document. Its feed, which may be most of it, is taken out and let go before the declarations are read, which
+/// The draft of a document. Its feed may be most of it, so it is taken out and freed before the declarations are read. These
 /// then take its memory.
 ///
 /// # Errors
-/// [`Refused::Shape`] where the value hasn't the forms of a document, [`Refused::Memory`] where a growth was refused.
+/// [`Refused::Shape`] if the value hasn't the forms of a document, and [`Refused::Memory`] if a growth was refused.
 pub fn draft_of(alloc: Global, mut document: Value) -> Result<DocumentDraft, Refused>
     ensures { ReadingGives (λ draft. draft) result (draft_of (view document)) }
 {

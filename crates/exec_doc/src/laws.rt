@@ -8,7 +8,7 @@ ghost use Rattle.exec_doc.specs.declared.refused.Refused.{Refused};
 ghost use Rattle.exec_plan.specs.Lawful.{IsLawfulPlan};
 ghost use Rattle.exec_plan.specs.Plan.{PlanData};
 
-/// Bytes are refused by a code that holds of what was read, and no lesser one does; where they aren't refused none holds.
+/// Bytes are refused by a code that holds of what was read, and no lesser one does. If they aren't refused, none holds.
 pub fn the_least_code_counts()
     ensures holds { (bytes : List ℕ) (code : Refused) → refusal_of bytes ≡ Some code → holds code (document_value bytes) ≡ true }
     ensures least { (bytes : List ℕ) (code : Refused) → refusal_of bytes ≡ Some code →
@@ -24,12 +24,12 @@ pub fn refused_or_a_plan()
     exec_graph::laws::drafts_without_faults_have_lawful_graphs();
 }
 
-/// Bytes say one plan at most.
+/// Bytes say at most one plan.
 pub fn one_plan_at_most()
     ensures { (bytes : List ℕ) (plan other : PlanData) → document_of bytes ≡ Some plan → document_of bytes ≡ Some other → plan ≡ other }
 {}
 
-/// A plan that bytes say is lawful: its names are resolved, its scripts are legal in their places, and its limits hold.
+/// A plan that bytes say is lawful. Its names are resolved, its scripts are legal in their places, and its limits hold.
 pub fn plans_are_lawful()
     ensures { (bytes : List ℕ) (plan : PlanData) → document_of bytes ≡ Some plan → IsLawfulPlan plan }
 {

@@ -18,7 +18,7 @@ pub fn worked_refusals()
     ensures id { refusal_of (codes "{\"version\":1,\"nodes\":[{\"name\":\"n\",\"actions\":[{\"name\":\"a\"}]}],\"moments\":[10],\"feed\":[{\"round\":1,\"action\":\"a\",\"goal\":\"00000000-0000-0000-0000-000000000000\",\"value\":5}]}") ≡ Some Id }
 {}
 
-/// Bytes that are no JSON, also inside of a field that is ignored; the document's own braces are the first of 127 levels.
+/// Bytes that are no JSON, also inside a field that is ignored. The document's own braces are the first of 127 levels.
 pub fn no_json()
     ensures nothing { refusal_of [] ≡ Some NotJson }
     ensures no_utf8 { refusal_of (codes "{\"version\":1,\"other\":\"" ++ 255 ∷ codes "\"}") ≡ Some NotJson }
@@ -30,7 +30,7 @@ pub fn no_json()
     ensures deep { refusal_of (codes "{\"version\":1,\"other\":[[[[[[[[[[[[[[[[[[[[[[[[[[[[[[[[[[[[[[[[[[[[[[[[[[[[[[[[[[[[[[[[[[[[[[[[[[[[[[[[[[[[[[[[[[[[[[[[[[[[[[[[[[[[[[[[[[[[[[[[[[[[[[]]]]]]]]]]]]]]]]]]]]]]]]]]]]]]]]]]]]]]]]]]]]]]]]]]]]]]]]]]]]]]]]]]]]]]]]]]]]]]]]]]]]]]]]]]]]]]]]]]]]]]]]]]]]]]]]]]]]]]]]]]]]]]}") ≡ None }
 {}
 
-/// Of two faults the one with the lesser code counts, wherever the other stands.
+/// Of two faults the one with the lesser code counts, wherever the other is.
 pub fn lesser_codes_come_first()
     ensures shape { refusal_of (codes "{\"version\":3,\"moments\":[null]}") ≡ Some Shape }
     ensures version { refusal_of (codes "{\"topics\":[\"x\",\"x\"],\"version\":3}") ≡ Some Version }
@@ -41,7 +41,7 @@ pub fn lesser_codes_come_first()
     ensures clock { refusal_of (codes "{\"version\":1,\"nodes\":[{\"name\":\"n\",\"actions\":[{\"name\":\"a\"}]}],\"moments\":[10],\"feed\":[{\"round\":1,\"action\":\"a\",\"goal\":\"00000000-0000-0000-0000-000000000000\",\"value\":5},{\"round\":2,\"action\":\"a\",\"goal\":\"00000000-0000-0000-0000-000000000000\",\"value\":5}]}") ≡ Some Clock }
 {}
 
-/// A field that is there has its form, `null` included.
+/// A field that is there must have its form. `null` isn't a missing field.
 pub fn wrong_forms()
     ensures no_object { refusal_of (codes "[]") ≡ Some Shape }
     ensures no_version { refusal_of (codes "{}") ≡ Some Shape }
@@ -54,7 +54,7 @@ pub fn wrong_forms()
     ensures no_list_of_words { refusal_of (codes "{\"version\":1,\"nodes\":[{\"name\":\"n\",\"timers\":[{\"name\":\"t\",\"period\":1,\"script\":[\"log\"]}]}]}") ≡ Some Shape }
 {}
 
-/// Documents of version 1 and 2 are read, and those of version 2 alone have an order.
+/// Documents of versions 1 and 2 are read. Only those of version 2 have an order.
 pub fn versions_and_orders()
     ensures zero { refusal_of (codes "{\"version\":0}") ≡ Some Version }
     ensures two { refusal_of (codes "{\"version\":2}") ≡ None }
@@ -69,7 +69,7 @@ pub fn versions_and_orders()
     ensures shape_first { refusal_of (codes "{\"version\":3,\"moments\":[-1]}") ≡ Some Shape }
 {}
 
-/// An entry of the feed has one of `topic`, `goal` and `cancel`, also where that is `null`.
+/// An entry of the feed has exactly one of `topic`, `goal` and `cancel`. A field that is `null` counts.
 pub fn entries_have_one_form()
     ensures none { refusal_of (codes "{\"version\":1,\"feed\":[{\"round\":1,\"value\":1}]}") ≡ Some Shape }
     ensures two { refusal_of (codes "{\"version\":1,\"feed\":[{\"round\":1,\"topic\":\"x\",\"goal\":null,\"value\":1}]}") ≡ Some Shape }
@@ -78,7 +78,7 @@ pub fn entries_have_one_form()
     ensures beyond_a_value { refusal_of (codes "{\"version\":1,\"feed\":[{\"round\":1,\"topic\":\"x\",\"value\":9223372036854775808}]}") ≡ Some Shape }
 {}
 
-/// Names are names, each of its own, and what is named is declared.
+/// A name has the form of a name and is declared once, and what is named is declared.
 pub fn wrong_names()
     ensures long { refusal_of (codes "{\"version\":1,\"topics\":[\"xxxxxxxxxxxxxxxxxxxxxxxxxxxxxxxxxxxxxxxxxxxxxxxxxxxxxxxxxxxxxxxxx\"]}") ≡ Some Name }
     ensures other_character { refusal_of (codes "{\"version\":1,\"nodes\":[{\"name\":\"a-b\"}]}") ≡ Some Name }
@@ -90,7 +90,7 @@ pub fn wrong_names()
     ensures fed_to_nothing { refusal_of (codes "{\"version\":1,\"feed\":[{\"round\":1,\"topic\":\"x\",\"value\":1}]}") ≡ Some Name }
 {}
 
-/// Depths and periods are from 1 to their limits, and stamps within theirs.
+/// Depths and periods are from 1 to their limits, and stamps are within theirs.
 pub fn beyond_limits()
     ensures depth { refusal_of (codes "{\"version\":1,\"nodes\":[{\"name\":\"n\",\"services\":[{\"name\":\"s\",\"depth\":0}]}]}") ≡ Some Limit }
     ensures deep { refusal_of (codes "{\"version\":1,\"nodes\":[{\"name\":\"n\",\"services\":[{\"name\":\"s\",\"depth\":1025}]}]}") ≡ Some Limit }
@@ -100,7 +100,7 @@ pub fn beyond_limits()
     ensures script { refusal_of (codes "{\"version\":1,\"nodes\":[{\"name\":\"n\",\"timers\":[{\"name\":\"t\",\"period\":1,\"script\":[[],[],[],[],[],[],[],[],[],[],[],[],[],[],[],[],[],[],[],[],[],[],[],[],[],[],[],[],[],[],[],[],[],[],[],[],[],[],[],[],[],[],[],[],[],[],[],[],[],[],[],[],[],[],[],[],[],[],[],[],[],[],[],[],[]]}]}]}") ≡ Some Limit }
 {}
 
-/// Scripts are spelt well, name what their node has, skip within, and are in their place.
+/// A script is spelt well, names what its node has, skips no further than its end, and is in its place.
 pub fn faulty_scripts()
     ensures empty { refusal_of (codes "{\"version\":1,\"nodes\":[{\"name\":\"n\",\"timers\":[{\"name\":\"t\",\"period\":1,\"script\":[[]]}]}]}") ≡ Some Script }
     ensures count { refusal_of (codes "{\"version\":1,\"nodes\":[{\"name\":\"n\",\"timers\":[{\"name\":\"t\",\"period\":1,\"script\":[[\"log\"]]}]}]}") ≡ Some Script }

@@ -7,7 +7,7 @@ use exec_msg::Memory;
 use std::alloc::{AllocError, AllocFailed};
 use thiserror::Error;
 
-/// Why a document is refused, each with its number: the least whose predicate holds.
+/// Why a document is refused. Each code has its number, and the least whose predicate holds counts.
 #[derive(Clone, Copy, Debug, PartialEq, Eq, Error)]
 pub enum Refused {
     /// `serde_json` reads no value from the bytes.
@@ -16,10 +16,10 @@ pub enum Refused {
     /// The value hasn't the forms of a document.
     #[error("not the form of a document")]
     Shape = 2,
-    /// The version isn't 1.
+    /// The version is neither 1 nor 2.
     #[error("another version")]
     Version = 3,
-    /// A name isn't one, stands twice, or isn't declared.
+    /// A name hasn't the form of a name, is declared twice, or isn't declared.
     #[error("a wrong name")]
     Name = 4,
     /// A number or a length is beyond its limit.
@@ -31,7 +31,7 @@ pub enum Refused {
     /// A script of a reentrant group names a group variable.
     #[error("a group variable in a reentrant group")]
     GroupVariable = 7,
-    /// A moment is below the one before it, or a round of the feed isn't one of the document.
+    /// A moment is less than the one before it, or a round of the feed isn't one of the document.
     #[error("out of order")]
     Clock = 8,
     /// A text is no identifier, or a goal's identifier is 0.

@@ -8,10 +8,10 @@ use crate::refused::Refused;
 use exec_msg::Moment;
 use std::alloc::Global;
 
-/// The moments of the rounds, or `None` where one is beyond its limit.
+/// The moments of the rounds, or `None` if one is beyond its limit.
 ///
 /// # Errors
-/// [`Refused::Memory`] alone.
+/// Only [`Refused::Memory`], if a growth was refused.
 pub fn moments_of(alloc: Global, ticks: &[u64]) -> Result<Option<Vec<Moment>>, Refused>
     ensures moments { IfOk result (λ found. option_map (λ moments. moments.items) found
         ≡ then_some (list_all (λ moment. nat_le moment TICKS) ticks.now) ticks.now) }

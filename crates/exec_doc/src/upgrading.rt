@@ -17,8 +17,8 @@ use objects::{EntryObject, NodeObject};
 use serde_json::{Map, Value, put};
 use std::alloc::{AllocError, Global};
 
-/// The text of a document brought to version 2. It says the same plan, names the order that the plan has, and keeps the fields
-/// that their objects have, and no other; fields come in the order of the bytes of their names. It is its own upgrade.
+/// The text of a document brought to version 2. It says the same plan and names the order that the plan has. It keeps the
+/// fields that their objects have, and no others, in the order of the bytes of their names. It is its own upgrade.
 ///
 /// # Errors
 /// The least code that holds of the bytes, or [`Refused::Memory`] where a growth was refused.

@@ -14,14 +14,14 @@ use exec_script::WordText;
 use serde_json::Value;
 use std::alloc::Global;
 
-/// What a JSON value says where it has a form.
+/// What a JSON value says if it has a form.
 pub trait Form: Drop {
     ghost form: { Data → Option Self };
 
     /// Reads it.
     ///
     /// # Errors
-    /// [`Refused::Shape`] where the value hasn't the form, [`Refused::Memory`] where a growth was refused.
+    /// [`Refused::Shape`] if the value hasn't the form, and [`Refused::Memory`] if a growth was refused.
     fn read(alloc: Global, value: &Value) -> Result<Self, Refused>
         ensures { ReadingGives (λ found. found) result (form (view value.now)) };
 }
@@ -58,7 +58,7 @@ pub fn required_field<T: Form>(alloc: Global, holder: &Value, name: &str) -> Res
     field_value(alloc, holder.get(name))
 }
 
-/// What a field says that is needed.
+/// What a required field says.
 pub fn field_value<T: Form>(alloc: Global, field: Option<&Value>) -> Result<T, Refused>
     ensures { ReadingGives (λ read. read) result (field_value T.form (found field.entry)) }
 {
@@ -76,7 +76,7 @@ pub fn optional_field<T: Form>(
     if_there(alloc, holder.get(name))
 }
 
-/// What a field says where it is there.
+/// What an optional field says, if it is there.
 pub fn if_there<T: Form>(alloc: Global, field: Option<&Value>) -> Result<Option<T>, Refused>
     ensures { ReadingGives (λ read. read) result (if_there T.form (found field.entry)) }
 {
@@ -86,7 +86,7 @@ pub fn if_there<T: Form>(alloc: Global, field: Option<&Value>) -> Result<Option<
     }
 }
 
-/// The list in a field, which is empty where the field is missing.
+/// The list in a field, which is empty if the field is missing.
 pub fn list<T: Form>(alloc: Global, holder: &Value, name: &str) -> Result<Vec<T>, Refused>
     ensures { ReadingGives (λ found. found.items) result (list T.form name.now (view holder.now)) }
 {
@@ -96,7 +96,7 @@ pub fn list<T: Form>(alloc: Global, holder: &Value, name: &str) -> Result<Vec<T>
     }
 }
 
-/// The same, but the field is taken out of its holder and let go.
+/// The same, but the field is taken out of its holder and freed.
 pub fn taken_list<T: Form>(alloc: Global, holder: &mut Value, name: &str) -> Result<Vec<T>, Refused>
     ensures read { ReadingGives (λ found. found.items) result (list T.form name.now (view holder.old)) }
     ensures left { LosesField name.now (view holder.old) (view holder.new) }

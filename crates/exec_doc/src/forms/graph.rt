@@ -14,7 +14,7 @@ use exec_msg::Memory;
 use serde_json::Value;
 use std::alloc::Global;
 
-/// What a document declares. The names of its topics, of which there may be a million, are taken out of it.
+/// What a document declares. There may be a million names of topics, so they are taken out of it.
 pub fn declarations(alloc: Global, document: Value) -> Result<GraphBuilder, Refused>
     ensures { ReadingGives (λ found. found) result (declarations (view document)) }
 {

@@ -6,14 +6,14 @@ ghost use Rattle.exec_doc.specs.inner.Taking.{LosesField};
 
 use serde_json::Value;
 
-/// The field of a name, where the value is an object that has it.
+/// The field of a name, if the value is an object that has it.
 pub fn into_field(mut value: Value, name: &str) -> Option<Value>
     ensures { option_map view result ≡ get name.now (view value) }
 {
     take_field(&mut value, name)
 }
 
-/// The field of a name, where the value is an object that has it. It is taken out of the value, and all other fields stay.
+/// The field of a name, if the value is an object that has it. It is taken out of the value, and all other fields stay.
 pub fn take_field(value: &mut Value, name: &str) -> Option<Value>
     ensures taken { option_map view result ≡ get name.now (view value.old) }
     ensures left { LosesField name.now (view value.old) (view value.new) }

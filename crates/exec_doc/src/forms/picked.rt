@@ -6,7 +6,7 @@ ghost use Rattle.exec_doc.specs.inner.Picking.{field_noted, seen};
 
 use serde_json::Value;
 
-/// The values of the fields that an entry may have, as far as they are there.
+/// The values of the fields that an entry may have, each if it is there.
 #[derive(Drop)]
 pub struct EntryFields<'a> {
     /// The number of its round.
@@ -26,7 +26,7 @@ pub struct EntryFields<'a> {
 }
 
 impl<'a> EntryFields<'a> {
-    /// Those of a value, which has none where it is no object.
+    /// Those of a value. It has none if it is no object.
     pub fn of(holder: &'a Value) -> EntryFields<'a>
         ensures { seen result ≡ entry_fields (view holder.now) }
     {

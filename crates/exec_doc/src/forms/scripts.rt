@@ -22,7 +22,7 @@ impl Form for Word {
     }
 }
 
-// The word that a value is, where it stands.
+// The word that a value is, read in its place.
 #[inline(always)]
 fn word_in(value: &Value) -> Option<WordRef<'_>>
     ensures { option_map word_of result ≡ word (view value.now) }
@@ -102,7 +102,7 @@ fn set_with(
     )
 }
 
-/// The script in a field, which is empty where the field is missing.
+/// The script in a field, which is empty if the field is missing.
 pub fn script_field(alloc: Global, holder: &Value, name: &str) -> Result<Spelled, Refused>
     ensures { ReadingGives (λ found. found) result (script_field name.now (view holder.now)) }
 {

@@ -24,7 +24,7 @@ pub trait Change {
         ensures { IfOk result (λ changed. view changed ≡ becomes self.now (view value)) };
 }
 
-/// The object with the fields of these names alone, the first name first.
+/// The object with only the fields of these names, the first name first.
 ///
 /// # Errors
 /// A growth was refused.

@@ -1,4 +1,4 @@
-//! The objects of a document, each with its own fields alone. Fields are named from the last to the first, since a definition
+//! The objects of a document, each with only its own fields. Fields are named from the last to the first, because a definition
 //! puts the first of them to the others.
 ghost use Rattle.std.specs.Prelude.{◌≡◌, IfOk};
 ghost use Rattle.serde_json.specs.View.{view};
