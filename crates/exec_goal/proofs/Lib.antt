@@ -2,7 +2,6 @@ pub mod AmongIds
 pub mod Answering
 pub mod Asking
 pub mod Changing
-pub mod EndedPlaces
 pub mod Entries
 pub mod Filtering
 pub mod Looping

@@ -1,7 +1,7 @@
 -- Steps of the loops over the goals of a table, and over the decisions of a cancel handler.
-use Rattle.std.proofs.Common.{◌≡◌, ◌≢◌, ℕ, zero, suc, ◌+◌, ◌<◌, ◌≤◌, ◌==◌, List, [], ◌∷◌, ◌++◌, map, length, drop, get_or, Bool, true, false, not, cond, if◌then◌else◌, Option, Some, slice_get, slice_set, refl, ap, sym, ◌∙◌, arith, append_assoc, add-one, drop-cons, remove}
+use Rattle.std.proofs.Common.{◌≡◌, ◌≢◌, ℕ, zero, suc, ◌+◌, ◌<◌, ◌≤◌, ◌==◌, List, [], ◌∷◌, ◌++◌, map, length, take, drop, get_or, Bool, true, false, not, cond, if◌then◌else◌, Option, None, Some, is_some, IfSome, IfNone, slice_get, slice_set, refl, ap, sym, subst, ◌∙◌, arith, append_assoc, add-one, drop-cons, remove}
 use Rattle.std.specs.List.{filter, find, list_any}
-use Rattle.std.proofs.lemmas.Bool.{eqb-true}
+use Rattle.std.proofs.lemmas.Bool.{eqb-true, eqb-false}
 use Rattle.exec_goal.specs.inner.Places.{IsFirst}
 use Rattle.exec_msg.specs.Lists.{drop_first}
 use Rattle.exec_goal.specs.inner.Held.{record_of, records_of}
@@ -9,7 +9,9 @@ use Rattle.exec_goal.specs.Info.{info_of}
 use Rattle.exec_goal.specs.Table.{GoalRecord}
 use Rattle.exec_goal.specs.declared.held.GoalEntry.{GoalEntry}
 use Rattle.exec_goal.specs.declared.info.GoalInfo.{GoalInfo}
-use Rattle.std.proofs.lemmas.Option.{get_or_from_slice_get, slice_get-map}
+use Rattle.std.proofs.lemmas.List.Folds.{list_any_at}
+use Rattle.std.proofs.lemmas.List.{length-map, take_all, take_more, take_more_set}
+use Rattle.std.proofs.lemmas.Option.{get_or_from_slice_get, slice_get-map, slice_get_within}
 use Rattle.std.specs.Option.{option_map}
 use Rattle.indexmap.specs.IndexMap.{set_value_at}
 use Rattle.exec_goal.specs.Cancel.{CancelRequest, Decided, is_moved, moved, code_unmoved, code_of}
@@ -138,6 +140,12 @@ pub drop_first-none : {A : Type 0} (test : A → Bool) (xs : List A) → filter 
 drop_first-none test [] none = refl
 drop_first-none test (x ∷ xs) none = none_by (test x) x (filter test xs) xs (drop_first test xs) none (drop_first-none test xs)
 
+-- whether an element passes, where the place of the first that does is known
+pub any-first : {A : Type 0} (test : A → Bool) (xs : List A) (first : Option ℕ) → IfSome first (λ i. IsFirst test xs i) → IfNone first (filter test xs ≡ []) → is_some first ≡ list_any test xs
+any-first test xs None found none = sym (none-filter test xs none)
+any-first test [] (Some i) found none = absurd (omega (arith, found.within))
+any-first test (x ∷ xs) (Some i) found none = sym (list_any_at test (x ∷ xs) i x found.within (found.passes x))
+
 -- ---- what is read by a place
 
 -- a goal that is told of at a place
@@ -178,3 +186,52 @@ code-unmoved request decisions goals none = by (list_any (is_moved decisions) go
     by : (b : Bool) → b ≡ false → code_unmoved request decisions goals ≡ (if b then code.None else code_unmoved request decisions goals)
     by true is = absurd cc
     by false is = refl
+
+-- ---- what stands behind the others
+
+pub last-there : {A : Type 0} (xs : List A) (x : A) → slice_get (xs ++ x ∷ []) (length xs) ≡ Some x
+last-there [] x = refl
+last-there (first ∷ xs) x = last-there xs x
+
+pub set-last : {A : Type 0} (xs : List A) (old new : A) → slice_set (xs ++ old ∷ []) (length xs) new ≡ xs ++ new ∷ []
+set-last [] old new = refl
+set-last (first ∷ xs) old new = ap (λ rest. first ∷ rest) (set-last xs old new)
+
+-- ---- a walk over all elements
+
+-- one more is known of
+pub known-next : {A : Type 0} (P : A → Type 0) (xs : List A) (i : ℕ) → ((d : A) → P (get_or xs i d)) → ((k : ℕ) (d : A) → k < i → P (get_or xs k d)) → (k : ℕ) (d : A) → k < i + 1 → P (get_or xs k d)
+known-next P xs i here others k d below = by (k == i) refl
+  where
+    by : (b : Bool) → (k == i) ≡ b → P (get_or xs k d)
+    by true is = subst (λ (place : ℕ). P (get_or xs place d)) (sym (eqb-true k i is)) (here d)
+    by false is = others k d (omega (arith, below, eqb-false k i is))
+
+-- ---- what a test keeps of a list that is made of another
+
+kept_of : {A B : Type 0} (f : A → B) (b : Bool) (x : A) (xs : List A) (ys : List B) → map f xs ≡ ys → map f (cond b (x ∷ xs) xs) ≡ cond b (f x ∷ ys) ys
+kept_of f true x xs ys same = ap (λ ys. f x ∷ ys) same
+kept_of f false x xs ys same = same
+
+pub map-kept : {A B : Type 0} (f : A → B) (test : B → Bool) (xs : List A) → map f (filter (λ x. test (f x)) xs) ≡ filter test (map f xs)
+map-kept f test [] = refl
+map-kept f test (x ∷ xs) = kept_of f (test (f x)) x (filter (λ x. test (f x)) xs) (filter test (map f xs)) (map-kept f test xs)
+
+-- ---- what is known of goals is written
+
+-- what is known of one more
+pub told-next : (entries : List (ℕ × GoalEntry)) (infos : List GoalInfo) (i : ℕ) (entry : ℕ × GoalEntry) (info : GoalInfo) → slice_get entries i ≡ Some entry → info ≡ info_of (record_of entry) → i < length infos →
+    take i infos ≡ take i (map info_of (records_of entries)) → take (i + 1) (slice_set infos i info) ≡ take (i + 1) (map info_of (records_of entries))
+told-next entries infos i entry info there is within told =
+    let all = map info_of (records_of entries) in
+    let at : slice_get all i ≡ Some (info_of (record_of entry)) = slice_get-map info_of (records_of entries) i ∙ ap (option_map info_of) (slice_get-map record_of entries i ∙ ap (option_map record_of) there) in
+    take_more_set infos i info within
+    ∙ (λ j. told j ++ (is ∙ sym (get_or_from_slice_get all i (info_of (record_of entry)) info at)) j ∷ [])
+    ∙ sym (take_more all i info (slice_get_within all i (info_of (record_of entry)) at))
+
+-- what is known of all is all that stays
+pub told-all : (entries : List (ℕ × GoalEntry)) (infos : List GoalInfo) (n i : ℕ) → n ≡ length entries → length entries ≤ i → i ≤ n → take i infos ≡ take i (map info_of (records_of entries)) → take n infos ≡ map info_of (records_of entries)
+told-all entries infos n i all above below told =
+    let all-of = map info_of (records_of entries) in
+    let same : n ≡ i = omega (arith, all, above, below) in
+    ap (λ (k : ℕ). take k infos) same ∙ told ∙ take_all i all-of (omega (arith, above, length-map (records_of entries) info_of, length-map entries record_of))

@@ -1,9 +1,9 @@
 -- How a table's tally follows what is done to its goals.
-use Rattle.std.proofs.Common.{◌≡◌, ℕ, zero, suc, ◌+◌, ◌≤◌, ◌<◌, ◌^◌, ◌==◌, ◌&&◌, List, [], ◌∷◌, ◌++◌, length, map, Bool, true, false, cond, nat_le, if◌then◌else◌, Option, None, Some, slice_get, slice_set, remove, get_or, refl, ap, sym, subst, ◌∙◌, arith}
+use Rattle.std.proofs.Common.{◌≡◌, ℕ, zero, suc, ◌+◌, ◌≤◌, ◌<◌, ◌^◌, ◌==◌, ◌&&◌, List, [], ◌∷◌, ◌++◌, length, map, Bool, true, false, not, cond, nat_le, if◌then◌else◌, Option, None, Some, slice_get, slice_set, remove, get_or, refl, ap, sym, subst, ◌∙◌, arith}
 use Rattle.std.specs.List.{filter, find, AllByRecursion}
 use Rattle.std.specs.Map.{lookup, set_value}
 use Rattle.std.specs.Option.{option_map}
-use Rattle.std.proofs.lemmas.Bool.{and_parts, leb-true, leb-false, lt-leb}
+use Rattle.std.proofs.lemmas.Bool.{and_parts, not-false, leb-true, leb-false, lt-leb}
 use Rattle.std.proofs.lemmas.List.{length-map, map_push, map-set}
 use Rattle.std.proofs.lemmas.Option.{get_or_from_slice_get, slice_get_within, slice_get-map}
 use Rattle.indexmap.proofs.SetLemmas.{map-remove}
@@ -11,22 +11,20 @@ use Rattle.indexmap.specs.IndexMap.{set_value_at}
 use Rattle.exec_msg.specs.Lists.{change_first}
 use Rattle.exec_msg.specs.declared.limits.TheConstants.{GOALS}
 use Rattle.exec_goal.proofs.Entries.{found-in, changed-in, change_first-same}
-use Rattle.exec_goal.proofs.Looping.{records-set_value_at}
+use Rattle.exec_goal.proofs.Looping.{records-set_value_at, last-there, set-last, known-next}
 use Rattle.exec_goal.specs.inner.Places.{IsFirst}
 use Rattle.exec_goal.specs.inner.Held.{record_of, records_of}
 use Rattle.exec_goal.specs.Cancel.{after_answer_by}
 use Rattle.exec_goal.specs.Info.{info_of}
 use Rattle.exec_goal.specs.State.{is_cancelable, is_worked_on, is_terminal}
 use Rattle.exec_msg.specs.declared.goal.Event.TheVariants as event
-use Rattle.exec_goal.specs.Table.{GoalRecord, after_event, has_id, working, is_expired, expired}
+use Rattle.exec_goal.specs.Table.{GoalRecord, after_event, has_id, working, is_expired, expired, unexpired}
 use Rattle.exec_goal.specs.declared.held.GoalEntry.{GoalEntry}
 use Rattle.exec_goal.specs.declared.info.GoalInfo.{GoalInfo}
 use Rattle.exec_goal.specs.declared.state.State.{State}
 use Rattle.exec_goal.specs.declared.state.State.TheVariants as state
 use Rattle.exec_goal.specs.declared.tally.Tally.{Tally}
-use Rattle.exec_goal.proofs.EndedPlaces.{IsWalked, next-walked, flag-at, flag-within, flags-set, flags-append, length-flags, room-places, last-there, set-last, places-append}
-use Rattle.exec_goal.specs.inner.Ended.{flagged_places, ended_flags, ended_places}
-use Rattle.exec_goal.specs.inner.Tally.{one_where, first_with, first_with_goal, may_expire, CountsMove, NotesEnd, TellsState, EndsFrom, IsTallied}
+use Rattle.exec_goal.specs.inner.Tally.{one_where, first_with, first_with_goal, may_expire, CountsMove, TellsState, EndsFrom, IsTallied}
 
 -- ---- how many goals are worked on
 
@@ -102,10 +100,6 @@ module _ (old new : GoalRecord) where
   replaced-length _ _ (here goals) = refl
   replaced-length _ _ (later goal goals others replaced) = ap suc (replaced-length goals others replaced)
 
-  replaced-flags : (goals others : List GoalRecord) → Replaced old new goals others → is_terminal new.state ≡ is_terminal old.state → ended_flags others ≡ ended_flags goals
-  replaced-flags _ _ (here goals) same = ap (λ flag. flag ∷ ended_flags goals) same
-  replaced-flags _ _ (later goal goals others replaced) same = ap (λ flags. is_terminal goal.state ∷ flags) (replaced-flags goals others replaced same)
-
   replaced-ends : (b : Bool) (ended : ℕ) (first : Option ℕ) (goals others : List GoalRecord) → EndsFrom (first_with b ended first) new → Replaced old new goals others →
       AllByRecursion (EndsFrom first) goals → AllByRecursion (EndsFrom (first_with b ended first)) others
   replaced-ends b ended first _ _ ends-new (here goals) ends = (ends-new, all-weaker b ended first goals ends.1)
@@ -117,12 +111,11 @@ module _ (old new : GoalRecord) where
 
   -- the tally after it
   pub tallied-replaced : (before after : Tally) (goals others : List GoalRecord) → Replaced old new goals others → CountsMove old.state new.state new.ended before after →
-      after.ended ≡ ended_places others → after.infos.items ≡ map info_of others → IsTallied before goals → IsTallied after others
-  tallied-replaced before after goals others replaced counts ended infos tallied = record {
+      after.infos.items ≡ map info_of others → IsTallied before goals → IsTallied after others
+  tallied-replaced before after goals others replaced counts infos tallied = record {
     counted = omega (arith, tallied.counted, counts.working, replaced-working goals others replaced);
     ends = subst (λ first. AllByRecursion (EndsFrom first) others) (sym counts.first)
         (replaced-ends (is_terminal new.state) new.ended before.first_end goals others (ends-here (is_terminal new.state) before.first_end new refl) replaced tallied.ends);
-    ended = ended;
     infos = infos;
     within = omega (arith, tallied.within, replaced-length goals others replaced);
   }
@@ -176,16 +169,7 @@ length-append : (goals : List GoalRecord) (goal : GoalRecord) → length (goals 
 length-append [] goal = refl
 length-append (one ∷ goals) goal = ap suc (length-append goals goal)
 
--- a new goal behind the others
-ended_behind : (place : ℕ) (goals : List GoalRecord) (goal : GoalRecord) (old new : List ℕ) → place ≡ length goals → NotesEnd place state.Accepted goal.state old new → old ≡ ended_places goals → new ≡ ended_places (goals ++ goal ∷ [])
-ended_behind place goals goal old new last notes are =
-    let flags = ended_flags goals in
-    let end : place ≡ length flags = last ∙ sym (length-flags goals) in
-    notes (flags ++ false ∷ []) (ap (slice_get (flags ++ false ∷ [])) end ∙ last-there flags false) (are ∙ sym (places-append flags 0))
-    ∙ ap (λ (i : ℕ). flagged_places (slice_set (flags ++ false ∷ []) i (is_terminal goal.state))) end
-    ∙ ap flagged_places (set-last flags false (is_terminal goal.state) ∙ sym (flags-append goals goal))
-
--- what is told of it
+-- what is told of a new goal behind the others
 told_behind : (place : ℕ) (goals : List GoalRecord) (goal : GoalRecord) (old new : List GoalInfo) → place ≡ length goals → TellsState place goal.state (old ++ info_of goal ∷ []) new → old ≡ map info_of goals → new ≡ map info_of (goals ++ goal ∷ [])
 told_behind place goals goal old new last tells are =
     let all = goals ++ goal ∷ [] in
@@ -195,36 +179,17 @@ told_behind place goals goal old new last tells are =
 
 -- a new goal, which counts as one that was ACCEPTED
 pub tallied-accepted : (before after : Tally) (goals : List GoalRecord) (goal : GoalRecord) (place : ℕ) → place ≡ length goals → length goals < GOALS → CountsMove state.Accepted goal.state goal.ended before after →
-    NotesEnd place state.Accepted goal.state before.ended after.ended → TellsState place goal.state (before.infos.items ++ info_of goal ∷ []) after.infos.items → IsTallied before goals → IsTallied after (goals ++ goal ∷ [])
-tallied-accepted before after goals goal place last room counts notes tells tallied = record {
+    TellsState place goal.state (before.infos.items ++ info_of goal ∷ []) after.infos.items → IsTallied before goals → IsTallied after (goals ++ goal ∷ [])
+tallied-accepted before after goals goal place last room counts tells tallied = record {
   counted = omega (arith, tallied.counted, counts.working, working-append goals goal);
   ends = subst (λ first. AllByRecursion (EndsFrom first) (goals ++ goal ∷ [])) (sym counts.first)
       (ends-append (first_with (is_terminal goal.state) goal.ended before.first_end) goals goal (all-weaker (is_terminal goal.state) goal.ended before.first_end goals tallied.ends)
       (ends-here (is_terminal goal.state) before.first_end goal refl));
-  ended = ended_behind place goals goal before.ended after.ended last notes tallied.ended;
   infos = told_behind place goals goal before.infos.items after.infos.items last tells tallied.infos;
   within = omega (arith, room, length-append goals goal);
 }
 
-uncancelable : (held : State) → is_terminal held ≡ true → is_cancelable held ≡ false
-uncancelable state.Accepted is = absurd cc
-uncancelable state.Executing is = absurd cc
-uncancelable state.Canceling is = refl
-uncancelable state.Succeeded is = refl
-uncancelable state.Canceled is = refl
-uncancelable state.Aborted is = refl
-
-and_false : (b : Bool) → (b && false) ≡ false
-and_false true = refl
-and_false false = refl
-
--- an answer to a cancel request leaves a goal that has ended so
-pub answered-ended : (accepted : Bool) (goal : GoalRecord) → is_terminal goal.state ≡ true → is_terminal (after_answer_by (λ _. accepted) goal).state ≡ true
-answered-ended accepted goal ended =
-    ap (λ (moves : Bool). is_terminal (if moves then after_event event.CancelGoal goal else goal).state) (ap (λ (b : Bool). accepted && b) (uncancelable goal.state ended) ∙ and_false accepted)
-    ∙ ended
-
--- and is told of as before but for its state
+-- an answer to a cancel request leaves what is told of a goal but for its state
 pub answered-info : (accepted : Bool) (goal : GoalRecord) → info_of (after_answer_by (λ _. accepted) goal) ≡ record (info_of goal) { state = (after_answer_by (λ _. accepted) goal).state }
 answered-info accepted goal = by (accepted && is_cancelable goal.state)
   where
@@ -258,28 +223,61 @@ removed-length [] (suc i) = omega arith
 removed-length (goal ∷ goals) zero = omega arith
 removed-length (goal ∷ goals) (suc i) = omega (arith, removed-length goals i)
 
--- a goal that has ended is forgotten
-ended_left : (goals : List GoalRecord) (i : ℕ) (old left : List ℕ) → i < length goals → ((d : GoalRecord) → is_terminal (get_or goals i d).state ≡ true) →
-    ((flags : List Bool) → old ≡ flagged_places flags → slice_get flags i ≡ Some true → left ≡ flagged_places (remove flags i)) → old ≡ ended_places goals → left ≡ ended_places (remove goals i)
-ended_left [] i old left within ended forgets are = absurd (omega (arith, within))
-ended_left (goal ∷ goals) i old left within ended forgets are =
-    forgets (ended_flags (goal ∷ goals)) are (flag-at (goal ∷ goals) i goal within ∙ ap Some (ended goal))
-    ∙ ap flagged_places (sym (map-remove (λ (goal : GoalRecord). is_terminal goal.state) (goal ∷ goals) i))
-
 -- a goal that has expired is taken out
 pub tallied-removed : (moment timeout : ℕ) (tally after : Tally) (goals : List GoalRecord) (i : ℕ) → IsFirst (is_expired moment (Some timeout)) goals i →
-    ((flags : List Bool) → tally.ended ≡ flagged_places flags → slice_get flags i ≡ Some true → after.ended ≡ flagged_places (remove flags i)) →
     after.working ≡ tally.working → after.first_end ≡ tally.first_end → after.infos.items ≡ remove tally.infos.items i → IsTallied tally goals → IsTallied after (remove goals i)
-tallied-removed moment timeout tally after goals i first forgets working same infos tallied =
+tallied-removed moment timeout tally after goals i first working same infos tallied =
     let ended : (d : GoalRecord) → is_terminal (get_or goals i d).state ≡ true =
     λ d. (and_parts (is_terminal (get_or goals i d).state) (nat_le ((get_or goals i d).ended + timeout) moment) (first.passes d)).0 in
     record {
       counted = omega (arith, working, tallied.counted, removed-working goals i first.within ended);
       ends = subst (λ first. AllByRecursion (EndsFrom first) (remove goals i)) (sym same) (removed-ends tally.first_end goals i tallied.ends);
-      ended = ended_left goals i tally.ended after.ended first.within ended forgets tallied.ended;
       infos = infos ∙ ap (λ (infos : List GoalInfo). remove infos i) tallied.infos ∙ sym (map-remove info_of goals i);
       within = omega (arith, tallied.within, removed-length goals i);
     }
+
+-- what isn't worked on isn't counted
+kept_working : (b : Bool) (goal : GoalRecord) (goals kept : List GoalRecord) → (b ≡ false → one_where (is_worked_on goal.state) ≡ 0) → working kept ≡ working goals → working (cond b (goal ∷ kept) kept) ≡ working (goal ∷ goals)
+kept_working true goal goals kept idle same = omega (arith, working-cons goal goals, working-cons goal kept, same)
+kept_working false goal goals kept idle same = omega (arith, working-cons goal goals, idle refl, same)
+
+kept_ends : (b : Bool) (first : Option ℕ) (goal : GoalRecord) (kept : List GoalRecord) → EndsFrom first goal → AllByRecursion (EndsFrom first) kept → AllByRecursion (EndsFrom first) (cond b (goal ∷ kept) kept)
+kept_ends true first goal kept ends others = (ends, others)
+kept_ends false first goal kept ends others = others
+
+kept_length : (b : Bool) (goal : GoalRecord) (kept : List GoalRecord) → length (cond b (goal ∷ kept) kept) ≤ suc (length kept)
+kept_length true goal kept = omega arith
+kept_length false goal kept = omega arith
+
+module _ (moment timeout : ℕ) where
+  unexpired-working : (goals : List GoalRecord) → working (unexpired moment (Some timeout) goals) ≡ working goals
+  unexpired-working [] = refl
+  unexpired-working (goal ∷ goals) =
+      kept_working (not (is_expired moment (Some timeout) goal)) goal goals (unexpired moment (Some timeout) goals)
+      (λ is. idle_ended goal.state (and_parts (is_terminal goal.state) (nat_le (goal.ended + timeout) moment) (not-false (is_expired moment (Some timeout) goal) is)).0)
+      (unexpired-working goals)
+
+  unexpired-ends : (first : Option ℕ) (goals : List GoalRecord) → AllByRecursion (EndsFrom first) goals → AllByRecursion (EndsFrom first) (unexpired moment (Some timeout) goals)
+  unexpired-ends first [] ends = tt
+  unexpired-ends first (goal ∷ goals) ends = kept_ends (not (is_expired moment (Some timeout) goal)) first goal (unexpired moment (Some timeout) goals) ends.0 (unexpired-ends first goals ends.1)
+
+  pub unexpired-length : (goals : List GoalRecord) → length (unexpired moment (Some timeout) goals) ≤ length goals
+  unexpired-length [] = omega arith
+  unexpired-length (goal ∷ goals) = omega (arith, kept_length (not (is_expired moment (Some timeout) goal)) goal (unexpired moment (Some timeout) goals), unexpired-length goals)
+
+  -- all goals that have expired are taken out
+  pub tallied-unexpired : (tally after : Tally) (goals left : List GoalRecord) → left ≡ unexpired moment (Some timeout) goals → after.working ≡ tally.working → after.first_end ≡ tally.first_end →
+      after.infos.items ≡ map info_of left → IsTallied tally goals → IsTallied after left
+  tallied-unexpired tally after goals left are counts same infos tallied = record {
+    counted = omega (arith, counts, tallied.counted, unexpired-working goals, ap working are);
+    ends = subst (λ left. AllByRecursion (EndsFrom after.first_end) left) (sym are) (subst (λ first. AllByRecursion (EndsFrom first) (unexpired moment (Some timeout) goals)) (sym same) (unexpired-ends tally.first_end goals tallied.ends));
+    infos = infos;
+    within = omega (arith, tallied.within, unexpired-length goals, ap length are);
+  }
+
+-- another first end is known
+pub tallied-ends : (tally : Tally) (first : Option ℕ) (goals : List GoalRecord) → AllByRecursion (EndsFrom first) goals → IsTallied tally goals → IsTallied (record tally { first_end = first }) goals
+tallied-ends tally first goals ends tallied = record { counted = tallied.counted; ends = ends; infos = tallied.infos; within = tallied.within }
 
 -- ---- none can have expired
 
@@ -295,31 +293,25 @@ later_end : (first ended timeout moment : ℕ) → nat_le (first + timeout) mome
 later_end first ended timeout moment is below = lt-leb (ended + timeout) moment (omega (arith, leb-false (first + timeout) moment is, below))
 
 -- where the first end is too late, or no goal has ended
-pub unexpired : (first : Option ℕ) (moment timeout : ℕ) (goals : List GoalRecord) → may_expire moment timeout first ≡ false → AllByRecursion (EndsFrom first) goals → expired moment (Some timeout) goals ≡ []
-unexpired first moment timeout [] is ends = refl
-unexpired None moment timeout (goal ∷ goals) is ends =
+pub none-expired : (first : Option ℕ) (moment timeout : ℕ) (goals : List GoalRecord) → may_expire moment timeout first ≡ false → AllByRecursion (EndsFrom first) goals → expired moment (Some timeout) goals ≡ []
+none-expired first moment timeout [] is ends = refl
+none-expired None moment timeout (goal ∷ goals) is ends =
     unexpired_by (is_expired moment (Some timeout) goal) goal (expired moment (Some timeout) goals)
-    (not_both (is_terminal goal.state) (nat_le (goal.ended + timeout) moment) (λ ended. absurd cc)) (unexpired None moment timeout goals is ends.1)
-unexpired (Some first) moment timeout (goal ∷ goals) is ends =
+    (not_both (is_terminal goal.state) (nat_le (goal.ended + timeout) moment) (λ ended. absurd cc)) (none-expired None moment timeout goals is ends.1)
+none-expired (Some first) moment timeout (goal ∷ goals) is ends =
     unexpired_by (is_expired moment (Some timeout) goal) goal (expired moment (Some timeout) goals)
     (not_both (is_terminal goal.state) (nat_le (goal.ended + timeout) moment) (λ ended. later_end first goal.ended timeout moment is (ends.0 ended)))
-    (unexpired (Some first) moment timeout goals is ends.1)
+    (none-expired (Some first) moment timeout goals is ends.1)
 
 -- ---- the first end is looked up
 
--- one more goal that has ended is looked at
-pub next-ends : (goals : List GoalRecord) (i place : ℕ) (first next : Option ℕ) → slice_get (ended_places goals) i ≡ Some place → ((d : GoalRecord) → next ≡ first_with_goal (get_or goals place d) first) →
-    IsWalked (EndsFrom first) goals i → IsWalked (EndsFrom next) goals (i + 1)
-next-ends goals i place first next there is walked =
-    next-walked (EndsFrom next) goals i place there
-    (λ d. subst (λ next. EndsFrom next (get_or goals place d)) (sym (is d)) (ends-here (is_terminal (get_or goals place d).state) first (get_or goals place d) refl))
-    (λ j other d below at. subst (λ next. EndsFrom next (get_or goals other d)) (sym (is d))
-    (ends-weaker (is_terminal (get_or goals place d).state) (get_or goals place d).ended first (get_or goals other d) (walked j other d below at)))
-
--- a goal that hasn't ended ends after each moment
-pub ends-idle : (first : Option ℕ) (goal : GoalRecord) → is_terminal goal.state ≡ false → EndsFrom first goal
-ends-idle None goal is = is
-ends-idle (Some first) goal is = λ ended. absurd cc
+-- one more goal is looked at
+pub next-ends : (goals : List GoalRecord) (i : ℕ) (first next : Option ℕ) → ((d : GoalRecord) → next ≡ first_with_goal (get_or goals i d) first) →
+    ((k : ℕ) (d : GoalRecord) → k < i → EndsFrom first (get_or goals k d)) → (k : ℕ) (d : GoalRecord) → k < i + 1 → EndsFrom next (get_or goals k d)
+next-ends goals i first next is walked =
+    known-next (EndsFrom next) goals i
+    (λ d. subst (λ next. EndsFrom next (get_or goals i d)) (sym (is d)) (ends-here (is_terminal (get_or goals i d).state) first (get_or goals i d) refl))
+    (λ k d below. subst (λ next. EndsFrom next (get_or goals k d)) (sym (is d)) (ends-weaker (is_terminal (get_or goals i d).state) (get_or goals i d).ended first (get_or goals k d) (walked k d below)))
 
 -- all were looked at
 pub all-ends : (first : Option ℕ) (goals : List GoalRecord) → ((k : ℕ) (d : GoalRecord) → k < length goals → EndsFrom first (get_or goals k d)) → AllByRecursion (EndsFrom first) goals
@@ -342,7 +334,6 @@ module _ (test : ℕ → Bool) (id : ℕ) (same : (key : ℕ) → test key ≡ (
       let replaced = replaced-first (has_id id) (λ _. other) goal (records_of entries) (found-in test id same entries (records_of entries) (Some held) refl found) in
       subst (λ goals. IsTallied tally goals) (sym (changed-in test id same (λ _. other) held after refl entries set (records_of entries) refl found is))
       (tallied-replaced goal other tally tally (records_of entries) _ replaced counts
-      (tallied.ended ∙ ap flagged_places (sym (replaced-flags goal other (records_of entries) _ replaced (ap (λ (info : GoalInfo). is_terminal info.state) told))))
       (tallied.infos ∙ sym (replaced-infos goal other (records_of entries) _ replaced told)) tallied)
 
   -- it is written back as it was
@@ -356,30 +347,17 @@ module _ (entries : List (ℕ × GoalEntry)) (i : ℕ) (entry : ℕ × GoalEntry
   goal-at : slice_get (records_of entries) i ≡ Some (record_of entry)
   goal-at = slice_get-map record_of entries i ∙ ap (option_map record_of) found
 
-  flag-of : slice_get (ended_flags (records_of entries)) i ≡ Some (is_terminal entry.1.state)
-  flag-of = slice_get-map (λ (goal : GoalRecord). is_terminal goal.state) (records_of entries) i ∙ ap (option_map (λ (goal : GoalRecord). is_terminal goal.state)) goal-at
-
-  -- where the goal hasn't ended there is room for its place
-  pub room-at : (tally : Tally) → IsTallied tally (records_of entries) → is_terminal entry.1.state ≡ false → (i < GOALS) × (length tally.ended < GOALS)
-  room-at tally tallied is =
-      let goals = records_of entries in
-      let flag = flag-of ∙ ap Some is in (
-        omega (arith, flag-within goals i false flag, tallied.within),
-        omega (arith, ap length tallied.ended, room-places (ended_flags goals) 0 i flag, length-flags goals, tallied.within),
-      )
-
   pub counted-at : (tally : Tally) → IsTallied tally (records_of entries) → one_where (is_worked_on entry.1.state) ≤ tally.working
   counted-at tally tallied = tallied-counted (record_of entry) (record_of entry) tally (records_of entries) _ (replaced-at (record_of entry) (record_of entry) (records_of entries) i goal-at) tallied
 
   pub told-within : (tally : Tally) → IsTallied tally (records_of entries) → i < length tally.infos.items
   told-within tally tallied = omega (arith, ap length tallied.infos, length-map (records_of entries) info_of, slice_get_within (records_of entries) i (record_of entry) goal-at)
 
-  pub tallied-at : (after : GoalEntry) (old new : Tally) → CountsMove entry.1.state after.state after.ended old new → NotesEnd i entry.1.state after.state old.ended new.ended →
+  pub tallied-at : (after : GoalEntry) (old new : Tally) → CountsMove entry.1.state after.state after.ended old new →
       TellsState i after.state old.infos.items new.infos.items → info_of (record_of (entry.0, after)) ≡ record (info_of (record_of entry)) { state = after.state } →
       IsTallied old (records_of entries) → IsTallied new (records_of (set_value_at entries i after))
-  tallied-at after old new counts notes tells told tallied =
+  tallied-at after old new counts tells told tallied =
       let other = record_of (entry.0, after) in
       subst (λ goals. IsTallied new goals) (sym (records-set_value_at entries i entry after found))
       (tallied-replaced (record_of entry) other old new (records_of entries) _ (replaced-at (record_of entry) other (records_of entries) i goal-at) counts
-      (notes (ended_flags (records_of entries)) flag-of tallied.ended ∙ ap flagged_places (sym (flags-set (records_of entries) i other)))
       (tells-in i (record_of entry) other (records_of entries) old.infos.items new.infos.items goal-at told tells tallied.infos) tallied)

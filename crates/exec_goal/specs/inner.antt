@@ -1,4 +1,3 @@
-pub mod Ended
 pub mod Held
 pub mod Ids
 pub mod Places

@@ -61,9 +61,9 @@ pub fn two_decisions_accept()
     ensures { (made : Decision) → (is_accepting made ≡ true) ↔ ((made ≡ decision.Execute) ⊎ (made ≡ decision.Defer)) }
 {}
 
-/// A server has no room exactly if it holds 64 goals or more.
-pub fn servers_hold_64_goals()
-    ensures { (goals : List GoalRecord) → (is_full goals ≡ true) ↔ (64 ≤ length goals) }
+/// A server has no room exactly if it holds 1,024 goals or more.
+pub fn servers_hold_1024_goals()
+    ensures { (goals : List GoalRecord) → (is_full goals ≡ true) ↔ (1024 ≤ length goals) }
 {}
 
 /// A new goal's identifier isn't held before it is accepted. If no two goals had the same identifier before, no two have after.

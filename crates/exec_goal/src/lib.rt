@@ -3,7 +3,6 @@
 
 mod asked;
 mod cancel;
-mod ended;
 pub mod examples;
 mod goals;
 mod held;

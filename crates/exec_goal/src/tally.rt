@@ -1,9 +1,7 @@
 ghost use Rattle.std.specs.Prelude.{◌≡◌, ◌≤◌, ◌<◌, ◌+◌, ◌^◌, [], false, length, nat_le, true, None};
 ghost use Rattle.exec_goal.specs.State.{is_worked_on, is_terminal};
-ghost use Rattle.exec_msg.specs.declared.limits.TheConstants.{GOALS};
-ghost use Rattle.exec_goal.specs.inner.Tally.{CountsMove, NotesEnd, TellsState, one_where, earlier, first_with, may_expire};
+ghost use Rattle.exec_goal.specs.inner.Tally.{CountsMove, TellsState, one_where, earlier, first_with, may_expire};
 
-use crate::ended::EndedPlaces;
 use crate::info::GoalInfo;
 use crate::state::State;
 use exec_msg::Moment;
@@ -16,8 +14,6 @@ pub(crate) struct Tally {
     pub(crate) working: usize,
     // A moment before which no goal has ended, or `None` if none has.
     pub(crate) first_end: Option<Moment>,
-    // Which goals have ended.
-    pub(crate) ended: EndedPlaces,
     // What is known of each goal, in the order of acceptance. If the server works on some goals, a round looks at all. An entry
     // is so large that each look would be a fetch from memory.
     pub(crate) infos: Vec<GoalInfo>,
@@ -28,13 +24,11 @@ impl Tally {
     pub(crate) fn new(alloc: Global) -> Tally
         ensures working { result.working ≡ 0 }
         ensures first { result.first_end ≡ None }
-        ensures ended { result.ended ≡ [] }
         ensures infos { result.infos.items ≡ [] }
     {
         Tally {
             working: 0,
             first_end: None,
-            ended: EndedPlaces::new(),
             infos: Vec::new(alloc),
         }
     }
@@ -54,16 +48,12 @@ impl Tally {
     pub(crate) fn count_move(&mut self, place: usize, before: State, after: State, ended: Moment)
         requires counted { one_where (is_worked_on before) ≤ self.old.working }
         requires fits { self.old.working < 2 ^ 63 }
-        requires stays { is_terminal before ≡ true → is_terminal after ≡ true }
-        requires room { is_terminal before ≡ false → (place < GOALS) × (length self.old.ended < GOALS) }
         requires told { place < length self.old.infos.items }
         ensures counts { CountsMove before after ended self.old self.new }
-        ensures notes { NotesEnd place before after self.old.ended self.new.ended }
         ensures tells { TellsState place after self.old.infos.items self.new.infos.items }
     {
         self.working = count_working(self.working, before, after);
         self.first_end = first_with(after.is_terminal(), ended, self.first_end);
-        note_end(&mut self.ended, place, before, after);
         self.infos[place].state = after;
     }
 }
@@ -77,17 +67,6 @@ fn count_working(working: usize, before: State, after: State) -> usize
     let entering = usize::from(after.is_worked_on());
     let leaving = usize::from(before.is_worked_on());
     working + entering - leaving
-}
-
-// Notes that the goal at a place has ended, if it hadn't in its state before.
-fn note_end(ended: &mut EndedPlaces, place: usize, before: State, after: State)
-    requires stays { is_terminal before ≡ true → is_terminal after ≡ true }
-    requires room { is_terminal before ≡ false → (place < GOALS) × (length ended.old < GOALS) }
-    ensures { NotesEnd place before after ended.old ended.new }
-{
-    if after.is_terminal() && !before.is_terminal() {
-        ended.note(place);
-    }
 }
 
 // Whether a moment is at least `timeout` ticks after an end.

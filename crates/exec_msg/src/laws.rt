@@ -102,8 +102,8 @@ pub fn limits_are_these_numbers()
     ensures named_groups { NAMED_GROUPS ≡ 256 }
     ensures topics { TOPICS ≡ 256 }
     ensures entities { ENTITIES ≡ 512 }
-    ensures instructions { INSTRUCTIONS ≡ 64 }
-    ensures goals { GOALS ≡ 64 }
+    ensures instructions { INSTRUCTIONS ≡ 256 }
+    ensures goals { GOALS ≡ 1024 }
     ensures depth { DEPTH ≡ 1024 }
     ensures default_depth { DEFAULT_DEPTH ≡ 10 }
     ensures moments { MOMENTS ≡ 65536 }

@@ -16,10 +16,10 @@ pub const TOPICS: usize = 256;
 pub const ENTITIES: usize = 512;
 
 /// Instructions of one script, at most.
-pub const INSTRUCTIONS: usize = 64;
+pub const INSTRUCTIONS: usize = 256;
 
 /// Goals that a server holds, in any state, at most.
-pub const GOALS: usize = 64;
+pub const GOALS: usize = 1_024;
 
 /// The depth of a queue, at most. The least is 1.
 pub const DEPTH: u64 = 1_024;

@@ -3,7 +3,7 @@ use Rattle.std.proofs.Common.{◌≡◌, ℕ, zero, suc, Bool, true, false, ◌+
 use Rattle.std.proofs.lemmas.List.Elements.{All-nil, All-push, All-weaker}
 use Rattle.std.proofs.lemmas.Option.{none-some, same_Some, slice_get-map}
 use Rattle.std.specs.Option.{option_map, option_map_or}
-use Rattle.exec_goal.proofs.EndedPlaces.{last-there}
+use Rattle.exec_goal.proofs.Looping.{last-there}
 use Rattle.exec_script.specs.Instruction.{Script}
 use Rattle.exec_msg.specs.Places.{change_at}
 use Rattle.exec_msg.specs.Timer.{is_due}

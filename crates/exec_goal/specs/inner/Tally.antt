@@ -1,5 +1,5 @@
 -- What a table knows of its goals without a look at each.
-use Rattle.std.specs.Prelude.{◌≡◌, ℕ, ◌+◌, ◌≤◌, List, length, map, Bool, true, false, nat_le, if◌then◌else◌, Option, None, Some, slice_get, slice_index_or, slice_set}
+use Rattle.std.specs.Prelude.{◌≡◌, ℕ, ◌+◌, ◌≤◌, List, length, map, Bool, true, false, nat_le, if◌then◌else◌, Option, None, Some, slice_index_or, slice_set}
 use Rattle.std.specs.List.{AllByRecursion}
 use Rattle.exec_msg.specs.declared.limits.TheConstants.{GOALS}
 use Rattle.exec_goal.specs.Info.{info_of}
@@ -8,7 +8,6 @@ use Rattle.exec_goal.specs.Table.{GoalRecord, working}
 use Rattle.exec_goal.specs.declared.info.GoalInfo.{GoalInfo}
 use Rattle.exec_goal.specs.declared.state.State.{State}
 use Rattle.exec_goal.specs.declared.tally.Tally.{Tally}
-use Rattle.exec_goal.specs.inner.Ended.{flagged_places, ended_places}
 
 -- 1 where something is so, and else 0
 abbrev pub one_where : Bool → ℕ
@@ -35,11 +34,6 @@ pub record CountsMove (before after : State) (ended : ℕ) (old new : Tally) : T
   pub working : new.working + one_where (is_worked_on before) ≡ old.working + one_where (is_worked_on after)
   pub first : new.first_end ≡ first_with (is_terminal after) ended old.first_end
 
--- places of goals that have ended are kept up as the goal at a place that was of one state is of another
-abbrev pub NotesEnd : ℕ → State → State → List ℕ → List ℕ → Type 0
-NotesEnd place before after old new =
-    (flags : List Bool) → slice_get flags place ≡ Some (is_terminal before) → old ≡ flagged_places flags → new ≡ flagged_places (slice_set flags place (is_terminal after))
-
 -- what is told of the goal at a place is told with another state
 abbrev pub TellsState : ℕ → State → List GoalInfo → List GoalInfo → Type 0
 TellsState place after old new = (d : GoalInfo) → new ≡ slice_set old place (record (slice_index_or old place d) { state = after })
@@ -57,6 +51,5 @@ EndsFrom (Some first) goal = is_terminal goal.state ≡ true → first ≤ goal.
 pub record IsTallied (tally : Tally) (goals : List GoalRecord) : Type 0 where
   pub counted : tally.working ≡ working goals
   pub ends : AllByRecursion (EndsFrom tally.first_end) goals
-  pub ended : tally.ended ≡ ended_places goals
   pub infos : tally.infos.items ≡ map info_of goals
   pub within : length goals ≤ GOALS

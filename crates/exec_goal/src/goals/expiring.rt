@@ -1,16 +1,23 @@
 //! Goals that a server forgets.
+ghost use Rattle.std.specs.Prelude.{◌≡◌, ◌≤◌, Some, length, map, not};
+ghost use Rattle.exec_goal.specs.Info.{info_of};
+ghost use Rattle.exec_goal.specs.Table.{is_expired, unexpired};
+ghost use Rattle.exec_goal.specs.inner.Held.{record_of, records_of};
+
 use super::Goals;
+use crate::held::GoalEntry;
+use crate::info::GoalInfo;
 use crate::tally::first_with;
 use exec_msg::{GoalId, Moment};
+use indexmap::IndexMap;
 
 impl Goals {
     ghost use Rattle.std.specs.Prelude.{◌≡◌, ◌<◌, Some, [], length, drop, slice_get, slice_index_or, IfSome, IfNone};
-    ghost use Rattle.std.specs.List.{find, AllByRecursion};
+    ghost use Rattle.std.specs.List.{find, list_any, AllByRecursion};
     ghost use Rattle.std.specs.Option.{option_map};
     ghost use Rattle.exec_goal.specs.Calls.{after_expiry};
     ghost use Rattle.exec_goal.specs.inner.Places.{IsFirst};
     ghost use Rattle.exec_goal.specs.Table.{GoalRecord, is_expired, expired, unexpired};
-    ghost use Rattle.exec_goal.specs.inner.Ended.{ended_places};
     ghost use Rattle.exec_goal.specs.inner.Tally.{EndsFrom, first_with_goal};
 
     /// Forgets the first goal, in the order of acceptance, that ended `timeout` ticks before a moment or earlier. Answers its
@@ -23,10 +30,36 @@ impl Goals {
         ensures kept { unexpired moment (Some timeout) self.new ≡ unexpired moment (Some timeout) self.old }
     {
         let index = self.next_expired(moment, timeout)?;
-        self.tally.ended.forget(index);
         let _told = self.tally.infos.remove(index);
         let (id, _forgotten) = self.held.shift_remove_index(index).unwrap();
         Some(id)
+    }
+
+    /// Whether a goal ended `timeout` ticks before a moment or earlier. No goal is looked at while none can have.
+    pub fn has_expired(&mut self, moment: Moment, timeout: u64) -> bool
+        ensures found { result ≡ list_any (is_expired moment (Some timeout)) self.old }
+        ensures same { self.new ≡ self.old }
+    {
+        self.next_expired(moment, timeout).is_some()
+    }
+
+    /// Whether the goal at this place, from 0, in the order of acceptance, ended `timeout` ticks before a moment or earlier.
+    pub fn is_expired_at(&self, index: usize, moment: Moment, timeout: u64) -> bool
+        requires { index < length self.now }
+        ensures { (d : GoalRecord) → result ≡ is_expired moment (Some timeout) (slice_index_or self.now index d) }
+    {
+        let (_id, goal) = self.held.get_index(index).unwrap();
+        goal.is_expired(moment, timeout)
+    }
+
+    /// Forgets all goals that ended `timeout` ticks before a moment or earlier. The others keep their order. It looks at each
+    /// goal a few times, however many it forgets.
+    pub fn forget_expired(&mut self, moment: Moment, timeout: u64)
+        ensures { self.new ≡ unexpired moment (Some timeout) self.old }
+    {
+        keep_unexpired(&mut self.held, moment, timeout);
+        tell_all(&self.held, &mut self.tally.infos);
+        self.tally.first_end = self.first_end();
     }
 
     // The place of the first goal that has expired. No goal is looked at while none can have expired. If all were looked at and
@@ -51,8 +84,8 @@ impl Goals {
         ensures { AllByRecursion (EndsFrom result) self.now }
     {
         let mut first = None;
-        for index in 0..self.count_ended() {
-            first = self.first_with_goal(self.ended_at(index), first);
+        for index in 0..self.len() {
+            first = self.first_with_goal(index, first);
         }
         first
     }
@@ -70,35 +103,34 @@ impl Goals {
         ensures found { IfSome result (λ index. IsFirst (is_expired moment (Some timeout)) self.now index) }
         ensures none { IfNone result (expired moment (Some timeout) self.now ≡ []) }
     {
-        for index in 0..self.count_ended() {
-            let place = self.ended_at(index);
-            if self.is_expired_at(place, moment, timeout) {
-                return Some(place);
+        for index in 0..self.len() {
+            if self.is_expired_at(index, moment, timeout) {
+                return Some(index);
             }
         }
         None
     }
+}
 
-    // How many goals have ended.
-    fn count_ended(&self) -> usize
-        ensures { result ≡ length (ended_places self.now) }
-    {
-        self.tally.ended.len()
-    }
+// Keeps the entries of goals that didn't end `timeout` ticks before a moment or earlier.
+fn keep_unexpired(held: &mut IndexMap<GoalId, GoalEntry>, moment: Moment, timeout: u64)
+    ensures { records_of held.new.entries ≡ unexpired moment (Some timeout) (records_of held.old.entries) }
+{
+    held.retain(
+        |id: &GoalId, goal: &mut GoalEntry| -> bool
+            ensures { (result ≡ not (is_expired moment (Some timeout) (record_of (id.now, goal.old)))) × (goal.new ≡ goal.old) }
+        { !goal.is_expired(moment, timeout) },
+    );
+}
 
-    // The place of one of them, in the order of acceptance.
-    fn ended_at(&self, index: usize) -> usize
-        requires { index < length (ended_places self.now) }
-        ensures { slice_get (ended_places self.now) index ≡ Some result }
-    {
-        self.tally.ended.at(index)
+// Writes what is known of each goal that is held, over what was known of more of them.
+fn tell_all(held: &IndexMap<GoalId, GoalEntry>, infos: &mut Vec<GoalInfo>)
+    requires { length held.now.entries ≤ length infos.old.items }
+    ensures { infos.new.items ≡ map info_of (records_of held.now.entries) }
+{
+    for place in 0..held.len() {
+        let (id, goal) = held.get_index(place).unwrap();
+        infos[place] = goal.info(*id);
     }
-
-    fn is_expired_at(&self, index: usize, moment: Moment, timeout: u64) -> bool
-        requires { index < length self.now }
-        ensures { (d : GoalRecord) → result ≡ is_expired moment (Some timeout) (slice_index_or self.now index d) }
-    {
-        let (_id, goal) = self.held.get_index(index).unwrap();
-        goal.is_expired(moment, timeout)
-    }
+    infos.truncate(held.len());
 }

@@ -1,8 +1,6 @@
 use Rattle.std.proofs.Common.{ℕ, List, ◌<◌, ◌∙◌, sym, ap, subst, arith, length, leb-false, false, ◌≡◌, ◌++◌, ◌∷◌, [], rules, w64, to_z-of_z}
 use mir.Val.{SFits}
 use Rattle.exec_goal.proofs.Entries.{ids_decide, inserted-new}
-use Rattle.exec_goal.proofs.EndedPlaces.{length-flags, length-places}
-use Rattle.exec_goal.specs.inner.Ended.{ended_flags}
 use Rattle.exec_goal.proofs.Tallying.{tallied-fits, tallied-accepted}
 use Rattle.exec_goal.specs.Info.{info_of}
 use Rattle.exec_goal.specs.inner.Held.{record_of, records_of}
@@ -25,15 +23,6 @@ returns-clause-accepted c =
 pub count_move-requires-clause-fits : goal.count_move-requires-clause-fits
 count_move-requires-clause-fits c = tallied-fits c.self.inside.tally (records_of c.self.inside.held.entries) c.self.invariant
 
-pub count_move-requires-clause-room : goal.count_move-requires-clause-room
-count_move-requires-clause-room c =
-    let goals : List GoalRecord = records_of c.self.inside.held.entries in
-    let room : length goals < GOALS = omega (arith, leb-false GOALS (length c.args.self.now) (sym c.is_full.ensures ∙ c.if-is_full.false), ap length c.self.view_is) in
-    λ _. (
-      omega (arith, room, c.len-place.ensures.count, ap length c.self.view_is),
-      omega (arith, room, ap length c.self.invariant.ended, length-places (ended_flags goals) 0, length-flags goals),
-    )
-
 pub invariant_of-self-2 : goal.invariant_of-self-2
 invariant_of-self-2 c =
     let goals : List GoalRecord = records_of c.self.inside.held.entries in
@@ -47,6 +36,5 @@ invariant_of-self-2 c =
     (tallied-accepted c.self.inside.tally c.count_move.new.self goals _ c.len-place.result (c.len-place.ensures.count ∙ sym (ap length c.self.view_is)) room
     (subst (λ (ended : ℕ). CountsMove state.Accepted c.new-goal.result.state ended c.self.inside.tally c.count_move.new.self) (sym (ap (λ goal. goal.ended) (c.new-goal.ensures.stands_for c.args.id)))
     (record { working = counted.working; first = counted.first }))
-    c.count_move.ensures.notes
     (subst (λ (infos : List GoalInfo). TellsState c.len-place.result c.new-goal.result.state infos c.count_move.new.self.infos.items) told c.count_move.ensures.tells)
     c.self.invariant)

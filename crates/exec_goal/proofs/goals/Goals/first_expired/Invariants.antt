@@ -1,7 +1,7 @@
-use Rattle.std.proofs.Common.{◌≡◌, false, Some}
-use Rattle.exec_goal.proofs.EndedPlaces.{IsWalked}
-use Rattle.exec_goal.specs.Table.{is_expired}
+use Rattle.std.proofs.Common.{◌≡◌, ◌<◌, ℕ, false, Some, get_or}
+use Rattle.exec_goal.specs.Table.{GoalRecord, is_expired}
 use Rattle.exec_goal.proofs.goals.Goals.first_expired.Given as goal
 
+-- none so far has expired
 abbrev pub invariant-loop-index : goal.invariant-loop-index
-invariant-loop-index l = IsWalked (λ held. is_expired l.moment (Some l.timeout) held ≡ false) l.self l.index
+invariant-loop-index l = (k : ℕ) (d : GoalRecord) → k < l.index → is_expired l.moment (Some l.timeout) (get_or l.self k d) ≡ false
