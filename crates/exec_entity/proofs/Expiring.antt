@@ -1,21 +1,23 @@
 -- What a server forgets, and what it executes.
-use Rattle.std.proofs.Common.{◌≡◌, ℕ, zero, suc, ◌≤◌, ◌==◌, ◌||◌, List, [], ◌∷◌, map, length, drop, get_or, Bool, true, false, not, cond, if◌then◌else◌, Option, None, Some, IfNone, Result, Ok, Err, OnOk, OnErr, slice_get, refl, ap, sym, subst, ◌∙◌, arith}
-use Rattle.std.specs.List.{find, filter}
+use Rattle.std.proofs.Common.{◌≡◌, ℕ, zero, suc, ◌≤◌, ◌<◌, ◌==◌, ◌||◌, List, [], ◌∷◌, map, length, drop, get_or, Bool, true, false, not, cond, if◌then◌else◌, Option, None, Some, Result, Ok, Err, OnOk, OnErr, slice_get, refl, ap, sym, ◌∙◌, arith}
+use Rattle.std.specs.List.{find, filter, list_any}
 use Rattle.std.specs.Option.{option_map, unwrap_or}
-use Rattle.std.proofs.lemmas.Bool.{eqb-true, eq-eqb, ne_eqb, or_parts, or_from, or_left, or_right, both_ways}
+use Rattle.std.proofs.lemmas.Bool.{eqb-false, eq-eqb, ne_eqb, or_parts, or_from, or_left, or_right}
 use Rattle.exec_goal.specs.Calls.{next_state, moved_to}
 use Rattle.exec_goal.specs.inner.Ids.{is_among}
 use Rattle.exec_goal.specs.Info.{info_of}
 use Rattle.exec_goal.specs.State.{after, is_accepted}
-use Rattle.exec_goal.specs.Table.{GoalRecord, has_id, holds_id, after_event, is_expired, expired, unexpired}
+use Rattle.exec_goal.specs.Table.{GoalRecord, has_id, holds_id, after_event, is_expired, unexpired}
 use Rattle.exec_goal.specs.declared.info.GoalInfo.{GoalInfo}
 use Rattle.exec_goal.specs.declared.state.State.{State}
 use Rattle.exec_msg.specs.declared.goal.Event.{Event}
 use Rattle.exec_msg.specs.declared.goal.Event.TheVariants as event
-use Rattle.exec_msg.specs.Lists.{change_first, drop_first}
+use Rattle.exec_msg.specs.Lists.{change_first}
 use Rattle.exec_entity.proofs.Serving.{goal_ids, held_ids, among-goals}
-use Rattle.exec_rules.specs.Transcript.{server_expired}
-use Rattle.exec_rules.specs.World.{HeldGoal, ServerEntry, is_for}
+use Rattle.exec_rules.specs.Transcript.{expire_lines, server_expired}
+use Rattle.exec_msg.specs.declared.line.Line.TheVariants as line
+use Rattle.exec_goal.proofs.Filtering.{filter-none}
+use Rattle.exec_rules.specs.World.{HeldGoal, ServerEntry}
 use Rattle.exec_entity.specs.inner.Keeping.{AreDistinct, AreKept, executed}
 
 -- ---- what is found in a list from a place on
@@ -92,69 +94,6 @@ executed-found found id goals left is moved = moved ∙ sym (executed_by found i
 
 -- ---- goals that are forgotten
 
-not_among : (ids : List ℕ) (a b : ℕ) → is_among ids a ≡ true → is_among ids b ≡ false → (b == a) ≡ false
-not_among ids a b is none = ne_eqb b a (λ same. both_ways (is_among ids a) (ap (is_among ids) (sym same) ∙ none) is)
-
--- a goal that is found is among the goals
-among-found : (test : GoalRecord → Bool) (goals : List GoalRecord) (id : ℕ) → Some id ≡ option_map (λ goal. goal.id) (find test goals) → is_among (goal_ids goals) id ≡ true
-among-found test [] id is = absurd cc
-among-found test (goal ∷ goals) id is = by (test goal) is (among-found test goals id)
-  where
-    by : (b : Bool) → Some id ≡ option_map (λ goal. goal.id) (cond b (Some goal) (find test goals)) → (Some id ≡ option_map (λ goal. goal.id) (find test goals) → is_among (goal_ids goals) id ≡ true) →
-        ((goal.id == id) || is_among (goal_ids goals) id) ≡ true
-    by true is others = or_left (goal.id == id) (is_among (goal_ids goals) id) (eq-eqb goal.id id cc)
-    by false is others = or_right (goal.id == id) (is_among (goal_ids goals) id) (others is)
-
-among-dropped : (test : GoalRecord → Bool) (goals : List GoalRecord) (id : ℕ) → is_among (goal_ids goals) id ≡ false → is_among (goal_ids (drop_first test goals)) id ≡ false
-among-dropped test [] id none = none
-among-dropped test (goal ∷ goals) id none =
-    let parts = or_parts (goal.id == id) (is_among (goal_ids goals) id) none in
-    by (test goal) parts.0 parts.1 (among-dropped test goals id parts.1)
-  where
-    by : (b : Bool) → (goal.id == id) ≡ false → is_among (goal_ids goals) id ≡ false → is_among (goal_ids (drop_first test goals)) id ≡ false → is_among (goal_ids (if b then goals else goal ∷ drop_first test goals)) id ≡ false
-    by true here none others = none
-    by false here none others = or_from (goal.id == id) (is_among (goal_ids (drop_first test goals)) id) here others
-
-distinct-dropped : (test : GoalRecord → Bool) (goals : List GoalRecord) → AreDistinct (goal_ids goals) → AreDistinct (goal_ids (drop_first test goals))
-distinct-dropped test [] distinct = distinct
-distinct-dropped test (goal ∷ goals) distinct = by (test goal) (distinct-dropped test goals distinct.1)
-  where
-    by : (b : Bool) → AreDistinct (goal_ids (drop_first test goals)) → AreDistinct (goal_ids (if b then goals else goal ∷ drop_first test goals))
-    by true others = distinct.1
-    by false others = (among-dropped test goals goal.id distinct.0, others)
-
--- what is kept beside the goal that is dropped is dropped with it
-ids-dropped : (test : GoalRecord → Bool) (goals : List GoalRecord) (held : List HeldGoal) (id : ℕ) → Some id ≡ option_map (λ goal. goal.id) (find test goals) → goal_ids goals ≡ held_ids held → AreDistinct (goal_ids goals) →
-    goal_ids (drop_first test goals) ≡ held_ids (drop_first (is_for id) held)
-ids-dropped test [] held id is same distinct = absurd cc
-ids-dropped test (goal ∷ goals) [] id is same distinct = absurd cc
-ids-dropped test (goal ∷ goals) (one ∷ held) id is same distinct = by (test goal) (is_for id one) is refl (ids-dropped test goals held id)
-  where
-    first : goal.id ≡ one.id
-    first = ap (λ ids. get_or ids 0 0) same
-
-    rest : goal_ids goals ≡ held_ids held
-    rest = ap (drop 1) same
-
-    by : (b e : Bool) → Some id ≡ option_map (λ goal. goal.id) (cond b (Some goal) (find test goals)) → is_for id one ≡ e →
-        (Some id ≡ option_map (λ goal. goal.id) (find test goals) → goal_ids goals ≡ held_ids held → AreDistinct (goal_ids goals) → goal_ids (drop_first test goals) ≡ held_ids (drop_first (is_for id) held)) →
-        goal_ids (if b then goals else goal ∷ drop_first test goals) ≡ held_ids (if e then held else one ∷ drop_first (is_for id) held)
-    by true true is named others = rest
-    by false false is named others = (λ i. first i ∷ others is rest distinct.1 i)
-    by true false is named others =
-        let same : goal.id ≡ id = cc in
-        absurd (both_ways (is_for id one) named (eq-eqb one.id id (sym first ∙ same)))
-    by false true is named others =
-        absurd (both_ways (is_for id one) (ap (λ (key : ℕ). key == id) (sym first) ∙ not_among (goal_ids goals) id goal.id (among-found test goals id is) distinct.0) named)
-
--- all that is left is kept
-pub kept-dropped : (test : GoalRecord → Bool) (goals after : List GoalRecord) (held left : List HeldGoal) (id : ℕ) → Some id ≡ option_map (λ goal. goal.id) (find test goals) → after ≡ drop_first test goals → left ≡ drop_first (is_for id) held →
-    AreKept goals held → AreKept after left
-kept-dropped test goals after held left id is drops others kept = rw (drops, others) (record {
-  same = ids-dropped test goals held id is kept.same kept.distinct;
-  distinct = distinct-dropped test goals kept.distinct;
-})
-
 holds-filter : (test : GoalRecord → Bool) (goals : List GoalRecord) (id : ℕ) → is_among (goal_ids goals) id ≡ false → holds_id id (filter test goals) ≡ false
 holds-filter test [] id none = refl
 holds-filter test (goal ∷ goals) id none =
@@ -165,46 +104,71 @@ holds-filter test (goal ∷ goals) id none =
     by true here others = or_from (goal.id == id) (holds_id id (filter test goals)) here others
     by false here others = others
 
--- no goal that is left has the identifier of the goal that was found
-unheld : (test : GoalRecord → Bool) (goals : List GoalRecord) (id : ℕ) → Some id ≡ option_map (λ goal. goal.id) (find test goals) → AreDistinct (goal_ids goals) → holds_id id (filter (λ goal. not (test goal)) goals) ≡ false
-unheld test [] id is distinct = absurd cc
-unheld test (goal ∷ goals) id is distinct = by (test goal) is (unheld test goals id)
-  where
-    by : (b : Bool) → Some id ≡ option_map (λ goal. goal.id) (cond b (Some goal) (find test goals)) →
-        (Some id ≡ option_map (λ goal. goal.id) (find test goals) → AreDistinct (goal_ids goals) → holds_id id (filter (λ goal. not (test goal)) goals) ≡ false) →
-        holds_id id (cond (not b) (goal ∷ filter (λ goal. not (test goal)) goals) (filter (λ goal. not (test goal)) goals)) ≡ false
-    by true is others =
-        let same : goal.id ≡ id = cc in
-        holds-filter (λ goal. not (test goal)) goals id (ap (is_among (goal_ids goals)) (sym same) ∙ distinct.0)
-    by false is others = or_from (goal.id == id) (holds_id id (filter (λ goal. not (test goal)) goals)) (not_among (goal_ids goals) id goal.id (among-found test goals id is) distinct.0) (others is distinct.1)
+-- what is kept for other identifiers stays, whether or not this one does
+kept-apart : (id : ℕ) (test : ℕ → Bool) (held : List HeldGoal) → is_among (held_ids held) id ≡ false → filter (λ one. (id == one.id) || test one.id) held ≡ filter (λ one. test one.id) held
+kept-apart id test [] none = refl
+kept-apart id test (one ∷ held) none =
+    let parts = or_parts (one.id == id) (is_among (held_ids held) id) none in
+    let apart : (id == one.id) ≡ false = ne_eqb id one.id (λ same. eqb-false one.id id parts.0 (sym same)) in
+    let behind = filter (λ one. (id == one.id) || test one.id) held in
+    ap (λ (b : Bool). cond (b || test one.id) (one ∷ behind) behind) apart
+    ∙ ap (λ (rest : List HeldGoal). cond (test one.id) (one ∷ rest) rest) (kept-apart id test held parts.1)
 
-filter-dropped : (test : HeldGoal → Bool) (id : ℕ) → ((one : HeldGoal) → is_for id one ≡ true → test one ≡ false) → (held : List HeldGoal) → filter test (drop_first (is_for id) held) ≡ filter test held
-filter-dropped test id fails [] = refl
-filter-dropped test id fails (one ∷ held) = by (is_for id one) refl (filter-dropped test id fails held)
-  where
-    by : (b : Bool) → is_for id one ≡ b → filter test (drop_first (is_for id) held) ≡ filter test held → filter test (if b then held else one ∷ drop_first (is_for id) held) ≡ cond (test one) (one ∷ filter test held) (filter test held)
-    by true is others = rw (fails one is) refl
-    by false is others = ap (λ rest. cond (test one) (one ∷ rest) rest) others
+module _ (test : GoalRecord → Bool) where
+  -- what is kept beside the goals that stay stays
+  ids-filtered : (goals : List GoalRecord) (held : List HeldGoal) → goal_ids goals ≡ held_ids held → AreDistinct (goal_ids goals) → goal_ids (filter test goals) ≡ held_ids (filter (λ one. holds_id one.id (filter test goals)) held)
+  ids-filtered [] [] same distinct = refl
+  ids-filtered [] (one ∷ held) same distinct = absurd cc
+  ids-filtered (goal ∷ goals) [] same distinct = absurd cc
+  ids-filtered (goal ∷ goals) (one ∷ held) same distinct = by (test goal) (ids-filtered goals held rest distinct.1)
+    where
+      first : goal.id ≡ one.id
+      first = ap (λ ids. get_or ids 0 0) same
 
--- what a server keeps in the end is the same before and after one goal is dropped
-pub expired-dropped : (moment : ℕ) (entry left : ServerEntry) (id : ℕ) → Some id ≡ option_map (λ goal. goal.id) (find (is_expired moment entry.timeout) entry.goals) → AreDistinct (goal_ids entry.goals) →
-    unexpired moment entry.timeout left.goals ≡ unexpired moment entry.timeout entry.goals → left.held ≡ drop_first (is_for id) entry.held → left.handler ≡ entry.handler → left.timeout ≡ entry.timeout →
-    server_expired moment left ≡ server_expired moment entry
-expired-dropped moment entry left id is distinct same others handler timeout =
-    let kept = unexpired moment entry.timeout entry.goals in
-    let fails : (one : HeldGoal) → is_for id one ≡ true → holds_id one.id kept ≡ false = λ one named. ap (λ key. holds_id key kept) (eqb-true one.id id named) ∙ unheld (is_expired moment entry.timeout) entry.goals id is distinct in
-    let goals : unexpired moment left.timeout left.goals ≡ kept = ap (λ timeout. unexpired moment timeout left.goals) timeout ∙ same in
-    let held : filter (λ held. holds_id held.id (unexpired moment left.timeout left.goals)) left.held ≡ filter (λ held. holds_id held.id kept) entry.held =
-    ap (λ (goals : List GoalRecord). filter (λ held. holds_id held.id goals) left.held) goals ∙ ap (filter (λ held. holds_id held.id kept)) others ∙ filter-dropped (λ held. holds_id held.id kept) id fails entry.held in
-    (λ i. record { handler = handler i; timeout = timeout i; goals = goals i; held = held i })
+      rest : goal_ids goals ≡ held_ids held
+      rest = ap (drop 1) same
 
-none-left : {A : Type 0} (test : A → Bool) (xs : List A) → find test xs ≡ None → filter (λ x. not (test x)) xs ≡ xs
+      left : List GoalRecord
+      left = filter test goals
+
+      by : (b : Bool) → goal_ids left ≡ held_ids (filter (λ one. holds_id one.id left) held) →
+          goal_ids (cond b (goal ∷ left) left) ≡ held_ids (filter (λ one. holds_id one.id (cond b (goal ∷ left) left)) (one ∷ held))
+      by true others =
+          let behind = filter (λ (other : HeldGoal). (goal.id == other.id) || holds_id other.id left) held in
+          let here : ((goal.id == one.id) || holds_id one.id left) ≡ true = or_left (goal.id == one.id) (holds_id one.id left) (eq-eqb goal.id one.id first) in
+          (λ i. first i ∷ (others ∙ ap held_ids (sym (kept-apart goal.id (λ id. holds_id id left) held (ap (λ ids. is_among ids goal.id) (sym rest) ∙ distinct.0)))) i)
+          ∙ sym (ap (λ (b : Bool). held_ids (cond b (one ∷ behind) behind)) here)
+      by false others =
+          let behind = filter (λ (other : HeldGoal). holds_id other.id left) held in
+          let gone : holds_id one.id left ≡ false = holds-filter test goals one.id (ap (is_among (goal_ids goals)) (sym first) ∙ distinct.0) in
+          others ∙ sym (ap (λ (b : Bool). held_ids (cond b (one ∷ behind) behind)) gone)
+
+  distinct-filtered : (goals : List GoalRecord) → AreDistinct (goal_ids goals) → AreDistinct (goal_ids (filter test goals))
+  distinct-filtered [] distinct = distinct
+  distinct-filtered (goal ∷ goals) distinct = by (test goal) (distinct-filtered goals distinct.1)
+    where
+      by : (b : Bool) → AreDistinct (goal_ids (filter test goals)) → AreDistinct (goal_ids (cond b (goal ∷ filter test goals) (filter test goals)))
+      by true others = (among-goals goal.id (filter test goals) ∙ holds-filter test goals goal.id distinct.0, others)
+      by false others = others
+
+  -- all that is left is kept
+  pub kept-filtered : (goals after : List GoalRecord) (held left : List HeldGoal) → after ≡ filter test goals → left ≡ filter (λ one. holds_id one.id after) held → AreKept goals held → AreKept after left
+  kept-filtered goals after held left are stays kept =
+      let others : left ≡ filter (λ one. holds_id one.id (filter test goals)) held = stays ∙ ap (λ (goals : List GoalRecord). filter (λ (one : HeldGoal). holds_id one.id goals) held) are in
+      rw (are, others) (record {
+        same = ids-filtered goals held kept.same kept.distinct;
+        distinct = distinct-filtered goals kept.distinct;
+      })
+
+none-left : {A : Type 0} (test : A → Bool) (xs : List A) → list_any test xs ≡ false → filter (λ x. not (test x)) xs ≡ xs
 none-left test [] none = refl
-none-left {A} test (x ∷ xs) none = by (test x) none (none-left test xs)
+none-left {A} test (x ∷ xs) none =
+    let parts = or_parts (test x) (list_any test xs) none in
+    by (test x) parts.0 (none-left test xs parts.1)
   where
-    by : (b : Bool) → cond b (Some x) (find test xs) ≡ None → (find test xs ≡ None → filter (λ x. not (test x)) xs ≡ xs) → cond (not b) (x ∷ filter (λ x. not (test x)) xs) (filter (λ x. not (test x)) xs) ≡ x ∷ xs
+    by : (b : Bool) → b ≡ false → filter (λ x. not (test x)) xs ≡ xs → cond (not b) (x ∷ filter (λ x. not (test x)) xs) (filter (λ x. not (test x)) xs) ≡ x ∷ xs
     by true none others = absurd cc
-    by false none others = ap (λ xs. x ∷ xs) (others none)
+    by false none others = ap (λ xs. x ∷ xs) others
 
 all-kept : (test : ℕ → Bool) (held : List HeldGoal) → ((id : ℕ) → is_among (held_ids held) id ≡ true → test id ≡ true) → filter (λ held. test held.id) held ≡ held
 all-kept test [] passes = refl
@@ -215,59 +179,36 @@ all-kept test (one ∷ held) passes =
     by true is others = ap (λ held. one ∷ held) others
     by false is others = absurd cc
 
-unfound : (found : Option GoalRecord) → None ≡ option_map (λ goal. goal.id) found → found ≡ None
-unfound None is = refl
-unfound (Some goal) is = absurd cc
-
--- a server that finds no goal to forget is as it was
-pub settled : (moment : ℕ) (entry : ServerEntry) → AreKept entry.goals entry.held → None ≡ option_map (λ goal. goal.id) (find (is_expired moment entry.timeout) entry.goals) → server_expired moment entry ≡ entry
+-- a server that has no goal to forget stays
+pub settled : (moment : ℕ) (entry : ServerEntry) → AreKept entry.goals entry.held → list_any (is_expired moment entry.timeout) entry.goals ≡ false → server_expired moment entry ≡ entry
 settled moment entry kept none =
-    let goals : unexpired moment entry.timeout entry.goals ≡ entry.goals = none-left (is_expired moment entry.timeout) entry.goals (unfound (find (is_expired moment entry.timeout) entry.goals) none) in
+    let goals : unexpired moment entry.timeout entry.goals ≡ entry.goals = none-left (is_expired moment entry.timeout) entry.goals none in
     let held : filter (λ held. holds_id held.id (unexpired moment entry.timeout entry.goals)) entry.held ≡ entry.held =
     ap (λ (goals : List GoalRecord). filter (λ held. holds_id held.id goals) entry.held) goals
     ∙ all-kept (λ id. holds_id id entry.goals) entry.held (λ id is. sym (among-goals id entry.goals) ∙ ap (λ ids. is_among ids id) kept.same ∙ is) in
     (λ i. record entry { goals = goals i; held = held i })
 
--- a server without a timeout finds none
-pub lasting : (moment : ℕ) (goals : List GoalRecord) → find (is_expired moment None) goals ≡ None
+lasting : (moment : ℕ) (goals : List GoalRecord) → list_any (is_expired moment None) goals ≡ false
 lasting moment [] = refl
 lasting moment (goal ∷ goals) = lasting moment goals
 
-undropped : {A : Type 0} (test : A → Bool) (xs : List A) → find test xs ≡ None → drop_first test xs ≡ xs
-undropped test [] none = refl
-undropped {A} test (x ∷ xs) none = by (test x) none (undropped test xs)
-  where
-    by : (b : Bool) → cond b (Some x) (find test xs) ≡ None → (find test xs ≡ None → drop_first test xs ≡ xs) → (if b then xs else x ∷ drop_first test xs) ≡ x ∷ xs
-    by true none others = absurd cc
-    by false none others = ap (λ xs. x ∷ xs) (others none)
+-- a server without a timeout has none
+pub lasting-in : (moment : ℕ) (timeout : Option ℕ) (goals : List GoalRecord) → timeout ≡ None → list_any (is_expired moment timeout) goals ≡ false
+lasting-in moment timeout goals none = rw none (lasting moment goals)
 
--- where none is found none is dropped
-pub undropped-goals : (test : GoalRecord → Bool) (goals after : List GoalRecord) → None ≡ option_map (λ goal. goal.id) (find test goals) → after ≡ drop_first test goals → after ≡ goals
-undropped-goals test goals after none drops = drops ∙ undropped test goals (unfound (find test goals) none)
+-- a server that forgets goals keeps the others, with what is kept beside them
+pub forgotten : (moment : ℕ) (entry : ServerEntry) (timeout : Option ℕ) (goals : List GoalRecord) (held : List HeldGoal) → entry.timeout ≡ timeout → goals ≡ unexpired moment timeout entry.goals → held ≡ filter (λ one. holds_id one.id goals) entry.held →
+    record entry { goals = goals; held = held } ≡ server_expired moment entry
+forgotten moment entry timeout goals held lasts are stays =
+    let same : goals ≡ unexpired moment entry.timeout entry.goals = are ∙ ap (λ (timeout : Option ℕ). unexpired moment timeout entry.goals) (sym lasts) in
+    let others : held ≡ filter (λ one. holds_id one.id (unexpired moment entry.timeout entry.goals)) entry.held = stays ∙ ap (λ (goals : List GoalRecord). filter (λ (one : HeldGoal). holds_id one.id goals) entry.held) same in
+    (λ i. record entry { goals = same i; held = others i })
 
--- a server without a timeout forgets no goal
-pub lasting-in : (moment : ℕ) (timeout : Option ℕ) (goals : List GoalRecord) → timeout ≡ None → None ≡ option_map (λ goal. goal.id) (find (is_expired moment timeout) goals)
-lasting-in moment timeout goals none = rw none (ap (option_map (λ (goal : GoalRecord). goal.id)) (sym (lasting moment goals)))
+-- a server that has no goal to forget leaves no line
+pub no_lines : (moment : ℕ) (entry : ServerEntry) → list_any (is_expired moment entry.timeout) entry.goals ≡ false → expire_lines moment entry ≡ []
+no_lines moment entry none = ap (map (λ (goal : GoalRecord). line.Expire entry.handler.entity goal.id)) (filter-none (is_expired moment entry.timeout) entry.goals none)
 
-never : (moment : ℕ) (goals : List GoalRecord) → expired moment None goals ≡ []
-never moment [] = refl
-never moment (goal ∷ goals) = never moment goals
-
-pub never-expired : (moment : ℕ) (timeout : Option ℕ) (goals : List GoalRecord) → timeout ≡ None → expired moment timeout goals ≡ []
-never-expired moment timeout goals none = rw none (never moment goals)
-
--- the same as above, where it is known which timeout a server has
-pub expired-dropped-in : (moment : ℕ) (entry left : ServerEntry) (id : ℕ) (timeout : Option ℕ) → entry.timeout ≡ timeout → Some id ≡ option_map (λ goal. goal.id) (find (is_expired moment timeout) entry.goals) → AreDistinct (goal_ids entry.goals) →
-    unexpired moment timeout left.goals ≡ unexpired moment timeout entry.goals → left.held ≡ drop_first (is_for id) entry.held → left.handler ≡ entry.handler → left.timeout ≡ entry.timeout →
-    server_expired moment left ≡ server_expired moment entry
-expired-dropped-in moment entry left id timeout lasts is distinct same others handler stays =
-    expired-dropped moment entry left id (subst (λ (timeout : Option ℕ). Some id ≡ option_map (λ goal. goal.id) (find (is_expired moment timeout) entry.goals)) (sym lasts) is) distinct
-    (subst (λ (timeout : Option ℕ). unexpired moment timeout left.goals ≡ unexpired moment timeout entry.goals) (sym lasts) same) others handler stays
-
-pub settled-in : (moment : ℕ) (entry : ServerEntry) (timeout : Option ℕ) → entry.timeout ≡ timeout → AreKept entry.goals entry.held → None ≡ option_map (λ goal. goal.id) (find (is_expired moment timeout) entry.goals) → server_expired moment entry ≡ entry
-settled-in moment entry timeout lasts kept none = settled moment entry kept (subst (λ (timeout : Option ℕ). None ≡ option_map (λ goal. goal.id) (find (is_expired moment timeout) entry.goals)) (sym lasts) none)
-
--- what holds holds where there is no value
-pub on_none : {A : Type 0} {P : Type 0} (found : Option A) → P → IfNone found P
-on_none None holds_id = holds_id
-on_none (Some x) holds_id = tt
+-- where a place is one of a list there is an element
+pub any_of : {A : Type 0} (xs : List A) (i : ℕ) → i < length xs → A
+any_of [] i within = absurd (omega (arith, within))
+any_of (x ∷ xs) i within = x

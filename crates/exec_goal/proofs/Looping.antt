@@ -217,21 +217,24 @@ pub map-kept : {A B : Type 0} (f : A → B) (test : B → Bool) (xs : List A) �
 map-kept f test [] = refl
 map-kept f test (x ∷ xs) = kept_of f (test (f x)) x (filter (λ x. test (f x)) xs) (filter test (map f xs)) (map-kept f test xs)
 
--- ---- what is known of goals is written
+-- ---- a list that is written over another, one element after another
 
--- what is known of one more
-pub told-next : (entries : List (ℕ × GoalEntry)) (infos : List GoalInfo) (i : ℕ) (entry : ℕ × GoalEntry) (info : GoalInfo) → slice_get entries i ≡ Some entry → info ≡ info_of (record_of entry) → i < length infos →
-    take i infos ≡ take i (map info_of (records_of entries)) → take (i + 1) (slice_set infos i info) ≡ take (i + 1) (map info_of (records_of entries))
-told-next entries infos i entry info there is within told =
-    let all = map info_of (records_of entries) in
-    let at : slice_get all i ≡ Some (info_of (record_of entry)) = slice_get-map info_of (records_of entries) i ∙ ap (option_map info_of) (slice_get-map record_of entries i ∙ ap (option_map record_of) there) in
-    take_more_set infos i info within
-    ∙ (λ j. told j ++ (is ∙ sym (get_or_from_slice_get all i (info_of (record_of entry)) info at)) j ∷ [])
-    ∙ sym (take_more all i info (slice_get_within all i (info_of (record_of entry)) at))
+-- one more is written
+pub written-next : {A : Type 0} (all ys : List A) (i : ℕ) (y : A) → slice_get all i ≡ Some y → i < length ys → take i ys ≡ take i all → take (i + 1) (slice_set ys i y) ≡ take (i + 1) all
+written-next all ys i y there within written =
+    take_more_set ys i y within
+    ∙ (λ j. written j ++ sym (get_or_from_slice_get all i y y there) j ∷ [])
+    ∙ sym (take_more all i y (slice_get_within all i y there))
 
--- what is known of all is all that stays
-pub told-all : (entries : List (ℕ × GoalEntry)) (infos : List GoalInfo) (n i : ℕ) → n ≡ length entries → length entries ≤ i → i ≤ n → take i infos ≡ take i (map info_of (records_of entries)) → take n infos ≡ map info_of (records_of entries)
-told-all entries infos n i all above below told =
-    let all-of = map info_of (records_of entries) in
-    let same : n ≡ i = omega (arith, all, above, below) in
-    ap (λ (k : ℕ). take k infos) same ∙ told ∙ take_all i all-of (omega (arith, above, length-map (records_of entries) info_of, length-map entries record_of))
+-- all are written
+pub written-all : {A : Type 0} (all ys : List A) (n i : ℕ) → n ≡ length all → length all ≤ i → i ≤ n → take i ys ≡ take i all → take n ys ≡ all
+written-all all ys n i long above below written =
+    let same : n ≡ i = omega (arith, long, above, below) in
+    ap (λ (k : ℕ). take k ys) same ∙ written ∙ take_all i all (omega arith)
+
+-- what is known of the goal of an entry
+pub info-at : (entries : List (ℕ × GoalEntry)) (i : ℕ) (entry : ℕ × GoalEntry) (info : GoalInfo) → slice_get entries i ≡ Some entry → info ≡ info_of (record_of entry) → slice_get (map info_of (records_of entries)) i ≡ Some info
+info-at entries i entry info there is = slice_get-map info_of (records_of entries) i ∙ ap (option_map info_of) (slice_get-map record_of entries i ∙ ap (option_map record_of) there) ∙ ap Some (sym is)
+
+pub length-infos : (entries : List (ℕ × GoalEntry)) → length (map info_of (records_of entries)) ≡ length entries
+length-infos entries = length-map (records_of entries) info_of ∙ length-map entries record_of

@@ -1,31 +1,81 @@
 //! Goals that a server forgets.
-ghost use Rattle.std.specs.Prelude.{◌≡◌, ◌++◌, map, OnOk};
+ghost use Rattle.std.specs.Prelude.{◌≡◌, ◌≤◌, ◌++◌, map, length, filter, OnOk};
 ghost use Rattle.std.specs.List.{flat_map};
+ghost use Rattle.exec_goal.specs.Table.{holds_id};
 ghost use Rattle.exec_rules.specs.Transcript.{expire_lines, server_expired};
+ghost use Rattle.exec_entity.specs.inner.Server.{held_goals_of};
+ghost use Rattle.exec_entity.specs.inner.Waking.{wakes_of};
 
-use super::{Server, remove};
+use super::polling::wake_in;
+use super::{Held, Server};
 use crate::by_number::ByNumber;
+use exec_goal::Goals;
 use exec_msg::{GoalId, Line, Lines, Memory, Moment};
+use indexmap::IndexMap;
 
 impl Server {
-    ghost use Rattle.std.specs.Prelude.{◌≡◌, drop, slice_get, IfNone};
-    ghost use Rattle.std.specs.Option.{option_map};
-    ghost use Rattle.exec_goal.specs.Table.{expired};
+    ghost use Rattle.std.specs.Prelude.{◌≡◌, ◌<◌, false, length, slice_index_or};
+    ghost use Rattle.std.specs.List.{list_any};
+    ghost use Rattle.exec_goal.specs.Table.{GoalRecord, is_expired};
     ghost use Rattle.exec_rules.specs.Transcript.{server_expired};
 
-    // Forgets the first goal, in the order of acceptance, whose result the server keeps no longer at a moment. Answers its
-    // identifier, or `None` if there is none.
-    pub(crate) fn expire(&mut self, moment: Moment) -> Option<GoalId>
-        ensures first { result ≡ option_map (λ goal. goal.id) (slice_get (expired moment self.old.timeout self.old.goals) 0) }
-        ensures left { expired moment self.new.timeout self.new.goals ≡ drop 1 (expired moment self.old.timeout self.old.goals) }
-        ensures kept { server_expired moment self.new ≡ server_expired moment self.old }
-        ensures settled { IfNone result (self.new ≡ server_expired moment self.old) }
+    // Whether there is a goal whose result the server keeps no longer at a moment. No goal is looked at while none can be.
+    fn has_expired(&mut self, moment: Moment) -> bool
+        ensures found { result ≡ list_any (is_expired moment self.old.timeout) self.old.goals }
+        ensures same { self.new ≡ self.old }
+        ensures settled { result ≡ false → server_expired moment self.old ≡ self.old }
     {
-        let timeout = self.timeout?;
-        let id = self.goals.expire(moment, timeout)?;
-        remove(&mut self.held, &mut self.wakes, id);
-        Some(id)
+        match self.timeout {
+            None => false,
+            Some(timeout) => self.goals.has_expired(moment, timeout),
+        }
     }
+
+    // Whether the server keeps the result of the goal at this place no longer at a moment.
+    fn is_expired_at(&self, index: usize, moment: Moment) -> bool
+        requires { index < length self.now.goals }
+        ensures { (d : GoalRecord) → result ≡ is_expired moment self.now.timeout (slice_index_or self.now.goals index d) }
+    {
+        match self.timeout {
+            None => false,
+            Some(timeout) => self.goals.is_expired_at(index, moment, timeout),
+        }
+    }
+
+    // Forgets the goals whose results the server keeps no longer at a moment.
+    fn forget_expired(&mut self, moment: Moment)
+        ensures { self.new ≡ server_expired moment self.old }
+    {
+        let Some(timeout) = self.timeout else {
+            return;
+        };
+        self.goals.forget_expired(moment, timeout);
+        keep_held(&mut self.held, &self.goals);
+        note_wakes(&self.held, &mut self.wakes);
+    }
+}
+
+// Drops what is kept of goals that a server no longer holds.
+fn keep_held(held: &mut IndexMap<GoalId, Held>, goals: &Goals)
+    ensures { held_goals_of held.new.entries ≡ filter (λ one. holds_id one.id goals.now) (held_goals_of held.old.entries) }
+{
+    held.retain(
+        |id: &GoalId, kept: &mut Held| -> bool
+            ensures { (result ≡ holds_id id.now goals.entry.now) × (kept.new ≡ kept.old) }
+        { goals.holds(*id) },
+    );
+}
+
+// Writes from when on each task is awake if its goal isn't being canceled, over the moments of more tasks.
+fn note_wakes(held: &IndexMap<GoalId, Held>, wakes: &mut Vec<u64>)
+    requires { length held.now.entries ≤ length wakes.old.items }
+    ensures { wakes.new.items ≡ wakes_of (held_goals_of held.now.entries) }
+{
+    for place in 0..held.len() {
+        let (_id, kept) = held.get_index(place).unwrap();
+        wakes[place] = wake_in(&kept.task);
+    }
+    wakes.truncate(held.len());
 }
 
 impl ByNumber<Server> {
@@ -36,7 +86,7 @@ impl ByNumber<Server> {
     /// Forgets the goals whose results are kept no longer at a moment, server by server. Each leaves its line.
     ///
     /// # Errors
-    /// [`Memory`] if a growth was refused. Goals may have been forgotten, with and without their lines.
+    /// [`Memory`] if a growth was refused. Goals may have been forgotten, and may have left lines.
     pub fn expire<L: Lines>(&mut self, moment: Moment, lines: &mut L) -> Result<(), Memory>
         ensures servers { OnOk result (self.new ≡ map (server_expired moment) self.old) }
         ensures lines { OnOk result (L.lines lines.new ≡ L.lines lines.old ++ flat_map (expire_lines moment) self.old) }
@@ -65,11 +115,25 @@ fn expire_goals<L: Lines>(server: &mut Server, moment: Moment, lines: &mut L) ->
     ensures lines { OnOk result (L.lines lines.new ≡ L.lines lines.old ++ expire_lines moment server.old) }
     ensures number { server.new.handler.entity ≡ server.old.handler.entity }
 {
-    while let Some(id) = server.expire(moment) {
-        lines.add(&Line::Expire {
-            server: server.number(),
-            id,
-        })?;
+    if !server.has_expired(moment) {
+        return Ok(());
+    }
+    add_expired(server, moment, lines)?;
+    server.forget_expired(moment);
+    Ok(())
+}
+
+// Adds the line of each goal whose result a server keeps no longer at a moment.
+fn add_expired<L: Lines>(server: &Server, moment: Moment, lines: &mut L) -> Result<(), Memory>
+    ensures { OnOk result (L.lines lines.new ≡ L.lines lines.old ++ expire_lines moment server.now) }
+{
+    for index in 0..server.len() {
+        if server.is_expired_at(index, moment) {
+            lines.add(&Line::Expire {
+                server: server.number(),
+                id: server.goal_at(index).id,
+            })?;
+        }
     }
     Ok(())
 }

@@ -300,7 +300,7 @@ fn is_any_awake(task: &Option<GoalTask>, moment: Moment) -> bool
 
 // The moment from which on a task is awake if its goal isn't being canceled, in ticks. A task that is out never is.
 #[inline(always)]
-fn wake_in(task: &Option<GoalTask>) -> u64
+pub(super) fn wake_in(task: &Option<GoalTask>) -> u64
     ensures { result ≡ wake_in (option_map work_of task.now) }
 {
     match task {
