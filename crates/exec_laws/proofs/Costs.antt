@@ -8,6 +8,7 @@ use Rattle.exec_goal.specs.Cancel.{is_candidate}
 use Rattle.exec_goal.specs.Info.{info_of}
 use Rattle.exec_goal.specs.Table.{GoalRecord}
 use Rattle.exec_msg.specs.Numbers.{EntityNo, Moment}
+use Rattle.exec_msg.specs.declared.limits.TheConstants.{GOALS, INSTRUCTIONS}
 use Rattle.exec_plan.specs.Graph.{EntityData, GraphData, Waitable, cons_if, entities_where, has_kind, is_server, is_timer, is_topic, kinds, numbers_where, wait_set}
 use Rattle.exec_plan.specs.Lawful.{IsLawful}
 use Rattle.exec_plan.specs.Plan.{PlanData}
@@ -32,9 +33,25 @@ use Rattle.exec_rules.specs.declared.ready.Ready.{Ready}
 abbrev pub IsShortReady : Ready → Type 0
 IsShortReady one = IsShort (instructions_of one.script)
 
+-- how much one script costs at most, with the closing of its callback
+abbrev pub of_script : ℕ
+of_script = INSTRUCTIONS + 1
+
+-- how much a callback costs at most that takes an item: the script of a cancel handler runs for each goal of its server
+abbrev pub of_item : ℕ
+of_item = GOALS * INSTRUCTIONS + of_script
+
+-- how much the polls of a server cost at most
+abbrev pub of_polls : ℕ
+of_polls = GOALS * of_script
+
+-- how much a ready list costs at most: that of 768 timers, 9,216 queues, and 768 servers
+abbrev pub of_list : ℕ
+of_list = 768 * of_script + 9216 * of_item + 768 * of_polls
+
 -- as many instructions at most: those of its script, which a cancel handler runs for each candidate, and one more for its closing
 abbrev pub cost_of : Ready → ℕ
-cost_of one = length one.candidates * 64 + 65
+cost_of one = length one.candidates * INSTRUCTIONS + of_script
 
 abbrev pub cost_of_all : List Ready → ℕ
 cost_of_all [] = 0
@@ -42,11 +59,11 @@ cost_of_all (one ∷ list) = cost_of one + cost_of_all list
 
 -- ---- each callback
 
-few_goals : (server : EntityNo) (servers : List ServerEntry) → AllByRecursion IsSmallServer servers → length (goals_in server servers) ≤ 64
+few_goals : (server : EntityNo) (servers : List ServerEntry) → AllByRecursion IsSmallServer servers → length (goals_in server servers) ≤ GOALS
 few_goals server [] p = omega arith
 few_goals server (entry ∷ servers) p = by (is_server_at server entry) refl (few_goals server servers p.1)
   where
-    by : (b : Bool) → is_server_at server entry ≡ b → length (goals_in server servers) ≤ 64 → length (goals_in server (entry ∷ servers)) ≤ 64
+    by : (b : Bool) → is_server_at server entry ≡ b → length (goals_in server servers) ≤ GOALS → length (goals_in server (entry ∷ servers)) ≤ GOALS
     by true e rest = rw e p.0.goals
     by false e rest = rw e rest
 
@@ -57,7 +74,7 @@ due_short moment entry p = by (is_due entry.timer moment) refl
     by true e = rw e (p, tt)
     by false e = rw e tt
 
-few_candidates : (taken : Item) (goals : List GoalRecord) → length goals ≤ 64 → length (candidates_for taken goals) ≤ 64
+few_candidates : (taken : Item) (goals : List GoalRecord) → length goals ≤ GOALS → length (candidates_for taken goals) ≤ GOALS
 few_candidates (item.Message value) goals few = omega arith
 few_candidates (item.Request client number value) goals few = omega arith
 few_candidates (item.Reply number value) goals few = omega arith
@@ -117,24 +134,24 @@ flat_cost P f most few [] p = omega arith
 flat_cost P f most few (one ∷ all) p =
     omega (arith, cost_joined (f one) (flat_map f all), few one p.0, flat_cost P f most few all p.1, suc-mul (length all) most)
 
-due_cost : (moment : Moment) (entry : TimerEntry) → cost_of_all (due_ready moment entry) ≤ 65
+due_cost : (moment : Moment) (entry : TimerEntry) → cost_of_all (due_ready moment entry) ≤ of_script
 due_cost moment entry = by (is_due entry.timer moment) refl
   where
-    by : (b : Bool) → is_due entry.timer moment ≡ b → cost_of_all (due_ready moment entry) ≤ 65
+    by : (b : Bool) → is_due entry.timer moment ≡ b → cost_of_all (due_ready moment entry) ≤ of_script
     by true e = rw e (omega arith)
     by false e = rw e (omega arith)
 
-item_cost : (moment : Moment) (world : WorldState) (queue : Queue) → AllByRecursion IsSmallServer world.servers → cost_of_all (queue_ready moment world queue) ≤ 4161
+item_cost : (moment : Moment) (world : WorldState) (queue : Queue) → AllByRecursion IsSmallServer world.servers → cost_of_all (queue_ready moment world queue) ≤ of_item
 item_cost moment world queue servers = by queue.items
   where
-    by : (items : List Item) → cost_of_all (item_ready moment queue.handler (goals_of queue.handler.entity world) items) ≤ 4161
+    by : (items : List Item) → cost_of_all (item_ready moment queue.handler (goals_of queue.handler.entity world) items) ≤ of_item
     by [] = omega arith
     by (first ∷ items) = omega (arith, few_candidates first (goals_of queue.handler.entity world) (few_goals queue.handler.entity world.servers servers))
 
-poll_cost : (moment : Moment) (entry : ServerEntry) → length entry.goals ≤ 64 → cost_of_all (poll_ready moment entry) ≤ 4160
+poll_cost : (moment : Moment) (entry : ServerEntry) → length entry.goals ≤ GOALS → cost_of_all (poll_ready moment entry) ≤ of_polls
 poll_cost moment entry few = omega (arith, few, filter_less (is_goal_awake moment entry.held) entry.goals, each (filter (is_goal_awake moment entry.held) entry.goals))
   where
-    each : (goals : List GoalRecord) → cost_of_all (map (λ goal. ready_for moment entry.handler (woken goal) [] (Some entry.handler.script)) goals) ≡ length goals * 65
+    each : (goals : List GoalRecord) → cost_of_all (map (λ goal. ready_for moment entry.handler (woken goal) [] (Some entry.handler.script)) goals) ≡ length goals * of_script
     each [] = refl
     each (goal ∷ goals) = omega (arith, each goals)
 
@@ -143,14 +160,14 @@ any [] = tt
 any (one ∷ all) = (tt, any all)
 
 -- a callback for each timer and each queue, and one for each of a server's goals
-list_cost : (moment : Moment) (world : WorldState) → IsSmall world → cost_of_all (ready_list moment world) ≤ length world.timers * 65 + length world.queues * 4161 + length world.servers * 4160
+list_cost : (moment : Moment) (world : WorldState) → IsSmall world → cost_of_all (ready_list moment world) ≤ length world.timers * of_script + length world.queues * of_item + length world.servers * of_polls
 list_cost moment world p =
     let timers : List Ready = flat_map (due_ready moment) world.timers in
     let took : List Ready = flat_map (queue_ready moment world) world.queues in
     let polls : List Ready = flat_map (poll_ready moment) world.servers in
-    let of_timers : cost_of_all timers ≤ length world.timers * 65 = flat_cost (λ entry. Unit {0}) (due_ready moment) 65 (λ entry q. due_cost moment entry) world.timers (any world.timers) in
-    let of_took : cost_of_all took ≤ length world.queues * 4161 = flat_cost (λ queue. Unit {0}) (queue_ready moment world) 4161 (λ queue q. item_cost moment world queue p.servers) world.queues (any world.queues) in
-    let of_polls : cost_of_all polls ≤ length world.servers * 4160 = flat_cost IsSmallServer (poll_ready moment) 4160 (λ entry q. poll_cost moment entry q.goals) world.servers p.servers in
+    let of_timers : cost_of_all timers ≤ length world.timers * of_script = flat_cost (λ entry. Unit {0}) (due_ready moment) of_script (λ entry q. due_cost moment entry) world.timers (any world.timers) in
+    let of_took : cost_of_all took ≤ length world.queues * of_item = flat_cost (λ queue. Unit {0}) (queue_ready moment world) of_item (λ queue q. item_cost moment world queue p.servers) world.queues (any world.queues) in
+    let of_polls : cost_of_all polls ≤ length world.servers * of_polls = flat_cost IsSmallServer (poll_ready moment) of_polls (λ entry q. poll_cost moment entry q.goals) world.servers p.servers in
     omega (arith, cost_placed 1 (sorted_by (rank_under world.order world) (all_ready moment world)), sum_sorted cost_of cost_of_all (λ one list. refl) (rank_under world.order world) (all_ready moment world), cost_joined (timers ++ took) polls, cost_joined timers took, of_timers, of_took, of_polls)
 
 -- ---- a graph's entities
@@ -180,8 +197,8 @@ few_waits graph lawful =
     (λ of. omega (arith, few_entities graph lawful, numbers_few (has_kind of) 0 graph.entities, length-map {B = Waitable} (entities_where (has_kind of) graph) (λ entity. record { kind = of; entity = entity })))
     kinds
 
--- in a world that has the shape of its plan: 768 timers at most, 9,216 queues, and 768 servers
-pub few_steps : (plan : PlanData) (moment : Moment) (world : WorldState) → IsLawful plan.graph → shape_of world ≡ shape_of (first_world plan) → IsSmall world → cost_of_all (ready_list moment world) ≤ 41592576
+-- in a world that has the shape of its plan
+pub few_steps : (plan : PlanData) (moment : Moment) (world : WorldState) → IsLawful plan.graph → shape_of world ≡ shape_of (first_world plan) → IsSmall world → cost_of_all (ready_list moment world) ≤ of_list
 few_steps plan moment world lawful same p =
     let timers : length world.timers ≡ length (entities_where is_timer plan.graph) =
     sym (length-map world.timers timer_shape) ∙ ap (λ (shape : WorldState). length shape.timers) same ∙ length-map (first_world plan).timers timer_shape ∙ length-map (entities_where is_timer plan.graph) (new_timer plan.graph) in

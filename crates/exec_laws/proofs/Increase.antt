@@ -6,6 +6,7 @@ use Rattle.std.specs.Option.{option_and_then, option_map_or}
 use Rattle.exec_goal.specs.Cancel.{moved}
 use Rattle.exec_goal.specs.declared.info.GoalInfo.{GoalInfo}
 use Rattle.exec_msg.specs.Numbers.{EntityNo, GoalId, Moment}
+use Rattle.exec_msg.specs.declared.limits.TheConstants.{INSTRUCTIONS}
 use Rattle.exec_plan.specs.Feeding.{fed_in}
 use Rattle.exec_plan.specs.Lawful.{IsLawfulPlan}
 use Rattle.exec_plan.specs.Plan.{PlanData, Fed, Feed}
@@ -23,7 +24,7 @@ use Rattle.exec_script.specs.declared.step.Step.TheVariants as step
 use Rattle.exec_script.specs.declared.step.Stop.TheVariants as stop
 use Rattle.exec_task.specs.Task.{TaskState, is_awake, poll_input, polled_where}
 use Rattle.exec_task.specs.declared.wait.Turn.{Turn}
-use Rattle.exec_laws.proofs.Costs.{IsShortReady, cost_of, cost_of_all, few_steps, list_short}
+use Rattle.exec_laws.proofs.Costs.{IsShortReady, cost_of, cost_of_all, few_steps, list_short, of_list}
 use Rattle.exec_rules.proofs.Running.{one_keeps, round_keeps, snapshot_keeps}
 use Rattle.exec_rules.proofs.Shapes.{shape_kept}
 use Rattle.exec_laws.proofs.Short.{IsShort, IsShortWork, IsSmall, IsSmallServer, first_small, small_kept, filter_less}
@@ -75,48 +76,48 @@ module _ {Made : ℕ → WorldState → Type 0} (r : RisesByOnes Made) (one : Re
       (after_step (give one) (suc place) (step_of instruction state.registers state.variables input) state) (omega (arith, grows))
       (stepped most (suc place) (step_of instruction state.registers state.variables input) state p)
 
-  -- a short script raises it by 64 at most
-  ran : (most : ℕ) (script : List Instr) (place : ℕ) (registers variables : List ℤ) (answer : Option ℤ) (input : CallInput) (world : WorldState) → IsShort script → Made most world → Made (most + 64) (resumed (give one) script place registers variables answer input world).given
+  -- a short script raises it by as many as it may have at most
+  ran : (most : ℕ) (script : List Instr) (place : ℕ) (registers variables : List ℤ) (answer : Option ℤ) (input : CallInput) (world : WorldState) → IsShort script → Made most world → Made (most + INSTRUCTIONS) (resumed (give one) script place registers variables answer input world).given
   ran most script place registers variables answer input world short p =
-      followed most (most + 64) input (drop place script) place 0 (record { registers = registers; variables = variables; answer = answer; given = world; stop = stop.End }) (omega (arith, short, length-drop place script)) p
+      followed most (most + INSTRUCTIONS) input (drop place script) place 0 (record { registers = registers; variables = variables; answer = answer; given = world; stop = stop.End }) (omega (arith, short, length-drop place script)) p
 
   -- and a callback by as much, and once more for each candidate of a cancel request
-  all_handled_by : (most more : ℕ) (candidates : List GoalInfo) (handling : Handling WorldState) → IsShort (instructions_of one.script) → most + length candidates * 64 ≤ more → Made most handling.given → Made more (fold (handle (give one) one) handling candidates).given
+  all_handled_by : (most more : ℕ) (candidates : List GoalInfo) (handling : Handling WorldState) → IsShort (instructions_of one.script) → most + length candidates * INSTRUCTIONS ≤ more → Made most handling.given → Made more (fold (handle (give one) one) handling candidates).given
   all_handled_by most more [] handling short grows p = r.weaker most more handling.given (omega (arith, grows)) p
   all_handled_by most more (candidate ∷ candidates) handling short grows p =
-      all_handled_by (most + 64) more candidates (handle (give one) one handling candidate) short (omega (arith, grows))
+      all_handled_by (most + INSTRUCTIONS) more candidates (handle (give one) one handling candidate) short (omega (arith, grows))
       (ran most (instructions_of one.script) 0 zeros handling.variables None (candidate_input one.moment candidate) handling.given short p)
 
   module _ (most : ℕ) (script : IsShortReady one) (variables : Variables) (world : WorldState) (p : Made most world) where
-    called_in : (role : Role) → Made (most + length one.candidates * 64 + 64) (call_in role (give one) one variables world).given
-    called_in role = r.weaker (most + 64) (most + length one.candidates * 64 + 64) (call_in role (give one) one variables world).given (omega arith) (ran most (instructions_of one.script) 0 zeros variables None (input_of one) world script p)
+    called_in : (role : Role) → Made (most + length one.candidates * INSTRUCTIONS + INSTRUCTIONS) (call_in role (give one) one variables world).given
+    called_in role = r.weaker (most + INSTRUCTIONS) (most + length one.candidates * INSTRUCTIONS + INSTRUCTIONS) (call_in role (give one) one variables world).given (omega arith) (ran most (instructions_of one.script) 0 zeros variables None (input_of one) world script p)
 
-    took : (taken : Item) → Made (most + length one.candidates * 64 + 64) (take_item taken (give one) one variables world).given
+    took : (taken : Item) → Made (most + length one.candidates * INSTRUCTIONS + INSTRUCTIONS) (take_item taken (give one) one variables world).given
     took (item.Message value) = called_in role.Callback
     took (item.Request client number value) = called_in role.Service
     took (item.Reply number value) = called_in role.Callback
     took (item.Goal id client value) = called_in role.GoalHandler
     took (item.Cancel request client) =
-        all_handled_by most (most + length one.candidates * 64 + 64) one.candidates (record { variables = variables; given = world; decisions = [] }) script (omega arith) p
+        all_handled_by most (most + length one.candidates * INSTRUCTIONS + INSTRUCTIONS) one.candidates (record { variables = variables; given = world; decisions = [] }) script (omega arith) p
     took (item.Ask id client) = called_in role.Callback
     took (item.Response id accepted) = called_in role.Callback
     took (item.Code returned moved) = called_in role.Callback
     took (item.Feedback id value) = called_in role.Callback
     took (item.Result id status value) = called_in role.Callback
 
-    polled_so : (b : Bool) (turn : Turn) (work : GoalWork) → IsShort work.script → Made (most + length one.candidates * 64 + 64) (polled_where b (give one) work.script work.value turn work.task variables world).given
-    polled_so true turn work short = r.weaker (most + 64) (most + length one.candidates * 64 + 64) (polled_where true (give one) work.script work.value turn work.task variables world).given (omega arith) (ran most work.script work.task.place work.task.registers variables None (poll_input work.value turn) world short p)
-    polled_so false turn work short = r.weaker most (most + length one.candidates * 64 + 64) world (omega arith) p
+    polled_so : (b : Bool) (turn : Turn) (work : GoalWork) → IsShort work.script → Made (most + length one.candidates * INSTRUCTIONS + INSTRUCTIONS) (polled_where b (give one) work.script work.value turn work.task variables world).given
+    polled_so true turn work short = r.weaker (most + INSTRUCTIONS) (most + length one.candidates * INSTRUCTIONS + INSTRUCTIONS) (polled_where true (give one) work.script work.value turn work.task variables world).given (omega arith) (ran most work.script work.task.place work.task.registers variables None (poll_input work.value turn) world short p)
+    polled_so false turn work short = r.weaker most (most + length one.candidates * INSTRUCTIONS + INSTRUCTIONS) world (omega arith) p
 
-    polls_where : (b : Bool) (turn : Turn) (work : GoalWork) → IsShort work.script → Made (most + length one.candidates * 64 + 64) (poll_where b (give one) turn work variables world).given
+    polls_where : (b : Bool) (turn : Turn) (work : GoalWork) → IsShort work.script → Made (most + length one.candidates * INSTRUCTIONS + INSTRUCTIONS) (poll_where b (give one) turn work variables world).given
     polls_where true turn work short = polled_so (is_awake work.task turn) turn work short
-    polls_where false turn work short = r.weaker most (most + length one.candidates * 64 + 64) world (omega arith) p
+    polls_where false turn work short = r.weaker most (most + length one.candidates * INSTRUCTIONS + INSTRUCTIONS) world (omega arith) p
 
-    polls : (turn : Turn) (work : Option GoalWork) → IsShortWork work → Made (most + length one.candidates * 64 + 64) (poll (give one) turn work variables world).given
-    polls turn None short = r.weaker most (most + length one.candidates * 64 + 64) world (omega arith) p
+    polls : (turn : Turn) (work : Option GoalWork) → IsShortWork work → Made (most + length one.candidates * INSTRUCTIONS + INSTRUCTIONS) (poll (give one) turn work variables world).given
+    polls turn None short = r.weaker most (most + length one.candidates * INSTRUCTIONS + INSTRUCTIONS) world (omega arith) p
     polls turn (Some work) short = polls_where (is_awake work.task turn) turn work short
 
-    acted : (why : Cause) (work : Option GoalWork) → IsShortWork work → Made (most + length one.candidates * 64 + 64) (act why (give one) one work variables world).given
+    acted : (why : Cause) (work : Option GoalWork) → IsShortWork work → Made (most + length one.candidates * INSTRUCTIONS + INSTRUCTIONS) (act why (give one) one work variables world).given
     acted cause.Due work short = called_in role.Callback
     acted (cause.Took taken) work short = took taken
     acted (cause.Woke id value canceling) work short = polls (turn_at one.moment canceling) work short
@@ -147,13 +148,21 @@ short_for server (cause.Woke id value canceling) world p = short_works server id
 
 run_raises : {Made : ℕ → WorldState → Type 0} → RisesByOnes Made → (most : ℕ) (one : Ready) (world : WorldState) → IsShortReady one → IsSmall world → Made most world → Made (most + cost_of one) (run one world)
 run_raises {Made = Made} r most one world script worlds p =
-    let before_closing : ℕ = most + length one.candidates * 64 + 64 in
+    let before_closing : ℕ = most + length one.candidates * INSTRUCTIONS + INSTRUCTIONS in
     let outcome : Outcome WorldState = outcome_in one world in
     r.weaker (suc before_closing) (most + cost_of one) (run one world) (omega arith)
     (r.closed before_closing one.entity one.moment one.cause outcome.close (unclosed one world)
     (r.polled before_closing one.entity one.cause outcome.task _
     (r.left before_closing one outcome.variables outcome.given
     (acted r one most script (variables_for one world) (add_line (run_line one) world) (r.said most (run_line one) world p) one.cause (work_for one.entity one.cause world) (short_for one.entity one.cause world worlds)))))
+
+-- by how much a round raises it at most: by 65,536 entries of the feed, and by its callbacks
+abbrev pub of_round : ℕ
+of_round = 65536 + of_list
+
+-- by how much as many rounds raise it as a plan may have
+abbrev pub of_run : ℕ
+of_run = 65536 * of_round
 
 module _ {Made : ℕ → WorldState → Type 0} (r : RisesByOnes Made) where
   all_run : (most more : ℕ) (list : List Ready) (world : WorldState) → AllByRecursion IsShortReady list → IsSmall world → most + cost_of_all list ≤ more → Made most world → Made more (run_all list world)
@@ -167,28 +176,27 @@ module _ {Made : ℕ → WorldState → Type 0} (r : RisesByOnes Made) where
   all_fed most more [] world grows p = r.weaker most more world (omega (arith, grows)) p
   all_fed most more (entry ∷ entries) world grows p = all_fed (suc most) more entries (feed_one entry.fed world) (omega (arith, grows)) (r.fed most entry.fed world p)
 
-  -- 65,536 entries of the feed at most, and what its callbacks run
-  round_raises : (plan : PlanData) (number : ℕ) (moment : Moment) (most : ℕ) (world : WorldState) → IsLawfulPlan plan → shape_of world ≡ shape_of (first_world plan) → IsSmall world → Made most world → Made (most + 41658112) (round plan number moment world)
+  round_raises : (plan : PlanData) (number : ℕ) (moment : Moment) (most : ℕ) (world : WorldState) → IsLawfulPlan plan → shape_of world ≡ shape_of (first_world plan) → IsSmall world → Made most world → Made (most + of_round) (round plan number moment world)
   round_raises plan number moment most world lawful same worlds p =
       let before : WorldState = at_snapshot plan number moment world in
       let small : IsSmall before = snapshot_keeps small_kept plan number moment world (small_kept.basic.lines_kept _ world worlds) in
       let shape : shape_of before ≡ shape_of (first_world plan) = snapshot_keeps (shape_kept (shape_of (first_world plan))) plan number moment world same in
-      let few : cost_of_all (ready_list moment before) ≤ 41592576 = few_steps plan moment before lawful.graph shape small in
+      let few : cost_of_all (ready_list moment before) ≤ of_list = few_steps plan moment before lawful.graph shape small in
       let entries : length plan.feed ≤ 65536 = lawful.short_feed in
       let these : length (fed_in number plan.feed) ≤ length plan.feed = filter_less (λ entry. entry.round == number) plan.feed in
-      all_run (most + 65536) (most + 41658112) (ready_list moment before) (take_inputs moment before) (list_short moment before small) (small_kept.snapshot_kept moment before small) (omega (arith, few))
+      all_run (most + 65536) (most + of_round) (ready_list moment before) (take_inputs moment before) (list_short moment before small) (small_kept.snapshot_kept moment before small) (omega (arith, few))
       (r.taken (most + 65536) moment before
       (all_fed most (most + 65536) (fed_in number plan.feed) (expire moment (add_line (line.Round number moment) world)) (omega (arith, entries, these))
       (r.expired most moment (add_line (line.Round number moment) world) (r.said most (line.Round number moment) world p))))
 
-  pub rounds_raise : (plan : PlanData) (number : ℕ) (moments : List Moment) (most more : ℕ) (world : WorldState) → IsLawfulPlan plan → shape_of world ≡ shape_of (first_world plan) → IsSmall world → most + length moments * 41658112 ≤ more → Made most world → Made more (rounds plan number moments world)
+  pub rounds_raise : (plan : PlanData) (number : ℕ) (moments : List Moment) (most more : ℕ) (world : WorldState) → IsLawfulPlan plan → shape_of world ≡ shape_of (first_world plan) → IsSmall world → most + length moments * of_round ≤ more → Made most world → Made more (rounds plan number moments world)
   rounds_raise plan number [] most more world lawful same worlds grows p = r.weaker most more world (omega (arith, grows)) p
   rounds_raise plan number (moment ∷ moments) most more world lawful same worlds grows p =
-      rounds_raise plan (suc number) moments (most + 41658112) more (round plan number moment world) lawful
+      rounds_raise plan (suc number) moments (most + of_round) more (round plan number moment world) lawful
       (round_keeps (shape_kept (shape_of (first_world plan))) plan number moment world same)
       (round_keeps small_kept plan number moment world (small_kept.basic.lines_kept _ world worlds)) (omega (arith, grows))
       (round_raises plan number moment most world lawful same worlds p)
 
   -- a run of as many rounds as a plan may have
-  pub run_of_plan : (plan : PlanData) (number : ℕ) (moments : List Moment) → IsLawfulPlan plan → length moments ≤ 65536 → Made 0 (first_world plan) → Made 2730106028032 (rounds plan number moments (first_world plan))
-  run_of_plan plan number moments lawful few p = rounds_raise plan number moments 0 2730106028032 (first_world plan) lawful refl (first_small plan lawful.graph) (omega (arith, few)) p
+  pub run_of_plan : (plan : PlanData) (number : ℕ) (moments : List Moment) → IsLawfulPlan plan → length moments ≤ 65536 → Made 0 (first_world plan) → Made of_run (rounds plan number moments (first_world plan))
+  run_of_plan plan number moments lawful few p = rounds_raise plan number moments 0 of_run (first_world plan) lawful refl (first_small plan lawful.graph) (omega (arith, few)) p

@@ -3,6 +3,7 @@ use Rattle.std.proofs.Common.{ℕ, zero, suc, ◌<◌, ◌≤◌, [], get_or, dr
 use Rattle.std.specs.List.{All}
 use Rattle.std.proofs.lemmas.Bool.{leb-true}
 use Rattle.std.proofs.lemmas.List.Elements.{All-nil, All-cons}
+use Rattle.exec_msg.specs.declared.limits.TheConstants.{INSTRUCTIONS}
 use Rattle.exec_plan.specs.Graph.{EntityData}
 use Rattle.exec_plan.specs.declared.entity.CallbackGroup.{CallbackGroup}
 use Rattle.exec_plan.specs.declared.entity.Declared.TheVariants.{Topic}
@@ -37,7 +38,7 @@ one_node zero within = record { one_default = refl; default_exclusive = refl; we
 one_node (suc node) within = absurd (omega arith)
 
 lawful_script : IsLawfulScript late.graph group script
-lawful_script = record { short = leb-true 1 64 refl; legal = refl; known = refl }
+lawful_script = record { short = leb-true 1 INSTRUCTIONS refl; legal = refl; known = refl }
 
 lawful_entity : IsLawfulEntity late.graph timer
 lawful_entity = record {

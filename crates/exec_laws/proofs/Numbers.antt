@@ -24,7 +24,7 @@ use Rattle.exec_script.specs.declared.effects.Close.TheVariants as close
 use Rattle.exec_script.specs.declared.effects.Effect.{Effect}
 use Rattle.exec_script.specs.declared.effects.Effect.TheVariants as effect
 use Rattle.exec_task.specs.Task.{TaskState}
-use Rattle.exec_laws.proofs.Increase.{RisesByOnes, run_of_plan}
+use Rattle.exec_laws.proofs.Increase.{RisesByOnes, of_run, run_of_plan}
 use Rattle.exec_rules.proofs.Keeping.{fold_keeps}
 use Rattle.exec_rules.proofs.Pairs.{all_map, all_weaker}
 use Rattle.exec_laws.proofs.Short.{all_changed}
@@ -228,13 +228,13 @@ first_made plan = (all_map (λ entry. entry.calls ≤ 0) (new_client plan.graph)
     unsent place [] = tt
     unsent place (number ∷ numbers) = (omega arith, unsent (suc place) numbers)
 
-few_made : (plan : PlanData) (number : ℕ) (moments : List Moment) → IsLawfulPlan plan → length moments ≤ 65536 → HaveMade 2730106028032 (rounds plan number moments (first_world plan))
+few_made : (plan : PlanData) (number : ℕ) (moments : List Moment) → IsLawfulPlan plan → length moments ≤ 65536 → HaveMade of_run (rounds plan number moments (first_world plan))
 few_made plan number moments lawful few = run_of_plan numbers_rise plan number moments lawful few (first_made plan)
 
 pub few_calls : (plan : PlanData) (number : ℕ) (moments : List Moment) → IsLawfulPlan plan → length moments ≤ 65536 → All (λ entry. entry.calls < 2 ^ 60) (rounds plan number moments (first_world plan)).clients
 few_calls plan number moments lawful few =
-    All-from_recursion (λ (entry : ClientEntry). entry.calls < 2 ^ 60) _ (all_weaker (λ (entry : ClientEntry). entry.calls ≤ 2730106028032) (λ entry. entry.calls < 2 ^ 60) (λ entry q. omega (arith, q)) _ (few_made plan number moments lawful few).0)
+    All-from_recursion (λ (entry : ClientEntry). entry.calls < 2 ^ 60) _ (all_weaker (λ (entry : ClientEntry). entry.calls ≤ of_run) (λ entry. entry.calls < 2 ^ 60) (λ entry q. omega (arith, q)) _ (few_made plan number moments lawful few).0)
 
 pub few_goals_sent : (plan : PlanData) (number : ℕ) (moments : List Moment) → IsLawfulPlan plan → length moments ≤ 65536 → All (λ entry. entry.goals < 2 ^ 60) (rounds plan number moments (first_world plan)).action_clients
 few_goals_sent plan number moments lawful few =
-    All-from_recursion (λ (entry : ActionClientEntry). entry.goals < 2 ^ 60) _ (all_weaker (λ (entry : ActionClientEntry). entry.goals ≤ 2730106028032) (λ entry. entry.goals < 2 ^ 60) (λ entry q. omega (arith, q)) _ (few_made plan number moments lawful few).1)
+    All-from_recursion (λ (entry : ActionClientEntry). entry.goals < 2 ^ 60) _ (all_weaker (λ (entry : ActionClientEntry). entry.goals ≤ of_run) (λ entry. entry.goals < 2 ^ 60) (λ entry q. omega (arith, q)) _ (few_made plan number moments lawful few).1)

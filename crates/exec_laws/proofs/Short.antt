@@ -18,6 +18,7 @@ use Rattle.exec_plan.specs.declared.entity.Declared.{Declared}
 use Rattle.exec_plan.specs.declared.entity.Declared.TheVariants as declared
 use Rattle.exec_plan.specs.declared.entity.EntityOf.TheVariants.{Timer, Subscription, Service, Client, Server, ActionClient}
 use Rattle.exec_msg.specs.Lists.{change_first}
+use Rattle.exec_msg.specs.declared.limits.TheConstants.{GOALS, INSTRUCTIONS}
 use Rattle.exec_msg.specs.Timer.{is_due}
 use Rattle.exec_msg.specs.declared.kind.Kind.{Kind}
 use Rattle.exec_msg.specs.declared.kind.Kind.TheVariants as kind
@@ -32,7 +33,7 @@ use Rattle.exec_rules.specs.World.{GoalWork, ServerEntry, TimerEntry, WorldState
 
 -- a script of no more instructions than one may have
 abbrev pub IsShort : Script → Type 0
-IsShort script = length script ≤ 64
+IsShort script = length script ≤ INSTRUCTIONS
 
 -- a goal's work, if it is at home, has such a script
 abbrev pub IsShortWork : Option GoalWork → Type 0
@@ -42,7 +43,7 @@ IsShortWork (Some work) = IsShort work.script
 -- a server's script is short, as its goals' are, and it holds no more goals than one may
 pub record IsSmallServer (entry : ServerEntry) : Type 0 where
   pub script : IsShort entry.handler.script
-  pub goals : length entry.goals ≤ 64
+  pub goals : length entry.goals ≤ GOALS
   pub works : AllByRecursion (λ held. IsShortWork held.work) entry.held
 
 -- all scripts of a world are short, and no server holds more goals than it may
@@ -101,9 +102,9 @@ server_accepted server number moment how request (entry ∷ servers) room p = by
         AllByRecursion IsSmallServer (change_first (is_server_at server) (server_accepting number moment how request) (entry ∷ servers))
     by true e rest =
         let here : has_room_for request.id entry.goals ≡ true = rw e at room in
-        let few : nat_le 64 (length entry.goals) ≡ false = (or_parts (holds_id request.id entry.goals) (is_full entry.goals) (not-true (holds_id request.id entry.goals || is_full entry.goals) here)).1 in
+        let few : nat_le GOALS (length entry.goals) ≡ false = (or_parts (holds_id request.id entry.goals) (is_full entry.goals) (not-true (holds_id request.id entry.goals || is_full entry.goals) here)).1 in
         let one_more : List GoalRecord = new_goal request.id request.value moment how ∷ [] in
-        let fits : length (entry.goals ++ one_more) ≤ 64 = omega (arith, leb-false 64 (length entry.goals) few, length-append entry.goals one_more) in
+        let fits : length (entry.goals ++ one_more) ≤ GOALS = omega (arith, leb-false GOALS (length entry.goals) few, length-append entry.goals one_more) in
         let accepted : IsSmallServer (server_accepting number moment how request entry) = record {
           script = p.0.script;
           goals = fits;

@@ -1,7 +1,6 @@
 pub mod Arrivals
 pub mod Clients
 pub mod Forms
-pub mod FullTable
 pub mod Goals
 pub mod ManyGoals
 pub mod Queues

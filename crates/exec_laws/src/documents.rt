@@ -5,21 +5,20 @@ ghost use Rattle.std.specs.Prelude.{◌≡◌, Some};
 ghost use Rattle.exec_doc.specs.Document.{document_of};
 ghost use Rattle.exec_laws.specs.Documents.Timers.{empty_text, late_text, repeated_text, shared_text, wrapped_text, full_queue_text, echo_text};
 ghost use Rattle.exec_laws.specs.Documents.Services.{doubled_text, unscripted_text, displaced_request_text};
-ghost use Rattle.exec_laws.specs.Documents.Goals.{cancel_all_text, cancel_before_text, cancel_goal_and_before_text, cancel_unknown_text, cancel_terminated_text, cancel_again_text, cancel_refused_text, cancel_unknown_refused_text, canceled_text, woken_by_cancel_text, canceled_unasked_text, held_id_text};
+ghost use Rattle.exec_laws.specs.Documents.Goals.{cancel_all_text, cancel_before_text, cancel_goal_and_before_text, cancel_unknown_text, cancel_terminated_text, cancel_again_text, cancel_refused_text, cancel_unknown_refused_text, canceled_text, woken_by_cancel_text, canceled_unasked_text, held_id_text, expired_together_text};
 ghost use Rattle.exec_laws.specs.Documents.Clients.{succeeded_while_canceling_text, awaited_result_text, expired_result_text, feedback_text, canceled_by_client_text, deferred_text};
 ghost use Rattle.exec_laws.specs.Documents.Arrivals.{succeeded_before_canceling_text, pended_behind_message_text};
 ghost use Rattle.exec_laws.specs.Documents.Forms.{cancel_forms_text, two_clients_text, accepted_anew_text, arithmetic_text};
 ghost use Rattle.exec_laws.specs.Documents.Queues.{full_goal_queue_text, full_cancel_queue_text, full_feedback_queue_text, full_result_queue_text};
-ghost use Rattle.exec_laws.specs.Documents.Large.{many_goals_text, full_table_text};
+ghost use Rattle.exec_laws.specs.Documents.Large.{many_goals_text};
 ghost use Rattle.exec_laws.specs.Examples.Timers.{empty, late, repeated, shared, wrapped, full_queue, echo};
 ghost use Rattle.exec_laws.specs.Examples.Services.{doubled, unscripted, displaced_request};
-ghost use Rattle.exec_laws.specs.Examples.Goals.{cancel_all, cancel_before, cancel_goal_and_before, cancel_unknown, cancel_terminated, cancel_again, cancel_refused, cancel_unknown_refused, canceled, woken_by_cancel, canceled_unasked, held_id};
+ghost use Rattle.exec_laws.specs.Examples.Goals.{cancel_all, cancel_before, cancel_goal_and_before, cancel_unknown, cancel_terminated, cancel_again, cancel_refused, cancel_unknown_refused, canceled, woken_by_cancel, canceled_unasked, held_id, expired_together};
 ghost use Rattle.exec_laws.specs.Examples.Clients.{succeeded_while_canceling, awaited_result, expired_result, feedback, canceled_by_client, deferred};
 ghost use Rattle.exec_laws.specs.Examples.Arrivals.{succeeded_before_canceling, pended_behind_message};
 ghost use Rattle.exec_laws.specs.Examples.Forms.{cancel_forms, two_clients, accepted_anew, arithmetic};
 ghost use Rattle.exec_laws.specs.Examples.Queues.{full_goal_queue, full_cancel_queue, full_feedback_queue, full_result_queue};
 ghost use Rattle.exec_laws.specs.Examples.ManyGoals.{many_goals};
-ghost use Rattle.exec_laws.specs.Examples.FullTable.{full_table};
 
 /// A document with nothing in it.
 pub fn empty()
@@ -131,6 +130,11 @@ pub fn held_id()
     ensures { document_of held_id_text ≡ Some held_id }
 {}
 
+/// Three goals of a server that keeps results for 5 ticks.
+pub fn expired_together()
+    ensures { document_of expired_together_text ≡ Some expired_together }
+{}
+
 /// A cancel request for a client's goal, by its identifier.
 pub fn succeeded_while_canceling()
     ensures { document_of succeeded_while_canceling_text ≡ Some succeeded_while_canceling }
@@ -204,11 +208,6 @@ pub fn full_result_queue()
 /// Sixteen goals of a server in a reentrant group, and timers of two exclusive ones.
 pub fn many_goals()
     ensures { document_of many_goals_text ≡ Some many_goals }
-{}
-
-/// 65 goals of one server.
-pub fn full_table()
-    ensures { document_of full_table_text ≡ Some full_table }
 {}
 
 /// A cancel request for a client's goal, under the order of arrival.

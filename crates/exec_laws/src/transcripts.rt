@@ -5,11 +5,10 @@ ghost use Rattle.exec_rules.specs.Transcript.{lines_of};
 ghost use Rattle.exec_laws.specs.Examples.Timers.{empty, empty_lines, late, late_lines, repeated, repeated_lines, shared, shared_lines, wrapped, wrapped_lines, full_queue, full_queue_lines, echo, echo_lines};
 ghost use Rattle.exec_laws.specs.Examples.Queues.{full_goal_queue, full_goal_queue_lines, full_cancel_queue, full_cancel_queue_lines, full_feedback_queue, full_feedback_queue_lines, full_result_queue, full_result_queue_lines};
 ghost use Rattle.exec_laws.specs.Examples.Services.{doubled, doubled_lines, unscripted, unscripted_lines, displaced_request, displaced_request_lines};
-ghost use Rattle.exec_laws.specs.Examples.Goals.{cancel_all, cancel_all_lines, cancel_before, cancel_before_lines, cancel_goal_and_before, cancel_goal_and_before_lines, cancel_unknown, cancel_unknown_lines, cancel_terminated, cancel_terminated_lines, cancel_again, cancel_again_lines, cancel_refused, cancel_refused_lines, cancel_unknown_refused, cancel_unknown_refused_lines, canceled, canceled_lines, woken_by_cancel, woken_by_cancel_lines, canceled_unasked, canceled_unasked_lines, held_id, held_id_lines};
+ghost use Rattle.exec_laws.specs.Examples.Goals.{cancel_all, cancel_all_lines, cancel_before, cancel_before_lines, cancel_goal_and_before, cancel_goal_and_before_lines, cancel_unknown, cancel_unknown_lines, cancel_terminated, cancel_terminated_lines, cancel_again, cancel_again_lines, cancel_refused, cancel_refused_lines, cancel_unknown_refused, cancel_unknown_refused_lines, canceled, canceled_lines, woken_by_cancel, woken_by_cancel_lines, canceled_unasked, canceled_unasked_lines, held_id, held_id_lines, expired_together, expired_together_lines};
 ghost use Rattle.exec_laws.specs.Examples.Clients.{succeeded_while_canceling, succeeded_while_canceling_lines, awaited_result, awaited_result_lines, expired_result, expired_result_lines, feedback, feedback_lines, canceled_by_client, canceled_by_client_lines, deferred, deferred_lines};
 ghost use Rattle.exec_laws.specs.Examples.ManyGoals.{many_goals, many_goals_lines};
 ghost use Rattle.exec_laws.specs.Examples.Forms.{cancel_forms, cancel_forms_lines, two_clients, two_clients_lines, accepted_anew, accepted_anew_lines, arithmetic, arithmetic_lines};
-ghost use Rattle.exec_laws.specs.Examples.FullTable.{full_table, full_table_lines};
 ghost use Rattle.exec_doc.specs.Examples.Orders.{two_subscriptions, two_subscriptions_by_arrival};
 ghost use Rattle.exec_laws.specs.Examples.Arrivals.{two_subscriptions_lines, two_subscriptions_by_arrival_lines};
 ghost use Rattle.exec_laws.specs.Examples.Arrivals.{succeeded_before_canceling, succeeded_before_canceling_lines};
@@ -126,6 +125,11 @@ pub fn held_id()
     ensures { lines_of held_id ≡ held_id_lines }
 {}
 
+/// Two goals expire in one round, and one between them is kept.
+pub fn expired_together()
+    ensures { lines_of expired_together ≡ expired_together_lines }
+{}
+
 /// A goal that is canceled in the round in which it succeeds.
 pub fn succeeded_while_canceling()
     ensures { lines_of succeeded_while_canceling ≡ succeeded_while_canceling_lines }
@@ -159,11 +163,6 @@ pub fn deferred()
 /// Each goal waits until moment 20.
 pub fn many_goals()
     ensures { lines_of many_goals ≡ many_goals_lines }
-{}
-
-/// One goal is sent in each round.
-pub fn full_table()
-    ensures { lines_of full_table ≡ full_table_lines }
 {}
 
 /// A server whose queue of goal requests is full.

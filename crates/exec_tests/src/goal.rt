@@ -263,6 +263,41 @@ fn answers_behind_an_end(rt: &impl Abort, goals: &mut Goals) -> Result<(), Fail>
 }
 
 #[test]
+fn goals_are_forgotten_together(rt: HostRuntime) -> Result<(), Fail> {
+    let mut goals = Goals::new(rt.alloc());
+    for number in 1..5_u64 {
+        goals.accept(id(number as u128), 0, moment(0), Acceptance::Execute)?;
+    }
+    goals.end(id(1), Event::Succeed, 1, moment(10))?;
+    goals.end(id(4), Event::Succeed, 4, moment(30))?;
+    goals.end(id(3), Event::Abort, 3, moment(11))?;
+    forgets_two(&rt, &mut goals);
+    Ok(())
+}
+
+// Goals 1 and 3 are forgotten, goal 2 hasn't ended, and goal 4 ended later.
+fn forgets_two(rt: &impl Abort, goals: &mut Goals) {
+    same(rt, goals.has_expired(moment(19), 10), false);
+    same(rt, goals.has_expired(moment(21), 10), true);
+    assert_eq!(rt; goals.len(), 4);
+    let first = goals.is_expired_at(0, moment(21), 10);
+    let last = goals.is_expired_at(3, moment(21), 10);
+    same(rt, (first, last), (true, false));
+    goals.forget_expired(moment(21), 10);
+    let held = [1, 2, 3, 4].map(|number: u128| goals.holds(id(number)));
+    same(rt, held, [false, true, false, true]);
+    assert_eq!(rt; goals.len(), 2);
+    same(rt, (goals.at(0).id, goals.at(1).id), (id(2), id(4)));
+    same(rt, goals.has_expired(moment(21), 10), false);
+    same(rt, goals.expire(moment(40), 10), Some(id(4)));
+}
+
+// A goal after as many as a table holds.
+fn one_more() -> GoalId {
+    id(GOALS as u128 + 1)
+}
+
+#[test]
 fn a_full_table(rt: HostRuntime) -> Result<(), Fail> {
     let mut goals = Goals::new(rt.alloc());
     fills(&rt, &mut goals)?;
@@ -284,7 +319,7 @@ fn frees_a_place(rt: &impl Abort, goals: &mut Goals) -> Result<(), Fail> {
     goals.end(id(7), Event::Succeed, 1, moment(1))?;
     refuses_more(rt, goals);
     same(rt, goals.expire(moment(1), 0), Some(id(7)));
-    goals.accept(id(65), 0, moment(2), Acceptance::Defer)?;
+    goals.accept(one_more(), 0, moment(2), Acceptance::Defer)?;
     Ok(())
 }
 
@@ -296,9 +331,9 @@ fn refuses_more(rt: &impl Abort, goals: &mut Goals) {
     );
     same(
         rt,
-        goals.accept(id(65), 0, moment(0), Acceptance::Defer),
+        goals.accept(one_more(), 0, moment(0), Acceptance::Defer),
         Err(Reject::Full),
     );
     same(rt, goals.len(), GOALS);
-    same(rt, goals.holds(id(65)), false);
+    same(rt, goals.holds(one_more()), false);
 }

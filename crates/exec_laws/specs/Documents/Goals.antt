@@ -100,3 +100,12 @@ held_id_text =
     codes "{\"version\":1,\"nodes\":[{\"name\":\"n\",\"actions\":[{\"name\":\"a\",\"on_goal\":[[\"decide\",3]],\"on_cancel\":[[\"decide\",2]],\"script\":[]}]}],"
     ++ codes "\"moments\":[10,20],\"feed\":[{\"round\":1,\"action\":\"a\",\"goal\":\"00000000-0000-0000-0000-000000000001\",\"value\":5},"
     ++ codes "{\"round\":2,\"action\":\"a\",\"goal\":\"00000000-0000-0000-0000-000000000001\",\"value\":6}]}"
+
+-- goals whose results are kept no longer from the same round on
+abbrev pub expired_together_text : List ℕ
+expired_together_text =
+    codes "{\"version\":1,\"nodes\":[{\"name\":\"n\",\"actions\":[{\"name\":\"a\",\"result_timeout\":5,\"on_goal\":[[\"decide\",2]],\"on_cancel\":[[\"decide\",2]],\"script\":[[\"wait\",\"in\"],[\"succeed\",\"in\"]]}]}],"
+    ++ codes "\"moments\":[1,2,3,5,6,20],"
+    ++ codes "\"feed\":[{\"round\":1,\"action\":\"a\",\"goal\":\"00000000-0000-0000-0000-000000000001\",\"value\":1},"
+    ++ codes "{\"round\":2,\"action\":\"a\",\"goal\":\"00000000-0000-0000-0000-000000000002\",\"value\":50},"
+    ++ codes "{\"round\":3,\"action\":\"a\",\"goal\":\"00000000-0000-0000-0000-000000000003\",\"value\":1}]}"

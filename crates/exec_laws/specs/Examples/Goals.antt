@@ -337,3 +337,35 @@ held_id_lines =
     ∷ line.Round 2 20 ∷ line.Run 0 kind.Goal (pos 6) (pos 0) (Some 1) ∷ line.Decide 0 1 decision.Reject
     ∷ line.End 2
     ∷ []
+
+-- goals 1 and 3 end, and goal 2 waits until 53: the results of the two are kept no longer at 20
+abbrev pub expired_together : PlanData
+expired_together = record {
+  graph = record {
+    nodes = codes "n" ∷ [];
+    groups = record { node = 0; name = None; exclusive = true } ∷ [];
+    entities =
+        record { name = codes "a"; is = in_group 0 (Server (record { depth = 10; result_timeout = Some 5; on_goal = instr.Decide (operand.Value (pos 2)) ∷ []; on_cancel = instr.Decide (operand.Value (pos 2)) ∷ []; script = instr.Wait operand.In ∷ instr.Succeed operand.In ∷ [] })) }
+        ∷ [];
+  };
+  order = order.Kind;
+  moments = 1 ∷ 2 ∷ 3 ∷ 5 ∷ 6 ∷ 20 ∷ [];
+  feed =
+      record { round = 1; fed = Goal 0 1 (pos 1) }
+      ∷ record { round = 2; fed = Goal 0 2 (pos 50) }
+      ∷ record { round = 3; fed = Goal 0 3 (pos 1) }
+      ∷ [];
+}
+
+abbrev pub expired_together_lines : List Line
+expired_together_lines =
+    line.Round 1 1 ∷ line.Run 0 kind.Goal (pos 1) (pos 0) (Some 1) ∷ line.Decide 0 1 decision.Execute ∷ line.State 0 1 status.Accepted ∷ line.State 0 1 status.Executing
+    ∷ line.Round 2 2 ∷ line.Run 0 kind.Goal (pos 50) (pos 0) (Some 2) ∷ line.Decide 0 2 decision.Execute ∷ line.State 0 2 status.Accepted ∷ line.State 0 2 status.Executing
+    ∷ line.Run 0 kind.Poll (pos 1) (pos 0) (Some 1)
+    ∷ line.Round 3 3 ∷ line.Run 0 kind.Goal (pos 1) (pos 0) (Some 3) ∷ line.Decide 0 3 decision.Execute ∷ line.State 0 3 status.Accepted ∷ line.State 0 3 status.Executing
+    ∷ line.Run 0 kind.Poll (pos 1) (pos 0) (Some 1) ∷ line.State 0 1 status.Succeeded ∷ line.Run 0 kind.Poll (pos 50) (pos 0) (Some 2)
+    ∷ line.Round 4 5 ∷ line.Run 0 kind.Poll (pos 1) (pos 0) (Some 3)
+    ∷ line.Round 5 6 ∷ line.Run 0 kind.Poll (pos 1) (pos 0) (Some 3) ∷ line.State 0 3 status.Succeeded
+    ∷ line.Round 6 20 ∷ line.Expire 0 1 ∷ line.Expire 0 3
+    ∷ line.End 6
+    ∷ []
