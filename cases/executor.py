@@ -14,7 +14,7 @@ from codes import hyphenated, identifier
 
 ACCEPTED, EXECUTING, CANCELING, SUCCEEDED, CANCELED, ABORTED = 1, 2, 3, 4, 5, 6
 REJECT, ACCEPT_AND_EXECUTE, ACCEPT_AND_DEFER = 1, 2, 3
-GOALS = 64
+GOALS = 1024
 # The words of callbacks in the order of their kinds, each with its kind of entity.
 KINDS = {
     "timer": "timers",

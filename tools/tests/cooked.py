@@ -18,7 +18,7 @@ SCRIPT = re.compile(r"^```script (\w+)\n(.*?)^```$", re.S | re.M)
 ONCE = "if g7 goto end\ng7 = 1\ngoal driver 5"
 
 
-def around(period=10, apart=1, **given):
+def around(period=10, apart=1, until=70, **given):
     """A document with one entity of each kind, in which some scripts are others."""
     scripts = {"timer": "log 0", "callback": "log in", "service": "reply in", "reply": "log in", "on_goal": "decide 2", "goal": "succeed in", **given}
     made = virraupez.Document(topics=["x", "y"])
@@ -30,7 +30,7 @@ def around(period=10, apart=1, **given):
     node.action("drive", on_goal=scripts["on_goal"], on_cancel="decide 2", script=scripts["goal"])
     clients = {name: scripts[name] for name in ("on_response", "on_code", "on_feedback") if name in scripts}
     node.action_client("driver", action="drive", on_result=scripts.get("on_result", "log aux"), **clients)
-    made.every(apart, until=70, begin=1)
+    made.every(apart, until=until, begin=1)
     return made
 
 
@@ -198,6 +198,6 @@ def surprises():
         made.message("x", value, at=5)
     status, says = held(made, "every run listen message 1 then run listen message 2 within 1 round\nnever run listen message 2 before round 6\ncount run listen is 2")
     yield f"one message a round: {says}", status, 0
-    made = around(period=1, timer="goal driver now")
-    status, says = held(made, "count decide drive _ ACCEPT_AND_EXECUTE is 64\ncount decide drive _ REJECT is 5\ncount state drive _ SUCCEEDED is 64")
-    yield f"a server that holds 64 goals: {says}", status, 0
+    made = around(period=1, until=1030, timer="goal driver now")
+    status, says = held(made, "count decide drive _ ACCEPT_AND_EXECUTE is 1024\ncount decide drive _ REJECT is 5\ncount state drive _ SUCCEEDED is 1024")
+    yield f"a server that holds 1,024 goals: {says}", status, 0

@@ -16,7 +16,7 @@ UNQUEUED = ("timer", "poll")
 KEPT = ("reply", "ask", "response", "code")
 LONGEST = 1024
 STATES = {"1": "ACCEPTED", "2": "EXECUTING", "3": "CANCELING", "4": "SUCCEEDED", "5": "CANCELED", "6": "ABORTED"}
-LEAST, MOST, GOALS = -(2**63), 2**63 - 1, 64
+LEAST, MOST, GOALS = -(2**63), 2**63 - 1, 1024
 
 
 # ---- forms
