@@ -1,14 +1,12 @@
 -- What a server forgets, and what it executes.
-use Rattle.std.proofs.Common.{◌≡◌, ℕ, zero, suc, ◌≤◌, ◌<◌, ◌==◌, ◌||◌, List, [], ◌∷◌, map, length, drop, get_or, Bool, true, false, not, cond, if◌then◌else◌, Option, None, Some, Result, Ok, Err, OnOk, OnErr, slice_get, refl, ap, sym, ◌∙◌, arith}
+use Rattle.std.proofs.Common.{◌≡◌, ℕ, ◌<◌, ◌==◌, ◌||◌, List, [], ◌∷◌, map, length, drop, get_or, Bool, true, false, not, cond, if◌then◌else◌, Option, None, Some, Result, Ok, Err, OnOk, OnErr, refl, ap, sym, ◌∙◌, arith}
 use Rattle.std.specs.List.{find, filter, list_any}
 use Rattle.std.specs.Option.{option_map, unwrap_or}
 use Rattle.std.proofs.lemmas.Bool.{eqb-false, eq-eqb, ne_eqb, or_parts, or_from, or_left, or_right}
 use Rattle.exec_goal.specs.Calls.{next_state, moved_to}
 use Rattle.exec_goal.specs.inner.Ids.{is_among}
-use Rattle.exec_goal.specs.Info.{info_of}
-use Rattle.exec_goal.specs.State.{after, is_accepted}
+use Rattle.exec_goal.specs.State.{after}
 use Rattle.exec_goal.specs.Table.{GoalRecord, has_id, holds_id, after_event, is_expired, unexpired}
-use Rattle.exec_goal.specs.declared.info.GoalInfo.{GoalInfo}
 use Rattle.exec_goal.specs.declared.state.State.{State}
 use Rattle.exec_msg.specs.declared.goal.Event.{Event}
 use Rattle.exec_msg.specs.declared.goal.Event.TheVariants as event
@@ -19,50 +17,6 @@ use Rattle.exec_msg.specs.declared.line.Line.TheVariants as line
 use Rattle.exec_goal.proofs.Filtering.{filter-none}
 use Rattle.exec_rules.specs.World.{HeldGoal, ServerEntry}
 use Rattle.exec_entity.specs.inner.Keeping.{AreDistinct, AreKept, executed}
-
--- ---- what is found in a list from a place on
-
-module _ {A : Type 0} (test : A → Bool) where
-  found_by : (b : Bool) (x : A) (found : Option A) → b ≡ true → cond b (Some x) found ≡ Some x
-  found_by true x found is = refl
-  found_by false x found is = absurd cc
-
-  passed_by : (b : Bool) (x : A) (found : Option A) → b ≡ false → found ≡ cond b (Some x) found
-  passed_by true x found is = absurd cc
-  passed_by false x found is = refl
-
-  -- an element that passes is the first from its place on
-  pub found_at : (xs : List A) (i : ℕ) (x : A) → slice_get xs i ≡ Some x → test x ≡ true → find test (drop i xs) ≡ Some x
-  found_at [] i x at is = absurd cc
-  found_at (y ∷ xs) zero x at is =
-      let same : y ≡ x = cc in
-      found_by (test y) y (find test xs) (ap test same ∙ is) ∙ at
-  found_at (y ∷ xs) (suc i) x at is = found_at xs i x at is
-
-  -- and one that doesn't is passed over
-  pub passed_at : (xs : List A) (i : ℕ) (x : A) → slice_get xs i ≡ Some x → test x ≡ false → find test (drop (suc i) xs) ≡ find test (drop i xs)
-  passed_at [] i x at is = absurd cc
-  passed_at (y ∷ xs) zero x at is =
-      let same : y ≡ x = cc in
-      passed_by (test y) y (find test xs) (ap test same ∙ is)
-  passed_at (y ∷ xs) (suc i) x at is = passed_at xs i x at is
-
-  -- behind the last there is none
-  pub none_from : (xs : List A) (i : ℕ) → length xs ≤ i → find test (drop i xs) ≡ None
-  none_from [] zero all = refl
-  none_from [] (suc i) all = refl
-  none_from (x ∷ xs) zero all = absurd (omega (arith, all))
-  none_from (x ∷ xs) (suc i) all = none_from xs i (omega (arith, all))
-
-told_by : (b : Bool) (goal : GoalRecord) (found : Option GoalRecord) (told : Option GoalInfo) → option_map (λ goal. goal.id) found ≡ option_map (λ info. info.id) told →
-    option_map (λ goal. goal.id) (cond b (Some goal) found) ≡ option_map (λ info. info.id) (cond b (Some (info_of goal)) told)
-told_by true goal found told same = refl
-told_by false goal found told same = same
-
--- the oldest accepted goal is that of what is told of goals
-pub oldest-told : (goals : List GoalRecord) → option_map (λ goal. goal.id) (find (λ goal. is_accepted goal.state) goals) ≡ option_map (λ info. info.id) (find (λ info. is_accepted info.state) (map info_of goals))
-oldest-told [] = refl
-oldest-told (goal ∷ goals) = told_by (is_accepted goal.state) goal (find (λ goal. is_accepted goal.state) goals) (find (λ info. is_accepted info.state) (map info_of goals)) (oldest-told goals)
 
 -- ---- a goal is moved by an event
 

@@ -242,21 +242,9 @@ impl Server {
         ensures found { result ≡ option_map (λ goal. goal.id) (find (λ goal. is_accepted goal.state) self.old.goals) }
         ensures executed { self.new ≡ record self.old { goals = executed (find (λ goal. is_accepted goal.state) self.old.goals) self.old.goals } }
     {
-        let id = self.oldest_accepted()?;
+        let id = self.goals.oldest_accepted()?;
         let _state = self.goals.apply(id, Event::Execute);
         Some(id)
-    }
-
-    fn oldest_accepted(&self) -> Option<GoalId>
-        ensures { result ≡ option_map (λ goal. goal.id) (find (λ goal. is_accepted goal.state) self.now.goals) }
-    {
-        for index in 0..self.len() {
-            let goal = self.goal_at(index);
-            if goal.state.is_accepted() {
-                return Some(goal.id);
-            }
-        }
-        None
     }
 
     // Ends a goal by an event at a moment with its result, and answers its terminal state. Nothing changes if no such goal is

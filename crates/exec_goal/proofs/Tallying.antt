@@ -1,8 +1,8 @@
 -- How a table's tally follows what is done to its goals.
-use Rattle.std.proofs.Common.{◌≡◌, ℕ, zero, suc, ◌+◌, ◌≤◌, ◌<◌, ◌^◌, ◌==◌, ◌&&◌, List, [], ◌∷◌, ◌++◌, length, map, Bool, true, false, not, cond, nat_le, if◌then◌else◌, Option, None, Some, slice_get, slice_set, remove, get_or, refl, ap, sym, subst, ◌∙◌, arith}
+use Rattle.std.proofs.Common.{◌≡◌, ℕ, zero, suc, ◌+◌, ◌≤◌, ◌<◌, ◌^◌, ◌==◌, ◌&&◌, List, [], ◌∷◌, ◌++◌, length, map, Bool, true, false, not, cond, nat_le, if◌then◌else◌, Option, None, Some, slice_get, slice_set, remove, get_or, refl, ap, sym, subst, ◌∙◌, arith, add-one}
 use Rattle.std.specs.List.{filter, find, AllByRecursion}
 use Rattle.std.specs.Map.{lookup, set_value}
-use Rattle.std.specs.Option.{option_map}
+use Rattle.std.specs.Option.{option_map, unwrap_or}
 use Rattle.std.proofs.lemmas.Bool.{and_parts, not-false, leb-true, leb-false, lt-leb}
 use Rattle.std.proofs.lemmas.List.{length-map, map_push, map-set}
 use Rattle.std.proofs.lemmas.Option.{get_or_from_slice_get, slice_get_within, slice_get-map}
@@ -16,15 +16,17 @@ use Rattle.exec_goal.specs.inner.Places.{IsFirst}
 use Rattle.exec_goal.specs.inner.Held.{record_of, records_of}
 use Rattle.exec_goal.specs.Cancel.{after_answer_by}
 use Rattle.exec_goal.specs.Info.{info_of}
-use Rattle.exec_goal.specs.State.{is_cancelable, is_worked_on, is_terminal}
+use Rattle.exec_goal.proofs.Moving.{transition_from}
+use Rattle.exec_goal.specs.State.{Transition, execute, cancel_accepted, cancel_executing, succeed, abort, succeed_canceling, abort_canceling, canceled, after, is_accepted, is_cancelable, is_worked_on, is_terminal}
+use Rattle.exec_msg.specs.declared.goal.Event.{Event}
 use Rattle.exec_msg.specs.declared.goal.Event.TheVariants as event
-use Rattle.exec_goal.specs.Table.{GoalRecord, after_event, has_id, working, is_expired, expired, unexpired}
+use Rattle.exec_goal.specs.Table.{GoalRecord, after_event, moved_by, has_id, working, is_expired, expired, unexpired}
 use Rattle.exec_goal.specs.declared.held.GoalEntry.{GoalEntry}
 use Rattle.exec_goal.specs.declared.info.GoalInfo.{GoalInfo}
 use Rattle.exec_goal.specs.declared.state.State.{State}
 use Rattle.exec_goal.specs.declared.state.State.TheVariants as state
 use Rattle.exec_goal.specs.declared.tally.Tally.{Tally}
-use Rattle.exec_goal.specs.inner.Tally.{one_where, first_with, first_with_goal, may_expire, CountsMove, TellsState, EndsFrom, IsTallied}
+use Rattle.exec_goal.specs.inner.Tally.{one_where, first_with, first_with_goal, may_expire, CountsMove, TellsState, EndsFrom, NoneWaits, IsTallied}
 
 -- ---- how many goals are worked on
 
@@ -109,13 +111,20 @@ module _ (old new : GoalRecord) where
   replaced-infos _ _ (here goals) same = ap (λ info. info ∷ map info_of goals) same
   replaced-infos _ _ (later goal goals others replaced) same = ap (λ infos. info_of goal ∷ infos) (replaced-infos goals others replaced same)
 
+  replaced-waiting : (is_accepted old.state ≡ false → is_accepted new.state ≡ false) → (place : ℕ) (goals others : List GoalRecord) → Replaced old new goals others → NoneWaits place goals → NoneWaits place others
+  replaced-waiting executed zero _ _ (here goals) waiting = tt
+  replaced-waiting executed (suc place) _ _ (here goals) waiting = (executed waiting.0, waiting.1)
+  replaced-waiting executed zero _ _ (later goal goals others replaced) waiting = tt
+  replaced-waiting executed (suc place) _ _ (later goal goals others replaced) waiting = (waiting.0, replaced-waiting executed place goals others replaced waiting.1)
+
   -- the tally after it
-  pub tallied-replaced : (before after : Tally) (goals others : List GoalRecord) → Replaced old new goals others → CountsMove old.state new.state new.ended before after →
+  pub tallied-replaced : (before after : Tally) (goals others : List GoalRecord) → Replaced old new goals others → (is_accepted old.state ≡ false → is_accepted new.state ≡ false) → CountsMove old.state new.state new.ended before after →
       after.infos.items ≡ map info_of others → IsTallied before goals → IsTallied after others
-  tallied-replaced before after goals others replaced counts infos tallied = record {
+  tallied-replaced before after goals others replaced executed counts infos tallied = record {
     counted = omega (arith, tallied.counted, counts.working, replaced-working goals others replaced);
     ends = subst (λ first. AllByRecursion (EndsFrom first) others) (sym counts.first)
         (replaced-ends (is_terminal new.state) new.ended before.first_end goals others (ends-here (is_terminal new.state) before.first_end new refl) replaced tallied.ends);
+    waiting = subst (λ (place : ℕ). NoneWaits place others) (sym counts.waiting) (replaced-waiting executed before.waiting_from goals others replaced tallied.waiting);
     infos = infos;
     within = omega (arith, tallied.within, replaced-length goals others replaced);
   }
@@ -177,6 +186,11 @@ told_behind place goals goal old new last tells are =
     let there : slice_get all place ≡ Some goal = ap (slice_get all) last ∙ last-there goals goal in
     tells-in place goal goal all (old ++ info_of goal ∷ []) new there refl tells told ∙ ap (map info_of) (ap (λ (i : ℕ). slice_set all i goal) last ∙ set-last goals goal goal)
 
+waiting-append : (place : ℕ) (goals : List GoalRecord) (goal : GoalRecord) → NoneWaits place goals → NoneWaits place (goals ++ goal ∷ [])
+waiting-append zero goals goal waiting = tt
+waiting-append (suc place) [] goal waiting = absurd waiting
+waiting-append (suc place) (one ∷ goals) goal waiting = (waiting.0, waiting-append place goals goal waiting.1)
+
 -- a new goal, which counts as one that was ACCEPTED
 pub tallied-accepted : (before after : Tally) (goals : List GoalRecord) (goal : GoalRecord) (place : ℕ) → place ≡ length goals → length goals < GOALS → CountsMove state.Accepted goal.state goal.ended before after →
     TellsState place goal.state (before.infos.items ++ info_of goal ∷ []) after.infos.items → IsTallied before goals → IsTallied after (goals ++ goal ∷ [])
@@ -185,9 +199,31 @@ tallied-accepted before after goals goal place last room counts tells tallied = 
   ends = subst (λ first. AllByRecursion (EndsFrom first) (goals ++ goal ∷ [])) (sym counts.first)
       (ends-append (first_with (is_terminal goal.state) goal.ended before.first_end) goals goal (all-weaker (is_terminal goal.state) goal.ended before.first_end goals tallied.ends)
       (ends-here (is_terminal goal.state) before.first_end goal refl));
+  waiting = subst (λ (place : ℕ). NoneWaits place (goals ++ goal ∷ [])) (sym counts.waiting) (waiting-append before.waiting_from goals goal tallied.waiting);
   infos = told_behind place goals goal before.infos.items after.infos.items last tells tallied.infos;
   within = omega (arith, room, length-append goals goal);
 }
+
+-- no event leads to ACCEPTED
+pub never_anew : (before : State) (by : Event) (next : State) → after before by ≡ Some next → is_accepted next ≡ false
+never_anew before by next is = entered before by next (transition_from before by next is)
+  where
+    entered : (before : State) (by : Event) (next : State) → Transition before by next → is_accepted next ≡ false
+    entered before by next execute = refl
+    entered before by next cancel_accepted = refl
+    entered before by next cancel_executing = refl
+    entered before by next succeed = refl
+    entered before by next abort = refl
+    entered before by next succeed_canceling = refl
+    entered before by next abort_canceling = refl
+    entered before by next canceled = refl
+
+moved_on : (by : Event) (before : State) → is_accepted before ≡ false → is_accepted (moved_by by before) ≡ false
+moved_on by before executed = where_to (after before by) refl
+  where
+    where_to : (reached : Option State) → after before by ≡ reached → is_accepted (unwrap_or reached before) ≡ false
+    where_to None is = executed
+    where_to (Some next) is = never_anew before by next is
 
 -- an answer to a cancel request leaves what is told of a goal but for its state
 pub answered-info : (accepted : Bool) (goal : GoalRecord) → info_of (after_answer_by (λ _. accepted) goal) ≡ record (info_of goal) { state = (after_answer_by (λ _. accepted) goal).state }
@@ -196,6 +232,14 @@ answered-info accepted goal = by (accepted && is_cancelable goal.state)
     by : (moves : Bool) → info_of (if moves then after_event event.CancelGoal goal else goal) ≡ record (info_of goal) { state = (if moves then after_event event.CancelGoal goal else goal).state }
     by true = refl
     by false = refl
+
+-- nor is it accepted anew
+pub answered-executed : (accepted : Bool) (goal : GoalRecord) → is_accepted goal.state ≡ false → is_accepted (after_answer_by (λ _. accepted) goal).state ≡ false
+answered-executed accepted goal executed = by (accepted && is_cancelable goal.state)
+  where
+    by : (moves : Bool) → is_accepted (if moves then after_event event.CancelGoal goal else goal).state ≡ false
+    by true = moved_on event.CancelGoal goal.state executed
+    by false = executed
 
 idle_ended : (before : State) → is_terminal before ≡ true → one_where (is_worked_on before) ≡ 0
 idle_ended state.Accepted is = absurd cc
@@ -225,13 +269,14 @@ removed-length (goal ∷ goals) (suc i) = omega (arith, removed-length goals i)
 
 -- a goal that has expired is taken out
 pub tallied-removed : (moment timeout : ℕ) (tally after : Tally) (goals : List GoalRecord) (i : ℕ) → IsFirst (is_expired moment (Some timeout)) goals i →
-    after.working ≡ tally.working → after.first_end ≡ tally.first_end → after.infos.items ≡ remove tally.infos.items i → IsTallied tally goals → IsTallied after (remove goals i)
-tallied-removed moment timeout tally after goals i first working same infos tallied =
+    after.working ≡ tally.working → after.first_end ≡ tally.first_end → after.waiting_from ≡ 0 → after.infos.items ≡ remove tally.infos.items i → IsTallied tally goals → IsTallied after (remove goals i)
+tallied-removed moment timeout tally after goals i first working same anew infos tallied =
     let ended : (d : GoalRecord) → is_terminal (get_or goals i d).state ≡ true =
     λ d. (and_parts (is_terminal (get_or goals i d).state) (nat_le ((get_or goals i d).ended + timeout) moment) (first.passes d)).0 in
     record {
       counted = omega (arith, working, tallied.counted, removed-working goals i first.within ended);
       ends = subst (λ first. AllByRecursion (EndsFrom first) (remove goals i)) (sym same) (removed-ends tally.first_end goals i tallied.ends);
+      waiting = subst (λ (place : ℕ). NoneWaits place (remove goals i)) (sym anew) tt;
       infos = infos ∙ ap (λ (infos : List GoalInfo). remove infos i) tallied.infos ∙ sym (map-remove info_of goals i);
       within = omega (arith, tallied.within, removed-length goals i);
     }
@@ -266,18 +311,56 @@ module _ (moment timeout : ℕ) where
   unexpired-length (goal ∷ goals) = omega (arith, kept_length (not (is_expired moment (Some timeout) goal)) goal (unexpired moment (Some timeout) goals), unexpired-length goals)
 
   -- all goals that have expired are taken out
-  pub tallied-unexpired : (tally after : Tally) (goals left : List GoalRecord) → left ≡ unexpired moment (Some timeout) goals → after.working ≡ tally.working → after.first_end ≡ tally.first_end →
+  pub tallied-unexpired : (tally after : Tally) (goals left : List GoalRecord) → left ≡ unexpired moment (Some timeout) goals → after.working ≡ tally.working → after.first_end ≡ tally.first_end → after.waiting_from ≡ 0 →
       after.infos.items ≡ map info_of left → IsTallied tally goals → IsTallied after left
-  tallied-unexpired tally after goals left are counts same infos tallied = record {
+  tallied-unexpired tally after goals left are counts same anew infos tallied = record {
     counted = omega (arith, counts, tallied.counted, unexpired-working goals, ap working are);
     ends = subst (λ left. AllByRecursion (EndsFrom after.first_end) left) (sym are) (subst (λ first. AllByRecursion (EndsFrom first) (unexpired moment (Some timeout) goals)) (sym same) (unexpired-ends tally.first_end goals tallied.ends));
+    waiting = subst (λ (place : ℕ). NoneWaits place left) (sym anew) tt;
     infos = infos;
     within = omega (arith, tallied.within, unexpired-length goals, ap length are);
   }
 
 -- another first end is known
 pub tallied-ends : (tally : Tally) (first : Option ℕ) (goals : List GoalRecord) → AllByRecursion (EndsFrom first) goals → IsTallied tally goals → IsTallied (record tally { first_end = first }) goals
-tallied-ends tally first goals ends tallied = record { counted = tallied.counted; ends = ends; infos = tallied.infos; within = tallied.within }
+tallied-ends tally first goals ends tallied = record { counted = tallied.counted; ends = ends; waiting = tallied.waiting; infos = tallied.infos; within = tallied.within }
+
+-- ---- goals that wait
+
+pub waiting-within : (place : ℕ) (goals : List GoalRecord) → NoneWaits place goals → place ≤ length goals
+waiting-within zero goals waiting = omega arith
+waiting-within (suc place) [] waiting = absurd waiting
+waiting-within (suc place) (goal ∷ goals) waiting = omega (arith, waiting-within place goals waiting.1)
+
+-- one more goal that doesn't
+pub waiting-next : (place : ℕ) (goals : List GoalRecord) → place < length goals → ((d : GoalRecord) → is_accepted (get_or goals place d).state ≡ false) → NoneWaits place goals → NoneWaits (place + 1) goals
+waiting-next place goals within idle waiting = rw add-one (next place goals within idle waiting)
+  where
+    next : (place : ℕ) (goals : List GoalRecord) → place < length goals → ((d : GoalRecord) → is_accepted (get_or goals place d).state ≡ false) → NoneWaits place goals → NoneWaits (suc place) goals
+    next place [] within idle waiting = absurd (omega (arith, within))
+    next zero (goal ∷ goals) within idle waiting = (idle goal, tt)
+    next (suc place) (goal ∷ goals) within idle waiting = (waiting.0, next place goals (omega (arith, within)) idle waiting.1)
+
+wait_by : (b : Bool) (goal : GoalRecord) (found next : Option GoalRecord) → b ≡ false → found ≡ next → cond b (Some goal) found ≡ next
+wait_by true goal found next is same = absurd cc
+wait_by false goal found next is same = same
+
+-- the first goal that waits, where it is known where it stands
+pub waiting-found : (place : ℕ) (goals : List GoalRecord) (d : GoalRecord) → place < length goals → is_accepted (get_or goals place d).state ≡ true → NoneWaits place goals → find (λ goal. is_accepted goal.state) goals ≡ Some (get_or goals place d)
+waiting-found place [] d within is waiting = absurd (omega (arith, within))
+waiting-found zero (goal ∷ goals) d within is waiting = ap (λ (b : Bool). cond b (Some goal) (find (λ goal. is_accepted goal.state) goals)) is
+waiting-found (suc place) (goal ∷ goals) d within is waiting =
+    wait_by (is_accepted goal.state) goal (find (λ goal. is_accepted goal.state) goals) (Some (get_or goals place d)) waiting.0 (waiting-found place goals d (omega (arith, within)) is waiting.1)
+
+-- where none does
+pub waiting-none : (place : ℕ) (goals : List GoalRecord) → length goals ≤ place → NoneWaits place goals → find (λ goal. is_accepted goal.state) goals ≡ None
+waiting-none place [] all waiting = refl
+waiting-none zero (goal ∷ goals) all waiting = absurd (omega (arith, all))
+waiting-none (suc place) (goal ∷ goals) all waiting = wait_by (is_accepted goal.state) goal (find (λ goal. is_accepted goal.state) goals) None waiting.0 (waiting-none place goals (omega (arith, all)) waiting.1)
+
+-- another place is known
+pub tallied-waiting : (tally : Tally) (place : ℕ) (goals : List GoalRecord) → NoneWaits place goals → IsTallied tally goals → IsTallied (record tally { waiting_from = place }) goals
+tallied-waiting tally place goals waiting tallied = record { counted = tallied.counted; ends = tallied.ends; waiting = waiting; infos = tallied.infos; within = tallied.within }
 
 -- ---- none can have expired
 
@@ -322,7 +405,7 @@ all-ends first (goal ∷ goals) ends = (ends 0 goal (omega arith), all-ends firs
 
 -- a goal that hasn't ended stays of its state
 pub unmoved : (before : State) (ended : ℕ) (tally : Tally) → is_terminal before ≡ false → CountsMove before before ended tally tally
-unmoved before ended tally is = record { working = refl; first = ap (λ (b : Bool). first_with b ended tally.first_end) (sym is) }
+unmoved before ended tally is = record { working = refl; waiting = refl; first = ap (λ (b : Bool). first_with b ended tally.first_end) (sym is) }
 
 module _ (test : ℕ → Bool) (id : ℕ) (same : (key : ℕ) → test key ≡ (key == id)) (held : GoalEntry) (entries : List (ℕ × GoalEntry)) (found : Some held ≡ lookup test entries) where
   -- another value is written in its place
@@ -333,7 +416,7 @@ module _ (test : ℕ → Bool) (id : ℕ) (same : (key : ℕ) → test key ≡ (
       let other = record_of (id, after) in
       let replaced = replaced-first (has_id id) (λ _. other) goal (records_of entries) (found-in test id same entries (records_of entries) (Some held) refl found) in
       subst (λ goals. IsTallied tally goals) (sym (changed-in test id same (λ _. other) held after refl entries set (records_of entries) refl found is))
-      (tallied-replaced goal other tally tally (records_of entries) _ replaced counts
+      (tallied-replaced goal other tally tally (records_of entries) _ replaced (λ is. ap (λ (info : GoalInfo). is_accepted info.state) told ∙ is) counts
       (tallied.infos ∙ sym (replaced-infos goal other (records_of entries) _ replaced told)) tallied)
 
   -- it is written back as it was
@@ -353,11 +436,11 @@ module _ (entries : List (ℕ × GoalEntry)) (i : ℕ) (entry : ℕ × GoalEntry
   pub told-within : (tally : Tally) → IsTallied tally (records_of entries) → i < length tally.infos.items
   told-within tally tallied = omega (arith, ap length tallied.infos, length-map (records_of entries) info_of, slice_get_within (records_of entries) i (record_of entry) goal-at)
 
-  pub tallied-at : (after : GoalEntry) (old new : Tally) → CountsMove entry.1.state after.state after.ended old new →
+  pub tallied-at : (after : GoalEntry) (old new : Tally) → (is_accepted entry.1.state ≡ false → is_accepted after.state ≡ false) → CountsMove entry.1.state after.state after.ended old new →
       TellsState i after.state old.infos.items new.infos.items → info_of (record_of (entry.0, after)) ≡ record (info_of (record_of entry)) { state = after.state } →
       IsTallied old (records_of entries) → IsTallied new (records_of (set_value_at entries i after))
-  tallied-at after old new counts tells told tallied =
+  tallied-at after old new executed counts tells told tallied =
       let other = record_of (entry.0, after) in
       subst (λ goals. IsTallied new goals) (sym (records-set_value_at entries i entry after found))
-      (tallied-replaced (record_of entry) other old new (records_of entries) _ (replaced-at (record_of entry) other (records_of entries) i goal-at) counts
+      (tallied-replaced (record_of entry) other old new (records_of entries) _ (replaced-at (record_of entry) other (records_of entries) i goal-at) executed counts
       (tells-in i (record_of entry) other (records_of entries) old.infos.items new.infos.items goal-at told tells tallied.infos) tallied)

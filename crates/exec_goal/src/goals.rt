@@ -2,6 +2,7 @@ mod asking;
 mod canceling;
 mod expiring;
 mod moving;
+mod waiting;
 
 use crate::held::GoalEntry;
 use crate::info::GoalInfo;

@@ -14,6 +14,8 @@ pub(crate) struct Tally {
     pub(crate) working: usize,
     // A moment before which no goal has ended, or `None` if none has.
     pub(crate) first_end: Option<Moment>,
+    // A place before which no goal is ACCEPTED.
+    pub(crate) waiting_from: usize,
     // What is known of each goal, in the order of acceptance. If the server works on some goals, a round looks at all. An entry
     // is so large that each look would be a fetch from memory.
     pub(crate) infos: Vec<GoalInfo>,
@@ -24,11 +26,13 @@ impl Tally {
     pub(crate) fn new(alloc: Global) -> Tally
         ensures working { result.working ≡ 0 }
         ensures first { result.first_end ≡ None }
+        ensures waiting { result.waiting_from ≡ 0 }
         ensures infos { result.infos.items ≡ [] }
     {
         Tally {
             working: 0,
             first_end: None,
+            waiting_from: 0,
             infos: Vec::new(alloc),
         }
     }

@@ -292,6 +292,22 @@ fn forgets_two(rt: &impl Abort, goals: &mut Goals) {
     same(rt, goals.expire(moment(40), 10), Some(id(4)));
 }
 
+#[test]
+fn the_oldest_goal_that_waits_is_found(rt: HostRuntime) -> Result<(), Fail> {
+    let mut goals = Goals::new(rt.alloc());
+    same(&rt, goals.oldest_accepted(), None);
+    goals.accept(id(1), 0, moment(0), Acceptance::Execute)?;
+    goals.accept(id(2), 0, moment(0), Acceptance::Defer)?;
+    goals.accept(id(3), 0, moment(0), Acceptance::Defer)?;
+    same(&rt, goals.oldest_accepted(), Some(id(2)));
+    same(&rt, goals.apply(id(2), Event::Execute), Ok(State::Executing));
+    same(&rt, goals.oldest_accepted(), Some(id(3)));
+    goals.end(id(1), Event::Succeed, 1, moment(1))?;
+    goals.forget_expired(moment(1), 0);
+    same(&rt, goals.oldest_accepted(), Some(id(3)));
+    Ok(())
+}
+
 // A goal after as many as a table holds.
 fn one_more() -> GoalId {
     id(GOALS as u128 + 1)

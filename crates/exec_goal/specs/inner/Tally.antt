@@ -1,9 +1,9 @@
 -- What a table knows of its goals without a look at each.
-use Rattle.std.specs.Prelude.{◌≡◌, ℕ, ◌+◌, ◌≤◌, List, length, map, Bool, true, false, nat_le, if◌then◌else◌, Option, None, Some, slice_index_or, slice_set}
+use Rattle.std.specs.Prelude.{◌≡◌, ⊤, ℕ, zero, suc, ◌+◌, ◌≤◌, List, [], ◌∷◌, length, map, Bool, true, false, nat_le, if◌then◌else◌, Option, None, Some, slice_index_or, slice_set}
 use Rattle.std.specs.List.{AllByRecursion}
 use Rattle.exec_msg.specs.declared.limits.TheConstants.{GOALS}
 use Rattle.exec_goal.specs.Info.{info_of}
-use Rattle.exec_goal.specs.State.{is_worked_on, is_terminal}
+use Rattle.exec_goal.specs.State.{is_accepted, is_worked_on, is_terminal}
 use Rattle.exec_goal.specs.Table.{GoalRecord, working}
 use Rattle.exec_goal.specs.declared.info.GoalInfo.{GoalInfo}
 use Rattle.exec_goal.specs.declared.state.State.{State}
@@ -33,6 +33,7 @@ may_expire moment timeout (Some first) = nat_le (first + timeout) moment
 pub record CountsMove (before after : State) (ended : ℕ) (old new : Tally) : Type 0 where
   pub working : new.working + one_where (is_worked_on before) ≡ old.working + one_where (is_worked_on after)
   pub first : new.first_end ≡ first_with (is_terminal after) ended old.first_end
+  pub waiting : new.waiting_from ≡ old.waiting_from
 
 -- what is told of the goal at a place is told with another state
 abbrev pub TellsState : ℕ → State → List GoalInfo → List GoalInfo → Type 0
@@ -47,9 +48,16 @@ abbrev pub EndsFrom : Option ℕ → GoalRecord → Type 0
 EndsFrom None goal = is_terminal goal.state ≡ false
 EndsFrom (Some first) goal = is_terminal goal.state ≡ true → first ≤ goal.ended
 
+-- none of the goals before a place is accepted and not executed yet
+abbrev pub NoneWaits : ℕ → List GoalRecord → Type 0
+NoneWaits zero goals = ⊤
+NoneWaits (suc place) [] = ⊥
+NoneWaits (suc place) (goal ∷ goals) = (is_accepted goal.state ≡ false) × NoneWaits place goals
+
 -- a tally is that of a table, which has no more goals than it may
 pub record IsTallied (tally : Tally) (goals : List GoalRecord) : Type 0 where
   pub counted : tally.working ≡ working goals
   pub ends : AllByRecursion (EndsFrom tally.first_end) goals
+  pub waiting : NoneWaits tally.waiting_from goals
   pub infos : tally.infos.items ≡ map info_of goals
   pub within : length goals ≤ GOALS

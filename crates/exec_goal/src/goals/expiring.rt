@@ -30,6 +30,7 @@ impl Goals {
         ensures kept { unexpired moment (Some timeout) self.new ≡ unexpired moment (Some timeout) self.old }
     {
         let index = self.next_expired(moment, timeout)?;
+        self.tally.waiting_from = 0;
         let _told = self.tally.infos.remove(index);
         let (id, _forgotten) = self.held.shift_remove_index(index).unwrap();
         Some(id)
@@ -57,8 +58,9 @@ impl Goals {
     pub fn forget_expired(&mut self, moment: Moment, timeout: u64)
         ensures { self.new ≡ unexpired moment (Some timeout) self.old }
     {
+        self.tally.waiting_from = 0;
         keep_unexpired(&mut self.held, moment, timeout);
-        tell_all(&self.held, &mut self.tally.infos);
+        note_infos(&self.held, &mut self.tally.infos);
         self.tally.first_end = self.first_end();
     }
 
@@ -124,7 +126,7 @@ fn keep_unexpired(held: &mut IndexMap<GoalId, GoalEntry>, moment: Moment, timeou
 }
 
 // Writes what is known of each goal that is held, over what was known of more of them.
-fn tell_all(held: &IndexMap<GoalId, GoalEntry>, infos: &mut Vec<GoalInfo>)
+fn note_infos(held: &IndexMap<GoalId, GoalEntry>, infos: &mut Vec<GoalInfo>)
     requires { length held.now.entries ≤ length infos.old.items }
     ensures { infos.new.items ≡ map info_of (records_of held.now.entries) }
 {

@@ -4,9 +4,10 @@ use Rattle.exec_goal.specs.inner.Ids.{is_among}
 use Rattle.exec_goal.specs.Cancel.{after_answer_by}
 use Rattle.exec_goal.specs.inner.Held.{record_of, records_of}
 use Rattle.exec_goal.specs.Info.{info_of}
+use Rattle.exec_goal.specs.State.{is_accepted}
 use Rattle.exec_goal.specs.Table.{GoalRecord}
 use Rattle.exec_goal.specs.declared.held.GoalEntry.{GoalEntry}
-use Rattle.exec_goal.proofs.Tallying.{answered-info, tallied-fits, counted-at, told-within, tallied-at}
+use Rattle.exec_goal.proofs.Tallying.{answered-executed, answered-info, tallied-fits, counted-at, told-within, tallied-at}
 use Rattle.exec_goal.proofs.goals.Goals.cancel_at.Goals as goal
 
 pub returns : goal.returns
@@ -36,5 +37,6 @@ count_move-requires-clause-told c =
 pub invariant_of-self : goal.invariant_of-self
 invariant_of-self c =
     let entry : ℕ × GoalEntry = (c.pair_mut-goal.result.0.now, c.pair_mut-goal.result.1.now) in
-    tallied-at c.self.inside.held.entries c.args.index entry c.pair_mut-goal.ensures.value c.cancel_where.new.self c.self.inside.tally c.count_move.new.self c.count_move.ensures.counts c.count_move.ensures.tells
+    tallied-at c.self.inside.held.entries c.args.index entry c.pair_mut-goal.ensures.value c.cancel_where.new.self c.self.inside.tally c.count_move.new.self
+    (λ executed. ap (λ (goal : GoalRecord). is_accepted goal.state) (c.cancel_where.ensures entry.0) ∙ answered-executed c.has-is_accepted.result (record_of entry) executed) c.count_move.ensures.counts c.count_move.ensures.tells
     (ap info_of (c.cancel_where.ensures entry.0) ∙ answered-info c.has-is_accepted.result (record_of entry) ∙ ap (λ (goal : GoalRecord). record (info_of (record_of entry)) { state = goal.state }) (sym (c.cancel_where.ensures entry.0))) c.self.invariant

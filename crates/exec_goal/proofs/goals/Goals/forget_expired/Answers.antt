@@ -7,21 +7,21 @@ use Rattle.exec_goal.specs.inner.Held.{record_of, records_of}
 use Rattle.exec_goal.specs.declared.tally.Tally.{Tally}
 use Rattle.exec_goal.proofs.goals.Goals.forget_expired.Goals as goal
 
-pub tell_all-requires : goal.tell_all-requires
-tell_all-requires c =
+pub note_infos-requires : goal.note_infos-requires
+note_infos-requires c =
     let goals : List GoalRecord = records_of c.self.inside.held.entries in
     omega (arith, length-map c.keep_unexpired.new.held.entries record_of, ap length c.keep_unexpired.ensures, unexpired-length c.args.moment c.args.timeout goals, ap length c.self.invariant.infos, length-map goals info_of)
 
 pub invariant_of-self : goal.invariant_of-self
 invariant_of-self c =
     let goals : List GoalRecord = records_of c.self.inside.held.entries in
-    let after : Tally = record c.self.inside.tally { infos = c.tell_all.new.infos } in
-    tallied-unexpired c.args.moment c.args.timeout c.self.inside.tally after goals (records_of c.keep_unexpired.new.held.entries) c.keep_unexpired.ensures refl refl c.tell_all.ensures c.self.invariant
+    let after : Tally = record c.self.inside.tally { waiting_from = 0; infos = c.note_infos.new.infos } in
+    tallied-unexpired c.args.moment c.args.timeout c.self.inside.tally after goals (records_of c.keep_unexpired.new.held.entries) c.keep_unexpired.ensures refl refl refl c.note_infos.ensures c.self.invariant
 
 pub invariant_of-self-2 : goal.invariant_of-self-2
 invariant_of-self-2 c =
     let goals : List GoalRecord = records_of c.self.inside.held.entries in
     let left : List GoalRecord = records_of c.keep_unexpired.new.held.entries in
-    let before : Tally = record c.self.inside.tally { infos = c.tell_all.new.infos } in
+    let before : Tally = record c.self.inside.tally { waiting_from = 0; infos = c.note_infos.new.infos } in
     tallied-ends before c.first_end-self-inside.result left c.first_end-self-inside.ensures
-    (tallied-unexpired c.args.moment c.args.timeout c.self.inside.tally before goals left c.keep_unexpired.ensures refl refl c.tell_all.ensures c.self.invariant)
+    (tallied-unexpired c.args.moment c.args.timeout c.self.inside.tally before goals left c.keep_unexpired.ensures refl refl refl c.note_infos.ensures c.self.invariant)

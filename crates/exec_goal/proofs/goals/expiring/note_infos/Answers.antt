@@ -4,7 +4,7 @@ use Rattle.exec_goal.proofs.Looping.{written-next, written-all, info-at, length-
 use Rattle.exec_goal.specs.Info.{info_of}
 use Rattle.exec_goal.specs.declared.held.GoalEntry.{GoalEntry}
 use Rattle.exec_goal.specs.inner.Held.{records_of}
-use Rattle.exec_goal.proofs.goals.expiring.tell_all.Goals as goal
+use Rattle.exec_goal.proofs.goals.expiring.note_infos.Goals as goal
 
 pub loop-place-preserved : goal.loop-place-preserved
 loop-place-preserved c =
@@ -12,8 +12,8 @@ loop-place-preserved c =
     let entry : ℕ × GoalEntry = (c.unwrap.result.0.now, c.unwrap.result.1.now) in
     let there = sym c.get_index.ensures.entry ∙ ap (option_map (λ p. (p.0.now, p.1.now))) c.unwrap.ensures in
     record {
-      told = written-next (map info_of (records_of entries)) c.loop-place.infos.items c.loop-place.place c.info.result (info-at entries c.loop-place.place entry c.info.result there c.info.ensures)
-          (omega (arith, c.loop-place-test.true, c.len-place-end.ensures.len, c.requires, c.loop-place.invariant.long)) c.loop-place.invariant.told;
+      written = written-next (map info_of (records_of entries)) c.loop-place.infos.items c.loop-place.place c.info.result (info-at entries c.loop-place.place entry c.info.result there c.info.ensures)
+          (omega (arith, c.loop-place-test.true, c.len-place-end.ensures.len, c.requires, c.loop-place.invariant.long)) c.loop-place.invariant.written;
       long = search rules;
     }
 
@@ -22,4 +22,4 @@ returns c =
     let entries = c.args.held.now.entries in
     c.truncate.ensures.items
     ∙ written-all (map info_of (records_of entries)) c.loop-place.infos.items c.len.result c.loop-place.place (omega (arith, c.len.ensures.len, length-infos entries))
-    (omega (arith, c.loop-place-test.false, c.len-place-end.ensures.len, length-infos entries)) (omega (arith, c.loop-place.auto.place-end, c.len-place-end.ensures.len, c.len.ensures.len)) c.loop-place.invariant.told
+    (omega (arith, c.loop-place-test.false, c.len-place-end.ensures.len, length-infos entries)) (omega (arith, c.loop-place.auto.place-end, c.len-place-end.ensures.len, c.len.ensures.len)) c.loop-place.invariant.written
