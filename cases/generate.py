@@ -380,10 +380,23 @@ def several_clients_of_one_server(chance):
 
 
 def a_server_that_is_full(chance):
-    rounds = chance.choice((66, 68))
+    rounds = chance.choice((1026, 1028))
     feed = [fed_goal(chance, at, at) for at in range(1, rounds)] + [fed_goal(chance, rounds, chance.choice((1, 99)))]
-    decision, timeout = chance.choice((2, 3)), chance.choice(({}, {"result_timeout": chance.choice((62, 64, 65))}))
+    decision, timeout = chance.choice((2, 3)), chance.choice(({}, {"result_timeout": chance.choice((1022, 1024, 1025))}))
     return plan([node(actions=[server(chance, [["succeed", 1]], decision, **timeout)])], list(range(rounds)), feed)
+
+
+def goals_that_expire_together(chance):
+    """Goals of several lengths, many of which expire in one round, before and after others that are kept."""
+    count = chance.choice((6, 20, 50))
+    feed = [fed_goal(chance, at, at, chance.choice((1, 2, 5, 10**6))) for at in range(1, count)]
+    feed += [fed_goal(chance, at, chance.randrange(1, count), chance.choice((1, 10**6))) for at in range(count, count + 4)]
+    times = from_one(moments(chance, count))
+    times += [times[-1] + later for later in (20, 21, 23, 50, 51)]
+    script = [["wait", "in"], chance.choice((["succeed", "in"], ["abort", "now"]))]
+    executes = {"name": "u", "period": chance.choice((1, 3)), "script": [["execute", "a"]] * chance.choice((1, 3))}
+    servers = [server(chance, script, chance.choice((2, 2, 3)), result_timeout=chance.choice((0, 10, 15, 20)))]
+    return plan([node(timers=[executes], actions=servers)], times, feed)
 
 
 def decisions_and_replies(chance):
@@ -501,6 +514,7 @@ RULES = {
         calls_without_a_reply,
         several_clients_of_one_server,
         a_server_that_is_full,
+        goals_that_expire_together,
         decisions_and_replies,
         sums_that_wrap,
         timers_and_late_moments,

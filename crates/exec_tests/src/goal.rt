@@ -300,7 +300,11 @@ fn the_oldest_goal_that_waits_is_found(rt: HostRuntime) -> Result<(), Fail> {
     goals.accept(id(2), 0, moment(0), Acceptance::Defer)?;
     goals.accept(id(3), 0, moment(0), Acceptance::Defer)?;
     same(&rt, goals.oldest_accepted(), Some(id(2)));
-    same(&rt, goals.apply(id(2), Event::Execute), Ok(State::Executing));
+    same(
+        &rt,
+        goals.apply(id(2), Event::Execute),
+        Ok(State::Executing),
+    );
     same(&rt, goals.oldest_accepted(), Some(id(3)));
     goals.end(id(1), Event::Succeed, 1, moment(1))?;
     goals.forget_expired(moment(1), 0);
