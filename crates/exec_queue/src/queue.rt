@@ -108,18 +108,18 @@ impl Queues {
     }
 
     /// Sends an item, with the number of its arrival, to an entity's queue of its kind. Answers the item that is lost by it:
-    /// the oldest one of a full queue. If there is no such queue, nothing changes.
+    /// the oldest one of a full queue. If there is no such queue, nothing changes. The number is read where it is kept, so that
+    /// it takes no register on the way.
     ///
     /// # Errors
     /// [`Memory`] if a growth was refused. A queue that has an item needs no memory. The queues don't change.
-    #[inline(always)]
     pub fn send(
         &mut self,
         entity: EntityNo,
         item: Item,
-        number: u64,
+        number: &u64,
     ) -> Result<Option<Item>, Memory>
-        ensures ok { OnOk result (self.new ≡ change_first (is_queue entity (taker_of item)) (queue_after number item) self.old) }
+        ensures ok { OnOk result (self.new ≡ change_first (is_queue entity (taker_of item)) (queue_after number.now item) self.old) }
         ensures lost { IfOk result (λ lost. option_to_list lost ≡ lost_from entity item self.old) }
         ensures unchanged { OnErr result (self.new ≡ self.old) }
         ensures memory { OnErr result (option_map_or has_item (find (is_queue entity (taker_of item)) self.old) false ≡ false) }
@@ -325,9 +325,9 @@ fn send_at(
     filled: &mut Vec<usize>,
     place: usize,
     item: Item,
-    number: u64,
+    number: &u64,
 ) -> Result<Option<Item>, Memory>
-    ensures ok { OnOk result (entries.new.items ≡ change_at place (queue_after number item) entries.old.items) }
+    ensures ok { OnOk result (entries.new.items ≡ change_at place (queue_after number.now item) entries.old.items) }
     ensures filled { OnOk result (place < length entries.old.items → is_filled_at entries.new.items place ≡ true) }
     ensures noted { OnOk result (place < length entries.old.items → filled.new.items ≡ noted_if (is_filled_at entries.old.items place) place filled.old.items) }
     ensures lost { IfOk result (λ lost. lost ≡ option_map_or (λ queue. slice_get (displaced queue.depth item queue.items) 0) (slice_get entries.old.items place) None) }
@@ -351,9 +351,9 @@ fn send_to(
     filled: &mut Vec<usize>,
     place: usize,
     item: Item,
-    number: u64,
+    number: &u64,
 ) -> Result<Option<Item>, Memory>
-    ensures ok { OnOk result (entry.new ≡ queue_after number item entry.old) }
+    ensures ok { OnOk result (entry.new ≡ queue_after number.now item entry.old) }
     ensures has { OnOk result (has_item entry.new ≡ true) }
     ensures noted { OnOk result (filled.new.items ≡ noted_if (has_item entry.old) place filled.old.items) }
     ensures lost { IfOk result (λ lost. lost ≡ slice_get (displaced entry.old.depth item entry.old.items) 0) }

@@ -7,7 +7,7 @@ use exec_rules::{Home, Item, ReadyList};
 use std::marker::Model;
 
 // What callbacks send goes here: to the queues of entities, and to the lines of the transcript. It also has the order of ready
-// callbacks, and the number of the last arrival.
+// callbacks, and the number of the last arrival. That is 0 under the order of kinds.
 #[derive(Drop)]
 pub(crate) struct Mail<L: Lines> {
     order: Order,
@@ -17,11 +17,13 @@ pub(crate) struct Mail<L: Lines> {
 }
 
 impl<L: Lines> Model for Mail<L> {
-    ghost use Rattle.exec_world.specs.inner.Mail.{MailState};
+    ghost use Rattle.exec_world.specs.inner.Mail.{MailState, CountsUnder};
 
     ghost Value = { MailState };
 
     ghost view = { λ mail. record { order = mail.order; arrivals = mail.arrivals; queues = mail.queues; lines = L.lines mail.lines } };
+
+    ghost invariant = { λ mail. CountsUnder mail.order mail.arrivals };
 }
 
 impl<L: Lines> Mail<L> {
@@ -58,15 +60,15 @@ impl<L: Lines> Mail<L> {
         self.order
     }
 
-    // The number of the next arrival.
+    // Counts one more arrival. Under the order of kinds none is counted, and nothing is written.
     #[inline(always)]
-    fn next_number(&self) -> Result<u64, Memory>
-        ensures { IfOk result (λ number. number ≡ next_number self.now) }
+    fn count_arrival(&mut self) -> Result<(), Memory>
+        ensures { OnOk result (self.new ≡ with_next self.old) }
     {
-        match self.order {
-            Order::Kind => Ok(0),
-            Order::Arrival => self.arrivals.checked_add(1).ok_or(Memory),
+        if let Order::Arrival = self.order {
+            self.arrivals = self.arrivals.checked_add(1).ok_or(Memory)?;
         }
+        Ok(())
     }
 
     // Counts one more arrival, and answers its number.
@@ -74,9 +76,8 @@ impl<L: Lines> Mail<L> {
         ensures number { IfOk result (λ number. number ≡ next_number self.old) }
         ensures counted { OnOk result (self.new ≡ with_next self.old) }
     {
-        let number = self.next_number()?;
-        self.arrivals = number;
-        Ok(number)
+        self.count_arrival()?;
+        Ok(self.arrivals)
     }
 
     // What the lines go to.
@@ -161,34 +162,12 @@ impl<L: Lines> Mail<L> {
         servers.expire(moment, &mut self.lines)
     }
 
-    // Sends an item to an entity, which is an arrival. What its queue loses by it is dropped with a line. Each order has an
-    // instance of the body, so that the order of kinds pays nothing for numbers.
+    // Sends an item to an entity, which is an arrival. What its queue loses by it is dropped with a line.
     pub(crate) fn send(&mut self, entity: EntityNo, item: Item) -> Result<(), Memory>
         ensures { OnOk result (self.new ≡ sent_to entity item self.old) }
     {
-        match self.order {
-            Order::Kind => self.send_as(entity, item, 0),
-            Order::Arrival => self.send_next(entity, item),
-        }
-    }
-
-    // Sends an item with the number of the next arrival.
-    #[inline(never)]
-    fn send_next(&mut self, entity: EntityNo, item: Item) -> Result<(), Memory>
-        ensures { OnOk result (self.new ≡ sent_to entity item self.old) }
-    {
-        let number = self.next_number()?;
-        self.send_as(entity, item, number)
-    }
-
-    // Sends an item with the number of its arrival.
-    #[inline(always)]
-    fn send_as(&mut self, entity: EntityNo, item: Item, number: u64) -> Result<(), Memory>
-        requires { number ≡ next_number self.old }
-        ensures { OnOk result (self.new ≡ sent_to entity item self.old) }
-    {
-        let lost = self.queues.send(entity, item, number)?;
-        self.arrivals = number;
+        self.count_arrival()?;
+        let lost = self.queues.send(entity, item, &self.arrivals)?;
         self.add_lost(entity, lost)
     }
 

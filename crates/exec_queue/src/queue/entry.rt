@@ -48,14 +48,17 @@ impl Model for EntityQueue {
 
 impl EntityQueue {
     #[tactic(auto, using(crate::proofs::Numbered::items_sent, crate::proofs::Numbered::numbers_sent))]
-    pub(super) fn send(&mut self, item: Item, number: u64) -> Result<Option<Item>, Memory>
-        ensures ok { OnOk result (self.new ≡ queue_after number item self.old) }
+    pub(super) fn send(&mut self, item: Item, number: &u64) -> Result<Option<Item>, Memory>
+        ensures ok { OnOk result (self.new ≡ queue_after number.now item self.old) }
         ensures has { OnOk result (has_item self.new ≡ true) }
         ensures lost { IfOk result (λ lost. lost ≡ slice_get (displaced self.old.depth item self.old.items) 0) }
         ensures unchanged { OnErr result (self.new ≡ self.old) }
         ensures memory { OnErr result (has_item self.old ≡ false) }
     {
-        let lost = self.queue.send(Sent { item, number })?;
+        let lost = self.queue.send(Sent {
+            item,
+            number: *number,
+        })?;
         Ok(item_of(lost))
     }
 

@@ -1,11 +1,12 @@
 -- What callbacks send, apart from the rest of the world: the queues with the order of ready callbacks and the number of the last
 -- arrival, and the lines.
-use Rattle.std.specs.Prelude.{ℕ, List, [], ◌∷◌, ◌++◌, map, Option, None, Some}
+use Rattle.std.specs.Prelude.{◌≡◌, ℕ, List, [], ◌∷◌, ◌++◌, map, Option, None, Some}
 use Rattle.std.specs.List.{fold}
 use Rattle.exec_msg.specs.Numbers.{EntityNo}
 use Rattle.exec_msg.specs.Lists.{change_first}
 use Rattle.exec_msg.specs.declared.line.Line.{Line}
 use Rattle.exec_plan.specs.declared.order.Order.{Order}
+use Rattle.exec_plan.specs.declared.order.Order.TheVariants as order
 use Rattle.exec_rules.specs.Item.{taker_of}
 use Rattle.exec_rules.specs.World.{WorldState, Queue, is_queue, next_in, queue_after, drop_line, lost_from}
 use Rattle.exec_rules.specs.declared.item.Item.{Item}
@@ -16,6 +17,10 @@ pub record MailState : Type 0 where
   pub arrivals : ℕ
   pub queues : List Queue
   pub lines : List Line
+
+-- a number of arrivals under an order: under that of kinds none is counted
+abbrev pub CountsUnder : Order → ℕ → Type 0
+CountsUnder under arrivals = under ≡ order.Kind → arrivals ≡ 0
 
 -- with one more line
 abbrev pub with_line : Line → MailState → MailState

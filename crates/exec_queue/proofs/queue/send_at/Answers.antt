@@ -8,7 +8,7 @@ use Rattle.exec_queue.proofs.Filled.{filled_written}
 use Rattle.exec_queue.proofs.queue.send_at.Goals as goal
 
 pub returns-in-None-clause-ok : goal.returns-in-None-clause-ok
-returns-in-None-clause-ok g c = change_at-beyond (queue_after g.args.number g.args.item) g.args.entries.now.items g.args.place g.in-None.ensures.item.0 c
+returns-in-None-clause-ok g c = change_at-beyond (queue_after g.args.number.now g.args.item) g.args.entries.now.items g.args.place g.in-None.ensures.item.0 c
 
 pub returns-in-None-clause-lost : goal.returns-in-None-clause-lost
 returns-in-None-clause-lost g c =
@@ -16,7 +16,7 @@ returns-in-None-clause-lost g c =
 
 pub returns-in_ok-lost-in-Some-clause-ok : goal.returns-in_ok-lost-in-Some-clause-ok
 returns-in_ok-lost-in-Some-clause-ok g c =
-    written (queue_after g.args.number g.args.item) g.args.entries.now.items g.args.place g.in-Some.entry.now _ g.in-Some.ensures.value g.in_ok-lost-in-Some.ensures.ok c
+    written (queue_after g.args.number.now g.args.item) g.args.entries.now.items g.args.place g.in-Some.entry.now _ g.in-Some.ensures.value g.in_ok-lost-in-Some.ensures.ok c
 
 pub returns-in_ok-lost-in-Some-clause-lost : goal.returns-in_ok-lost-in-Some-clause-lost
 returns-in_ok-lost-in-Some-clause-lost g c =

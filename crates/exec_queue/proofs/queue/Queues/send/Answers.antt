@@ -14,7 +14,7 @@ use Rattle.exec_queue.proofs.queue.Queues.send.Goals as goal
 pub returns-in_default-clause-ok : goal.returns-in_default-clause-ok
 returns-in_default-clause-ok g c =
     let nowhere = looked_up g.self.inside.places g.self.inside.entries.items g.args.self.now g.self.invariant.0 g.self.view_is g.args.entity g.kind.result (taker_of g.args.item) g.kind.ensures g.slot.result g.slot.ensures.value _ g.in_default.ensures in
-    sym (change_first-nowhere (is_queue g.args.entity (taker_of g.args.item)) (queue_after g.args.number g.args.item) g.args.self.now nowhere) c
+    sym (change_first-nowhere (is_queue g.args.entity (taker_of g.args.item)) (queue_after g.args.number.now g.args.item) g.args.self.now nowhere) c
 
 pub returns-in_default-clause-lost : goal.returns-in_default-clause-lost
 returns-in_default-clause-lost g c =
@@ -27,21 +27,21 @@ invariant_of-self-2 c =
     let within : c.in-Some.place < length c.self.inside.entries.items =
     subst (λ queues. c.in-Some.place < length queues) (sym c.self.view_is) (first_place-within (is_queue c.args.entity (taker_of c.args.item)) c.args.self.now c.in-Some.place at) in
     let noted = c.in_ok-lost.ensures.noted within in (
-      finds_after c.self.inside.places c.self.inside.entries.items c.send_at.new.entries.items c.in-Some.place c.args.number c.args.item c.self.invariant.0 c.in_ok-lost.ensures.ok,
-      covers_after c.self.inside.filled.items c.send_at.new.filled.items c.self.inside.entries.items c.send_at.new.entries.items c.in-Some.place (queue_after c.args.number c.args.item) noted c.in_ok-lost.ensures.ok c.self.invariant.1,
-      filled_after c.self.inside.filled.items c.send_at.new.filled.items c.self.inside.entries.items c.send_at.new.entries.items c.in-Some.place (queue_after c.args.number c.args.item) noted c.in_ok-lost.ensures.ok
+      finds_after c.self.inside.places c.self.inside.entries.items c.send_at.new.entries.items c.in-Some.place c.args.number.now c.args.item c.self.invariant.0 c.in_ok-lost.ensures.ok,
+      covers_after c.self.inside.filled.items c.send_at.new.filled.items c.self.inside.entries.items c.send_at.new.entries.items c.in-Some.place (queue_after c.args.number.now c.args.item) noted c.in_ok-lost.ensures.ok c.self.invariant.1,
+      filled_after c.self.inside.filled.items c.send_at.new.filled.items c.self.inside.entries.items c.send_at.new.entries.items c.in-Some.place (queue_after c.args.number.now c.args.item) noted c.in_ok-lost.ensures.ok
           (c.in_ok-lost.ensures.filled within) c.self.invariant.2,
       λ settled. absurd (true≢false (sym settled)),
-      λ none. subst AreBeforePolls (sym c.in_ok-lost.ensures.ok) (early_changed (queue_after c.args.number c.args.item) (λ queue. refl) c.in-Some.place c.self.inside.entries.items (c.self.invariant.4 none)),
-      subst HaveTheirNumbers (sym c.in_ok-lost.ensures.ok) (numbered_sent c.in-Some.place c.args.number c.args.item c.self.inside.entries.items c.self.invariant.5),
+      λ none. subst AreBeforePolls (sym c.in_ok-lost.ensures.ok) (early_changed (queue_after c.args.number.now c.args.item) (λ queue. refl) c.in-Some.place c.self.inside.entries.items (c.self.invariant.4 none)),
+      subst HaveTheirNumbers (sym c.in_ok-lost.ensures.ok) (numbered_sent c.in-Some.place c.args.number.now c.args.item c.self.inside.entries.items c.self.invariant.5),
     )
 
 pub returns-clause-ok : goal.returns-clause-ok
 returns-clause-ok g c =
     let at = looked_up g.self.inside.places g.self.inside.entries.items g.args.self.now g.self.invariant.0 g.self.view_is g.args.entity g.kind.result (taker_of g.args.item) g.kind.ensures g.slot.result g.slot.ensures.value (Some g.in-Some.place) g.in-Some.ensures in
     (g.in_ok-lost.ensures.ok
-    ∙ ap (change_at g.in-Some.place (queue_after g.args.number g.args.item)) g.self.view_is
-    ∙ sym (change_first-first_place (is_queue g.args.entity (taker_of g.args.item)) (queue_after g.args.number g.args.item) g.args.self.now g.in-Some.place at)) c
+    ∙ ap (change_at g.in-Some.place (queue_after g.args.number.now g.args.item)) g.self.view_is
+    ∙ sym (change_first-first_place (is_queue g.args.entity (taker_of g.args.item)) (queue_after g.args.number.now g.args.item) g.args.self.now g.in-Some.place at)) c
 
 pub returns-clause-lost : goal.returns-clause-lost
 returns-clause-lost g c =
