@@ -1,0 +1,98 @@
+"""The upgrade of a document, by docs/document.md alone: the document of version 2 that says the same plan, without the fields that
+are ignored. It knows nothing of the program; nothing of it is proved."""
+import json
+
+from . import grammar, json_text, made
+
+
+def text_of(given):
+    """The text of the upgrade of a lawful document's bytes, as the program writes it."""
+    return compact(upgraded(json_text.read(given.decode())))
+
+
+def compact(value):
+    """JSON without spaces, in which the fields of an object are in the order of the bytes of their names."""
+    return json.dumps(value, separators=(",", ":"), sort_keys=True)
+
+
+def upgraded(document):
+    """The value of a lawful document's upgrade."""
+    return {**kept(document, "document"), "version": grammar.SINCE["order"], "order": grammar.order_of(document)}
+
+
+def kept(value, form):
+    """A value of a form of the grammar's tables, with the fields alone that they name."""
+    if isinstance(form, list):
+        return [kept(it, form[0]) for it in value]
+    if form == "entry":
+        form = next(of for field, of in grammar.FED.items() if field in value)
+    if form not in grammar.OBJECTS:
+        return value
+    return {name: kept(value[name], of) for name, of in grammar.forms_in(form, value).items() if name in value}
+
+
+# ---- in the text of the document
+
+
+def edited(text, value):
+    """The text of a lawful document with no other changes than those by which it has the value of its upgrade. It is laid out anew if
+    these don't do, as if an ignored name stands twice in an object."""
+    found = "".join(parts(text, sorted(edits(text, json_text.read(text), value))))
+    return found if json_text.read(found) == value else made.layout(value)
+
+
+def parts(text, edits):
+    """A text by its parts, where each of some edits puts a text in the place of what is from its begin to its end."""
+    at = 0
+    for begin, end, put in edits:
+        yield text[at:begin]
+        yield put
+        at = end
+    yield text[at:]
+
+
+def edits(text, document, value):
+    """What becomes other: the version and the order, and the ignored fields, which go."""
+    changed = [it for it in objects(document, value) if not it[0] or it[1].keys() - it[2].keys()]
+    places = json_text.places(text, [(*path, name) for path, fields, _ in changed for name in fields])
+    for path, fields, kept in changed:
+        stand = sorted(((places[(*path, name)], name in kept) for name in fields), key=lambda it: it[0].name)
+        yield from cuts(stand)
+        if not path:
+            yield from head(text, [place for place, _ in stand], places, value)
+
+
+def objects(document, value, path=()):
+    """Each object of an upgrade's value, with its path and the object of the document."""
+    if isinstance(value, dict):
+        yield path, document, value
+        for name in document.keys() & value.keys():
+            yield from objects(document[name], value[name], (*path, name))
+    elif isinstance(value, list):
+        for at, it in enumerate(value):
+            if isinstance(it, (dict, list)):
+                yield from objects(document[at], it, (*path, at))
+
+
+def cuts(fields):
+    """What is cut out of an object so that each field goes that isn't kept, with its comma. The first field that follows it comes to
+    its place."""
+    last = max(at for at, (_, is_kept) in enumerate(fields) if is_kept)
+    for (place, is_kept), (following, _) in zip(fields[:last], fields[1:]):
+        if not is_kept:
+            yield place.name, following.name, ""
+    if last + 1 < len(fields):
+        yield fields[last][0].end, fields[-1][0].end, ""
+
+
+def head(text, fields, places, value):
+    """The version, and the order: behind the version, with the same space round it, if it is new."""
+    version, order = places["version",], json.dumps(value["order"])
+    put = str(value["version"])
+    if ("order",) in places:
+        yield places["order",].begin, places["order",].end, order
+    else:
+        at = fields.index(version)
+        before = text[fields[at - 1].end : version.name] if at else text[version.end : fields[1].name] if len(fields) > 1 else ","
+        put += f'{before}"order"{text[json_text.string_end(text, version.name) : version.begin]}{order}'
+    yield version.begin, version.end, put
