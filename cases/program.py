@@ -57,4 +57,4 @@ def difference(found, wanted):
         return f"{said(found)} in place of {said(wanted)}"
     lines = zip(found[1].split(b"\n"), wanted[1].split(b"\n"))
     at = next((f"line {number}" for number, (one, other) in enumerate(lines, 1) if one != other), "its end")
-    return f"the transcript differs at {at}"
+    return f"the text differs at {at}"

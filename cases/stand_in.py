@@ -1,25 +1,40 @@
-"""A repository beside a toolchain that proves nothing, for the scripts that test ./exec_run, ./build, ./gate and release/.
+"""A repository beside a toolchain that proves nothing, for the scripts that test ./exec_run, ./exec_upgrade, ./build, ./gate and
+release/.
 
 It has the crates' list with a source of one word in each crate. What its toolchain links tells its words and the version of the
-sources, and ends with the status 3; to a document it answers `end 0`."""
+sources, and ends with the status 3; to a document it answers what the program answers to an empty one."""
 import os
 import pathlib
 import shutil
 import subprocess
 
 TOP = pathlib.Path(__file__).resolve().parent.parent
-# A list of few crates, of which one isn't the program's.
-FEW = "exec_msg: itoa\nexec_io: exec_msg\nexec_tests: exec_io\nexec_run: exec_io exec_msg\n"
-COPIED = "exec_run", "build", "gate", "VERSION", "THIRD_PARTY.md", "crates.txt", "HANDLES", "release/program.sh", "release/check"
+# A list of few crates, of which one is of neither program, and one of exec_run alone.
+FEW = "exec_msg: itoa\nexec_io: exec_msg\nexec_tests: exec_io\nexec_round: exec_msg\nexec_run: exec_round exec_io exec_msg\nexec_upgrade: exec_io exec_msg\n"
+PROGRAMS = "exec_run", "exec_upgrade"
+COPIED = *PROGRAMS, "build", "gate", "VERSION", "THIRD_PARTY.md", "crates.txt", "HANDLES", "release/program.sh", "release/check"
 # What stands for rt: it notes the crate that it is asked for, and refuses one whose libraries aren't there.
 RT = """#!/bin/sh
+link() {
+  case $1 in exec_run) answer='end 0' ;; exec_upgrade) answer='{"order":"kind","version":2}' ;; *) return ;; esac
+  cat >out/$1 <<END
+#!/bin/sh
+${BEGIN-}
+case \\$(cat) in *version*) echo '$answer' && exit ;; esac
+echo $(cat src/main.rt) "\\$@"
+exit 3
+END
+  chmod +x out/$1
+}
 if [ "$1" = version ]; then
   echo "${KIT:-stand-in 1}"
-  exit
 elif [ "$1" = ci ]; then
   rm -rf crates/*/out
-  cd crates/exec_run && mkdir -p out || exit 1
+  for name in exec_run exec_upgrade; do
+    (cd crates/$name && mkdir -p out && { [ -e "$NOTES/refused" ] || link $name; }) || exit 1
+  done
   [ ! -e "$NOTES/refused" ] || { echo '0 passed, 1 failed' && exit 1; }
+  echo '1 passed, 0 failed'
 else
   name=$(basename "$PWD")
   [ ! -e "$NOTES/refused" ] || exit 1
@@ -29,17 +44,12 @@ else
   echo "$name" >>"$NOTES/proved"
   mkdir -p out/rlib out/incremental && : >"out/rlib/$name"
   [ "$1" = run ] || exit 0
+  mkdir "$NOTES/linking" || exit 1
+  link "$name"
+  sleep "${PAUSE-0}"
+  rmdir "$NOTES/linking"
+  [ -z "${MEDDLED-}" ] || echo meddled >"$REPOSITORY/crates/exec_msg/src/main.rt"
 fi
-cat >out/exec_run <<END
-#!/bin/sh
-${BEGIN-}
-case \\$(cat) in *version*) echo end 0 && exit ;; esac
-echo $(cat src/main.rt) "\\$@"
-exit 3
-END
-chmod +x out/exec_run
-[ -z "${MEDDLED-}" ] || echo meddled >"$REPOSITORY/crates/exec_msg/src/main.rt"
-[ "$1" = run ] || echo '1 passed, 0 failed'
 """
 # What stands for a program that others call: it notes that it was called, and becomes the other.
 NOTING = """#!/bin/sh
@@ -108,6 +118,9 @@ class Repository:
     def start(self, **around):
         return self.run("1", "2", **around)
 
+    def upgrade(self, **around):
+        return self.run(file="./exec_upgrade", **around)
+
     def copy(self, room, *left_out):
         """Another repository with the same files, which are newer there, but for some."""
         other = Repository(room)
@@ -123,8 +136,8 @@ def listed(top):
 
 
 def needed(below):
-    """The crates on which the program stands, itself among them."""
-    found, left = set(), ["exec_run"]
+    """The crates on which the programs stand, themselves among them."""
+    found, left = set(), [*PROGRAMS]
     while left:
         name = left.pop()
         if name in below and name not in found:

@@ -10,13 +10,13 @@ WANTED = 0, b"end 0\n", b""
 # Programs of the shell: the code that each answers, and a part of what is told where WANTED is wanted.
 PROGRAMS = (
     ("echo end 0", 0, ""),
-    ("echo end 1", 0, "the transcript differs at line 1"),
+    ("echo end 1", 0, "the text differs at line 1"),
     ("echo end 0; exit 3", None, "status 3 with 6 bytes and b'' in place of status 0 with 6 bytes and b''"),
     ("echo end 0; kill -KILL $$", None, "a crash by signal 9"),
     ("echo end 0; echo a warning >&2", None, "status 0 with 6 bytes and b'a warning"),
-    ("printf 'end 0'", None, "the transcript differs at its end"),
-    ("echo round 1 5", None, "the transcript differs at line 1"),
-    ("true", None, "the transcript differs at line 1"),
+    ("printf 'end 0'", None, "the text differs at its end"),
+    ("echo round 1 5", None, "the text differs at line 1"),
+    ("true", None, "the text differs at line 1"),
     ("echo refused 5 >&2; exit 1", 5, "status 1 with 0 bytes and b'refused 5"),
     ("echo refused 10 >&2; exit 1", 10, "status 1"),
     ("echo refused 11 >&2; exit 1", None, "status 1"),

@@ -324,7 +324,7 @@ def of_choice():
         (top / "release/it").write_text("#!/bin/sh\n[ \"$*\" = '1 1' ] && cat >/dev/null && echo 'end 0'\n")
         (top / "release/it").chmod(0o755)
         for known, chosen, should in (("true", "echo asked >&2; false", (0, "4 runs, all there are: no rule breaks\n")), ("false", "true", (0, "4 runs, all there are: no rule breaks\n")), ("false", "false", (2, "virraupez search: ./exec_run has no program to run\n"))):
-            (top / "release/program.sh").write_text(f"is_known() {{ program=release/it; {known}; }}\nchoose() {{ {chosen}; }}\n")
+            (top / "release/program.sh").write_text(f"ask_of() {{ [ $1 = exec_run ]; }}\nis_known() {{ program=release/it; {known}; }}\nchoose() {{ {chosen}; }}\n")
             yield f"the program that is {known} and {chosen}", started(top, "search", "small.json", *ruled(top, "never drop"), "--drop", "x"), should
 
 

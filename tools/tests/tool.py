@@ -16,6 +16,8 @@ TOP = TOOLS.parent
 TESTS = TOOLS / "tests"
 SECONDS = 60
 PLACED = re.compile("[^\\n]+:[0-9]+:[0-9]+: ")
+# The built exec_upgrade, if the tests are given one.
+UPGRADES = []
 # What wasn't tested, since a program isn't installed here.
 UNDONE = []
 

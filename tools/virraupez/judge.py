@@ -46,7 +46,7 @@ def read(name, text, patterns, declared):
 
 
 def executor(by_reference):
-    return runs.Reference() if by_reference else runs.Program()
+    return runs.Reference() if by_reference else runs.Executor()
 
 
 class Judge:

@@ -1,5 +1,5 @@
-"""Runs of documents: by the proved program, or by the executor in Python. Which program ./exec_run runs is asked once, because to
-ask takes longer than a short run does."""
+"""Runs of documents: by a proved program, or by the executor in Python. Which program ./exec_run and ./exec_upgrade run is asked once,
+because to ask takes longer than a short run does."""
 import os
 import pathlib
 import platform
@@ -10,8 +10,8 @@ from . import command
 
 TOP = pathlib.Path(__file__).resolve().parent.parent.parent
 REFUSED = 1
-# What ./exec_run does before it becomes the program.
-ASKED = 'command . release/program.sh && { is_known || choose; } && echo "$program"'
+# What ./exec_run and ./exec_upgrade do before they become the program.
+ASKED = 'command . release/program.sh && ask_of "$0" && { is_known || choose; } && echo "$program"'
 
 
 class Refused(Exception):
@@ -19,14 +19,16 @@ class Refused(Exception):
 
 
 class Program:
-    """The proved program, on one worker."""
+    """A proved program: its name and words, what it writes, and what --reference does in its place."""
+
+    NAME, WORDS, WRITES, REFERENCE = "", (), "", ""
 
     def __init__(self):
-        demand_machine()
-        self.words = [path_of_program(), "1", "1"]
+        demand_machine(self.REFERENCE)
+        self.words = [path_of_program(self.NAME), *self.WORDS]
 
-    def transcript(self, given):
-        """The transcript of a document's bytes."""
+    def text(self, given):
+        """What the program writes of a document's bytes."""
         # Without close_fds Python starts a program in a fraction of the time.
         program = subprocess.Popen(self.words, stdin=subprocess.PIPE, stdout=subprocess.PIPE, stderr=subprocess.PIPE, close_fds=False)
         with program:
@@ -35,8 +37,22 @@ class Program:
         if program.returncode == REFUSED:
             raise Refused(told.decode("ascii", "replace").rpartition(" ")[2].strip())
         if program.returncode:
-            raise command.Trouble(f"the program ended with the status {program.returncode}: there is no transcript")
+            raise command.Trouble(f"the program ended with the status {program.returncode}: there is no {self.WRITES}")
         return text.decode("ascii")
+
+
+class Executor(Program):
+    """The one that runs documents, on one worker."""
+
+    NAME, WORDS, WRITES, REFERENCE = "exec_run", ("1", "1"), "transcript", "runs the document by an executor"
+
+    transcript = Program.text
+
+
+class Upgrader(Program):
+    """The one that brings documents to version 2."""
+
+    NAME, WRITES, REFERENCE = "exec_upgrade", "upgrade", "upgrades the document by a reader"
 
 
 class Reference:
@@ -56,22 +72,23 @@ class Reference:
             raise Refused(str(refused.args[0])) from None
 
 
-def demand_machine():
+def demand_machine(reference=Executor.REFERENCE):
+    """Demands a machine of the proved programs; on another one --reference does something."""
     system, machine = platform.system(), platform.machine()
     if system != "Linux" or machine not in ("x86_64", "amd64"):
         raise command.Trouble(
             f"the proved program is for Linux on x86-64, and this is {system} on {machine}",
-            "--reference runs the document by an executor in Python, written apart from the program; nothing of it is proved",
+            f"--reference {reference} in Python, written apart from the program; nothing of it is proved",
         )
 
 
-def path_of_program():
-    """The program that ./exec_run runs. Without release/ that is ./exec_run itself."""
+def path_of_program(name):
+    """The program that ./exec_run or ./exec_upgrade runs. Without release/ that is this script itself."""
     if not (TOP / "release/program.sh").exists():
-        return str(TOP / "exec_run")
-    asked = subprocess.run(["sh", "-c", ASKED], stdin=subprocess.DEVNULL, stdout=subprocess.PIPE, cwd=TOP)
+        return str(TOP / name)
+    asked = subprocess.run(["sh", "-c", ASKED, name], stdin=subprocess.DEVNULL, stdout=subprocess.PIPE, cwd=TOP)
     if asked.returncode:
-        raise command.Trouble("./exec_run has no program to run")
+        raise command.Trouble(f"./{name} has no program to run")
     return str(TOP / os.fsdecode(asked.stdout).strip())
 
 
