@@ -1,5 +1,5 @@
-"""A copy of the repository's tools and documents in a folder of its own, in which ./exec_run is the program that is tested. So what
-is run there builds nothing, and leaves nothing in the repository."""
+"""A copy of the repository's tools and documents in a folder of its own, in which ./exec_run or ./exec_upgrade is the program that is
+tested. So what is run there builds nothing, and leaves nothing in the repository."""
 import contextlib
 import pathlib
 import shutil
@@ -17,19 +17,19 @@ def left_out(folder, names):
 
 
 @contextlib.contextmanager
-def of(script):
-    """The copy, with a program of the shell as ./exec_run."""
+def of(script, name="exec_run"):
+    """The copy, with a program of the shell as ./exec_run, or another one."""
     with tempfile.TemporaryDirectory() as folder:
         top = pathlib.Path(folder) / "virraupez"
-        for name in FOLDERS:
-            shutil.copytree(tool.TOP / name, top / name, ignore=left_out)
+        for it in FOLDERS:
+            shutil.copytree(tool.TOP / it, top / it, ignore=left_out)
         (top / "cases").mkdir()
-        for path in [*(tool.TOP / name for name in FILES), *(tool.TOP / "cases").glob("*.py")]:
+        for path in [*(tool.TOP / it for it in FILES), *(tool.TOP / "cases").glob("*.py")]:
             shutil.copy2(path, top / path.relative_to(tool.TOP))
-        (top / "exec_run").write_text(f"#!/bin/sh\n{script}\n")
-        (top / "exec_run").chmod(0o755)
+        (top / name).write_text(f"#!/bin/sh\n{script}\n")
+        (top / name).chmod(0o755)
         yield top
 
 
-def with_program(program):
-    return of(f"exec '{program}' \"$@\"")
+def with_program(program, name="exec_run"):
+    return of(f"exec '{program}' \"$@\"", name)
