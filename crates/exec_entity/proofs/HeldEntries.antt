@@ -2,12 +2,12 @@
 use Rattle.std.proofs.Common.{◌≡◌, ℕ, ◌==◌, ◌||◌, List, [], ◌∷◌, ◌++◌, Bool, true, false, cond, if◌then◌else◌, Option, Some, Result, Ok, Err, IsOk, OnOk, refl, ap, sym, subst, ◌∙◌}
 use Rattle.std.specs.Bool.{Decides}
 use Rattle.std.specs.List.{find, list_any}
-use Rattle.std.specs.Map.{lookup, set_value}
+use Rattle.std.specs.Map.{lookup, set_value, remove_entry}
 use Rattle.std.specs.Option.{option_map}
 use Rattle.std.proofs.lemmas.Bool.{eqb-true, eq-eqb}
 use Rattle.std.proofs.lemmas.Bool.Decides.{same_from_decides}
 use Rattle.indexmap.specs.IndexMap.{insert_entry}
-use Rattle.exec_msg.specs.Lists.{change_first}
+use Rattle.exec_msg.specs.Lists.{change_first, drop_first}
 use Rattle.exec_rules.specs.World.{HeldGoal, is_for}
 use Rattle.exec_entity.specs.inner.Server.{held_goal_of, held_goals_of}
 use Rattle.exec_entity.specs.declared.server.Held.{Held}
@@ -46,6 +46,17 @@ module _ (test : ℕ → Bool) (id : ℕ) (same : (key : ℕ) → test key ≡ (
   pub found-in : (entries : List (ℕ × Held)) (helds : List HeldGoal) (rest : Option Held) → held_goals_of entries ≡ helds → rest ≡ lookup test entries →
       find (is_for id) helds ≡ option_map (λ held. held_goal_of (id, held)) rest
   found-in entries helds rest are is = subst (λ (helds : List HeldGoal). find (is_for id) helds ≡ option_map (λ held. held_goal_of (id, held)) rest) are (find-lookup entries ∙ ap (λ (found : Option Held). option_map (λ held. held_goal_of (id, held)) found) (sym is))
+
+  removed_by : (b c : Bool) (entry : ℕ × Held) (entries set : List (ℕ × Held)) (others : List HeldGoal) → b ≡ c → held_goals_of set ≡ others →
+      held_goals_of (cond b entries (entry ∷ set)) ≡ (if c then held_goals_of entries else held_goal_of entry ∷ others)
+  removed_by b true entry entries set others tests same = rw tests refl
+  removed_by b false entry entries set others tests same = rw tests (ap (λ helds. held_goal_of entry ∷ helds) same)
+
+  -- an entry that is removed is dropped from the list
+  pub removed-entry : (entries : List (ℕ × Held)) → held_goals_of (remove_entry test entries) ≡ drop_first (is_for id) (held_goals_of entries)
+  removed-entry [] = refl
+  removed-entry (entry ∷ entries) =
+      removed_by (test entry.0) (entry.0 == id) entry entries (remove_entry test entries) (drop_first (is_for id) (held_goals_of entries)) (same entry.0) (removed-entry entries)
 
   module _ (change : HeldGoal → HeldGoal) (held after : Held) (changes : held_goal_of (id, after) ≡ change (held_goal_of (id, held))) where
     changed_here : (entry : ℕ × Held) → entry.0 ≡ id → entry.1 ≡ held → held_goal_of (entry.0, after) ≡ change (held_goal_of entry)

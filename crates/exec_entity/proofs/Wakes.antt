@@ -1,8 +1,10 @@
 -- From when on goals are awake, kept at the places of what is kept beside them.
-use Rattle.std.proofs.Common.{◌≡◌, ℕ, zero, suc, ◌-◌, ◌^◌, ◌<◌, ◌==◌, List, [], ◌∷◌, ◌++◌, map, length, get_or, Bool, true, false, cond, nat_le, Option, None, Some, slice_get, slice_index_or, slice_set, refl, ap, sym, ◌∙◌, arith}
-use Rattle.std.specs.List.{find}
+use Rattle.std.proofs.Common.{◌≡◌, ℕ, zero, suc, ◌-◌, ◌^◌, ◌<◌, ◌==◌, List, [], ◌∷◌, ◌++◌, map, length, get_or, Bool, true, false, cond, nat_le, Option, None, Some, slice_get, slice_index_or, slice_set, refl, ap, sym, subst, ◌∙◌, arith}
+use Rattle.std.specs.List.{find, position, remove}
+use Rattle.std.specs.Map.{keys_of, remove_entry}
 use Rattle.std.proofs.lemmas.Bool.{eqb-true, eq-eqb, both_ways, or_left, or_right}
 use Rattle.std.proofs.lemmas.List.{length-map, map_push}
+use Rattle.std.proofs.lemmas.List.Quantifiers.{position-Some}
 use Rattle.indexmap.specs.IndexMap.{set_value_at}
 use Rattle.exec_goal.specs.Info.{info_of}
 use Rattle.exec_goal.specs.Table.{GoalRecord}
@@ -81,6 +83,32 @@ pub wake-set : (entries : List (ℕ × Held)) (place : ℕ) (after : Held) → w
 wake-set [] place after = refl
 wake-set (entry ∷ entries) zero after = refl
 wake-set (entry ∷ entries) (suc place) after = ap (λ (wakes : List ℕ). wake_in (held_goal_of entry).work ∷ wakes) (wake-set entries place after)
+
+-- where an entry is removed, what stands at its place is
+wake-removed : (test : ℕ → Bool) (entries : List (ℕ × Held)) (place : ℕ) → place < length (keys_of entries) → test (get_or (keys_of entries) place 0) ≡ true → ((k : ℕ) → k < place → test (get_or (keys_of entries) k 0) ≡ false) →
+    wakes_of (held_goals_of (remove_entry test entries)) ≡ remove (wakes_of (held_goals_of entries)) place
+wake-removed test [] place within passes others = absurd (omega (arith, within))
+wake-removed test (entry ∷ entries) zero within passes others =
+    ap (λ (b : Bool). wakes_of (held_goals_of (cond b entries (entry ∷ remove_entry test entries)))) passes
+wake-removed test (entry ∷ entries) (suc place) within passes others =
+    ap (λ (b : Bool). wakes_of (held_goals_of (cond b entries (entry ∷ remove_entry test entries)))) (others 0 (omega arith))
+    ∙ ap (λ (wakes : List ℕ). wake_in (held_goal_of entry).work ∷ wakes) (wake-removed test entries place (omega (arith, within)) passes (λ k before. others (suc k) (omega (arith, before))))
+
+-- the place at which the map found it is one of the list's
+pub place-within : (test : ℕ → Bool) (entries : List (ℕ × Held)) (place : ℕ) → Some place ≡ position test (keys_of entries) → place < length (wakes_of (held_goals_of entries))
+place-within test entries place is = let within = (position-Some test (keys_of entries) place 0 (sym is)).0 in by entries within
+  where
+    by : (entries : List (ℕ × Held)) → place < length (keys_of entries) → place < length (wakes_of (held_goals_of entries))
+    by entries within = subst (λ (n : ℕ). place < n) (as-long entries) within
+      where
+        as-long : (entries : List (ℕ × Held)) → length (keys_of entries) ≡ length (wakes_of (held_goals_of entries))
+        as-long [] = refl
+        as-long (entry ∷ entries) = ap suc (as-long entries)
+
+pub wake-removed-at : (test : ℕ → Bool) (entries : List (ℕ × Held)) (place : ℕ) → Some place ≡ position test (keys_of entries) → wakes_of (held_goals_of (remove_entry test entries)) ≡ remove (wakes_of (held_goals_of entries)) place
+wake-removed-at test entries place is =
+    let first = position-Some test (keys_of entries) place 0 (sym is) in
+    wake-removed test entries place first.0 first.1 first.2
 
 -- from when on the task of an entry is awake
 pub wake-at : (entries : List (ℕ × Held)) (place wake : ℕ) (entry : ℕ × Held) → slice_get entries place ≡ Some entry → wake ≡ wake_in (held_goal_of entry).work → slice_get (wakes_of (held_goals_of entries)) place ≡ Some wake

@@ -2,8 +2,10 @@
 ghost use Rattle.std.specs.Prelude.{◌≡◌, ◌<◌, ◌++◌, ◌∷◌, [], false};
 ghost use Rattle.std.specs.List.{list_any};
 ghost use Rattle.indexmap.specs.IndexMap.{spare};
+ghost use Rattle.exec_msg.specs.Lists.{drop_first};
 ghost use Rattle.exec_rules.specs.World.{is_for};
 ghost use Rattle.exec_entity.specs.inner.Server.{held_goal_of, held_goals_of};
+ghost use Rattle.exec_entity.specs.inner.Waking.{wakes_of};
 
 mod expiring;
 mod found;
@@ -274,4 +276,15 @@ fn insert_new(held: &mut IndexMap<GoalId, Held>, id: GoalId, new: Held)
     ensures { held_goals_of held.new.entries ≡ held_goals_of held.old.entries ++ held_goal_of (id, new) ∷ [] }
 {
     let _none = held.insert(id, new).unwrap();
+}
+
+// Drops what is kept under an identifier, if anything is, with the moment from which on it is awake.
+fn remove(held: &mut IndexMap<GoalId, Held>, wakes: &mut Vec<u64>, id: GoalId)
+    requires { wakes.old.items ≡ wakes_of (held_goals_of held.old.entries) }
+    ensures held { held_goals_of held.new.entries ≡ drop_first (is_for id) (held_goals_of held.old.entries) }
+    ensures wakes { wakes.new.items ≡ wakes_of (held_goals_of held.new.entries) }
+{
+    if let Some(dropped) = held.shift_remove_full(&id) {
+        let _wake = wakes.remove(dropped.0);
+    }
 }

@@ -321,10 +321,6 @@ module _ (moment timeout : ℕ) where
     within = omega (arith, tallied.within, unexpired-length goals, ap length are);
   }
 
--- another first end is known
-pub tallied-ends : (tally : Tally) (first : Option ℕ) (goals : List GoalRecord) → AllByRecursion (EndsFrom first) goals → IsTallied tally goals → IsTallied (record tally { first_end = first }) goals
-tallied-ends tally first goals ends tallied = record { counted = tallied.counted; ends = ends; waiting = tallied.waiting; infos = tallied.infos; within = tallied.within }
-
 -- ---- goals that wait
 
 pub waiting-within : (place : ℕ) (goals : List GoalRecord) → NoneWaits place goals → place ≤ length goals

@@ -7,17 +7,35 @@ ghost use Rattle.exec_entity.specs.inner.Server.{held_goals_of};
 ghost use Rattle.exec_entity.specs.inner.Waking.{wakes_of};
 
 use super::polling::wake_in;
-use super::{Held, Server};
+use super::{Held, Server, remove};
 use crate::by_number::ByNumber;
 use exec_goal::Goals;
 use exec_msg::{GoalId, Line, Lines, Memory, Moment};
 use indexmap::IndexMap;
 
+// How many goals a server forgets one by one in a round, at most. It forgets all others in one pass.
+const FEW: usize = 4;
+
 impl Server {
-    ghost use Rattle.std.specs.Prelude.{◌≡◌, ◌<◌, false, length, slice_index_or};
+    ghost use Rattle.std.specs.Prelude.{◌≡◌, ◌<◌, false, drop, length, slice_get, slice_index_or, IfNone};
     ghost use Rattle.std.specs.List.{list_any};
-    ghost use Rattle.exec_goal.specs.Table.{GoalRecord, is_expired};
+    ghost use Rattle.std.specs.Option.{option_map};
+    ghost use Rattle.exec_goal.specs.Table.{GoalRecord, is_expired, expired};
     ghost use Rattle.exec_rules.specs.Transcript.{server_expired};
+
+    // Forgets the first goal, in the order of acceptance, whose result the server keeps no longer at a moment. Answers its
+    // identifier, or `None` if there is none.
+    pub(crate) fn expire(&mut self, moment: Moment) -> Option<GoalId>
+        ensures first { result ≡ option_map (λ goal. goal.id) (slice_get (expired moment self.old.timeout self.old.goals) 0) }
+        ensures left { expired moment self.new.timeout self.new.goals ≡ drop 1 (expired moment self.old.timeout self.old.goals) }
+        ensures kept { server_expired moment self.new ≡ server_expired moment self.old }
+        ensures settled { IfNone result (self.new ≡ server_expired moment self.old) }
+    {
+        let timeout = self.timeout?;
+        let id = self.goals.expire(moment, timeout)?;
+        remove(&mut self.held, &mut self.wakes, id);
+        Some(id)
+    }
 
     // Whether there is a goal whose result the server keeps no longer at a moment. No goal is looked at while none can be.
     fn has_expired(&mut self, moment: Moment) -> bool
@@ -110,7 +128,26 @@ fn expire_each<L: Lines>(
     Ok(())
 }
 
+// One goal alone is forgotten in less time than a pass over all takes, and many in more.
 fn expire_goals<L: Lines>(server: &mut Server, moment: Moment, lines: &mut L) -> Result<(), Memory>
+    ensures server { OnOk result (server.new ≡ server_expired moment server.old) }
+    ensures lines { OnOk result (L.lines lines.new ≡ L.lines lines.old ++ expire_lines moment server.old) }
+    ensures number { server.new.handler.entity ≡ server.old.handler.entity }
+{
+    for _turn in 0..FEW {
+        let Some(id) = server.expire(moment) else {
+            return Ok(());
+        };
+        lines.add(&Line::Expire {
+            server: server.number(),
+            id,
+        })?;
+    }
+    expire_rest(server, moment, lines)
+}
+
+// The same, in one pass.
+fn expire_rest<L: Lines>(server: &mut Server, moment: Moment, lines: &mut L) -> Result<(), Memory>
     ensures server { OnOk result (server.new ≡ server_expired moment server.old) }
     ensures lines { OnOk result (L.lines lines.new ≡ L.lines lines.old ++ expire_lines moment server.old) }
     ensures number { server.new.handler.entity ≡ server.old.handler.entity }

@@ -12,10 +12,11 @@ use exec_msg::{GoalId, Moment};
 use indexmap::IndexMap;
 
 impl Goals {
-    ghost use Rattle.std.specs.Prelude.{◌≡◌, ◌<◌, Some, [], length, drop, slice_get, slice_index_or, IfSome, IfNone};
+    ghost use Rattle.std.specs.Prelude.{◌≡◌, ◌<◌, Some, [], length, drop, slice_get, slice_index_or, IfErr, IfNone, IfOk, IfSome, OnErr};
     ghost use Rattle.std.specs.List.{find, list_any, AllByRecursion};
     ghost use Rattle.std.specs.Option.{option_map};
     ghost use Rattle.exec_goal.specs.Calls.{after_expiry};
+    ghost use Rattle.exec_goal.specs.State.{is_terminal};
     ghost use Rattle.exec_goal.specs.inner.Places.{IsFirst};
     ghost use Rattle.exec_goal.specs.Table.{GoalRecord, is_expired, expired, unexpired};
     ghost use Rattle.exec_goal.specs.inner.Tally.{EndsFrom, first_with_goal};
@@ -49,6 +50,9 @@ impl Goals {
         requires { index < length self.now }
         ensures { (d : GoalRecord) → result ≡ is_expired moment (Some timeout) (slice_index_or self.now index d) }
     {
+        if !self.has_ended_at(index) {
+            return false;
+        }
         let (_id, goal) = self.held.get_index(index).unwrap();
         goal.is_expired(moment, timeout)
     }
@@ -61,7 +65,14 @@ impl Goals {
         self.tally.waiting_from = 0;
         keep_unexpired(&mut self.held, moment, timeout);
         note_infos(&self.held, &mut self.tally.infos);
-        self.tally.first_end = self.first_end();
+    }
+
+    // Whether the goal at a place has ended. It is known without a look at its entry.
+    fn has_ended_at(&self, index: usize) -> bool
+        requires { index < length self.now }
+        ensures { (d : GoalRecord) → result ≡ is_terminal (slice_index_or self.now index d).state }
+    {
+        self.at(index).state.is_terminal()
     }
 
     // The place of the first goal that has expired. No goal is looked at while none can have expired. If all were looked at and
@@ -74,22 +85,29 @@ impl Goals {
         if !self.tally.may_expire(moment, timeout) {
             return None;
         }
-        let found = self.first_expired(moment, timeout);
-        if found.is_none() {
-            self.tally.first_end = self.first_end();
+        match self.first_expired(moment, timeout) {
+            Ok(place) => Some(place),
+            Err(first_end) => {
+                self.tally.first_end = first_end;
+                None
+            }
         }
-        found
     }
 
-    // A moment before which no goal has ended, or `None` if none has.
-    fn first_end(&self) -> Option<Moment>
-        ensures { AllByRecursion (EndsFrom result) self.now }
+    // The place of the first goal that has expired. If none has, a moment before which no goal has ended, or `None` if none has.
+    fn first_expired(&self, moment: Moment, timeout: u64) -> Result<usize, Option<Moment>>
+        ensures found { IfOk result (λ index. IsFirst (is_expired moment (Some timeout)) self.now index) }
+        ensures none { OnErr result (expired moment (Some timeout) self.now ≡ []) }
+        ensures first { IfErr result (λ first. AllByRecursion (EndsFrom first) self.now) }
     {
         let mut first = None;
         for index in 0..self.len() {
+            if self.is_expired_at(index, moment, timeout) {
+                return Ok(index);
+            }
             first = self.first_with_goal(index, first);
         }
-        first
+        Err(first)
     }
 
     // The earlier of the first end that is known and the end of the goal at a place, if that has ended.
@@ -97,20 +115,11 @@ impl Goals {
         requires { index < length self.now }
         ensures { (d : GoalRecord) → result ≡ first_with_goal (slice_index_or self.now index d) first }
     {
+        if !self.has_ended_at(index) {
+            return first;
+        }
         let (_id, goal) = self.held.get_index(index).unwrap();
         first_with(goal.state.is_terminal(), goal.ended, first)
-    }
-
-    fn first_expired(&self, moment: Moment, timeout: u64) -> Option<usize>
-        ensures found { IfSome result (λ index. IsFirst (is_expired moment (Some timeout)) self.now index) }
-        ensures none { IfNone result (expired moment (Some timeout) self.now ≡ []) }
-    {
-        for index in 0..self.len() {
-            if self.is_expired_at(index, moment, timeout) {
-                return Some(index);
-            }
-        }
-        None
     }
 }
 

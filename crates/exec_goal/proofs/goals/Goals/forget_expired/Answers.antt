@@ -1,6 +1,6 @@
 use Rattle.std.proofs.Common.{refl, List, length, ap, arith}
 use Rattle.std.proofs.lemmas.List.{length-map}
-use Rattle.exec_goal.proofs.Tallying.{unexpired-length, tallied-unexpired, tallied-ends}
+use Rattle.exec_goal.proofs.Tallying.{unexpired-length, tallied-unexpired}
 use Rattle.exec_goal.specs.Info.{info_of}
 use Rattle.exec_goal.specs.Table.{GoalRecord}
 use Rattle.exec_goal.specs.inner.Held.{record_of, records_of}
@@ -17,11 +17,3 @@ invariant_of-self c =
     let goals : List GoalRecord = records_of c.self.inside.held.entries in
     let after : Tally = record c.self.inside.tally { waiting_from = 0; infos = c.note_infos.new.infos } in
     tallied-unexpired c.args.moment c.args.timeout c.self.inside.tally after goals (records_of c.keep_unexpired.new.held.entries) c.keep_unexpired.ensures refl refl refl c.note_infos.ensures c.self.invariant
-
-pub invariant_of-self-2 : goal.invariant_of-self-2
-invariant_of-self-2 c =
-    let goals : List GoalRecord = records_of c.self.inside.held.entries in
-    let left : List GoalRecord = records_of c.keep_unexpired.new.held.entries in
-    let before : Tally = record c.self.inside.tally { waiting_from = 0; infos = c.note_infos.new.infos } in
-    tallied-ends before c.first_end-self-inside.result left c.first_end-self-inside.ensures
-    (tallied-unexpired c.args.moment c.args.timeout c.self.inside.tally before goals left c.keep_unexpired.ensures refl refl refl c.note_infos.ensures c.self.invariant)

@@ -2,7 +2,7 @@ use Rattle.std.proofs.Common.{◌∙◌, ◌++◌, List, ap, sym}
 use Rattle.std.proofs.lemmas.List.{append-nil}
 use Rattle.exec_entity.proofs.Expiring.{no_lines}
 use Rattle.exec_msg.specs.declared.line.Line.{Line}
-use Rattle.exec_entity.proofs.server.expiring.expire_goals.Goals as goal
+use Rattle.exec_entity.proofs.server.expiring.expire_rest.Goals as goal
 
 pub returns-then-not-has_expired-clause-server : goal.returns-then-not-has_expired-clause-server
 returns-then-not-has_expired-clause-server g c = c.has_expired.ensures.same ∙ sym (c.has_expired.ensures.settled c.if-not-has_expired.true)
