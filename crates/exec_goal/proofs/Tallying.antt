@@ -382,6 +382,14 @@ none-expired (Some first) moment timeout (goal ∷ goals) is ends =
     (not_both (is_terminal goal.state) (nat_le (goal.ended + timeout) moment) (λ ended. later_end first goal.ended timeout moment is (ends.0 ended)))
     (none-expired (Some first) moment timeout goals is ends.1)
 
+-- a goal that hasn't ended hasn't expired, and ends after each moment
+pub unexpired-idle : (moment timeout : ℕ) (goal : GoalRecord) → is_terminal goal.state ≡ false → is_expired moment (Some timeout) goal ≡ false
+unexpired-idle moment timeout goal is = ap (λ (b : Bool). b && nat_le (goal.ended + timeout) moment) is
+
+pub ends-idle : (first : Option ℕ) (goal : GoalRecord) → is_terminal goal.state ≡ false → EndsFrom first goal
+ends-idle None goal is = is
+ends-idle (Some first) goal is = λ ended. absurd cc
+
 -- ---- the first end is looked up
 
 -- one more goal is looked at

@@ -50,9 +50,6 @@ impl Goals {
         requires { index < length self.now }
         ensures { (d : GoalRecord) → result ≡ is_expired moment (Some timeout) (slice_index_or self.now index d) }
     {
-        if !self.has_ended_at(index) {
-            return false;
-        }
         let (_id, goal) = self.held.get_index(index).unwrap();
         goal.is_expired(moment, timeout)
     }
@@ -102,10 +99,12 @@ impl Goals {
     {
         let mut first = None;
         for index in 0..self.len() {
-            if self.is_expired_at(index, moment, timeout) {
-                return Ok(index);
+            if self.has_ended_at(index) {
+                if self.is_expired_at(index, moment, timeout) {
+                    return Ok(index);
+                }
+                first = self.first_with_goal(index, first);
             }
-            first = self.first_with_goal(index, first);
         }
         Err(first)
     }
@@ -115,9 +114,6 @@ impl Goals {
         requires { index < length self.now }
         ensures { (d : GoalRecord) → result ≡ first_with_goal (slice_index_or self.now index d) first }
     {
-        if !self.has_ended_at(index) {
-            return first;
-        }
         let (_id, goal) = self.held.get_index(index).unwrap();
         first_with(goal.state.is_terminal(), goal.ended, first)
     }
