@@ -3,7 +3,7 @@ use Rattle.std.proofs.Common.{◌≡◌, ℕ, zero, suc, ◌+◌, ◌≤◌, ◌
 use Rattle.std.specs.List.{filter, find, AllByRecursion}
 use Rattle.std.specs.Map.{lookup, set_value}
 use Rattle.std.specs.Option.{option_map, unwrap_or}
-use Rattle.std.proofs.lemmas.Bool.{and_parts, not-false, leb-true, leb-false, lt-leb}
+use Rattle.std.proofs.lemmas.Bool.{and_parts, both_ways, not-false, leb-true, leb-false, le-leb, lt-leb}
 use Rattle.std.proofs.lemmas.List.{length-map, map_push, map-set}
 use Rattle.std.proofs.lemmas.Option.{get_or_from_slice_get, slice_get_within, slice_get-map}
 use Rattle.indexmap.proofs.SetLemmas.{map-remove}
@@ -26,7 +26,7 @@ use Rattle.exec_goal.specs.declared.info.GoalInfo.{GoalInfo}
 use Rattle.exec_goal.specs.declared.state.State.{State}
 use Rattle.exec_goal.specs.declared.state.State.TheVariants as state
 use Rattle.exec_goal.specs.declared.tally.Tally.{Tally}
-use Rattle.exec_goal.specs.inner.Tally.{one_where, first_with, first_with_goal, may_expire, CountsMove, TellsState, EndsFrom, NoneWaits, IsTallied}
+use Rattle.exec_goal.specs.inner.Tally.{one_where, first_with, first_with_goal, may_expire, ended_with, CountsMove, TellsState, EndsFrom, NoneBefore, IsTallied}
 
 -- ---- how many goals are worked on
 
@@ -111,20 +111,21 @@ module _ (old new : GoalRecord) where
   replaced-infos _ _ (here goals) same = ap (λ info. info ∷ map info_of goals) same
   replaced-infos _ _ (later goal goals others replaced) same = ap (λ infos. info_of goal ∷ infos) (replaced-infos goals others replaced same)
 
-  replaced-waiting : (is_accepted old.state ≡ false → is_accepted new.state ≡ false) → (place : ℕ) (goals others : List GoalRecord) → Replaced old new goals others → NoneWaits place goals → NoneWaits place others
-  replaced-waiting executed zero _ _ (here goals) waiting = tt
-  replaced-waiting executed (suc place) _ _ (here goals) waiting = (executed waiting.0, waiting.1)
-  replaced-waiting executed zero _ _ (later goal goals others replaced) waiting = tt
-  replaced-waiting executed (suc place) _ _ (later goal goals others replaced) waiting = (waiting.0, replaced-waiting executed place goals others replaced waiting.1)
+  replaced-before : (test : State → Bool) → (test old.state ≡ false → test new.state ≡ false) → (place : ℕ) (goals others : List GoalRecord) → Replaced old new goals others → NoneBefore test place goals → NoneBefore test place others
+  replaced-before test executed zero _ _ (here goals) waiting = tt
+  replaced-before test executed (suc place) _ _ (here goals) waiting = (executed waiting.0, waiting.1)
+  replaced-before test executed zero _ _ (later goal goals others replaced) waiting = tt
+  replaced-before test executed (suc place) _ _ (later goal goals others replaced) waiting = (waiting.0, replaced-before test executed place goals others replaced waiting.1)
 
   -- the tally after it
-  pub tallied-replaced : (before after : Tally) (goals others : List GoalRecord) → Replaced old new goals others → (is_accepted old.state ≡ false → is_accepted new.state ≡ false) → CountsMove old.state new.state new.ended before after →
+  pub tallied-replaced : (before after : Tally) (goals others : List GoalRecord) → Replaced old new goals others → (is_accepted old.state ≡ false → is_accepted new.state ≡ false) → NoneBefore is_terminal after.ended_from others → CountsMove old.state new.state new.ended before after →
       after.infos.items ≡ map info_of others → IsTallied before goals → IsTallied after others
-  tallied-replaced before after goals others replaced executed counts infos tallied = record {
+  tallied-replaced before after goals others replaced executed ended counts infos tallied = record {
     counted = omega (arith, tallied.counted, counts.working, replaced-working goals others replaced);
     ends = subst (λ first. AllByRecursion (EndsFrom first) others) (sym counts.first)
         (replaced-ends (is_terminal new.state) new.ended before.first_end goals others (ends-here (is_terminal new.state) before.first_end new refl) replaced tallied.ends);
-    waiting = subst (λ (place : ℕ). NoneWaits place others) (sym counts.waiting) (replaced-waiting executed before.waiting_from goals others replaced tallied.waiting);
+    waiting = subst (λ (place : ℕ). NoneBefore is_accepted place others) (sym counts.waiting) (replaced-before is_accepted executed before.waiting_from goals others replaced tallied.waiting);
+    ended = ended;
     infos = infos;
     within = omega (arith, tallied.within, replaced-length goals others replaced);
   }
@@ -186,20 +187,30 @@ told_behind place goals goal old new last tells are =
     let there : slice_get all place ≡ Some goal = ap (slice_get all) last ∙ last-there goals goal in
     tells-in place goal goal all (old ++ info_of goal ∷ []) new there refl tells told ∙ ap (map info_of) (ap (λ (i : ℕ). slice_set all i goal) last ∙ set-last goals goal goal)
 
-waiting-append : (place : ℕ) (goals : List GoalRecord) (goal : GoalRecord) → NoneWaits place goals → NoneWaits place (goals ++ goal ∷ [])
-waiting-append zero goals goal waiting = tt
-waiting-append (suc place) [] goal waiting = absurd waiting
-waiting-append (suc place) (one ∷ goals) goal waiting = (waiting.0, waiting-append place goals goal waiting.1)
+pub before-within : (test : State → Bool) (place : ℕ) (goals : List GoalRecord) → NoneBefore test place goals → place ≤ length goals
+before-within test zero goals none = omega arith
+before-within test (suc place) [] none = absurd none
+before-within test (suc place) (goal ∷ goals) none = omega (arith, before-within test place goals none.1)
+
+later_ended : (b : Bool) (place from : ℕ) → from ≤ place → ended_with b place from ≡ from
+later_ended true place from below = ap (λ (b : Bool). if b then from else place) (le-leb from place below)
+later_ended false place from below = refl
+
+before-append : (test : State → Bool) (place : ℕ) (goals : List GoalRecord) (goal : GoalRecord) → NoneBefore test place goals → NoneBefore test place (goals ++ goal ∷ [])
+before-append test zero goals goal waiting = tt
+before-append test (suc place) [] goal waiting = absurd waiting
+before-append test (suc place) (one ∷ goals) goal waiting = (waiting.0, before-append test place goals goal waiting.1)
 
 -- a new goal, which counts as one that was ACCEPTED
-pub tallied-accepted : (before after : Tally) (goals : List GoalRecord) (goal : GoalRecord) (place : ℕ) → place ≡ length goals → length goals < GOALS → CountsMove state.Accepted goal.state goal.ended before after →
+pub tallied-accepted : (before after : Tally) (goals : List GoalRecord) (goal : GoalRecord) (place : ℕ) → place ≡ length goals → length goals < GOALS → after.ended_from ≡ ended_with (is_terminal goal.state) place before.ended_from → CountsMove state.Accepted goal.state goal.ended before after →
     TellsState place goal.state (before.infos.items ++ info_of goal ∷ []) after.infos.items → IsTallied before goals → IsTallied after (goals ++ goal ∷ [])
-tallied-accepted before after goals goal place last room counts tells tallied = record {
+tallied-accepted before after goals goal place last room ended counts tells tallied = record {
   counted = omega (arith, tallied.counted, counts.working, working-append goals goal);
   ends = subst (λ first. AllByRecursion (EndsFrom first) (goals ++ goal ∷ [])) (sym counts.first)
       (ends-append (first_with (is_terminal goal.state) goal.ended before.first_end) goals goal (all-weaker (is_terminal goal.state) goal.ended before.first_end goals tallied.ends)
       (ends-here (is_terminal goal.state) before.first_end goal refl));
-  waiting = subst (λ (place : ℕ). NoneWaits place (goals ++ goal ∷ [])) (sym counts.waiting) (waiting-append before.waiting_from goals goal tallied.waiting);
+  waiting = subst (λ (place : ℕ). NoneBefore is_accepted place (goals ++ goal ∷ [])) (sym counts.waiting) (before-append is_accepted before.waiting_from goals goal tallied.waiting);
+  ended = subst (λ (from : ℕ). NoneBefore is_terminal from (goals ++ goal ∷ [])) (sym (ended ∙ later_ended (is_terminal goal.state) place before.ended_from (omega (arith, last, before-within is_terminal before.ended_from goals tallied.ended)))) (before-append is_terminal before.ended_from goals goal tallied.ended);
   infos = told_behind place goals goal before.infos.items after.infos.items last tells tallied.infos;
   within = omega (arith, room, length-append goals goal);
 }
@@ -267,16 +278,24 @@ removed-length [] (suc i) = omega arith
 removed-length (goal ∷ goals) zero = omega arith
 removed-length (goal ∷ goals) (suc i) = omega (arith, removed-length goals i)
 
+-- a goal in a state that passes the test is taken out
+before-removed : (test : State → Bool) (place : ℕ) (goals : List GoalRecord) (i : ℕ) → i < length goals → ((d : GoalRecord) → test (get_or goals i d).state ≡ true) → NoneBefore test place goals → NoneBefore test place (remove goals i)
+before-removed test zero goals i within passes none = tt
+before-removed test (suc place) [] i within passes none = absurd none
+before-removed test (suc place) (goal ∷ goals) zero within passes none = absurd (both_ways (test goal.state) none.0 (passes goal))
+before-removed test (suc place) (goal ∷ goals) (suc i) within passes none = (none.0, before-removed test place goals i (omega (arith, within)) passes none.1)
+
 -- a goal that has expired is taken out
 pub tallied-removed : (moment timeout : ℕ) (tally after : Tally) (goals : List GoalRecord) (i : ℕ) → IsFirst (is_expired moment (Some timeout)) goals i →
-    after.working ≡ tally.working → after.first_end ≡ tally.first_end → after.waiting_from ≡ 0 → after.infos.items ≡ remove tally.infos.items i → IsTallied tally goals → IsTallied after (remove goals i)
-tallied-removed moment timeout tally after goals i first working same anew infos tallied =
+    after.working ≡ tally.working → after.first_end ≡ tally.first_end → after.waiting_from ≡ 0 → after.ended_from ≡ tally.ended_from → after.infos.items ≡ remove tally.infos.items i → IsTallied tally goals → IsTallied after (remove goals i)
+tallied-removed moment timeout tally after goals i first working same anew from infos tallied =
     let ended : (d : GoalRecord) → is_terminal (get_or goals i d).state ≡ true =
     λ d. (and_parts (is_terminal (get_or goals i d).state) (nat_le ((get_or goals i d).ended + timeout) moment) (first.passes d)).0 in
     record {
       counted = omega (arith, working, tallied.counted, removed-working goals i first.within ended);
       ends = subst (λ first. AllByRecursion (EndsFrom first) (remove goals i)) (sym same) (removed-ends tally.first_end goals i tallied.ends);
-      waiting = subst (λ (place : ℕ). NoneWaits place (remove goals i)) (sym anew) tt;
+      waiting = subst (λ (place : ℕ). NoneBefore is_accepted place (remove goals i)) (sym anew) tt;
+      ended = subst (λ (place : ℕ). NoneBefore is_terminal place (remove goals i)) (sym from) (before-removed is_terminal tally.ended_from goals i first.within ended tallied.ended);
       infos = infos ∙ ap (λ (infos : List GoalInfo). remove infos i) tallied.infos ∙ sym (map-remove info_of goals i);
       within = omega (arith, tallied.within, removed-length goals i);
     }
@@ -311,28 +330,24 @@ module _ (moment timeout : ℕ) where
   unexpired-length (goal ∷ goals) = omega (arith, kept_length (not (is_expired moment (Some timeout) goal)) goal (unexpired moment (Some timeout) goals), unexpired-length goals)
 
   -- all goals that have expired are taken out
-  pub tallied-unexpired : (tally after : Tally) (goals left : List GoalRecord) → left ≡ unexpired moment (Some timeout) goals → after.working ≡ tally.working → after.first_end ≡ tally.first_end → after.waiting_from ≡ 0 →
+  pub tallied-unexpired : (tally after : Tally) (goals left : List GoalRecord) → left ≡ unexpired moment (Some timeout) goals → after.working ≡ tally.working → after.first_end ≡ tally.first_end → after.waiting_from ≡ 0 → after.ended_from ≡ 0 →
       after.infos.items ≡ map info_of left → IsTallied tally goals → IsTallied after left
-  tallied-unexpired tally after goals left are counts same anew infos tallied = record {
+  tallied-unexpired tally after goals left are counts same anew from infos tallied = record {
     counted = omega (arith, counts, tallied.counted, unexpired-working goals, ap working are);
     ends = subst (λ left. AllByRecursion (EndsFrom after.first_end) left) (sym are) (subst (λ first. AllByRecursion (EndsFrom first) (unexpired moment (Some timeout) goals)) (sym same) (unexpired-ends tally.first_end goals tallied.ends));
-    waiting = subst (λ (place : ℕ). NoneWaits place left) (sym anew) tt;
+    waiting = subst (λ (place : ℕ). NoneBefore is_accepted place left) (sym anew) tt;
+    ended = subst (λ (place : ℕ). NoneBefore is_terminal place left) (sym from) tt;
     infos = infos;
     within = omega (arith, tallied.within, unexpired-length goals, ap length are);
   }
 
 -- ---- goals that wait
 
-pub waiting-within : (place : ℕ) (goals : List GoalRecord) → NoneWaits place goals → place ≤ length goals
-waiting-within zero goals waiting = omega arith
-waiting-within (suc place) [] waiting = absurd waiting
-waiting-within (suc place) (goal ∷ goals) waiting = omega (arith, waiting-within place goals waiting.1)
-
 -- one more goal that doesn't
-pub waiting-next : (place : ℕ) (goals : List GoalRecord) → place < length goals → ((d : GoalRecord) → is_accepted (get_or goals place d).state ≡ false) → NoneWaits place goals → NoneWaits (place + 1) goals
-waiting-next place goals within idle waiting = rw add-one (next place goals within idle waiting)
+pub before-next : (test : State → Bool) (place : ℕ) (goals : List GoalRecord) → place < length goals → ((d : GoalRecord) → test (get_or goals place d).state ≡ false) → NoneBefore test place goals → NoneBefore test (place + 1) goals
+before-next test place goals within idle waiting = rw add-one (next place goals within idle waiting)
   where
-    next : (place : ℕ) (goals : List GoalRecord) → place < length goals → ((d : GoalRecord) → is_accepted (get_or goals place d).state ≡ false) → NoneWaits place goals → NoneWaits (suc place) goals
+    next : (place : ℕ) (goals : List GoalRecord) → place < length goals → ((d : GoalRecord) → test (get_or goals place d).state ≡ false) → NoneBefore test place goals → NoneBefore test (suc place) goals
     next place [] within idle waiting = absurd (omega (arith, within))
     next zero (goal ∷ goals) within idle waiting = (idle goal, tt)
     next (suc place) (goal ∷ goals) within idle waiting = (waiting.0, next place goals (omega (arith, within)) idle waiting.1)
@@ -342,21 +357,21 @@ wait_by true goal found next is same = absurd cc
 wait_by false goal found next is same = same
 
 -- the first goal that waits, where it is known where it stands
-pub waiting-found : (place : ℕ) (goals : List GoalRecord) (d : GoalRecord) → place < length goals → is_accepted (get_or goals place d).state ≡ true → NoneWaits place goals → find (λ goal. is_accepted goal.state) goals ≡ Some (get_or goals place d)
+pub waiting-found : (place : ℕ) (goals : List GoalRecord) (d : GoalRecord) → place < length goals → is_accepted (get_or goals place d).state ≡ true → NoneBefore is_accepted place goals → find (λ goal. is_accepted goal.state) goals ≡ Some (get_or goals place d)
 waiting-found place [] d within is waiting = absurd (omega (arith, within))
 waiting-found zero (goal ∷ goals) d within is waiting = ap (λ (b : Bool). cond b (Some goal) (find (λ goal. is_accepted goal.state) goals)) is
 waiting-found (suc place) (goal ∷ goals) d within is waiting =
     wait_by (is_accepted goal.state) goal (find (λ goal. is_accepted goal.state) goals) (Some (get_or goals place d)) waiting.0 (waiting-found place goals d (omega (arith, within)) is waiting.1)
 
 -- where none does
-pub waiting-none : (place : ℕ) (goals : List GoalRecord) → length goals ≤ place → NoneWaits place goals → find (λ goal. is_accepted goal.state) goals ≡ None
+pub waiting-none : (place : ℕ) (goals : List GoalRecord) → length goals ≤ place → NoneBefore is_accepted place goals → find (λ goal. is_accepted goal.state) goals ≡ None
 waiting-none place [] all waiting = refl
 waiting-none zero (goal ∷ goals) all waiting = absurd (omega (arith, all))
 waiting-none (suc place) (goal ∷ goals) all waiting = wait_by (is_accepted goal.state) goal (find (λ goal. is_accepted goal.state) goals) None waiting.0 (waiting-none place goals (omega (arith, all)) waiting.1)
 
 -- another place is known
-pub tallied-waiting : (tally : Tally) (place : ℕ) (goals : List GoalRecord) → NoneWaits place goals → IsTallied tally goals → IsTallied (record tally { waiting_from = place }) goals
-tallied-waiting tally place goals waiting tallied = record { counted = tallied.counted; ends = tallied.ends; waiting = waiting; infos = tallied.infos; within = tallied.within }
+pub tallied-waiting : (tally : Tally) (place : ℕ) (goals : List GoalRecord) → NoneBefore is_accepted place goals → IsTallied tally goals → IsTallied (record tally { waiting_from = place }) goals
+tallied-waiting tally place goals waiting tallied = record { counted = tallied.counted; ends = tallied.ends; waiting = waiting; ended = tallied.ended; infos = tallied.infos; within = tallied.within }
 
 -- ---- none can have expired
 
@@ -405,6 +420,49 @@ pub all-ends : (first : Option ℕ) (goals : List GoalRecord) → ((k : ℕ) (d 
 all-ends first [] ends = tt
 all-ends first (goal ∷ goals) ends = (ends 0 goal (omega arith), all-ends first goals (λ k d within. ends (suc k) d (omega (arith, within))))
 
+-- ---- goals that have ended
+
+before_less : (test : State → Bool) (place less : ℕ) (goals : List GoalRecord) → less ≤ place → NoneBefore test place goals → NoneBefore test less goals
+before_less test place zero goals below none = tt
+before_less test zero (suc less) goals below none = absurd (omega (arith, below))
+before_less test (suc place) (suc less) [] below none = absurd none
+before_less test (suc place) (suc less) (goal ∷ goals) below none = (none.0, before_less test place less goals (omega (arith, below)) none.1)
+
+before_set : (test : State → Bool) (place i : ℕ) (goals : List GoalRecord) (goal : GoalRecord) → place ≤ i → NoneBefore test place goals → NoneBefore test place (slice_set goals i goal)
+before_set test zero i goals goal below none = tt
+before_set test (suc place) i [] goal below none = absurd none
+before_set test (suc place) zero (first ∷ goals) goal below none = absurd (omega (arith, below))
+before_set test (suc place) (suc i) (first ∷ goals) goal below none = (none.0, before_set test place i goals goal (omega (arith, below)) none.1)
+
+before_kept : (test : State → Bool) (place i : ℕ) (goals : List GoalRecord) (goal : GoalRecord) → test goal.state ≡ false → NoneBefore test place goals → NoneBefore test place (slice_set goals i goal)
+before_kept test zero i goals goal idle none = tt
+before_kept test (suc place) i [] goal idle none = absurd none
+before_kept test (suc place) zero (first ∷ goals) goal idle none = (idle, none.1)
+before_kept test (suc place) (suc i) (first ∷ goals) goal idle none = (none.0, before_kept test place i goals goal idle none.1)
+
+-- a goal at a place may have ended
+before-ended : (i from : ℕ) (goals : List GoalRecord) (goal : GoalRecord) → NoneBefore is_terminal from goals → NoneBefore is_terminal (ended_with (is_terminal goal.state) i from) (slice_set goals i goal)
+before-ended i from goals goal none = by (is_terminal goal.state) refl
+  where
+    least : (b : Bool) → nat_le from i ≡ b → NoneBefore is_terminal (if b then from else i) (slice_set goals i goal)
+    least true is = before_set is_terminal from i goals goal (leb-true from i is) none
+    least false is = before_set is_terminal i i goals goal (omega arith) (before_less is_terminal from i goals (omega (arith, leb-false from i is)) none)
+
+    by : (b : Bool) → is_terminal goal.state ≡ b → NoneBefore is_terminal (ended_with b i from) (slice_set goals i goal)
+    by true is = least (nat_le from i) refl
+    by false is = before_kept is_terminal from i goals goal is none
+
+-- what is known of goals before a place
+pub before-idle : (test : State → Bool) (place : ℕ) (goals : List GoalRecord) → NoneBefore test place goals → (k : ℕ) (d : GoalRecord) → k < place → test (get_or goals k d).state ≡ false
+before-idle test zero goals none k d below = absurd (omega (arith, below))
+before-idle test (suc place) [] none k d below = absurd none
+before-idle test (suc place) (goal ∷ goals) none zero d below = none.0
+before-idle test (suc place) (goal ∷ goals) none (suc k) d below = before-idle test place goals none.1 k d (omega (arith, below))
+
+-- another place is known
+pub tallied-ended : (tally : Tally) (place : ℕ) (goals : List GoalRecord) → NoneBefore is_terminal place goals → IsTallied tally goals → IsTallied (record tally { ended_from = place }) goals
+tallied-ended tally place goals ended tallied = record { counted = tallied.counted; ends = tallied.ends; waiting = tallied.waiting; ended = ended; infos = tallied.infos; within = tallied.within }
+
 -- ---- the entries of the map
 
 -- a goal that hasn't ended stays of its state
@@ -420,7 +478,8 @@ module _ (test : ℕ → Bool) (id : ℕ) (same : (key : ℕ) → test key ≡ (
       let other = record_of (id, after) in
       let replaced = replaced-first (has_id id) (λ _. other) goal (records_of entries) (found-in test id same entries (records_of entries) (Some held) refl found) in
       subst (λ goals. IsTallied tally goals) (sym (changed-in test id same (λ _. other) held after refl entries set (records_of entries) refl found is))
-      (tallied-replaced goal other tally tally (records_of entries) _ replaced (λ is. ap (λ (info : GoalInfo). is_accepted info.state) told ∙ is) counts
+      (tallied-replaced goal other tally tally (records_of entries) _ replaced (λ is. ap (λ (info : GoalInfo). is_accepted info.state) told ∙ is)
+      (replaced-before goal other is_terminal (λ is. ap (λ (info : GoalInfo). is_terminal info.state) told ∙ is) tally.ended_from (records_of entries) _ replaced tallied.ended) counts
       (tallied.infos ∙ sym (replaced-infos goal other (records_of entries) _ replaced told)) tallied)
 
   -- it is written back as it was
@@ -440,11 +499,12 @@ module _ (entries : List (ℕ × GoalEntry)) (i : ℕ) (entry : ℕ × GoalEntry
   pub told-within : (tally : Tally) → IsTallied tally (records_of entries) → i < length tally.infos.items
   told-within tally tallied = omega (arith, ap length tallied.infos, length-map (records_of entries) info_of, slice_get_within (records_of entries) i (record_of entry) goal-at)
 
-  pub tallied-at : (after : GoalEntry) (old new : Tally) → (is_accepted entry.1.state ≡ false → is_accepted after.state ≡ false) → CountsMove entry.1.state after.state after.ended old new →
+  pub tallied-at : (after : GoalEntry) (old new : Tally) → (is_accepted entry.1.state ≡ false → is_accepted after.state ≡ false) → new.ended_from ≡ ended_with (is_terminal after.state) i old.ended_from → CountsMove entry.1.state after.state after.ended old new →
       TellsState i after.state old.infos.items new.infos.items → info_of (record_of (entry.0, after)) ≡ record (info_of (record_of entry)) { state = after.state } →
       IsTallied old (records_of entries) → IsTallied new (records_of (set_value_at entries i after))
-  tallied-at after old new executed counts tells told tallied =
+  tallied-at after old new executed ended counts tells told tallied =
       let other = record_of (entry.0, after) in
       subst (λ goals. IsTallied new goals) (sym (records-set_value_at entries i entry after found))
-      (tallied-replaced (record_of entry) other old new (records_of entries) _ (replaced-at (record_of entry) other (records_of entries) i goal-at) executed counts
+      (tallied-replaced (record_of entry) other old new (records_of entries) _ (replaced-at (record_of entry) other (records_of entries) i goal-at) executed
+      (subst (λ (from : ℕ). NoneBefore is_terminal from (slice_set (records_of entries) i other)) (sym ended) (before-ended i old.ended_from (records_of entries) other tallied.ended)) counts
       (tells-in i (record_of entry) other (records_of entries) old.infos.items new.infos.items goal-at told tells tallied.infos) tallied)

@@ -1,6 +1,6 @@
 ghost use Rattle.std.specs.Prelude.{◌≡◌, ◌≤◌, ◌<◌, ◌+◌, ◌^◌, [], false, length, nat_le, true, None};
 ghost use Rattle.exec_goal.specs.State.{is_worked_on, is_terminal};
-ghost use Rattle.exec_goal.specs.inner.Tally.{CountsMove, TellsState, one_where, earlier, first_with, may_expire};
+ghost use Rattle.exec_goal.specs.inner.Tally.{CountsMove, TellsState, one_where, earlier, ended_with, first_with, may_expire};
 
 use crate::info::GoalInfo;
 use crate::state::State;
@@ -16,6 +16,8 @@ pub(crate) struct Tally {
     pub(crate) first_end: Option<Moment>,
     // A place before which no goal is ACCEPTED.
     pub(crate) waiting_from: usize,
+    // A place before which no goal has ended.
+    pub(crate) ended_from: usize,
     // What is known of each goal, in the order of acceptance. If the server works on some goals, a round looks at all. An entry
     // is so large that each look would be a fetch from memory.
     pub(crate) infos: Vec<GoalInfo>,
@@ -27,12 +29,14 @@ impl Tally {
         ensures working { result.working ≡ 0 }
         ensures first { result.first_end ≡ None }
         ensures waiting { result.waiting_from ≡ 0 }
+        ensures ended { result.ended_from ≡ 0 }
         ensures infos { result.infos.items ≡ [] }
     {
         Tally {
             working: 0,
             first_end: None,
             waiting_from: 0,
+            ended_from: 0,
             infos: Vec::new(alloc),
         }
     }
@@ -54,10 +58,12 @@ impl Tally {
         requires fits { self.old.working < 2 ^ 63 }
         requires told { place < length self.old.infos.items }
         ensures counts { CountsMove before after ended self.old self.new }
+        ensures ended { self.new.ended_from ≡ ended_with (is_terminal after) place self.old.ended_from }
         ensures tells { TellsState place after self.old.infos.items self.new.infos.items }
     {
         self.working = count_working(self.working, before, after);
         self.first_end = first_with(after.is_terminal(), ended, self.first_end);
+        self.ended_from = ended_with(after.is_terminal(), place, self.ended_from);
         self.infos[place].state = after;
     }
 }
@@ -71,6 +77,13 @@ fn count_working(working: usize, before: State, after: State) -> usize
     let entering = usize::from(after.is_worked_on());
     let leaving = usize::from(before.is_worked_on());
     working + entering - leaving
+}
+
+// A place before which no goal has ended, after the goal at another place may have.
+fn ended_with(has_ended: bool, place: usize, from: usize) -> usize
+    ensures { result ≡ ended_with has_ended place from }
+{
+    if has_ended { from.min(place) } else { from }
 }
 
 // Whether a moment is at least `timeout` ticks after an end.

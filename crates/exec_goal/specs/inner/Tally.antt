@@ -48,16 +48,22 @@ abbrev pub EndsFrom : Option ℕ → GoalRecord → Type 0
 EndsFrom None goal = is_terminal goal.state ≡ false
 EndsFrom (Some first) goal = is_terminal goal.state ≡ true → first ≤ goal.ended
 
--- none of the goals before a place is accepted and not executed yet
-abbrev pub NoneWaits : ℕ → List GoalRecord → Type 0
-NoneWaits zero goals = ⊤
-NoneWaits (suc place) [] = ⊥
-NoneWaits (suc place) (goal ∷ goals) = (is_accepted goal.state ≡ false) × NoneWaits place goals
+-- no goal before a place is in a state that passes a test
+abbrev pub NoneBefore : (State → Bool) → ℕ → List GoalRecord → Type 0
+NoneBefore test zero goals = ⊤
+NoneBefore test (suc place) [] = ⊥
+NoneBefore test (suc place) (goal ∷ goals) = (test goal.state ≡ false) × NoneBefore test place goals
+
+-- a place before which no goal has ended, where the goal at another place may have since
+abbrev pub ended_with : Bool → ℕ → ℕ → ℕ
+ended_with true place from = if nat_le from place then from else place
+ended_with false place from = from
 
 -- a tally is that of a table, which has no more goals than it may
 pub record IsTallied (tally : Tally) (goals : List GoalRecord) : Type 0 where
   pub counted : tally.working ≡ working goals
   pub ends : AllByRecursion (EndsFrom tally.first_end) goals
-  pub waiting : NoneWaits tally.waiting_from goals
+  pub waiting : NoneBefore is_accepted tally.waiting_from goals
+  pub ended : NoneBefore is_terminal tally.ended_from goals
   pub infos : tally.infos.items ≡ map info_of goals
   pub within : length goals ≤ GOALS

@@ -19,7 +19,7 @@ impl Goals {
     ghost use Rattle.exec_goal.specs.State.{is_terminal};
     ghost use Rattle.exec_goal.specs.inner.Places.{IsFirst};
     ghost use Rattle.exec_goal.specs.Table.{GoalRecord, is_expired, expired, unexpired};
-    ghost use Rattle.exec_goal.specs.inner.Tally.{EndsFrom, first_with_goal};
+    ghost use Rattle.exec_goal.specs.inner.Tally.{EndsFrom, NoneBefore, first_with_goal};
 
     /// Forgets the first goal, in the order of acceptance, that ended `timeout` ticks before a moment or earlier. Answers its
     /// identifier, or `None` if there is none. The others keep their order.
@@ -60,6 +60,7 @@ impl Goals {
         ensures { self.new ≡ unexpired moment (Some timeout) self.old }
     {
         self.tally.waiting_from = 0;
+        self.tally.ended_from = 0;
         keep_unexpired(&mut self.held, moment, timeout);
         note_infos(&self.held, &mut self.tally.infos);
     }
@@ -82,6 +83,7 @@ impl Goals {
         if !self.tally.may_expire(moment, timeout) {
             return None;
         }
+        self.tally.ended_from = self.first_ended();
         match self.first_expired(moment, timeout) {
             Ok(place) => Some(place),
             Err(first_end) => {
@@ -91,6 +93,24 @@ impl Goals {
         }
     }
 
+    // The place of the first goal that has ended, or how many goals there are if none has.
+    fn first_ended(&self) -> usize
+        ensures { NoneBefore is_terminal result self.now }
+    {
+        for place in self.ended_from()..self.len() {
+            if self.has_ended_at(place) {
+                return place;
+            }
+        }
+        self.len()
+    }
+
+    fn ended_from(&self) -> usize
+        ensures { NoneBefore is_terminal result self.now }
+    {
+        self.tally.ended_from
+    }
+
     // The place of the first goal that has expired. If none has, a moment before which no goal has ended, or `None` if none has.
     fn first_expired(&self, moment: Moment, timeout: u64) -> Result<usize, Option<Moment>>
         ensures found { IfOk result (λ index. IsFirst (is_expired moment (Some timeout)) self.now index) }
@@ -98,7 +118,7 @@ impl Goals {
         ensures first { IfErr result (λ first. AllByRecursion (EndsFrom first) self.now) }
     {
         let mut first = None;
-        for index in 0..self.len() {
+        for index in self.ended_from()..self.len() {
             if self.has_ended_at(index) {
                 if self.is_expired_at(index, moment, timeout) {
                     return Ok(index);

@@ -8,7 +8,7 @@ impl Goals {
     ghost use Rattle.std.specs.Option.{option_map};
     ghost use Rattle.exec_goal.specs.State.{is_accepted};
     ghost use Rattle.exec_goal.specs.Table.{GoalRecord};
-    ghost use Rattle.exec_goal.specs.inner.Tally.{NoneWaits};
+    ghost use Rattle.exec_goal.specs.inner.Tally.{NoneBefore};
 
     /// The first goal, in the order of acceptance, that is accepted and not executed yet, or `None` if there is none. Goals
     /// before the one that was found last aren't looked at again, unless goals were forgotten since.
@@ -27,7 +27,7 @@ impl Goals {
 
     // The place of that goal, or how many goals there are.
     fn first_waiting(&self) -> usize
-        ensures before { NoneWaits result self.now }
+        ensures before { NoneBefore is_accepted result self.now }
         ensures there { result < length self.now → (d : GoalRecord) → is_accepted (slice_index_or self.now result d).state ≡ true }
     {
         for place in self.waiting_from()..self.len() {
@@ -39,7 +39,7 @@ impl Goals {
     }
 
     fn waiting_from(&self) -> usize
-        ensures { NoneWaits result self.now }
+        ensures { NoneBefore is_accepted result self.now }
     {
         self.tally.waiting_from
     }

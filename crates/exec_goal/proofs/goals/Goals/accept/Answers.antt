@@ -33,7 +33,7 @@ invariant_of-self-2 c =
     let counted = c.count_move.ensures.counts in
     subst (λ (goals : List GoalRecord). IsTallied c.count_move.new.self goals)
     (sym (ap records_of c.in_ok-insert.ensures.entries ∙ inserted-new _ (λ a b. ids_decide a b) c.args.id _ c.self.inside.held.entries none))
-    (tallied-accepted c.self.inside.tally c.count_move.new.self goals _ c.len-place.result (c.len-place.ensures.count ∙ sym (ap length c.self.view_is)) room
+    (tallied-accepted c.self.inside.tally c.count_move.new.self goals _ c.len-place.result (c.len-place.ensures.count ∙ sym (ap length c.self.view_is)) room c.count_move.ensures.ended
     (subst (λ (ended : ℕ). CountsMove state.Accepted c.new-goal.result.state ended c.self.inside.tally c.count_move.new.self) (sym (ap (λ goal. goal.ended) (c.new-goal.ensures.stands_for c.args.id)))
     (record { working = counted.working; first = counted.first; waiting = counted.waiting }))
     (subst (λ (infos : List GoalInfo). TellsState c.len-place.result c.new-goal.result.state infos c.count_move.new.self.infos.items) told c.count_move.ensures.tells)

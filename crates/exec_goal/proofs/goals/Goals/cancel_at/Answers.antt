@@ -38,5 +38,5 @@ pub invariant_of-self : goal.invariant_of-self
 invariant_of-self c =
     let entry : ℕ × GoalEntry = (c.pair_mut-goal.result.0.now, c.pair_mut-goal.result.1.now) in
     tallied-at c.self.inside.held.entries c.args.index entry c.pair_mut-goal.ensures.value c.cancel_where.new.self c.self.inside.tally c.count_move.new.self
-    (λ executed. ap (λ (goal : GoalRecord). is_accepted goal.state) (c.cancel_where.ensures entry.0) ∙ answered-executed c.has-is_accepted.result (record_of entry) executed) c.count_move.ensures.counts c.count_move.ensures.tells
+    (λ executed. ap (λ (goal : GoalRecord). is_accepted goal.state) (c.cancel_where.ensures entry.0) ∙ answered-executed c.has-is_accepted.result (record_of entry) executed) c.count_move.ensures.ended c.count_move.ensures.counts c.count_move.ensures.tells
     (ap info_of (c.cancel_where.ensures entry.0) ∙ answered-info c.has-is_accepted.result (record_of entry) ∙ ap (λ (goal : GoalRecord). record (info_of (record_of entry)) { state = goal.state }) (sym (c.cancel_where.ensures entry.0))) c.self.invariant

@@ -68,4 +68,4 @@ count_move-requires-clause-told c =
 pub invariant_of-self-2 : goal.invariant_of-self-2
 invariant_of-self-2 c =
     let entry : ℕ × GoalEntry = (c.pair_mut-goal.result.0.now, c.pair_mut-goal.result.1.now) in
-    tallied-at c.self.inside.held.entries c.in-Some.place entry c.pair_mut-goal.ensures.value _ c.self.inside.tally c.count_move.new.self (λ _. never_anew entry.1.state c.args.event c.in-Some-end.next (terminal-reached (after entry.1.state c.args.event) c.in-Some-end.next c.in-Some-end.ensures)) c.count_move.ensures.counts c.count_move.ensures.tells refl c.self.invariant
+    tallied-at c.self.inside.held.entries c.in-Some.place entry c.pair_mut-goal.ensures.value _ c.self.inside.tally c.count_move.new.self (λ _. never_anew entry.1.state c.args.event c.in-Some-end.next (terminal-reached (after entry.1.state c.args.event) c.in-Some-end.next c.in-Some-end.ensures)) c.count_move.ensures.ended c.count_move.ensures.counts c.count_move.ensures.tells refl c.self.invariant

@@ -53,7 +53,7 @@ invariant_of-self c =
     subst (λ (goals : List GoalRecord). IsFirst (is_expired c.args.moment (Some c.args.timeout)) goals c.in_ok-index.index) (sym (c.self.view_is ∙ c.next_expired.ensures.same)) c.in_ok-index.ensures.found in
     let after : Tally = record c.self.inside.tally { waiting_from = 0; infos = c.remove-told.new.self } in
     subst (λ (goals : List GoalRecord). IsTallied after goals) (sym (ap records_of c.shift_remove_index.ensures.entries ∙ map-remove record_of c.self.inside.held.entries c.in_ok-index.index))
-    (tallied-removed c.args.moment c.args.timeout c.self.inside.tally after goals c.in_ok-index.index found refl refl refl c.remove-told.ensures.items c.self.invariant)
+    (tallied-removed c.args.moment c.args.timeout c.self.inside.tally after goals c.in_ok-index.index found refl refl refl refl c.remove-told.ensures.items c.self.invariant)
 
 pub returns-in_err-index-clause-found : goal.returns-in_err-index-clause-found
 returns-in_err-index-clause-found c =

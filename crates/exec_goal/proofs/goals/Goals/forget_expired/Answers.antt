@@ -15,5 +15,5 @@ note_infos-requires c =
 pub invariant_of-self : goal.invariant_of-self
 invariant_of-self c =
     let goals : List GoalRecord = records_of c.self.inside.held.entries in
-    let after : Tally = record c.self.inside.tally { waiting_from = 0; infos = c.note_infos.new.infos } in
-    tallied-unexpired c.args.moment c.args.timeout c.self.inside.tally after goals (records_of c.keep_unexpired.new.held.entries) c.keep_unexpired.ensures refl refl refl c.note_infos.ensures c.self.invariant
+    let after : Tally = record c.self.inside.tally { waiting_from = 0; ended_from = 0; infos = c.note_infos.new.infos } in
+    tallied-unexpired c.args.moment c.args.timeout c.self.inside.tally after goals (records_of c.keep_unexpired.new.held.entries) c.keep_unexpired.ensures refl refl refl refl c.note_infos.ensures c.self.invariant
