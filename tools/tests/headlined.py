@@ -29,7 +29,7 @@ CHANGES = (
     ("one that isn't used any more", REFUSALS, ("not (is_clocked document)", "false"), 1, r"^-.*abbrev pub is_clocked : DocumentDraft"),
     ("a variant", "crates/exec_msg/src/kind.rt", ("    Ask,\n", "    Request2,\n"), 1, r"^\+.*    Request2,$"),
     ("a value of a model", "crates/exec_msg/src/items.rt", ("ghost Value = { List T }", "ghost Value = { T }"), 1, r"^\+.*ghost Value = \{ T \}"),
-    ("a limit", "crates/exec_msg/src/limits.rt", ("GOALS: usize = 64", "GOALS: usize = 65"), 1, r"^\+.*GOALS: usize = 65;$"),
+    ("a limit", "crates/exec_msg/src/limits.rt", ("GOALS: usize = 1_024", "GOALS: usize = 1_025"), 1, r"^\+.*GOALS: usize = 1_025;$"),
     ("a clause", "crates/exec_round/src/running.rt", ("ensures text { IfOk", "ensures text { IfErr"), 1, r"^\+    ensures text \{ IfErr"),
     ("how a value is given", "crates/exec_msg/src/items.rt", ("λ list. list.items.items", "λ list. []"), 0, "1 passed, 0 failed"),
     ("one that isn't reached", REFUSALS, ("refused.Version = 3", "refused.Version = 4"), 0, "1 passed, 0 failed"),
