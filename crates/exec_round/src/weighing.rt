@@ -10,7 +10,7 @@ use std::thread::{Threads, available_parallelism};
 // a worker and to wait for its end. How they were measured is in docs/MEASURED.md.
 const INSTRUCTION: u64 = 5;
 
-const CUT: u64 = 400;
+const CUT: u64 = 3_000;
 
 const START: u64 = 50_000;
 
