@@ -73,7 +73,7 @@ pub fn run_call_into(
     ensures unchanged_effects { OnErr result (effects.new ≡ effects.old) }
 {
     let mut close = Close::Nothing;
-    run_call_closing(script, role, bank, input, effects, &mut close)?;
+    run_with::<Foreseen>(script, role, bank, input, effects, &mut close)?;
     Ok(close)
 }
 
@@ -96,6 +96,24 @@ pub fn run_call_closing(
     ensures unchanged_variables { OnErr result (bank.new ≡ bank.old) }
     ensures unchanged_effects { OnErr result (effects.new ≡ effects.old) }
 {
+    run_with::<Picked>(script, role, bank, input, effects, close)
+}
+
+// The same, with a way of finding the results of operations.
+#[inline(always)]
+fn run_with<R: Results>(
+    script: &[Instr],
+    role: Role,
+    bank: &mut Bank,
+    input: &Input,
+    effects: &mut EffectList,
+    close: &mut Close,
+) -> Result<(), Memory>
+    ensures called { OnOk result (HasCalled script.now role input.now bank.old bank.new effects.old effects.new close.new) }
+    ensures memory { script.now ≡ [] → IsOk result }
+    ensures unchanged_variables { OnErr result (bank.new ≡ bank.old) }
+    ensures unchanged_effects { OnErr result (effects.new ≡ effects.old) }
+{
     if script.is_empty() {
         *close = close_of(role, None);
         return Ok(());
@@ -104,7 +122,7 @@ pub fn run_call_closing(
     let mut frame = Frame::new();
     frame.begin(bank, input);
     let mut answer = None;
-    follow::<Picked>(script, 0, &mut frame, &mut answer, &mut effects.items);
+    follow::<R>(script, 0, &mut frame, &mut answer, &mut effects.items);
     frame.put_bank(bank);
     *close = close_of(role, answer);
     Ok(())

@@ -3,10 +3,10 @@ use Rattle.exec_script.specs.Script.{ScriptState, close_of}
 use Rattle.exec_script.specs.Zeros.{zeros}
 use Rattle.exec_script.specs.declared.effects.Effect.{Effect}
 use Rattle.exec_script.proofs.Lasting.{call_ends}
-use Rattle.exec_script.proofs.run.run_call_closing.Goals as goal
+use Rattle.exec_script.proofs.run.run_with.Goals as goal
 
 pub returns : goal.returns
-returns c =
+returns g c =
     let ends = call_ends c.args.script.now zeros c.args.bank.now c.args.input.now c.begin.new.self c.args.effects.now c.reserve.new.self.items _ refl c.begin.ensures (c.reserve.ensures.items ∙ c.effects.view_is) c.follow.ensures.ends in
     record {
       called = record {
