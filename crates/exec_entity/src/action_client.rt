@@ -1,5 +1,5 @@
 use crate::by_number::{ByNumber, Numbered};
-use exec_msg::{EntityNo, GoalId, Memory};
+use exec_msg::{EntityNo, GoalId, Memory, number_after};
 use std::marker::Model;
 
 /// An action client.
@@ -11,16 +11,19 @@ pub struct ActionClient {
     server: EntityNo,
     // Whether it asks for the results of its goals.
     asks: bool,
-    // The number of its last goal.
+    // The number of its last goal, below 2^60.
     goals: u64,
 }
 
 impl Model for ActionClient {
+    ghost use Rattle.std.specs.Prelude.{◌<◌, ◌^◌};
     ghost use Rattle.exec_rules.specs.World.{ActionClientEntry};
 
     ghost Value = { ActionClientEntry };
 
     ghost view = { λ client. record { entity = client.entity; place = client.place; server = client.server; asks = client.asks; goals = client.goals } };
+
+    ghost invariant = { λ client. client.goals < 2 ^ 60 };
 }
 
 impl ActionClient {
@@ -61,15 +64,14 @@ impl ActionClient {
         GoalId::new((self.place as u128 + 1) * (1 << 64) + number as u128)
     }
 
-    // Counts its next goal, and gives the goal's number, from 1. If the number doesn't fit, the client doesn't change.
+    // Counts its next goal, and gives the goal's number, from 1. If the number isn't below 2^60, the client doesn't change.
     pub(crate) fn send_goal(&mut self) -> Result<u64, Memory>
         ensures number { IfOk result (λ number. number ≡ self.old.goals + 1) }
         ensures sent { OnOk result (self.new ≡ record self.old { goals = self.old.goals + 1 }) }
-        ensures memory { OnErr result (2 ^ 64 ≤ self.old.goals + 1) }
+        ensures memory { OnErr result (2 ^ 60 ≤ self.old.goals + 1) }
         ensures unchanged { OnErr result (self.new ≡ self.old) }
     {
-        // No run of a lawful plan comes to a number that doesn't fit (law `numbers_stay_below_their_limit`).
-        self.goals = self.goals.checked_add(1).ok_or(Memory)?;
+        self.goals = number_after(self.goals)?;
         Ok(self.goals)
     }
 }
@@ -92,12 +94,13 @@ impl ByNumber<ActionClient> {
     /// A client counts its next goal. Answers its server and the goal's identifier, or `None` if there is no such client.
     ///
     /// # Errors
-    /// [`Memory`] if the goal's number doesn't fit into 64 bits.
+    /// [`Memory`] if the goal's number isn't below 2^60. No run of a lawful plan sends so many goals (law
+    /// `numbers_stay_below_their_limit`).
     pub fn send_goal(&mut self, client: EntityNo) -> Result<Option<(EntityNo, GoalId)>, Memory>
         ensures made { IfOk result (λ made. made ≡ option_map (λ entry. (entry.server, goal_id entry.place (entry.goals + 1))) (find (is_action_client_at client) self.old)) }
         ensures sent { OnOk result (self.new ≡ change_first (is_action_client_at client) (λ entry. record entry { goals = entry.goals + 1 }) self.old) }
         ensures absent { IfOk result (λ made. made ≡ None → self.new ≡ self.old) }
-        ensures memory { OnErr result (IsSomeAnd (find (is_action_client_at client) self.old) (λ entry. 2 ^ 64 ≤ entry.goals + 1)) }
+        ensures memory { OnErr result (IsSomeAnd (find (is_action_client_at client) self.old) (λ entry. 2 ^ 60 ≤ entry.goals + 1)) }
     {
         let place = self.place(client);
         let Some(entry) = self.entries.get_mut(place) else {

@@ -1,5 +1,5 @@
 use crate::by_number::{ByNumber, Numbered};
-use exec_msg::{EntityNo, Memory};
+use exec_msg::{EntityNo, Memory, number_after};
 use exec_task::PendingCall;
 use indexmap::IndexMap;
 use std::alloc::Global;
@@ -10,7 +10,7 @@ use std::marker::Model;
 pub struct Client {
     entity: EntityNo,
     service: EntityNo,
-    // The number of its last call.
+    // The number of its last call, below 2^60.
     calls: u64,
     // The calls without a reply, each by its number.
     pending: IndexMap<u64, PendingCall>,
@@ -19,7 +19,7 @@ pub struct Client {
 impl Model for Client {
     ghost use Rattle.std.specs.List.{All};
     ghost use Rattle.std.specs.Map.{keys_of};
-    ghost use Rattle.std.specs.Prelude.{◌≡◌, ◌≤◌};
+    ghost use Rattle.std.specs.Prelude.{◌≡◌, ◌<◌, ◌≤◌, ◌^◌};
     ghost use Rattle.exec_rules.specs.World.{ClientEntry};
     ghost use Rattle.exec_task.specs.Call.{new_call};
 
@@ -28,7 +28,8 @@ impl Model for Client {
     ghost view = { λ client. record { entity = client.entity; service = client.service; calls = client.calls; pending = keys_of client.pending.entries } };
 
     ghost invariant = { λ client. All (λ number. number ≤ client.calls) (keys_of client.pending.entries)
-        × All (λ pending. pending.1.call ≡ new_call pending.0) client.pending.entries };
+        × All (λ pending. pending.1.call ≡ new_call pending.0) client.pending.entries
+        × (client.calls < 2 ^ 60) };
 }
 
 impl Client {
@@ -64,8 +65,7 @@ impl Client {
         ensures called { OnOk result (self.new ≡ client_called self.old) }
         ensures unchanged { OnErr result (self.new ≡ self.old) }
     {
-        // No run of a lawful plan comes to a number that doesn't fit (law `numbers_stay_below_their_limit`).
-        let number = self.calls.checked_add(1).ok_or(Memory)?;
+        let number = number_after(self.calls)?;
         self.pending.insert(number, PendingCall::new(number))?;
         self.calls = number;
         Ok(number)
@@ -112,7 +112,8 @@ impl ByNumber<Client> {
     /// there is no such client.
     ///
     /// # Errors
-    /// [`Memory`] if a growth was refused or the call's number doesn't fit into 64 bits.
+    /// [`Memory`] if a growth was refused, or the call's number isn't below 2^60. No run of a lawful plan makes so many calls (law
+    /// `numbers_stay_below_their_limit`).
     pub fn call(&mut self, client: EntityNo) -> Result<Option<(EntityNo, u64)>, Memory>
         ensures made { IfOk result (λ made. made ≡ option_map (λ entry. (entry.service, entry.calls + 1)) (find (is_client_at client) self.old)) }
         ensures called { OnOk result (self.new ≡ change_first (is_client_at client) client_called self.old) }

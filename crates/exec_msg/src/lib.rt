@@ -31,7 +31,7 @@ pub use line::Line;
 pub use lines::{LineList, Lines};
 pub use memory::Memory;
 pub use names::Names;
-pub use numbers::{EntityNo, GoalId, Moment};
+pub use numbers::{EntityNo, GoalId, Moment, number_after};
 pub use place_table::PlaceTable;
 pub use text::write_line;
 pub use timer::Timer;

@@ -1,4 +1,4 @@
-//! The limits of a document, and of the queues and servers that it declares.
+//! The limits of a document, of the queues and servers that it declares, and of what a run counts.
 
 /// Bytes of a document, at most: 16 MiB.
 pub const DOCUMENT: usize = 16_777_216;
@@ -38,3 +38,6 @@ pub const NAME_LENGTH: usize = 64;
 
 /// A moment, a period, a timeout and a fed stamp in ticks, at most: 2^62.
 pub const TICKS: u64 = 4_611_686_018_427_387_904;
+
+/// The number of a call, a goal or an arrival is below this: 2^60.
+pub const NUMBERS: u64 = 1_152_921_504_606_846_976;

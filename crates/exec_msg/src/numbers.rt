@@ -1,6 +1,7 @@
-ghost use Rattle.std.specs.Prelude.{◌≡◌, ℕ, ◌+◌, ◌*◌, ◌%◌, ◌≤◌, ◌^◌, SomeIff};
+ghost use Rattle.std.specs.Prelude.{◌≡◌, ℕ, ◌+◌, ◌*◌, ◌%◌, ◌<◌, ◌≤◌, ◌^◌, SomeIff, IfOk, OnErr};
 
-use crate::limits::TICKS;
+use crate::limits::{NUMBERS, TICKS};
+use crate::memory::Memory;
 use std::marker::Model;
 
 /// A point in time, in ticks from the executor's start, at most [`TICKS`].
@@ -117,4 +118,20 @@ impl Model for EntityNo {
     ghost view = { λ no. no.0 };
 
     ghost inverse = { λ number. record { 0 = number } };
+}
+
+/// The number after this one. Calls, goals and arrivals are numbered so, from 1.
+///
+/// # Errors
+/// [`Memory`] if the number isn't below [`NUMBERS`].
+#[inline(always)]
+pub fn number_after(number: u64) -> Result<u64, Memory>
+    ensures next { IfOk result (λ next. next ≡ number + 1) }
+    ensures bound { IfOk result (λ next. next < 2 ^ 60) }
+    ensures memory { OnErr result (2 ^ 60 ≤ number + 1) }
+{
+    if number >= NUMBERS - 1 {
+        return Err(Memory);
+    }
+    Ok(number + 1)
 }

@@ -1,13 +1,13 @@
 use crate::fronts::Fronts;
 use exec_entity::Servers;
-use exec_msg::{EntityNo, Line, Lines, Memory, Moment};
+use exec_msg::{EntityNo, Line, Lines, Memory, Moment, number_after};
 use exec_plan::Order;
 use exec_queue::{Queues, bring_home_to_queues};
 use exec_rules::{Home, Item, ReadyList};
 use std::marker::Model;
 
 // What callbacks send goes here: to the queues of entities, and to the lines of the transcript. It also has the order of ready
-// callbacks, and the number of the last arrival. That is 0 under the order of kinds.
+// callbacks, and the number of the last arrival. That is below 2^60, and 0 under the order of kinds.
 #[derive(Drop)]
 pub(crate) struct Mail<L: Lines> {
     order: Order,
@@ -60,13 +60,14 @@ impl<L: Lines> Mail<L> {
         self.order
     }
 
-    // Counts one more arrival. Under the order of kinds none is counted, and nothing is written.
+    // Counts one more arrival. Under the order of kinds none is counted, and nothing is written. It answers Memory if the number isn't
+    // below 2^60, and no run of a lawful plan gets there (law `numbers_stay_below_their_limit`).
     #[inline(always)]
     fn count_arrival(&mut self) -> Result<(), Memory>
         ensures { OnOk result (self.new ≡ with_next self.old) }
     {
         if let Order::Arrival = self.order {
-            self.arrivals = self.arrivals.checked_add(1).ok_or(Memory)?;
+            self.arrivals = number_after(self.arrivals)?;
         }
         Ok(())
     }

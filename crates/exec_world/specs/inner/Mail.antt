@@ -1,6 +1,6 @@
 -- What callbacks send, apart from the rest of the world: the queues with the order of ready callbacks and the number of the last
 -- arrival, and the lines.
-use Rattle.std.specs.Prelude.{◌≡◌, ℕ, List, [], ◌∷◌, ◌++◌, map, Option, None, Some}
+use Rattle.std.specs.Prelude.{◌≡◌, ◌<◌, ◌^◌, ℕ, List, [], ◌∷◌, ◌++◌, map, Option, None, Some}
 use Rattle.std.specs.List.{fold}
 use Rattle.exec_msg.specs.Numbers.{EntityNo}
 use Rattle.exec_msg.specs.Lists.{change_first}
@@ -18,9 +18,9 @@ pub record MailState : Type 0 where
   pub queues : List Queue
   pub lines : List Line
 
--- a number of arrivals under an order: under that of kinds none is counted
+-- a number of arrivals under an order: under that of kinds none is counted, and each is below 2^60
 abbrev pub CountsUnder : Order → ℕ → Type 0
-CountsUnder under arrivals = under ≡ order.Kind → arrivals ≡ 0
+CountsUnder under arrivals = (under ≡ order.Kind → arrivals ≡ 0) × (arrivals < 2 ^ 60)
 
 -- with one more line
 abbrev pub with_line : Line → MailState → MailState

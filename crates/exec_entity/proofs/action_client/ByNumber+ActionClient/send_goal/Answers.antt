@@ -39,4 +39,4 @@ returns-clause-sent c =
 pub returns-in_err-number-clause-memory : goal.returns-in_err-number-clause-memory
 returns-in_err-number-clause-memory c =
     let found = found_at (is_action_client_at c.args.client) c.self.inside.entries.items c.args.self.now c.place-place.result c.self.view_is c.place-place.ensures c.in-Some.entry.now c.in-Some.ensures.item.0 c.in-Some.ensures.value in
-    on_err c.from_residual.result (subst (λ (one : Option ActionClientEntry). IsSomeAnd one (λ entry. 2 ^ 64 ≤ entry.goals + 1)) (sym found) c.in_err-number.ensures.memory)
+    on_err c.from_residual.result (subst (λ (one : Option ActionClientEntry). IsSomeAnd one (λ entry. 2 ^ 60 ≤ entry.goals + 1)) (sym found) c.in_err-number.ensures.memory)

@@ -15,6 +15,7 @@ invariant_of-self-2 c =
           (subst (λ (number : ℕ). All (λ other. other ≤ number) (keys_of c.self.inside.pending.entries ++ number ∷ [])) (sym next) (below_more calls (keys_of c.self.inside.pending.entries) c.self.invariant.0)),
       subst (All IsNew) (sym c.in_ok-insert.ensures.entries)
           (new_more calls c.in_ok-number.number _ c.self.inside.pending.entries above c.self.invariant.0 c.new.ensures.call c.self.invariant.1),
+      c.in_ok-number.ensures.bound,
     )
 
 pub returns-clause-called : goal.returns-clause-called

@@ -15,6 +15,7 @@ invariant_of-self c = (
       (sym (ap (λ es. keys_of es) c.shift_remove.ensures.entries ∙ keys_less c.args.number c.self.inside.pending.entries))
       (below_less c.self.inside.calls c.args.number (keys_of c.self.inside.pending.entries) c.self.invariant.0),
   subst (All IsNew) (sym c.shift_remove.ensures.entries) (new_less c.args.number c.self.inside.pending.entries c.self.invariant.1),
+  c.self.invariant.2,
 )
 
 pub invariant_of-self-2 : goal.invariant_of-self-2
@@ -23,6 +24,7 @@ invariant_of-self-2 c = (
       (sym (ap (λ es. keys_of es) c.shift_remove.ensures.entries ∙ keys_less c.args.number c.self.inside.pending.entries))
       (below_less c.self.inside.calls c.args.number (keys_of c.self.inside.pending.entries) c.self.invariant.0),
   subst (All IsNew) (sym c.shift_remove.ensures.entries) (new_less c.args.number c.self.inside.pending.entries c.self.invariant.1),
+  c.self.invariant.2,
 )
 
 pub returns-in_err-call-clause-answered : goal.returns-in_err-call-clause-answered
