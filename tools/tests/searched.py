@@ -240,6 +240,9 @@ def of_folders(top):
     started(top, "search", "late.json", "--rules", NAVIGATION, "--move", "feed[19]", "155..156", "--all", "--shard", "1/1", "-o", "shard")
     joined = started(top, "search", "--merge", "shard", "--save", "joined")
     yield f"what is saved of shards: {joined}", sorted(it.name for it in (top / "joined").iterdir()), ["rule_5.json", "rule_5.txt"]
+    yield "what is told of that", joined[1].split("\n")[-2], "search: joined has the least change of each rule: rule_5.json"
+    first = started(top, "search", "late.json", "--rules", NAVIGATION, "--move", "feed[19]", "155..156", "--save", "first")
+    yield "what is told of one run", first[1].split("\n")[-2], "search: first has 1 run that breaks a rule, and the least change of each rule: rule_5.json"
     nowhere = started(top, "search", "small.json", "--robust", "log", "--drop", "x", "--save", "small.json/in")
     yield f"a folder that can't be made: {nowhere}", (nowhere[0], nowhere[1].count("\n")), (2, 1)
 

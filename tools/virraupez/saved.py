@@ -12,7 +12,7 @@ class Folder:
 
     def __init__(self, name, search, judging):
         self.name, self.search, self.judging, self.count = name, search, judging, 0
-        if name:
+        if name is not None:
             os.makedirs(name, exist_ok=True)
 
     def add(self, part):
@@ -28,10 +28,14 @@ class Folder:
             return
         for at, found in sorted(tally.found.items()):
             self.write(self.search.rules[at].label, found.least)
-        if tally.found or self.count:
+        has = []
+        if self.count:
             more = f", the first of {tally.broken}" if tally.broken > self.count else ""
-            names = ", ".join(f"{self.search.rules[at].label}.json" for at in sorted(tally.found))
-            command.note(f"search: {command.printable(self.name)} has {self.count} runs that break a rule{more}, and the least change of each rule: {names}")
+            has.append(f"{self.count} run{'s that break' if self.count > 1 else ' that breaks'} a rule{more}")
+        if tally.found:
+            has.append("the least change of each rule: " + ", ".join(f"{self.search.rules[at].label}.json" for at in sorted(tally.found)))
+        if has:
+            command.note(f"search: {command.printable(self.name)} has {', and '.join(has)}")
 
     def write(self, name, broken):
         """Writes the document and the transcript of a run."""
