@@ -68,8 +68,10 @@ class Search:
         if first.breaks and not self.is_all:
             return
         numbers = range(shard, self.runs + 1, of)
-        chunks = (numbers[at : at + CHUNK] for at in range(0, len(numbers), CHUNK))
-        for part in crew.outcomes(lambda: lambda chunk: self.part(judging, chunk), chunks, processes):
+        begins = range(0, len(numbers), CHUNK)
+        chunks = (numbers[at : at + CHUNK] for at in begins)
+        # More processes than there are chunks would have nothing to do.
+        for part in crew.outcomes(lambda: lambda chunk: self.part(judging, chunk), chunks, min(processes, len(begins)) or 1):
             yield part
             if part.breaks and not self.is_all:
                 return

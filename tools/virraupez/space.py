@@ -5,13 +5,14 @@ import itertools
 import re
 import struct
 
-from . import command, fit, hints, variation
+from . import command, fit, grammar, hints, variation
 
 ENTRY = re.compile(r"feed\[([0-9]{1,9})\]")
 RANGE = re.compile(r"(-?[0-9]{1,20})(?:\.\.(-?[0-9]{1,20}))?")
 AROUND = re.compile(r"(?:±|\+-|\+/-)([0-9]{1,20})")
 # How many options all choices together may have.
 OPTIONS = 2000000
+TOO_MANY = f"all that may vary has more than {OPTIONS} options"
 
 
 class Space:
@@ -42,7 +43,7 @@ class Space:
         self.known.add(key)
         self.left -= len(choice.options)
         if self.left < 0:
-            raise Wrong(f"all that may vary has more than {OPTIONS} options")
+            raise Wrong(TOO_MANY)
         if list(choice.options[:2]) != [choice.value]:
             self.choices.append(choice)
 
@@ -81,14 +82,14 @@ class Space:
         for node, it in enumerate(self.document.get("nodes", [])):
             for at, held in enumerate(it.get("timers", [])):
                 if held["name"] == timer:
-                    return [variation.Period(node, at, f"timer {timer}", range(low, high + 1), held["period"])]
+                    return [variation.Period(node, at, f"timer {timer}", ticks(low, high), held["period"])]
         raise Wrong(f"no timer has this name{near(timer, self.names_of('timers'))}")
 
     def shift(self, between, around):
         low, high = read_range(around)
         for number in self.rounds(between):
             own = self.moments[number - 1]
-            yield variation.Shift(number, range(max(own + low, 0), max(own + high, 0) + 1), own)
+            yield variation.Shift(number, ticks(max(own + low, 0), max(own + high, 0)), own)
 
     def miss(self, between):
         numbers = [number for number in self.rounds(between) if number < len(self.moments)]
@@ -102,7 +103,7 @@ class Space:
         if one and int(one[1]) < len(self.feed):
             return [int(one[1])]
         if one:
-            raise Wrong(f"the feed has {len(self.feed)} entries, counted from 0")
+            raise Wrong(f"the feed has {len(self.feed)} {'entry' if len(self.feed) == 1 else 'entries'}, counted from 0")
         found = [place for place, entry in enumerate(self.feed) if what in (entry.get("topic"), entry.get("action"))]
         if not found and not self.feed:
             raise Wrong("the document feeds nothing")
@@ -203,6 +204,15 @@ def read_range(text):
     if low > high:
         raise Wrong(f"{text[:40]!r} is no range: A..B, ±N or one number is")
     return low, high
+
+
+def ticks(low, high):
+    """Periods or moments from one number of ticks to another. Of a longer range Python can't even say how long it is."""
+    if high > grammar.LATEST:
+        raise Wrong(f"{high} is too late: a document has periods and moments of at most {grammar.LATEST} ticks")
+    if high - low >= OPTIONS:
+        raise Wrong(TOO_MANY)
+    return range(low, high + 1)
 
 
 def numbers(text):

@@ -14,6 +14,8 @@ from .. import command, crew, flow, grammar, judge, saved, search, shards, space
 STATUS = """The status is 0 if no run breaks a rule, 1 if one does, and 2 if the document or the rules are wrong or a run fails. It is 130 after
 Ctrl-C, and what was found so far is reported."""
 RUNS, INTERRUPTED = 10000, 130
+# The greatest number of runs, of shards, and of processes that a user may ask for.
+MOST, PROCESSES = 10**12, 1024
 # The options that say what may vary, with what each takes and what it does.
 VARIES = {
     "move": (("WHAT", "A..B"), "let an entry come at each moment of a range"),
@@ -47,7 +49,7 @@ def parser(prog=None):
     made.add_argument("--save", metavar="DIR", help="save documents and transcripts of runs that break a rule in a folder")
     made.add_argument("--shard", metavar="K/N", type=shard, help="do part K of N, and write JSON lines for --merge")
     made.add_argument("--merge", action="store_true", help="join what all shards wrote, and report it as one search does")
-    made.add_argument("--processes", metavar="N", type=number, help="how many processes run side by side; as many as there are processors")
+    made.add_argument("--processes", metavar="N", type=processes, help="how many processes run side by side; as many as there are processors")
     made.add_argument("--reference", action="store_true", help="run by the executor in Python, of which nothing is proved")
     made.set_defaults(vary=[])
     # A range may begin with a sign, and is no option then.
@@ -55,10 +57,14 @@ def parser(prog=None):
     return made
 
 
-def number(text):
-    if not grammar.is_number(text) or int(text) < 1:
-        raise argparse.ArgumentTypeError(f"a number from 1, and not {text[:40]!r}")
+def number(text, most=MOST):
+    if not grammar.is_number(text) or not 1 <= int(text) <= most:
+        raise argparse.ArgumentTypeError(f"a number from 1 to {most}, and not {text[:40]!r}")
     return int(text)
+
+
+def processes(text):
+    return number(text, PROCESSES)
 
 
 def shard(text):
