@@ -224,11 +224,20 @@ def of_shards(top):
         (one + (top / "1_of_2").read_text(), 2, "a shard of another search"),
         (two.split("\n", 1)[1], 2, "-:1:1: a line before the first line of its shard\n"),
         (one.split("\n")[0] + "\n{}\n", 2, "-:2:1: no line of a shard: '{}'\n"),
-        (one[:200], 2, "-:1:1: no line of a shard: "),
+        (one[:200] + "\n", 2, "-:1:1: no line of a shard: "),
+        ("[" * 100000 + "\n", 2, "-:1:1: no line of a shard: "),
+        (one[:200], 2, "search: no shard in standard input\n"),
+        (one + three + two[:200], 2, "search: this shard of 3 is missing: 2\n"),
+        (one + two + three[:-9], 2, "the shard 3 of 3 ended before all its runs were made\n"),
         ("", 2, "search: no shard in standard input\n"),
     ):
         found, told = started(top, "search", "--merge", "-", given=given.encode())
         yield f"merge of what is wrong ({lines} lines): {told}", (found, part in told), (status, True)
+    number = next(json.loads(line)["run"] for line in three.splitlines() if line.startswith('{"run":'))
+    told = started(top, "search", "--merge", "-", given=three[: three.rindex('{"runs"') + 9].encode())[1]
+    yield f"what a shard that is cut off found: {told}", f"\n  least change, run {number}: " in told, True
+    own = started(top, "search", "--merge", "1_of_1", "--rules", NAVIGATION)
+    yield f"merge with rules of its own: {own}", (own[0], "it takes none of its own\n" in own[1]), (2, True)
 
 
 def of_folders(top):

@@ -38,10 +38,12 @@ class Joined:
         self.plan, self.tally, self.of, self.seen, self.open, self.cut = None, None, 0, {}, None, []
 
     def take(self, name, number, line):
-        """Takes a line of a file."""
+        """Takes a line of a file. A line without its end is the last of a shard that was stopped, and says nothing."""
         try:
             self.value(json.loads(line))
-        except (ValueError, LookupError, TypeError, AttributeError):
+        except (ValueError, LookupError, TypeError, AttributeError, RecursionError):
+            if not line.endswith("\n"):
+                return
             raise command.Trouble(f"{command.place(name, number)}no line of a shard: {line[:60].rstrip()!r}") from None
         except Wrong as wrong:
             raise command.Trouble(f"{command.place(name, number)}{wrong}") from None

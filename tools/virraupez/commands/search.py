@@ -124,6 +124,8 @@ def searched(made, asked, out):
 
 def merged(asked, out):
     """Joins shards, and reports what they found."""
+    if asked.rules or asked.robust or asked.vary or asked.shard:
+        raise command.Trouble("--merge joins what shards wrote, with the rules and the words that they were given: it takes none of its own")
     joined = shards.join(asked.documents)
     missing = list(joined.missing())
     made, tally = joined.tally.search, joined.tally
