@@ -38,6 +38,7 @@ SECOND = 1.0
 
 def answers(program):
     yield from of_words()
+    yield from of_faults()
     yield from of_reference()
     yield from of_machines()
     with sandbox.with_program(program) as top:
@@ -74,6 +75,16 @@ def of_words():
     for words in (("--workers", "0"), ("--workers", "65"), ("--quantum", "1025"), ("--workers", "²"), ("--quantum", "x")):
         status, text = tool.run(COMMAND, "run", *words, "examples/timer.json")
         yield f"virraupez run {words}: {text}", (status, f"and not '{words[1]}'" in text), (2, True)
+
+
+def of_faults():
+    """A fault of a tool itself has the status 2, since 1 says that something was found. Ctrl-C while modules are read has 130."""
+    with sandbox.of("exit 70") as top:
+        (top / "tools/virraupez/commands/schema.py").write_text("from .explain import parser\n\n\ndef run(asked, out):\n    return asked.nothing\n")
+        status, text = started(top, "schema", "examples/timer.json")
+        yield f"a fault of a tool: {text}", (status, "AttributeError" in text), (2, True)
+        (top / "tools/virraupez/launcher.py").write_text("raise KeyboardInterrupt\n")
+        yield "Ctrl-C at once", started(top, "schema"), (130, "")
 
 
 def of_reference():

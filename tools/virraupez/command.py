@@ -72,6 +72,10 @@ def main(tool, words=None, prog=None):
         return tell(prog, [said(wrong)])
     except KeyboardInterrupt:
         return 130
+    except Exception:
+        # A fault of the tool itself. Python's own status for it is 1, which says that something was found.
+        sys.excepthook(*sys.exc_info())
+        return TROUBLE
 
 
 def flushed(prog, status):
