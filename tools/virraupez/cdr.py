@@ -78,9 +78,11 @@ class Message:
     """A message that is read from its beginning on."""
 
     def __init__(self, types, given):
-        if bytes(given[:2]) not in ORDERS:
-            raise Unreadable(f"it begins with {bytes(given[:2]).hex() or 'nothing'}, which is no plain CDR")
-        self.types, self.order, self.given, self.at = types, ORDERS[bytes(given[:2])], memoryview(given)[4:], 0
+        if not isinstance(given, bytes):
+            raise Unreadable("the bag has no bytes there")
+        if given[:2] not in ORDERS:
+            raise Unreadable(f"it begins with {given[:2].hex() or 'nothing'}, which is no plain CDR")
+        self.types, self.order, self.given, self.at = types, ORDERS[given[:2]], memoryview(given)[4:], 0
 
     def take(self, code, size, count=1):
         """Numbers, each at a place that its size divides."""

@@ -17,10 +17,10 @@ class Source:
         number = cdr.taken(cdr.Message(types, given).value(cdr.plain(self.type)), self.field)
         if not math.isfinite(number):
             return None
-        value = int((decimal.Decimal(number) * self.scale).to_integral_value(decimal.ROUND_HALF_EVEN))
+        value = (decimal.Decimal(number) * self.scale).to_integral_value(decimal.ROUND_HALF_EVEN)
         if not -(2**63) <= value < 2**63:
-            raise cdr.Unreadable(f"{value} has more than 64 bits")
-        return value
+            raise cdr.Unreadable(f"{value:.3e} has more than 64 bits")
+        return int(value)
 
 
 def entries(bag, sources, tick, begin):
