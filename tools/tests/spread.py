@@ -18,12 +18,23 @@ def answers(program):
         if shutil.which("parallel"):
             (top / "hosts").write_text(":\n")
             yield "the recipe for parallel", run(top, parallel), should
+            yield from of_spaces(top, parallel)
         else:
             tool.UNDONE.append("the recipe for GNU parallel wasn't run: parallel isn't installed")
         for task in range(1, 9):
             own = {"SLURM_ARRAY_TASK_ID": str(task), "SLURM_ARRAY_TASK_COUNT": "8", "SLURM_CPUS_PER_TASK": "2"}
             yield f"the task {task} of an array", run(top, array, **own), (0, "")
         yield "the shards of the array", run(top, merge), should
+
+
+def of_spaces(top, parallel):
+    """The recipe for parallel with a pattern, which has spaces."""
+    pattern = "run go result"
+    changed = parallel.replace(f"--rules {searched.NAVIGATION}", f"--robust '{pattern}'")
+    words = [it for it in WORDS if it not in ("--rules", searched.NAVIGATION)]
+    should = searched.started(top, *words, "--robust", pattern)
+    yield f"a search with a pattern: {should}", (should[0], f"robust {pattern}\n" in should[1]), (1, True)
+    yield "the recipe for parallel with a pattern", run(top, changed), should
 
 
 def run(top, script, **own):
