@@ -212,6 +212,13 @@ def of_readers(page):
         page.key("Tab")
         order.append(page.value("document.activeElement.id || document.activeElement.tagName"))
     yield f"the order of the key Tab: {order}", all(it in order for it in ("words", "next", "all", "run")), True
+    page.value("document.activeElement.blur()")
+    page.key("ArrowRight")
+    yield "a key while nothing has the focus", page.text("#where"), "Round 2 at moment 5"
+    page.value("document.querySelectorAll('#lines button')[1].focus()")
+    page.key("Enter")
+    held = page.value("[document.activeElement.textContent.slice(0, 60), document.activeElement.getAttribute('aria-current')]")
+    yield "where the focus is after Enter has chosen a callback", held, ["run mission timer 5 0", "true"]
 
 
 def of_two(page, folder):

@@ -64,15 +64,22 @@ function item(run, side, number, isOther) {
     element.classList.add("run");
     into = made("button");
     into.type = "button";
-    into.addEventListener("click", () => choose(view.chosen, [run, run.boxOf(number)]));
+    into.dataset.place = `${side} ${number}`;
+    into.addEventListener("click", () => {
+      choose(view.chosen, [run, run.boxOf(number)]);
+      // The lines are new ones, and who uses keys stays where they were.
+      document.querySelector(`[data-place="${side} ${number}"]`).focus();
+    });
     element.append(into);
   }
   const sought = byId("words").value.toLowerCase(), at = sought ? text.toLowerCase().indexOf(sought) : -1;
   if (at < 0) into.append(text);
   else into.append(text.slice(0, at), made("mark", text.slice(at, at + sought.length)), text.slice(at + sought.length));
   const hit = view.hits[view.hit];
-  if (view.box && view.box[0] === run && run.boxOf(number) === view.box[1] && number >= run.boxes[view.box[1] * 5 + 3] || hit && runs[hit[0]] === run && hit[1] === number)
+  if (view.box && view.box[0] === run && run.boxOf(number) === view.box[1] && number >= run.boxes[view.box[1] * 5 + 3] || hit && runs[hit[0]] === run && hit[1] === number) {
     element.classList.add("chosen");
+    into.setAttribute("aria-current", "true");
+  }
   return element;
 }
 
@@ -172,7 +179,9 @@ function onKey(event) {
   const isWriting = event.target === byId("words");
   if (event.ctrlKey || event.metaKey || event.altKey) return;
   if (isWriting && event.key === "Escape") canvas.focus();
-  const does = isWriting ? null : event.target === canvas && KEYS[event.key] || EVERYWHERE[event.key];
+  // Nothing has the focus when the page opens: the keys are the picture's then.
+  const isOfPicture = event.target === canvas || event.target === document.body;
+  const does = isWriting ? null : isOfPicture && KEYS[event.key] || EVERYWHERE[event.key];
   if (!does) return;
   event.preventDefault();
   does();
