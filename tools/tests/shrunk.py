@@ -106,7 +106,7 @@ def of_kept(top):
     most = searched.started(top, "shrink", "-", *searched.ruled(top, "some log t"), given=(top / "examples/robot.json").read_bytes())
     yield f"a rule with an unknown name: {most}", (most[0], "did you mean" in most[1] or "declares no" in most[1]), (2, True)
     empty = searched.started(top, "shrink", "examples/robot.json", *searched.ruled(top, "some log motor 99"))
-    yield f"what needs nothing at all: {empty}", (empty[0], empty[1].split("\n")[0]), (0, '{"version":1}')
+    yield f"what needs nothing at all: {empty}", (empty[0], empty[1].split("\n")[0], empty[1].endswith(", 1 entry became 0\n")), (0, '{"version":1}', True)
 
 
 def of_orders(top):

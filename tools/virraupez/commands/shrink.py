@@ -4,6 +4,8 @@ accepted.
 
 The rule is the first of the file that the document breaks, or that of --rule. If an answer comes too late, it comes too late in
 the smallest document too. With --unless, another timing of the smallest document still keeps the rule. docs/search.md has more."""
+import re
+
 from .. import command, fit, flow, judge, made, pattern, rules, runs, shrink
 from . import search
 
@@ -92,4 +94,4 @@ def tell(rule, shrinker, document):
 def changed(before, after):
     """What became less, of each kind of part."""
     one, other = shrink.sizes(before), shrink.sizes(after)
-    return [f"{count} {name} became {other[name]}" for name, count in one.items() if other[name] != count]
+    return [f"{count} {name if count != 1 else re.sub('s$', '', name.replace('ies', 'y'))} became {other[name]}" for name, count in one.items() if other[name] != count]
