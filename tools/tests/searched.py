@@ -53,7 +53,6 @@ WRONG = (
     (("--period", "beat", "0..2"), "a period is at least 1 tick"),
     (("--shift", "30..40", "±1"), "there is no round at 30..40"),
     (("--jitter", "x", "±1", "--move", "feed[0]", "1..2"), "--move feed[0] 1..2: feed[0] (x 1) varies twice"),
-    (("--jitter", "x", "±99999999"), ""),
     (("--period", "beat", "1..9999999"), "all that may vary has more than"),
     (("--period", "beat", "1..99999999999999999999"), "--period beat 1..99999999999999999999: 99999999999999999999 is too late: a document has periods and moments of at most 4611686018427387904 ticks\n"),
     (("--shift", "5..5", "0..99999999999999999999"), "--shift 5..5 0..99999999999999999999: 100000000000000000004 is too late"),
@@ -265,7 +264,9 @@ def of_words(top):
     rules = ruled(top, "never drop")
     for words, part in WRONG:
         status, told = started(top, "search", "small.json", *rules, *words)
-        yield f"search {words}: {told}", (status if part else 2, part in told), (2, True)
+        yield f"search {words}: {told}", (status, part in told), (2, True)
+    far = started(top, "search", "small.json", *rules, "--jitter", "x", "±99999999", "--all")
+    yield f"a jitter beyond all rounds: {far}", (far[0], far[1].split("\n")[-2]), (1, "100 runs, all there are: 10 break a rule")
     status, told = started(top, "search", "small.json", "--drop", "x")
     yield f"no rules: {told}", (status, "nothing to hold runs to" in told), (2, True)
     status, told = started(top, "search", "small.json", *ruled(top, "never drip\nnever drop hear mesage"), "--drop", "x")
