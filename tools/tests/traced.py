@@ -11,6 +11,8 @@ from virraupez import fields, transcript
 from . import documented, drawn, tool
 
 COMMAND = "../virraupez"
+# The microseconds of a tick. A third of it is no whole number of nanoseconds.
+TICK = 20000
 WRONG = (
     (("lines", "nowhere"), "virraupez lines: nowhere: No such file or directory"),
     (("lines", "README.md"), "README.md:1:1: "),
@@ -66,10 +68,11 @@ def of_lines(name):
 
 
 def of_trace(name):
-    status, text = tool.within("trace", f"examples/{name}.json", f"examples/{name}.txt", "--tick", "10ms")
+    status, text = tool.within("trace", f"examples/{name}.json", f"examples/{name}.txt", "--tick", f"{TICK // 1000}ms")
     events = json.loads(text)["traceEvents"]
     lines = (tool.TOP / f"examples/{name}.txt").read_text().splitlines()
-    slices = [it for it in events if it["ph"] == "X" and it["cat"] != "fed"]
+    every = [it for it in events if it["ph"] == "X"]
+    slices = [it for it in every if it["cat"] != "fed"]
     runs = [line for line in lines if line.startswith("run ")]
     yield f"the slices of {name}", (status, [f"run {it['name']} {it['args']['in']} {it['args']['aux']}" for it in slices]), (0, [" ".join(line.split(" ")[:5]) for line in runs])
     _, links, goals, dots = drawn.wanted(name)
@@ -80,25 +83,31 @@ def of_trace(name):
     yield f"the states, feedback and values of {name}", (counts["b"], counts["e"], counts["n"], counts["C"]), tuple(
         sum(line.startswith(word) for line in lines) for word in ("state ", "state ", "feedback ", "pub ")
     )
-    yield f"the times of {name}", fault_of_times(slices, begins, [it for it in events if it["ph"] == "f"]), ""
+    yield f"the times of {name}", fault_of_times(every, begins, [it for it in events if it["ph"] == "f"]), ""
 
 
 def fault_of_times(slices, begins, ends):
     """What is wrong with the times of events: slices of a track overlap, or a flow begins or ends in no slice, or goes back."""
     last = {}
     for it in slices:
-        if it["ts"] + 0.01 < last.get((it["pid"], it["tid"]), 0):
+        begin, track = nanoseconds(it["ts"]), (it["pid"], it["tid"])
+        if begin < last.get(track, 0):
             return f"{it} begins before the one before it ends"
-        if not it["args"]["moment"] * 10000 <= it["ts"] <= (it["args"]["moment"] + 1) * 10000:
+        if "moment" in it["args"] and not it["args"]["moment"] * TICK <= it["ts"] <= (it["args"]["moment"] + 1) * TICK:
             return f"{it} isn't in its tick"
-        last[it["pid"], it["tid"]] = it["ts"] + it["dur"]
+        last[track] = begin + nanoseconds(it["dur"])
     tracks = {(it["ts"], it["pid"], it["tid"]) for it in slices}
     for begin, end in zip(begins, ends):
         if begin["id"] != end["id"] or end["ts"] < begin["ts"]:
             return f"{begin} doesn't lead to {end}"
-        if (end["ts"], end["pid"], end["tid"]) not in tracks:
-            return f"{end} is in no slice"
+        for it in (begin, end):
+            if (it["ts"], it["pid"], it["tid"]) not in tracks:
+                return f"{it} is in no slice"
     return ""
+
+
+def nanoseconds(microseconds):
+    return round(microseconds * 1000)
 
 
 def of_page():

@@ -77,7 +77,7 @@ class Trace:
     def slice(self, number, words, begun, width):
         """The slice of a callback."""
         process, thread = self.threads[self.row_of[words[1]]]
-        made = {"ph": "X", "name": f"{words[1]} {words[2]}", "cat": words[2], "ts": round(begun, 3), "dur": round(width, 3), "pid": process, "tid": thread}
+        made = {"ph": "X", "name": f"{words[1]} {words[2]}", "cat": words[2], **span(begun, begun + width), "pid": process, "tid": thread}
         self.slices[number] = made
         told = dict(zip(fields.NAMES["run"][2:], words[3:]))
         return {**made, "args": {"line": number, "round": self.flow.round, "moment": self.flow.moment, **told}}
@@ -96,9 +96,10 @@ class Trace:
     def fed(self, line, number, width):
         """The slices of what a round is fed."""
         entries = self.flow.wiring.fed.get(number, ())
+        begin = lambda at: self.begun + width * at / len(entries)
         for at, entry in enumerate(entries):
-            text, length = flow.fed_text(entry), width / len(entries)
-            made = {"ph": "X", "name": text[5:], "cat": "fed", "ts": round(self.begun + length * at, 3), "dur": round(length, 3), "pid": OUTSIDE, "tid": 1}
+            text = flow.fed_text(entry)
+            made = {"ph": "X", "name": text[5:], "cat": "fed", **span(begin(at), begin(at + 1)), "pid": OUTSIDE, "tid": 1}
             self.slices[line, text] = made
             yield {**made, "args": {"round": number}}
 
@@ -138,6 +139,12 @@ class Trace:
         """The ends of the states that goals have at the end."""
         for held in self.states.values():
             yield {"ph": "e", **held, "ts": round(self.begun + self.tick, 3)}
+
+
+def span(begun, ended):
+    """The begin of a slice and its length, to the nanosecond. It ends where the next one begins, and not a nanosecond after that."""
+    first = round(begun, 3)
+    return {"ts": first, "dur": round(round(ended, 3) - first, 3)}
 
 
 def where(made):
