@@ -96,6 +96,7 @@ def answers(program):
         yield from of_times(folder)
         yield from of_types(folder)
         yield from of_wrong(folder)
+        yield from of_storages(folder)
         yield from of_documents(folder)
     yield from of_page(program)
 
@@ -191,6 +192,10 @@ def of_wrong(folder):
         write(path, topics, messages)
         status, told = tool.within("feed", path, *words)
         yield f"feed of {name}: {told}", (status, part in told, "Traceback" in told), (2, True, False)
+
+
+def of_storages(folder):
+    """What isn't a bag of sqlite3 storage is told, and which storage it has."""
     (folder / "text.db3").write_text("no database at all, but a text that is long enough to be one")
     sqlite3.connect(folder / "tables.db3").executescript("create table topics(id);")
     for name in ("mcap", "packed", "zipped", "empty"):

@@ -54,8 +54,8 @@ WRONG = (
     (("--shift", "30..40", "±1"), "there is no round at 30..40"),
     (("--jitter", "x", "±1", "--move", "feed[0]", "1..2"), "--move feed[0] 1..2: feed[0] (x 1) varies twice"),
     (("--period", "beat", "1..9999999"), "all that may vary has more than"),
-    (("--period", "beat", "1..99999999999999999999"), "--period beat 1..99999999999999999999: 99999999999999999999 is too late: a document has periods and moments of at most 4611686018427387904 ticks\n"),
-    (("--shift", "5..5", "0..99999999999999999999"), "--shift 5..5 0..99999999999999999999: 100000000000000000004 is too late"),
+    (("--period", "beat", "1..99999999999999999999"), "--period beat 1..99999999999999999999: 99999999999999999999 is too great: a document has periods and moments of at most 4611686018427387904 ticks\n"),
+    (("--shift", "5..5", "0..99999999999999999999"), "--shift 5..5 0..99999999999999999999: 100000000000000000004 is too great"),
     ((), "nothing varies: --move, --jitter"),
     (("--period", "beat", "5"), "nothing varies"),
     (("--drop", "x", "--runs", "0"), "a number from 1 to 1000000000000, and not '0'"),
@@ -326,12 +326,21 @@ def of_programs():
             (top / "small.json").write_text(small())
             status, told = started(top, "search", "small.json", *ruled(top, "never drop"), "--drop", "x")
             yield f"search by {script!r}: {told}", (status, part in told, "Traceback" in told), (2, True, False)
+    with sandbox.of("echo $PPID >>parents; cat >/dev/null; echo end 0") as top:
+        (top / "small.json").write_text(small())
+        yield from of_few(top)
     yield from of_choice()
     counted = 'n=$(cat n 2>/dev/null || echo 0); echo $((n + 1)) >n; cat >/dev/null; [ "$n" -lt 3 ] || { echo refused 10 >&2; exit 1; }; echo "round 1 1"; echo "end 1"'
     with sandbox.of(counted) as top, tempfile.TemporaryDirectory() as _:
         (top / "small.json").write_text(small())
         status, told = started(top, "search", "small.json", *ruled(top, "never drop"), "--drop", "x", "--processes", "1")
         yield f"a run that is refused in the middle: {told}", (status, "run 2 is refused with 10: feed[1] (x 2) is dropped" in told), (2, True)
+
+
+def of_few(top):
+    """As many processes run documents as there is work for, and not as many as are asked for."""
+    status, told = started(top, "search", "small.json", *ruled(top, "never drop"), "--drop", "x", "--processes", "9")
+    yield f"four runs by nine processes: {told}", (status, len(set((top / "parents").read_text().split()))), (0, 1)
 
 
 def of_choice():

@@ -209,7 +209,7 @@ def read_range(text):
 def ticks(low, high):
     """Periods or moments from one number of ticks to another. Of a longer range Python can't even say how long it is."""
     if high > grammar.LATEST:
-        raise Wrong(f"{high} is too late: a document has periods and moments of at most {grammar.LATEST} ticks")
+        raise Wrong(f"{high} is too great: a document has periods and moments of at most {grammar.LATEST} ticks")
     if high - low >= OPTIONS:
         raise Wrong(TOO_MANY)
     return range(low, high + 1)
