@@ -7,7 +7,7 @@ use Rattle.std.proofs.lemmas.List.{take_more}
 use Rattle.atomic_table.specs.Table.{opening}
 use Rattle.exec_lane.specs.Lane.{Lane}
 use Rattle.exec_lane.specs.Opening.{opened_lane}
-use Rattle.exec_board.specs.Rule.{Home, Kept, LaneOk, ViewOk}
+use Rattle.exec_board.specs.Rule.{BoardRule, Home, LaneOk, ViewOk}
 use Rattle.exec_board.specs.Seats.{SeatView, opener}
 use Rattle.exec_board.specs.inner.Homes.{AreWithin, word_at}
 use Rattle.exec_board.proofs.Releases.{word_finished, word_not_held, word_open, word_small}
@@ -62,8 +62,8 @@ lane_begins box word home few word_is home_is = subst (λ (x : ℕ × Home). Lan
   whole = λ callback. omega arith;
 })
 
-pub begins : (boxes : List Lane) (passes : ℕ) (words : List ℕ) (slots : List (Option Lane)) → 0 < passes → AreWithin boxes → words ≡ map word_at boxes → slots ≡ map (λ (box : Lane). Some box) boxes → Kept (opening words slots (opener boxes passes))
-begins boxes passes words slots some_passes few words_are slots_are = subst (λ (x : List ℕ × List (Option Lane)). Kept (opening x.0 x.1 (opener boxes passes))) (λ i. (sym words_are i, sym slots_are i)) (record {
+pub begins : (boxes : List Lane) (passes : ℕ) (words : List ℕ) (slots : List (Option Lane)) → 0 < passes → AreWithin boxes → words ≡ map word_at boxes → slots ≡ map (λ (box : Lane). Some box) boxes → BoardRule (opening words slots (opener boxes passes))
+begins boxes passes words slots some_passes few words_are slots_are = subst (λ (x : List ℕ × List (Option Lane)). BoardRule (opening x.0 x.1 (opener boxes passes))) (λ i. (sym words_are i, sym slots_are i)) (record {
   opening = boxes;
   most = passes;
   count = λ lane. (opened_lane boxes lane).done;

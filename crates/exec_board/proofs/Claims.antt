@@ -11,7 +11,7 @@ use Rattle.atomic_table.proofs.Lists.{exchanged, set_else, set_here}
 use Rattle.exec_lane.specs.Lane.{Lane}
 use Rattle.exec_lane.specs.Opening.{IsLaneOf, opened_lane}
 use Rattle.exec_board.specs.Plays.{IsBoxOf, claimed}
-use Rattle.exec_board.specs.Rule.{IsHome, Kept, LaneOk, LiveOk, ViewOk, gap, covered, has_number, held, is_same, in_range, tally}
+use Rattle.exec_board.specs.Rule.{IsHome, BoardRule, LaneOk, LiveOk, ViewOk, gap, covered, has_number, held, is_same, in_range, tally}
 use Rattle.exec_board.specs.Seats.{IsLast, SeatView, holding, nobody, refused, seen_at}
 use Rattle.exec_board.proofs.Moved.{changed-same, held_on, index-set, index-set-else, lane_same, moved}
 use Rattle.exec_board.proofs.Tallies.{tally-alone, tally-part, tally-same, tally-set, tally-two}
@@ -21,7 +21,7 @@ use Rattle.exec_board.proofs.Tallies.{tally-alone, tally-part, tally-same, tally
 spent : (u : SeatView) (lanes : List Lane) (most : ℕ) (count : ℕ → ℕ) → ViewOk lanes most count u → (u.start < u.stop → ⊥) → u ≡ nobody
 spent u lanes most count ok empty = dite (dec_le u.stop u.start) (λ within. ok.spent within) (λ beyond. absurd (empty (omega (arith, beyond))))
 
-pub alone : (s : State (Option Lane) SeatView) (k : Kept s) (seat : ℕ) (v : SeatView) → get_elem? s.views seat ≡ some v → v.passes ≡ k.most → IsLast v
+pub alone : (s : State (Option Lane) SeatView) (k : BoardRule s) (seat : ℕ) (v : SeatView) → get_elem? s.views seat ≡ some v → v.passes ≡ k.most → IsLast v
     → (other : ℕ) (u : SeatView) → other ≢ seat → get_elem? s.views other ≡ some u → u ≡ nobody
 alone s k seat v at most last other u gap there = spent u k.opening k.most k.count (k.views_ok other u there)
     (λ some_share.
@@ -35,13 +35,13 @@ alone s k seat v at most last other u gap there = spent u k.opening k.most k.cou
     absurd (omega (arith, two, one, theirs, mine)))
 
 -- a count of the last pass alone is that of all passes
-pub counts_alone : (s : State (Option Lane) SeatView) (k : Kept s) (seat : ℕ) (v : SeatView) (f : SeatView → ℕ) → get_elem? s.views seat ≡ some v → v.passes ≡ k.most → IsLast v
+pub counts_alone : (s : State (Option Lane) SeatView) (k : BoardRule s) (seat : ℕ) (v : SeatView) (f : SeatView → ℕ) → get_elem? s.views seat ≡ some v → v.passes ≡ k.most → IsLast v
     → f nobody ≡ 0 → tally f s.views ≡ f v
 counts_alone s k seat v f at most last empty = tally-alone f s.views seat v at (λ other u gap there. ap f (alone s k seat v at most last other u gap there) ∙ empty)
 
 -- ---- a claim
 
-module _ (s : State (Option Lane) SeatView) (k : Kept s) (slots seat : ℕ) (me : Me (Option Lane) SeatView) (lane : ℕ)
+module _ (s : State (Option Lane) SeatView) (k : BoardRule s) (slots seat : ℕ) (me : Me (Option Lane) SeatView) (lane : ℕ)
     (at : get_elem? s.views seat ≡ some me.0) (some_share : me.0.start < me.0.stop) (there : lane < length me.0.opening)
     (as_many : length s.homes ≡ slots) where
   abbrev v : SeatView
@@ -61,7 +61,7 @@ module _ (s : State (Option Lane) SeatView) (k : Kept s) (slots seat : ℕ) (me 
 
   -- what the step must give, where the word becomes m
   abbrev Goes : ℕ → Type 0
-  Goes m = (w : SeatView) × (a : Act (Option Lane)) × Valid s.homes me.1 a × Kept (stepped s lane m seat me.1 w a) × claimed (step slots lane 0 1 none) me n (w, carried_after me.1 a)
+  Goes m = (w : SeatView) × (a : Act (Option Lane)) × Valid s.homes me.1 a × BoardRule (stepped s lane m seat me.1 w a) × claimed (step slots lane 0 1 none) me n (w, carried_after me.1 a)
 
   -- a pass holds no lane that none holds
   not_held : n ≢ 1 → held lane v ≡ 0
@@ -189,5 +189,5 @@ module _ (s : State (Option Lane) SeatView) (k : Kept s) (slots seat : ℕ) (me 
   goes = exchanged n 0 1 Goes won lost
 
 pub claims : (slots seat : ℕ) (me : Me (Option Lane) SeatView) (lane : ℕ) → me.0.start < me.0.stop → lane < length me.0.opening
-    → Allows Kept slots seat me lane (λ n. either (eqb n 0) 1 n) (claimed (step slots lane 0 1 none) me)
+    → Allows BoardRule slots seat me lane (λ n. either (eqb n 0) 1 n) (claimed (step slots lane 0 1 none) me)
 claims slots seat me lane some_share there s k as_many at small = goes s k slots seat me lane at some_share there as_many

@@ -9,7 +9,7 @@ use Rattle.atomic_table.specs.Table.{Final, Seen, State}
 use Rattle.exec_lane.specs.Lane.{AreFinished, IsFinished, Lane}
 use Rattle.exec_lane.specs.Opening.{IsLaneOf, no_lane, opened_lane}
 use Rattle.exec_board.specs.Board.{AreClosed, IsClosedLane}
-use Rattle.exec_board.specs.Rule.{Kept, LaneOk, LiveOk, covered, held, in_range, tally}
+use Rattle.exec_board.specs.Rule.{BoardRule, LaneOk, LiveOk, covered, held, in_range, tally}
 use Rattle.exec_board.specs.Seats.{Hold, IsLast, SeatView}
 use Rattle.exec_board.specs.Sweeps.{AllSeen}
 use Rattle.exec_board.specs.inner.Homes.{AreBoxes}
@@ -19,11 +19,11 @@ use Rattle.exec_board.proofs.Claims.{counts_alone}
 abbrev pub HasBox : SeatView → List (Option Lane) → ℕ → Type 0
 HasBox view slots number = (box : Lane) × (get_elem? slots number ≡ some (Some box)) × IsClosedLane view number box
 
-module _ (words : List ℕ) (slots : List (Option Lane)) (seat : ℕ) (view : SeatView) (last : IsLast view) (some_share : view.start < view.stop) (free : view.holds ≡ []) (final : Final (Seen Kept seat view) words slots) where
+module _ (words : List ℕ) (slots : List (Option Lane)) (seat : ℕ) (view : SeatView) (last : IsLast view) (some_share : view.start < view.stop) (free : view.holds ≡ []) (final : Final (Seen BoardRule seat view) words slots) where
   abbrev s : State (Option Lane) SeatView
   s = final.0
 
-  k : Kept s
+  k : BoardRule s
   k = final.1.0
 
   live : LiveOk k.opening k.most k.count view

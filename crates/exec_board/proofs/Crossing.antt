@@ -15,7 +15,7 @@ use Rattle.atomic_table.specs.contracts.shared.Shared as Shared
 use Rattle.atomic_table.specs.contracts.shared.Seat as Seat
 use Rattle.exec_lane.proofs.Crossing.{LaneBox-send}
 use Rattle.exec_lane.specs.contracts.lane_box.LaneBox as LaneBox
-use Rattle.exec_board.specs.contracts.rule.View as View
+use Rattle.exec_board.specs.contracts.rule.BoardView as BoardView
 use Rattle.exec_board.specs.contracts.board.Board as Board
 use Rattle.exec_board.specs.contracts.board.Board.TheInside as board_inside
 use Rattle.exec_board.specs.contracts.pass.Pass as Pass
@@ -30,7 +30,7 @@ option_send : (R : RattleType) → IsSend R → IsSend (Option.the_row R)
 option_send R s = search sendable depth 12
 
 pass_fields : IsSend pass_inside.the_row
-pass_fields = recorded_send pass_inside.the_field.row _ _ pass_inside.the_type.to_one (struct_send (shape pass_inside.the_type) (Seat-send (Option.the_row LaneBox.the_row) View.the_row (option_send LaneBox.the_row LaneBox-send), (search sendable, (search sendable, tt))))
+pass_fields = recorded_send pass_inside.the_field.row _ _ pass_inside.the_type.to_one (struct_send (shape pass_inside.the_type) (Seat-send (Option.the_row LaneBox.the_row) BoardView.the_row (option_send LaneBox.the_row LaneBox-send), (search sendable, (search sendable, tt))))
 
 pub Pass-send : IsSend Pass.the_row
 Pass-send = view_send pass_inside.the_row _ _ _ _ pass_fields

@@ -9,7 +9,7 @@ use Rattle.exec_lane.specs.Lane.{Lane}
 use Rattle.exec_board.specs.Board.{IsSeated, held_slot, held_slots}
 use Rattle.exec_board.specs.Plays.{done_in}
 use Rattle.exec_board.specs.Rule.{AreHeld, is_same, tally}
-use Rattle.exec_board.specs.Seats.{Hold, Holds, SeatView, let_go, start_of, without}
+use Rattle.exec_board.specs.Seats.{Hold, Holds, SeatView, released_lane, start_of, without}
 use Rattle.exec_board.specs.inner.Order.{brought, in_front, place_of}
 
 pub differ : (a b : ℕ) → a ≢ b → is_same a b ≡ 0
@@ -99,12 +99,12 @@ module _ (lane start : ℕ) (before brought_ : Me (Option Lane) SeatView) (holds
     filled_is = fills ∙ (λ i. ((brings i).0, (lane, Some work) ∷ rest (front i)))
 
     -- and went home
-    pub home_is : (after : Me (Option Lane) SeatView) → after ≡ (let_go lane (done_in filled.1) filled.0, rest filled.1) → after ≡ (let_go lane work.done before.0, held_slots (without lane before.0.holds))
-    home_is after releases = releases ∙ ap (λ (me : Me (Option Lane) SeatView). (let_go lane (done_in me.1) me.0, rest me.1)) filled_is
+    pub home_is : (after : Me (Option Lane) SeatView) → after ≡ (released_lane lane (done_in filled.1) filled.0, rest filled.1) → after ≡ (released_lane lane work.done before.0, held_slots (without lane before.0.holds))
+    home_is after releases = releases ∙ ap (λ (me : Me (Option Lane) SeatView). (released_lane lane (done_in me.1) me.0, rest me.1)) filled_is
 
 -- a seat after a release
 pub seated_on : (board : TableId) (before after : Me (Option Lane) SeatView) (lane n start stop : ℕ) → IsSeated board before.0 before.1 start stop
-    → after ≡ (let_go lane n before.0, held_slots (without lane before.0.holds)) → IsSeated board after.0 after.1 start stop
+    → after ≡ (released_lane lane n before.0, held_slots (without lane before.0.holds)) → IsSeated board after.0 after.1 start stop
 seated_on board before after lane n start stop seated is = subst (λ (me : Me (Option Lane) SeatView). IsSeated board me.0 me.1 start stop) (sym is) (record {
   start_is = seated.start_is;
   stop_is = seated.stop_is;

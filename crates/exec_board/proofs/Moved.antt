@@ -9,7 +9,7 @@ use Rattle.atomic_table.specs.Table.{State}
 use Rattle.atomic_table.proofs.Lists.{at_set}
 use Rattle.exec_lane.specs.Lane.{Lane}
 use Rattle.exec_lane.specs.Opening.{opened_lane}
-use Rattle.exec_board.specs.Rule.{AreHeld, Home, Kept, LaneOk, ViewOk, covered, has_number, held, is_same, in_range, tally}
+use Rattle.exec_board.specs.Rule.{AreHeld, Home, BoardRule, LaneOk, ViewOk, covered, has_number, held, is_same, in_range, tally}
 use Rattle.exec_board.specs.Seats.{Hold, SeatView}
 use Rattle.exec_board.proofs.Tallies.{tally-same}
 
@@ -89,7 +89,7 @@ view_on lanes most count lane n view more quiet ok = record {
 
 -- ---- the step
 
-pub moved : (s : State (Option Lane) SeatView) (k : Kept s) (seat : ℕ) (v w : SeatView) (lane word n : ℕ) (homes : List (mathlib.Core.Option.Option (Option Lane)))
+pub moved : (s : State (Option Lane) SeatView) (k : BoardRule s) (seat : ℕ) (v w : SeatView) (lane word n : ℕ) (homes : List (mathlib.Core.Option.Option (Option Lane)))
     → get_elem? s.views seat ≡ some v → lane < length k.opening → k.count lane ≤ n
     → length homes ≡ length s.homes → ((other : ℕ) → other ≢ lane → get_elem? homes other ≡ get_elem? s.homes other)
     → ((other : ℕ) → other ≢ lane → held other w ≡ held other v)
@@ -98,7 +98,7 @@ pub moved : (s : State (Option Lane) SeatView) (k : Kept s) (seat : ℕ) (v w : 
     → ((other : ℕ) (u : SeatView) → other ≢ seat → get_elem? s.views other ≡ some u → (n ≡ k.count lane) ⊎ (held lane u ≡ 0))
     → ViewOk k.opening k.most (changed k.count lane n) w
     → LaneOk (opened_lane k.opening lane) n word (get_elem? homes lane) (tally (held lane) (set s.views seat w)) (λ callback. tally (covered lane callback) (set s.views seat w))
-    → Kept (record { words = slice_set s.words lane word; homes = homes; views = set s.views seat w })
+    → BoardRule (record { words = slice_set s.words lane word; homes = homes; views = set s.views seat w })
 moved s k seat v w lane word n homes at within more as_many homes_on held_on_ cover_on starts stops quiet view_ok lane_ok = record {
   opening = k.opening;
   most = k.most;

@@ -10,8 +10,8 @@ use Rattle.atomic_table.proofs.Lists.{set_else, set_here}
 use Rattle.exec_lane.specs.Lane.{Lane}
 use Rattle.exec_lane.specs.Opening.{IsLaneOf, opened_lane}
 use Rattle.exec_board.specs.Plays.{released}
-use Rattle.exec_board.specs.Rule.{Kept, LaneOk, LiveOk, gap, covered, held, in_segment, in_range, tally}
-use Rattle.exec_board.specs.Seats.{Holds, SeatView, let_go, segment_of, without}
+use Rattle.exec_board.specs.Rule.{BoardRule, LaneOk, LiveOk, gap, covered, held, in_segment, in_range, tally}
+use Rattle.exec_board.specs.Seats.{Holds, SeatView, released_lane, segment_of, without}
 use Rattle.exec_board.specs.inner.Homes.{word_at}
 use Rattle.exec_board.proofs.Holding.{as_many_else, differ, held_without, hold_is, one_less}
 use Rattle.exec_board.proofs.Moved.{changed, changed-else, changed-here, held_on, index-set, index-set-else, moved}
@@ -37,11 +37,11 @@ pub word_finished : (box : Lane) → word_at box ≡ 2 → box.done ≡ length b
 word_finished box finished = dite (ℕ_discrete box.done (length box.entries)) (λ same. same)
     (λ less. let is = ap {B = ℕ} (λ (b : Bool). cond b 2 0) (ne_eqb box.done (length box.entries) less) in absurd (omega (arith, is, finished)))
 
-module _ (s : State (Option Lane) SeatView) (k : Kept s) (seat : ℕ) (v : SeatView) (lane start : ℕ) (box : Lane)
+module _ (s : State (Option Lane) SeatView) (k : BoardRule s) (seat : ℕ) (v : SeatView) (lane start : ℕ) (box : Lane)
     (at : get_elem? s.views seat ≡ some v) (some_share : v.start < v.stop) (holds : Holds v lane start)
     (same : IsLaneOf (opened_lane v.opening lane) box) (since : start ≤ box.done) (few : box.done ≤ length box.entries) where
   abbrev w : SeatView
-  w = let_go lane box.done v
+  w = released_lane lane box.done v
 
   live : LiveOk k.opening k.most k.count v
   live = (k.views_ok seat v at).live some_share
@@ -125,7 +125,7 @@ module _ (s : State (Option Lane) SeatView) (k : Kept s) (seat : ℕ) (v : SeatV
         whole = whole;
       }
 
-  pub keeps_on : Kept (record { words = slice_set s.words lane (word_at box); homes = set s.homes lane (some (Some box)); views = set s.views seat w })
+  pub keeps_on : BoardRule (record { words = slice_set s.words lane (word_at box); homes = set s.homes lane (some (Some box)); views = set s.views seat w })
   keeps_on =
       moved s k seat v w lane (word_at box) box.done (set s.homes lane (some (Some box))) at here.0 more (length-set s.homes lane (some (Some box))) (λ other away. set_else s.homes lane other (some (Some box)) away)
       (λ other away. as_many_else v.holds lane other away) cover_else refl refl
@@ -154,7 +154,7 @@ module _ (s : State (Option Lane) SeatView) (k : Kept s) (seat : ℕ) (v : SeatV
 
 pub releases : (slots seat : ℕ) (v : SeatView) (others : List (ℕ × Option Lane)) (lane start : ℕ) (box : Lane) (me : Me (Option Lane) SeatView) (word : ℕ) → v.start < v.stop → Holds v lane start
     → IsLaneOf (opened_lane v.opening lane) box → start ≤ box.done → box.done ≤ length box.entries → me ≡ (v, (lane, Some box) ∷ others) → word ≡ word_at box
-    → Allows Kept slots seat me lane (λ _. word) (λ _. released (step slots lane word 0 none) me word)
+    → Allows BoardRule slots seat me lane (λ _. word) (λ _. released (step slots lane word 0 none) me word)
 releases slots seat v others lane start box me word some_share holds same since few me_is word_is =
-    subst (λ (x : Me (Option Lane) SeatView × ℕ). Allows Kept slots seat x.0 lane (λ _. x.1) (λ _. released (step slots lane x.1 0 none) x.0 x.1)) (λ i. (sym me_is i, sym word_is i))
-    (λ s k as_many at small. (let_go lane box.done v, gives, tt, keeps_on s k seat v lane start box at some_share holds same since few, refl))
+    subst (λ (x : Me (Option Lane) SeatView × ℕ). Allows BoardRule slots seat x.0 lane (λ _. x.1) (λ _. released (step slots lane x.1 0 none) x.0 x.1)) (λ i. (sym me_is i, sym word_is i))
+    (λ s k as_many at small. (released_lane lane box.done v, gives, tt, keeps_on s k seat v lane start box at some_share holds same since few, refl))

@@ -7,18 +7,18 @@ use Rattle.atomic_table.specs.Table.{Joins, Splits, State}
 use Rattle.atomic_table.proofs.Lists.{at_set, at_snoc}
 use Rattle.exec_lane.specs.Lane.{Lane}
 use Rattle.exec_lane.specs.Opening.{opened_lane}
-use Rattle.exec_board.specs.Rule.{Kept, LiveOk, ViewOk, covered, has_number, held, in_segment, is_same, in_range, tally}
+use Rattle.exec_board.specs.Rule.{BoardRule, LiveOk, ViewOk, covered, has_number, held, in_segment, is_same, in_range, tally}
 use Rattle.exec_board.specs.Seats.{Hold, SeatView, back_half, front_half, greater, middle, nobody, together}
 use Rattle.exec_board.proofs.Moved.{lane_same}
 use Rattle.exec_board.proofs.Tallies.{tally-append, tally-push, tally-set}
 
 -- other views, among which all is counted as it was
-regrouped : (s : State (Option Lane) SeatView) (k : Kept s) (views : List SeatView)
+regrouped : (s : State (Option Lane) SeatView) (k : BoardRule s) (views : List SeatView)
     → ((lane : ℕ) → tally (held lane) views ≡ tally (held lane) s.views)
     → ((lane callback : ℕ) → tally (covered lane callback) views ≡ tally (covered lane callback) s.views)
     → ((number : ℕ) → tally (has_number number) views ≡ tally (has_number number) s.views)
     → ((seat : ℕ) (view : SeatView) → get_elem? views seat ≡ some view → ViewOk k.opening k.most k.count view)
-    → Kept (record { words = s.words; homes = s.homes; views = views })
+    → BoardRule (record { words = s.words; homes = s.homes; views = views })
 regrouped s k views holders covers numbers each = record {
   opening = k.opening;
   most = k.most;
@@ -49,7 +49,7 @@ cut_in_two f views seat v left right at parts =
 pub middle_within : (start stop : ℕ) → start + 2 ≤ stop → (start < start + (stop - start) / 2) × (start + (stop - start) / 2 < stop)
 middle_within start stop long = (omega (arith, long), omega (arith, long))
 
-pub splits : (seat : ℕ) (v : SeatView) → v.start + 2 ≤ v.stop → v.holds ≡ [] → Splits Kept seat v (front_half v) (back_half v)
+pub splits : (seat : ℕ) (v : SeatView) → v.start + 2 ≤ v.stop → v.holds ≡ [] → Splits BoardRule seat v (front_half v) (back_half v)
 splits seat v long free s k at =
     let live : LiveOk k.opening k.most k.count v = (k.views_ok seat v at).live (omega (arith, long)) in
     let inside = middle_within v.start v.stop long in
@@ -99,7 +99,7 @@ greater_within (x ∷ a) [] i n low high = omega arith
 greater_within (x ∷ a) (y ∷ b) zero n low high = max_within x y n low high
 greater_within (x ∷ a) (y ∷ b) (suc i) n low high = greater_within a b i n low high
 
-pub joins : (seat : ℕ) (v : SeatView) (other : ℕ) (w : SeatView) → v.start < v.stop → w.start < w.stop → w.start ≡ v.stop → w.holds ≡ [] → Joins Kept seat v other w (together v w) nobody
+pub joins : (seat : ℕ) (v : SeatView) (other : ℕ) (w : SeatView) → v.start < v.stop → w.start < w.stop → w.start ≡ v.stop → w.holds ≡ [] → Joins BoardRule seat v other w (together v w) nobody
 joins seat v other w some_share some_other neighbours free s k at apart there =
     let were : get_elem? s.views other ≡ some w = ⊎_elim
     (λ (is : (other ≡ seat) × (together v w ≡ w)). absurd (apart is.0))

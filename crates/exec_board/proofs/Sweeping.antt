@@ -13,8 +13,8 @@ use Rattle.exec_lane.specs.Opening.{IsLaneOf, opened_lane}
 use Rattle.exec_msg.specs.declared.memory.Memory.{Memory}
 use Rattle.exec_board.specs.Board.{ClaimView, IsClaimOf, IsSized, MayRelease}
 use Rattle.exec_board.specs.Rule.{held, is_same, tally}
-use Rattle.exec_board.specs.Seats.{Hold, IsLast, Refusal, SeatView, Segment, holding, let_go, refused, seen_at, start_of}
-use Rattle.exec_board.specs.Sweeps.{FirstSeen, GotOn, HasSome, IsBusy, IsShort, IsSwept, LeavesSome, numbers}
+use Rattle.exec_board.specs.Seats.{Hold, IsLast, Refusal, SeatView, Segment, holding, refused, released_lane, seen_at, start_of}
+use Rattle.exec_board.specs.Sweeps.{FirstSeen, GotOn, HasSome, IsBusy, IsSwept, IsWithinQuantum, LeavesSome, numbers}
 use Rattle.exec_board.specs.inner.Visits.{HasGotOn, HasRunSome, HasStopped, HasWorked, Turning, Visited, WasRefused, left_for, left_in, worked}
 use Rattle.exec_board.proofs.Holding.{start_here, without_here}
 use Rattle.exec_board.proofs.Moved.{index-set, index-set-else}
@@ -48,7 +48,7 @@ swept_on quantum a b c first then = record {
   ran = (
     first.ran.0 ++ then.ran.0,
     then.ran.1 ∙ ap (λ (segments : List Segment). segments ++ then.ran.0) first.ran.1 ∙ append_assoc a.segments first.ran.0 then.ran.0,
-    All-append (IsShort quantum) first.ran.0 then.ran.0 first.ran.2 then.ran.2,
+    All-append (IsWithinQuantum quantum) first.ran.0 then.ran.0 first.ran.2 then.ran.2,
   );
   asked = (
     first.asked.0 ++ then.asked.0,
@@ -65,7 +65,7 @@ swept_worked lane quantum a b free work = subst (IsSwept quantum a) (sym work.is
   stop = refl;
   holds = free;
   sized = length-set a.seen lane work.end;
-  ran = (record { lane = lane; first = work.first; end = work.end } ∷ [], refl, All-cons (IsShort quantum) (record { lane = lane; first = work.first; end = work.end }) [] work.few (All-nil (IsShort quantum)));
+  ran = (record { lane = lane; first = work.first; end = work.end } ∷ [], refl, All-cons (IsWithinQuantum quantum) (record { lane = lane; first = work.first; end = work.end }) [] work.few (All-nil (IsWithinQuantum quantum)));
   asked = ([], sym (append-nil a.busy), All-nil IsBusy);
 })
 
@@ -82,14 +82,14 @@ swept_refused lane quantum a b free was = subst (IsSwept quantum a) (sym was.is)
   stop = refl;
   holds = free;
   sized = length-seen_at lane was.word a;
-  ran = ([], sym (append-nil a.segments), All-nil (IsShort quantum));
+  ran = ([], sym (append-nil a.segments), All-nil (IsWithinQuantum quantum));
   asked = (record { lane = lane; word = was.word } ∷ [], refl, All-cons IsBusy (record { lane = lane; word = was.word }) [] (dite (ℕ_discrete was.word 1) (λ one. inl one) (λ apart. inr (was.known apart))) (All-nil IsBusy));
 })
 
 -- ---- a visit
 
-pub let_go_held : (lane first end : ℕ) (view : SeatView) → let_go lane end (holding lane first view) ≡ worked lane first end view
-let_go_held lane first end view =
+pub released_lane_held : (lane first end : ℕ) (view : SeatView) → released_lane lane end (holding lane first view) ≡ worked lane first end view
+released_lane_held lane first end view =
     let hold : Hold = record { lane = lane; start = first } in λ i. record view {
       seen = slice_set view.seen lane end;
       holds = without_here hold view.holds lane refl i;
@@ -114,7 +114,7 @@ module _ (lane quantum : ℕ) (before held_ : SeatView) (claim : ClaimView) (aft
   pub may_release : MayRelease held_ (record claim { work = after })
   may_release = subst (λ (view : SeatView). MayRelease view (record claim { work = after })) (sym holds) (claim_released before lane claim after claimed ran.same ran.since)
 
-  pub has_worked : (released : SeatView) → released ≡ let_go claim.lane after.done held_ → HasWorked lane quantum before released
+  pub has_worked : (released : SeatView) → released ≡ released_lane claim.lane after.done held_ → HasWorked lane quantum before released
   has_worked released is =
       let since = ran.since in
       let few = ran.few in
@@ -124,14 +124,14 @@ module _ (lane quantum : ℕ) (before held_ : SeatView) (claim : ClaimView) (aft
       let entries = ap length of_lane.entries in record {
         first = claim.start;
         end = after.done;
-        is = is ∙ (λ i. let_go (claimed.lane i) after.done (holds i)) ∙ let_go_held lane claim.start after.done before;
+        is = is ∙ (λ i. released_lane (claimed.lane i) after.done (holds i)) ∙ released_lane_held lane claim.start after.done before;
         seen = omega (arith, start, seen);
         since = omega (arith, since, start);
         few = omega (arith, few, start);
         within = omega (arith, within, entries);
       }
 
--- ---- a turn
+-- ---- a visit to each lane
 
 refused_less : (lane : ℕ) (a b : SeatView) → lane < length a.opening → length a.seen ≡ length a.opening → WasRefused lane a b → left_for b ≤ left_for a
 refused_less lane a b within long was =
@@ -266,10 +266,10 @@ module _ (lane quantum : ℕ) (before held_ released : SeatView) (claim : ClaimV
   pub visit_may_release : MayRelease held_ (record claim { work = after })
   visit_may_release = may_release lane quantum before held_ claim after ended claimed holds ran_so
 
-  pub visit_worked : released ≡ let_go claim.lane after.done held_ → HasWorked lane quantum before released
+  pub visit_worked : released ≡ released_lane claim.lane after.done held_ → HasWorked lane quantum before released
   visit_worked is = has_worked lane quantum before held_ claim after ended claimed holds ran_so released is
 
-  pub visit_got_on : released ≡ let_go claim.lane after.done held_ → ended ≡ Ok tt → HasGotOn lane quantum before released
+  pub visit_got_on : released ≡ released_lane claim.lane after.done held_ → ended ≡ Ok tt → HasGotOn lane quantum before released
   unfolding visit_worked has_worked
   visit_got_on is ok =
       let start = claimed.start in
@@ -277,7 +277,7 @@ module _ (lane quantum : ℕ) (before held_ released : SeatView) (claim : ClaimV
       let on : claim.start < after.done = omega (arith, start, some) in
       record { work = visit_worked is; some = on }
 
-  pub visit_stopped : released ≡ let_go claim.lane after.done held_ → IsErr ended → HasStopped lane quantum before released
+  pub visit_stopped : released ≡ released_lane claim.lane after.done held_ → IsErr ended → HasStopped lane quantum before released
   unfolding visit_worked has_worked
   visit_stopped is err =
       let left = (ran_so.failed err).1 in

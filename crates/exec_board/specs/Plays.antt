@@ -7,7 +7,7 @@ use Rattle.exec_lane.specs.Lane.{Lane}
 use Rattle.exec_lane.specs.Opening.{IsLaneOf, opened_lane}
 use Rattle.exec_board.specs.Rule.{covered, held, in_range, tally}
 use Rattle.exec_board.specs.declared.rule.TheConstants.{FINISHED, HELD, OPEN}
-use Rattle.exec_board.specs.Seats.{IsLast, SeatView, holding, let_go, refused}
+use Rattle.exec_board.specs.Seats.{IsLast, SeatView, holding, refused, released_lane}
 
 -- a lane was whole up to a count: over all passes that there were, this one among them, each callback from the opening's count
 -- up to, not including, that one was of exactly one segment, and no other callback of the lane was of any
@@ -46,4 +46,4 @@ done_in ((slot, Some box) ∷ others) = box.done
 
 -- a release: the slot that the seat took last is home with the box in it
 abbrev pub released : Step (Option Lane) → Me (Option Lane) SeatView → ℕ → Me (Option Lane) SeatView → Type 0
-released step before word after = after ≡ (let_go step.word (done_in before.1) before.0, rest before.1)
+released step before word after = after ≡ (released_lane step.word (done_in before.1) before.0, rest before.1)

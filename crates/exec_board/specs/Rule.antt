@@ -95,7 +95,7 @@ pub record ViewOk (lanes : List Lane) (most : ℕ) (count : ℕ → ℕ) (view :
 -- ---- the rule
 
 -- All passes know one opening, each lane is as its word says, and no number is of two shares.
-pub record Kept (s : State (Option Lane) SeatView) : Type 0 where
+pub record BoardRule (s : State (Option Lane) SeatView) : Type 0 where
   pub opening : List Lane
   pub most : ℕ
   pub count : ℕ → ℕ

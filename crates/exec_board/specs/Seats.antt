@@ -78,8 +78,8 @@ abbrev pub segment_of : ℕ → ℕ → SeatView → Segment
 segment_of lane count view = record { lane = lane; first = unwrap_or (start_of lane view.holds) 0; end = count }
 
 -- a lane was released at this count: the hold has become a segment
-abbrev pub let_go : ℕ → ℕ → SeatView → SeatView
-let_go lane count view =
+abbrev pub released_lane : ℕ → ℕ → SeatView → SeatView
+released_lane lane count view =
     record view { seen = slice_set view.seen lane count; holds = without lane view.holds; segments = view.segments ++ segment_of lane count view ∷ [] }
 
 -- ---- split and join

@@ -5,8 +5,8 @@ use Rattle.exec_board.specs.Seats.{IsLast, Refusal, SeatView, Segment}
 use Rattle.exec_board.specs.declared.rule.TheConstants.{FINISHED, HELD}
 
 -- a segment has at most so many callbacks
-abbrev pub IsShort : ℕ → Segment → Type 0
-IsShort quantum segment = segment.end ≤ segment.first + quantum
+abbrev pub IsWithinQuantum : ℕ → Segment → Type 0
+IsWithinQuantum quantum segment = segment.end ≤ segment.first + quantum
 
 -- a segment has a callback
 abbrev pub HasSome : Segment → Type 0
@@ -24,7 +24,7 @@ pub record IsSwept (quantum : ℕ) (before after : SeatView) : Type 0 where
   pub stop : after.stop ≡ before.stop
   pub holds : after.holds ≡ []
   pub sized : length after.seen ≡ length before.seen
-  pub ran : (segments : List Segment) × (after.segments ≡ before.segments ++ segments) × All (IsShort quantum) segments
+  pub ran : (segments : List Segment) × (after.segments ≡ before.segments ++ segments) × All (IsWithinQuantum quantum) segments
   pub asked : (refusals : List Refusal) × (after.busy ≡ before.busy ++ refusals) × All IsBusy refusals
 
 -- the numbers from 0 up to, not including, this one

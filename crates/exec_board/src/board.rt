@@ -5,14 +5,16 @@ ghost use Rattle.exec_lane.specs.Lane.{AreFinished};
 ghost use Rattle.exec_board.specs.Board.{AreClosed, IsClaimOf, IsSized, MayRelease, busy_word};
 ghost use Rattle.exec_board.specs.inner.Homes.{AreBoxes, AreWithin, word_at};
 ghost use Rattle.exec_board.specs.Rule.{held};
-ghost use Rattle.exec_board.specs.Seats.{IsLast, back_half, front_half, holding, let_go, opener, refused, together};
+ghost use Rattle.exec_board.specs.Seats.{IsLast, back_half, front_half, holding, opener, refused, released_lane, together};
 ghost use Rattle.exec_board.specs.Sweeps.{AllSeen};
 ghost use Rattle.exec_board.specs.declared.rule.TheConstants.{FINISHED, HELD};
 
 use crate::bring::bring;
 use crate::claim::{Busy, Claim};
 use crate::pass::Pass;
-use crate::rule::{Claims, FINISHED, GoHome, HELD, Halves, OPEN, Opening, Together, Try, View};
+use crate::rule::{
+    BoardJoin, BoardSplit, BoardView, Claims, FINISHED, GoHome, HELD, OPEN, Opening, Try,
+};
 use atomic_table::{Closed, Table};
 use exec_lane::LaneBox;
 use exec_msg::Memory;
@@ -20,7 +22,7 @@ use std::alloc::Global;
 use std::marker::Model;
 use std::snapshot::Snapshot;
 
-type LaneTable = Table<Option<LaneBox>, View, Opening, Claims, Global>;
+type LaneTable = Table<Option<LaneBox>, BoardView, Opening, Claims, Global>;
 
 /// Lanes that callers in any threads claim and run, one caller a lane at a time. Each caller has a pass of its own.
 #[derive(Drop)]
@@ -121,7 +123,7 @@ impl Board {
         requires board { (pass.old.board ≡ self.now) × (claim.board ≡ self.now) }
         requires claim { MayRelease pass.old.view claim }
         ensures board { pass.new.board ≡ pass.old.board }
-        ensures released { pass.new.view ≡ let_go claim.lane claim.work.done pass.old.view }
+        ensures released { pass.new.view ≡ released_lane claim.lane claim.work.done pass.old.view }
     {
         let Claim {
             work,
@@ -153,7 +155,7 @@ impl Board {
             stop,
         } = pass;
         let middle = start + (stop - start) / 2;
-        let other = self.table.shared.split_seat::<Halves>(&mut seat);
+        let other = self.table.shared.split_seat::<BoardSplit>(&mut seat);
         (
             Pass {
                 seat,
@@ -187,7 +189,7 @@ impl Board {
             start: _,
             stop,
         } = back;
-        self.table.shared.join_seat::<Together>(&mut seat, other);
+        self.table.shared.join_seat::<BoardJoin>(&mut seat, other);
         Pass { seat, start, stop }
     }
 

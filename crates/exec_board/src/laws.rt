@@ -5,7 +5,7 @@ ghost use Rattle.exec_lane.specs.Lane.{Lane};
 ghost use Rattle.exec_lane.specs.Opening.{IsLaneOf};
 ghost use Rattle.exec_board.specs.Board.{ClaimView, IsClaimOf, MayRelease};
 ghost use Rattle.exec_board.specs.Rule.{covered, has_number, held, in_segment, is_same, in_range};
-ghost use Rattle.exec_board.specs.Seats.{IsLast, SeatView, Segment, back_half, front_half, holding, let_go, refused, together};
+ghost use Rattle.exec_board.specs.Seats.{IsLast, SeatView, Segment, back_half, front_half, holding, refused, released_lane, together};
 ghost use Rattle.exec_board.specs.Sweeps.{FirstSeen};
 ghost use Rattle.exec_board.specs.declared.rule.TheConstants.{FINISHED, HELD};
 
@@ -45,7 +45,7 @@ pub fn a_join_keeps_what_there_was()
 pub fn a_claim_may_be_released()
     ensures may { (view : SeatView) (lane : ℕ) (claim : ClaimView) (work : Lane) → IsClaimOf view lane claim → IsLaneOf claim.work work → claim.work.done ≤ work.done →
         MayRelease (holding lane claim.start view) (record claim { work = work }) }
-    ensures released { (view : SeatView) (lane first end : ℕ) → let_go lane end (holding lane first view)
+    ensures released { (view : SeatView) (lane first end : ℕ) → released_lane lane end (holding lane first view)
         ≡ record view { seen = slice_set view.seen lane end; segments = view.segments ++ record { lane = lane; first = first; end = end } ∷ [] } }
 {}
 

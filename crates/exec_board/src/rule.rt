@@ -5,9 +5,9 @@ use std::marker::Model;
 use std::snapshot::Snapshot;
 
 /// What the caller with a pass knows. No value of it is made.
-pub struct View;
+pub struct BoardView;
 
-impl Model for View {
+impl Model for BoardView {
     ghost use Rattle.exec_board.specs.Seats.{SeatView, nobody};
 
     ghost Value = { SeatView };
@@ -34,11 +34,11 @@ pub const FINISHED: u64 = 2;
 /// The rule: the word of a lane says whether it is open, held or finished. The lane's box is in its slot unless it is held.
 pub struct Claims;
 
-impl TableRule<Option<LaneBox>, View, Opening> for Claims {
-    ghost use Rattle.exec_board.specs.Rule.{Kept};
+impl TableRule<Option<LaneBox>, BoardView, Opening> for Claims {
+    ghost use Rattle.exec_board.specs.Rule.{BoardRule};
     ghost use Rattle.exec_board.specs.Seats.{opener};
 
-    ghost holds = { λ _. Kept };
+    ghost holds = { λ _. BoardRule };
 
     ghost first = { λ key. opener key.boxes.value.items key.passes };
 }
@@ -46,7 +46,7 @@ impl TableRule<Option<LaneBox>, View, Opening> for Claims {
 /// A claim.
 pub struct Try;
 
-impl Play<Option<LaneBox>, View> for Try {
+impl Play<Option<LaneBox>, BoardView> for Try {
     ghost use Rattle.exec_board.specs.Plays.{claimed};
 
     ghost then = { claimed };
@@ -55,16 +55,16 @@ impl Play<Option<LaneBox>, View> for Try {
 /// A release.
 pub struct GoHome;
 
-impl Play<Option<LaneBox>, View> for GoHome {
+impl Play<Option<LaneBox>, BoardView> for GoHome {
     ghost use Rattle.exec_board.specs.Plays.{released};
 
     ghost then = { released };
 }
 
 /// A pass is split.
-pub struct Halves;
+pub struct BoardSplit;
 
-impl Split<View> for Halves {
+impl Split<BoardView> for BoardSplit {
     ghost use Rattle.exec_board.specs.Seats.{back_half, front_half};
 
     ghost left = { front_half };
@@ -73,9 +73,9 @@ impl Split<View> for Halves {
 }
 
 /// Two passes are joined.
-pub struct Together;
+pub struct BoardJoin;
 
-impl Join<View> for Together {
+impl Join<BoardView> for BoardJoin {
     ghost use Rattle.exec_board.specs.Seats.{nobody, together};
 
     ghost both = { together };
@@ -83,4 +83,4 @@ impl Join<View> for Together {
     ghost spent = { nobody };
 }
 
-pub type LaneSeat = Seat<Option<LaneBox>, View>;
+pub type LaneSeat = Seat<Option<LaneBox>, BoardView>;

@@ -11,8 +11,8 @@ use exec_msg::Memory;
 
 impl Board {
     /// Goes over the lanes, from the first on, again and again. It claims each lane that is open, runs at most `quantum`
-    /// callbacks of it, and releases it. It ends after a turn without a claim, in which each lane was held or finished when it
-    /// was tried.
+    /// callbacks of it, and releases it. It ends after it visited each lane without a claim, because each was held or finished
+    /// when it was tried.
     ///
     /// # Errors
     /// [`Memory`] if a callback was refused a growth, now or before. Its lane is released with callbacks left.
@@ -25,12 +25,12 @@ impl Board {
         ensures ends { IsOk result → EndsSweep self.now.words pass.old.view pass.new.view }
         ensures memory { OnErr result (LeavesSome pass.new.view) }
     {
-        while self.turn(pass, quantum, gate)? {}
+        while self.visit_all(pass, quantum, gate)? {}
         Ok(())
     }
 
     // Visits each lane once, and answers whether one was claimed.
-    fn turn<G: Gate>(&self, pass: &mut Pass, quantum: usize, gate: &G) -> Result<bool, Memory>
+    fn visit_all<G: Gate>(&self, pass: &mut Pass, quantum: usize, gate: &G) -> Result<bool, Memory>
         requires board { pass.old.board ≡ self.now }
         requires holds_none { pass.old.view.holds ≡ [] }
         requires quantum { 0 < quantum }

@@ -16,7 +16,7 @@ use Rattle.exec_graph.specs.Numbers.{topic_named, server_named}
 use Rattle.exec_msg.specs.Options.{◌>>=◌, each}
 use Rattle.exec_plan.specs.Plan.{PlanData, Feed}
 use Rattle.exec_graph.specs.Refusals.{fault_in}
-use Rattle.exec_graph.specs.Resolved.{graph_in}
+use Rattle.exec_graph.specs.Resolved.{resolved_graph}
 use Rattle.exec_plan.specs.Schedule.{plan_fault_in}
 use Rattle.exec_plan.specs.declared.order.Order.{Order}
 use Rattle.exec_plan.proofs.Reading.{then_read, are_read}
@@ -26,15 +26,15 @@ use Rattle.exec_doc.proofs.Kept.{IsKept, holds_of, kept}
 
 -- what is known of graphs and plans
 pub record Laws : Type 0 where
-  pub graph : (source : GraphDraft) (made : GraphData) → fault_in source ≡ None → graph_in source ≡ Some made → IsLawful made
-  pub topic : (source : GraphDraft) (made : GraphData) (name : List ℕ) (number : ℕ) → graph_in source ≡ Some made → topic_named source name ≡ Some number → is_at is_topic made number ≡ true
-  pub server : (source : GraphDraft) (made : GraphData) (name : List ℕ) (number : ℕ) → graph_in source ≡ Some made → server_named source name ≡ Some number → is_at is_server made number ≡ true
+  pub graph : (source : GraphDraft) (made : GraphData) → fault_in source ≡ None → resolved_graph source ≡ Some made → IsLawful made
+  pub topic : (source : GraphDraft) (made : GraphData) (name : List ℕ) (number : ℕ) → resolved_graph source ≡ Some made → topic_named source name ≡ Some number → is_at is_topic made number ≡ true
+  pub server : (source : GraphDraft) (made : GraphData) (name : List ℕ) (number : ℕ) → resolved_graph source ≡ Some made → server_named source name ≡ Some number → is_at is_server made number ≡ true
   pub plan : (made : GraphData) (order : Order) (moments : List ℕ) (feed : List Feed) → IsLawful made → list_all (λ entry. goes_somewhere made entry.fed) feed ≡ true → list_all (λ entry. has_128_bits entry.fed) feed ≡ true → plan_fault_in moments feed ≡ None → IsLawfulPlan (record { graph = made; order = order; moments = moments; feed = feed })
 
 module _ (laws : Laws) where
   plan_lawful : (document : DocumentDraft) (plan : PlanData) → IsKept document → list_all (λ entry. has_bits entry.fed) document.feed ≡ true → plan_of document ≡ Some plan → IsLawfulPlan plan
   plan_lawful document plan keeps small e =
-      then_read _ (graph_in document.graph) _ plan e (λ made is e1.
+      then_read _ (resolved_graph document.graph) _ plan e (λ made is e1.
       then_read _ (each (resolved_entry document.graph) document.feed) _ plan e1 (λ feed fed e2.
       let read = feed_of document.graph made (λ name number found. laws.topic document.graph made name number is found) (λ name number found. laws.server document.graph made name number is found)
       document.feed feed (are_read (resolved_entry document.graph) document.feed feed fed) in

@@ -5,7 +5,7 @@ use Rattle.exec_doc.specs.Draft.{DocumentDraft}
 use Rattle.exec_doc.specs.Forms.{draft_of}
 use Rattle.exec_msg.specs.Options.{◌>>=◌}
 use Rattle.serde_json.specs.Data.{Data}
-use Rattle.exec_doc.specs.Refusals.{number_of, has_fault_of, holds, codes_in_order, refusal_in}
+use Rattle.exec_doc.specs.Refusals.{refused_number, has_fault_of, may_refuse, codes_in_order, refusal_in}
 use Rattle.exec_doc.specs.declared.refused.Refused.{Refused}
 use Rattle.exec_doc.specs.declared.refused.Refused.TheVariants as refused
 
@@ -22,7 +22,7 @@ numbered n =
     (if n == 8 then refused.Clock else
     (if n == 9 then refused.Id else refused.Memory))))))))
 
-numbered_by : (code : Refused) → numbered (number_of code) ≡ code
+numbered_by : (code : Refused) → numbered (refused_number code) ≡ code
 numbered_by refused.NotJson = refl
 numbered_by refused.Shape = refl
 numbered_by refused.Version = refl
@@ -34,7 +34,7 @@ numbered_by refused.Clock = refl
 numbered_by refused.Id = refl
 numbered_by refused.Memory = refl
 
-at_least_1 : (code : Refused) → 1 ≤ number_of code
+at_least_1 : (code : Refused) → 1 ≤ refused_number code
 at_least_1 refused.NotJson = omega arith
 at_least_1 refused.Shape = omega arith
 at_least_1 refused.Version = omega arith
@@ -46,33 +46,33 @@ at_least_1 refused.Clock = omega arith
 at_least_1 refused.Id = omega arith
 at_least_1 refused.Memory = omega arith
 
-no_code_below : (code : Refused) → number_of code < 1 → ⊥
+no_code_below : (code : Refused) → refused_number code < 1 → ⊥
 no_code_below code less = omega (arith, at_least_1 code, less)
 
 -- the codes in order from a number on
 abbrev AreFrom : ℕ → List Refused → Type 0
 AreFrom n [] = Unit {0}
-AreFrom n (code ∷ codes) = (number_of code ≡ n) × AreFrom (suc n) codes
+AreFrom n (code ∷ codes) = (refused_number code ≡ n) × AreFrom (suc n) codes
 
 -- no lesser code holds
 abbrev pub HoldsNoneBelow : (Refused → Bool) → ℕ → Type 0
-HoldsNoneBelow test n = (code : Refused) → number_of code < n → test code ≡ false
+HoldsNoneBelow test n = (code : Refused) → refused_number code < n → test code ≡ false
 
-one_more : (test : Refused → Bool) (n : ℕ) (code other : Refused) → number_of code ≡ n → test code ≡ false → HoldsNoneBelow test n → (number_of other ≡ n) ⊎ (number_of other < n) → test other ≡ false
+one_more : (test : Refused → Bool) (n : ℕ) (code other : Refused) → refused_number code ≡ n → test code ≡ false → HoldsNoneBelow test n → (refused_number other ≡ n) ⊎ (refused_number other < n) → test other ≡ false
 one_more test n code other at fails below (inl here) = ap test (sym (numbered_by other) ∙ ap numbered (here ∙ sym at) ∙ numbered_by code) ∙ fails
 one_more test n code other at fails below (inr less) = below other less
 
-none_below_next : (test : Refused → Bool) (n : ℕ) (code : Refused) → number_of code ≡ n → test code ≡ false → HoldsNoneBelow test n → HoldsNoneBelow test (suc n)
+none_below_next : (test : Refused → Bool) (n : ℕ) (code : Refused) → refused_number code ≡ n → test code ≡ false → HoldsNoneBelow test n → HoldsNoneBelow test (suc n)
 none_below_next test n code at fails below other less = one_more test n code other at fails below (eq-or-lt_of_le (le_of_suc-le-suc less))
 
 -- what is said of a code that was found
 abbrev pub IsLeast : (Refused → Bool) → Refused → Type 0
-IsLeast test code = HoldsNoneBelow test (number_of code) × (test code ≡ true)
+IsLeast test code = HoldsNoneBelow test (refused_number code) × (test code ≡ true)
 
-found_here : (test : Refused → Bool) (first code : Refused) → HoldsNoneBelow test (number_of first) → test first ≡ true → first ≡ code → IsLeast test code
+found_here : (test : Refused → Bool) (first code : Refused) → HoldsNoneBelow test (refused_number first) → test first ≡ true → first ≡ code → IsLeast test code
 found_here test first code below passes is = subst (IsLeast test) is (below, passes)
 
-found_at : (test : Refused → Bool) (first code : Refused) (n : ℕ) (rest : Option Refused) → number_of first ≡ n → HoldsNoneBelow test n → (b : Bool) → test first ≡ b → cond b (Some first) rest ≡ Some code → (HoldsNoneBelow test (suc n) → rest ≡ Some code → IsLeast test code) → IsLeast test code
+found_at : (test : Refused → Bool) (first code : Refused) (n : ℕ) (rest : Option Refused) → refused_number first ≡ n → HoldsNoneBelow test n → (b : Bool) → test first ≡ b → cond b (Some first) rest ≡ Some code → (HoldsNoneBelow test (suc n) → rest ≡ Some code → IsLeast test code) → IsLeast test code
 found_at test first code n rest at below true passes found later = found_here test first code (subst (HoldsNoneBelow test) (sym at) below) passes cc
 found_at test first code n rest at below false fails found later = later (none_below_next test n first at fails below) found
 
@@ -82,12 +82,12 @@ found_least test (first ∷ codes) n code from below found =
     found_at test first code n (find test codes) from.0 below (test first) refl found (λ more rest. found_least test codes (suc n) code from.1 more rest)
 
 -- the refusal is a code that holds, and no lesser one does
-pub least : (value : Option Data) (code : Refused) → refusal_in value ≡ Some code → IsLeast (λ code. holds code value) code
-least value code found = found_least (λ code. holds code value) codes_in_order 1 code (refl, (refl, (refl, (refl, (refl, (refl, (refl, (refl, (refl, tt))))))))) (λ other less. absurd (no_code_below other less)) found
+pub least : (value : Option Data) (code : Refused) → refusal_in value ≡ Some code → IsLeast (λ code. may_refuse code value) code
+least value code found = found_least (λ code. may_refuse code value) codes_in_order 1 code (refl, (refl, (refl, (refl, (refl, (refl, (refl, (refl, (refl, tt))))))))) (λ other less. absurd (no_code_below other less)) found
 
 -- ---- none
 
-none_at : (test : Refused → Bool) (first : Refused) (n : ℕ) (rest : Option Refused) (most : ℕ) → number_of first ≡ n → HoldsNoneBelow test n → (b : Bool) → test first ≡ b → cond b (Some first) rest ≡ None → (HoldsNoneBelow test (suc n) → rest ≡ None → HoldsNoneBelow test most) → HoldsNoneBelow test most
+none_at : (test : Refused → Bool) (first : Refused) (n : ℕ) (rest : Option Refused) (most : ℕ) → refused_number first ≡ n → HoldsNoneBelow test n → (b : Bool) → test first ≡ b → cond b (Some first) rest ≡ None → (HoldsNoneBelow test (suc n) → rest ≡ None → HoldsNoneBelow test most) → HoldsNoneBelow test most
 none_at test first n rest most at below true passes found later = absurd cc
 none_at test first n rest most at below false fails found later = later (none_below_next test n first at fails below) found
 
@@ -97,17 +97,17 @@ found_none test (first ∷ codes) n most counted from below found =
     none_at test first n (find test codes) most from.0 below (test first) refl found
     (λ more rest. found_none test codes (suc n) most (omega (arith, counted)) from.1 more rest)
 
-memory_never : (value : Option Data) → holds refused.Memory value ≡ false
+memory_never : (value : Option Data) → may_refuse refused.Memory value ≡ false
 memory_never value = by (value >>= draft_of) where
   by : (draft : Option DocumentDraft) → option_map_or (has_fault_of refused.Memory) draft false ≡ false
   by None = refl
   by (Some document) = refl
 
-below_10 : (value : Option Data) (code : Refused) → refusal_in value ≡ None → number_of code < 10 → holds code value ≡ false
-below_10 value code found less = found_none (λ code. holds code value) codes_in_order 1 10 refl (refl, (refl, (refl, (refl, (refl, (refl, (refl, (refl, (refl, tt))))))))) (λ other below. absurd (no_code_below other below)) found code less
+below_10 : (value : Option Data) (code : Refused) → refusal_in value ≡ None → refused_number code < 10 → may_refuse code value ≡ false
+below_10 value code found less = found_none (λ code. may_refuse code value) codes_in_order 1 10 refl (refl, (refl, (refl, (refl, (refl, (refl, (refl, (refl, (refl, tt))))))))) (λ other below. absurd (no_code_below other below)) found code less
 
 -- where nothing is refused no code holds
-pub none_holds : (value : Option Data) (code : Refused) → refusal_in value ≡ None → holds code value ≡ false
+pub none_holds : (value : Option Data) (code : Refused) → refusal_in value ≡ None → may_refuse code value ≡ false
 none_holds value refused.Memory found = memory_never value
 none_holds value refused.NotJson found = below_10 value refused.NotJson found (omega arith)
 none_holds value refused.Shape found = below_10 value refused.Shape found (omega arith)

@@ -14,7 +14,7 @@ use Rattle.exec_plan.specs.Graph.{GraphData, is_topic, is_server, topic_at, serv
 use Rattle.exec_plan.specs.Lawful.{is_at}
 use Rattle.exec_graph.specs.Numbers.{topic_named, server_named}
 use Rattle.exec_msg.specs.Options.{each}
-use Rattle.exec_graph.specs.Resolved.{graph_in}
+use Rattle.exec_graph.specs.Resolved.{resolved_graph}
 use Rattle.exec_plan.specs.Schedule.{stamp_of, is_identified}
 use Rattle.exec_plan.specs.Plan.{Fed, Feed}
 use Rattle.exec_plan.specs.declared.plan.FedOf.TheVariants.{Message, Goal, Cancel}
@@ -114,7 +114,7 @@ entries_there source made find (d ∷ drafted) e =
     (entries_there source made find drafted (and_parts (feeds source d.fed) (list_all (λ entry. feeds source entry.fed) drafted) e).1)
 
 -- what is declared is there
-pub feed_there : (source : GraphDraft) (made : GraphData) (drafted : List EntryDraft) → graph_in source ≡ Some made → list_all (λ entry. feeds source entry.fed) drafted ≡ true → each (entry_by made) drafted ≡ None → ⊥
+pub feed_there : (source : GraphDraft) (made : GraphData) (drafted : List EntryDraft) → resolved_graph source ≡ Some made → list_all (λ entry. feeds source entry.fed) drafted ≡ true → each (entry_by made) drafted ≡ None → ⊥
 feed_there source made drafted e fed none =
     let there = each_some (entry_by made) drafted (entries_there source made (finds source made e) drafted fed) in
     let same = ap is_some none in
@@ -135,7 +135,7 @@ each_feeds source made find (d ∷ drafted) (entry ∷ feed) reads =
     (fed_feeds source made find d.fed entry.fed (entry_placed made d entry reads.0).fed)
     (each_feeds source made find drafted feed reads.1)
 
-pub are_declared : (source : GraphDraft) (made : GraphData) (drafted : List EntryDraft) (feed : List Feed) → graph_in source ≡ Some made → each (entry_by made) drafted ≡ Some feed → list_all (λ entry. feeds source entry.fed) drafted ≡ true
+pub are_declared : (source : GraphDraft) (made : GraphData) (drafted : List EntryDraft) (feed : List Feed) → resolved_graph source ≡ Some made → each (entry_by made) drafted ≡ Some feed → list_all (λ entry. feeds source entry.fed) drafted ≡ true
 are_declared source made drafted feed e read = each_feeds source made (finds source made e) drafted feed (are_read (entry_by made) drafted feed read)
 
 -- what is fed to a graph is what its draft says, where that is identified, and goals have identifiers
@@ -184,7 +184,7 @@ each_said source made find (d ∷ drafted) (entry ∷ feed) reads e =
       identified = and_from (is_identified Some entry.fed) (list_all (λ entry. is_identified Some entry.fed) feed) here.identified others.identified;
     }
 
-pub are_said : (source : GraphDraft) (made : GraphData) (drafted : List EntryDraft) (feed : List Feed) → graph_in source ≡ Some made → each (entry_by made) drafted ≡ Some feed → list_all (λ entry. has_identifier entry.fed) drafted ≡ true → AreSaid source drafted feed
+pub are_said : (source : GraphDraft) (made : GraphData) (drafted : List EntryDraft) (feed : List Feed) → resolved_graph source ≡ Some made → each (entry_by made) drafted ≡ Some feed → list_all (λ entry. has_identifier entry.fed) drafted ≡ true → AreSaid source drafted feed
 are_said source made drafted feed e read identified = each_said source made (finds source made e) drafted feed (are_read (entry_by made) drafted feed read) identified
 
 -- ---- identifiers

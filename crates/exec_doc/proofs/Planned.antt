@@ -14,7 +14,7 @@ use Rattle.exec_graph.specs.declared.draft.GraphDraft.{GraphDraft}
 use Rattle.exec_graph.specs.Numbers.{topic_named, server_named}
 use Rattle.exec_msg.specs.Options.{◌>>=◌, each}
 use Rattle.exec_graph.specs.Refusals.{fault_in}
-use Rattle.exec_graph.specs.Resolved.{graph_in}
+use Rattle.exec_graph.specs.Resolved.{resolved_graph}
 use Rattle.exec_plan.proofs.Reading.{goes_on, each_some}
 use Rattle.exec_doc.proofs.Kept.{IsKept, holds_of, kept}
 
@@ -46,11 +46,11 @@ let_through : {A : Type 0} (refusal : Option Refused) (plan : Option A) → refu
 let_through None plan is there = there
 let_through (Some code) plan is there = absurd cc
 
-module _ (has_graph : (source : GraphDraft) → fault_in source ≡ None → is_some (graph_in source) ≡ true) where
+module _ (has_graph : (source : GraphDraft) → fault_in source ≡ None → is_some (resolved_graph source) ≡ true) where
   -- a document that keeps what each code asks has a plan
   has_plan : (document : DocumentDraft) → IsKept document → is_some (plan_of document) ≡ true
   has_plan document kept =
-      goes_on (graph_in document.graph) _ (has_graph document.graph kept.graph)
+      goes_on (resolved_graph document.graph) _ (has_graph document.graph kept.graph)
       (λ made. goes_on (each (resolved_entry document.graph) document.feed) _
       (each_some (resolved_entry document.graph) document.feed (are_fed document.graph document.feed kept.feeding kept.identified))
       (λ feed. refl))

@@ -12,7 +12,7 @@ use Rattle.exec_graph.specs.declared.draft.GraphDraft.{GraphDraft}
 use Rattle.exec_plan.specs.Graph.{GraphData}
 use Rattle.exec_msg.specs.Options.{each}
 use Rattle.exec_plan.specs.Plan.{PlanData, Feed}
-use Rattle.exec_graph.specs.Resolved.{graph_in}
+use Rattle.exec_graph.specs.Resolved.{resolved_graph}
 use Rattle.exec_plan.specs.Schedule.{schedule_fits, numbers_fit, greatest, greatest_stamp, stamp_of, is_in_order, is_identified, plan_fault_in}
 use Rattle.exec_graph.specs.Refusals.{fault_in}
 use Rattle.exec_graph.specs.declared.fault.GraphFault.{GraphFault}
@@ -99,7 +99,7 @@ ready_scheduled document graph moments entries feed ready read none =
     let scheduled = is_scheduled (schedule_fits moments (length feed) (greatest (map (λ entry. stamp_of entry.fed) feed))) (is_in_order moments (map (λ entry. entry.round) feed)) (list_all (λ entry. is_identified Some entry.fed) feed) none in
     record { fits = sym fed.within ∙ scheduled.fits; ordered = sym fed.clocked ∙ scheduled.ordered }
 
-plan_is : (document : DocumentDraft) (graph : GraphData) (under : Order) (moments : List ℕ) (feed : List Feed) → graph_in document.graph ≡ Some graph → each (resolved_entry document.graph) document.feed ≡ Some feed → under ≡ document.order → document.moments ≡ moments
+plan_is : (document : DocumentDraft) (graph : GraphData) (under : Order) (moments : List ℕ) (feed : List Feed) → resolved_graph document.graph ≡ Some graph → each (resolved_entry document.graph) document.feed ≡ Some feed → under ≡ document.order → document.moments ≡ moments
     → plan_of document ≡ Some (record { graph = graph; order = under; moments = moments; feed = feed })
 plan_is document graph under moments feed made said same ticks = rw (made, said) (ap₂ (λ (o : Order) (ms : List ℕ). Some (record { graph = graph; order = o; moments = ms; feed = feed })) (sym same) ticks)
 

@@ -15,7 +15,7 @@ use Rattle.exec_doc.specs.Refusals.{codes_in_order, is_version}
 use Rattle.exec_doc.specs.Upgrade.{kept_members, document_fields, upgraded_node, upgraded_entry, name_of_order, upgraded}
 use Rattle.exec_doc.specs.declared.refused.Refused.{Refused}
 use Rattle.exec_doc.specs.declared.refused.Refused.TheVariants as refused
-use Rattle.exec_graph.specs.Resolved.{graph_in}
+use Rattle.exec_graph.specs.Resolved.{resolved_graph}
 use Rattle.exec_graph.specs.declared.draft.GraphDraft.{GraphDraft}
 use Rattle.exec_msg.specs.Options.{◌>>=◌, each}
 use Rattle.exec_plan.proofs.Reading.{then_read}
@@ -102,7 +102,7 @@ accepted (Some code) planned plan e = absurd cc
 -- a plan has the order of its draft
 plan_order : (draft : DocumentDraft) (plan : PlanData) → plan_of draft ≡ Some plan → draft.order ≡ plan.order
 plan_order draft plan e =
-    then_read _ (graph_in draft.graph) _ plan e (λ made g e1.
+    then_read _ (resolved_graph draft.graph) _ plan e (λ made g e1.
     then_read _ (each (resolved_entry draft.graph) draft.feed) _ plan e1 (λ feed f e2.
     ap (λ (some : PlanData). some.order) (same_Some (record { graph = made; order = draft.order; moments = draft.moments; feed = feed }) plan e2)))
 

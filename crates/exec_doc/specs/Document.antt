@@ -5,7 +5,7 @@ use Rattle.exec_doc.specs.Draft.{DocumentDraft, FedDraft, EntryDraft}
 use Rattle.exec_graph.specs.declared.draft.GraphDraft.{GraphDraft}
 use Rattle.exec_doc.specs.Forms.{draft_of}
 use Rattle.exec_graph.specs.Numbers.{topic_named, server_named}
-use Rattle.exec_graph.specs.Resolved.{graph_in}
+use Rattle.exec_graph.specs.Resolved.{resolved_graph}
 use Rattle.exec_msg.specs.Options.{◌>>=◌, each}
 use Rattle.exec_doc.specs.Refusals.{document_value, refusal_in}
 use Rattle.exec_doc.specs.declared.refused.Refused.{Refused}
@@ -39,7 +39,7 @@ resolved_entry drafted entry = do
 -- the plan of a draft, where what is fed goes to what is declared and has identifiers
 abbrev pub plan_of : DocumentDraft → Option PlanData
 plan_of document = do
-  made ← graph_in document.graph
+  made ← resolved_graph document.graph
   feed ← each (resolved_entry document.graph) document.feed
   Some (record { graph = made; order = document.order; moments = document.moments; feed = feed })
 

@@ -61,17 +61,17 @@ has_identifier = is_identified (λ id. id)
 -- ---- the refusal
 
 -- the number of a code
-abbrev pub number_of : Refused → ℕ
-number_of refused.NotJson = 1
-number_of refused.Shape = 2
-number_of refused.Version = 3
-number_of refused.Name = 4
-number_of refused.Limit = 5
-number_of refused.Script = 6
-number_of refused.GroupVariable = 7
-number_of refused.Clock = 8
-number_of refused.Id = 9
-number_of refused.Memory = 10
+abbrev pub refused_number : Refused → ℕ
+refused_number refused.NotJson = 1
+refused_number refused.Shape = 2
+refused_number refused.Version = 3
+refused_number refused.Name = 4
+refused_number refused.Limit = 5
+refused_number refused.Script = 6
+refused_number refused.GroupVariable = 7
+refused_number refused.Clock = 8
+refused_number refused.Id = 9
+refused_number refused.Memory = 10
 
 -- whether a draft has what a code refuses, each code being read on drafts that no lesser one refuses
 abbrev pub has_fault_of : Refused → DocumentDraft → Bool
@@ -84,12 +84,12 @@ has_fault_of refused.Clock document = not (is_clocked document)
 has_fault_of refused.Id document = not (list_all (λ entry. has_identifier entry.fed) document.feed)
 has_fault_of _ document = false
 
--- whether a code holds of the value that was read: it isn't there, or hasn't the forms of a document, or its draft has
+-- whether a code may refuse the value that was read: it isn't there, or hasn't the forms of a document, or its draft has
 -- what the code refuses
-abbrev pub holds : Refused → Option Data → Bool
-holds refused.NotJson value = is_none value
-holds refused.Shape value = is_none (value >>= draft_of)
-holds code value = option_map_or (has_fault_of code) (value >>= draft_of) false
+abbrev pub may_refuse : Refused → Option Data → Bool
+may_refuse refused.NotJson value = is_none value
+may_refuse refused.Shape value = is_none (value >>= draft_of)
+may_refuse code value = option_map_or (has_fault_of code) (value >>= draft_of) false
 
 -- the codes by which documents are refused
 abbrev pub codes_in_order : List Refused
@@ -99,7 +99,7 @@ codes_in_order =
 
 -- the refusal of a value that was read: the first code that holds
 abbrev pub refusal_in : Option Data → Option Refused
-refusal_in value = find (λ code. holds code value) codes_in_order
+refusal_in value = find (λ code. may_refuse code value) codes_in_order
 
 -- the refusal of bytes
 abbrev pub refusal_of : List ℕ → Option Refused

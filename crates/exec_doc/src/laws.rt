@@ -3,17 +3,17 @@ ghost use Rattle.std.specs.Prelude.{◌≡◌, ℕ, ◌<◌, List, Some, None, i
 ghost use Rattle.serde_json.specs.Data.{Data};
 ghost use Rattle.exec_doc.specs.Document.{document_of, plan_in};
 ghost use Rattle.exec_doc.specs.Upgrade.{upgraded};
-ghost use Rattle.exec_doc.specs.Refusals.{document_value, number_of, holds, refusal_of};
+ghost use Rattle.exec_doc.specs.Refusals.{document_value, refused_number, may_refuse, refusal_of};
 ghost use Rattle.exec_doc.specs.declared.refused.Refused.{Refused};
 ghost use Rattle.exec_plan.specs.Lawful.{IsLawfulPlan};
 ghost use Rattle.exec_plan.specs.Plan.{PlanData};
 
 /// Bytes are refused by a code that holds of what was read, and no lesser one does. If they aren't refused, none holds.
 pub fn the_least_code_counts()
-    ensures holds { (bytes : List ℕ) (code : Refused) → refusal_of bytes ≡ Some code → holds code (document_value bytes) ≡ true }
+    ensures holds { (bytes : List ℕ) (code : Refused) → refusal_of bytes ≡ Some code → may_refuse code (document_value bytes) ≡ true }
     ensures least { (bytes : List ℕ) (code : Refused) → refusal_of bytes ≡ Some code →
-        (lesser : Refused) → number_of lesser < number_of code → holds lesser (document_value bytes) ≡ false }
-    ensures none { (bytes : List ℕ) (code : Refused) → refusal_of bytes ≡ None → holds code (document_value bytes) ≡ false }
+        (lesser : Refused) → refused_number lesser < refused_number code → may_refuse lesser (document_value bytes) ≡ false }
+    ensures none { (bytes : List ℕ) (code : Refused) → refusal_of bytes ≡ None → may_refuse code (document_value bytes) ≡ false }
 {}
 
 /// Bytes are refused or say a plan, and never both.

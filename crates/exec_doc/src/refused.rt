@@ -1,5 +1,5 @@
 ghost use Rattle.std.specs.Prelude.{◌≡◌};
-ghost use Rattle.exec_doc.specs.Refusals.{number_of};
+ghost use Rattle.exec_doc.specs.Refusals.{refused_number};
 ghost use Rattle.exec_doc.specs.declared.refused.Refused.TheVariants as variants;
 
 use exec_graph::{GraphFault, PlanFault};
@@ -45,7 +45,7 @@ pub enum Refused {
 impl Refused {
     /// The number of the code, from 1 to 10.
     pub fn number(self) -> u8
-        ensures { result ≡ number_of self }
+        ensures { result ≡ refused_number self }
     {
         self as u8
     }

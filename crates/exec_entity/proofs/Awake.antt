@@ -14,7 +14,7 @@ use Rattle.exec_script.specs.Script.{Variables}
 use Rattle.exec_rules.specs.World.{GoalWork, HeldGoal, ServerEntry, is_for}
 use Rattle.exec_rules.specs.Run.{work_after}
 use Rattle.exec_entity.proofs.Serving.{goal_ids, held_ids}
-use Rattle.exec_entity.specs.declared.server.Held.{Held}
+use Rattle.exec_entity.specs.declared.server.KeptWithGoal.{KeptWithGoal}
 use Rattle.exec_entity.specs.inner.Server.{held_goals_of}
 use Rattle.exec_rules.specs.Callback.{poll_listed}
 use Rattle.exec_entity.specs.inner.Polling.{goal_polled, server_polled}
@@ -26,7 +26,7 @@ info-at (goal ∷ goals) zero info d at = cc
 info-at (goal ∷ goals) (suc i) info d at = info-at goals i info d at
 
 -- what is kept at a goal's place is kept for it
-pub named-at : (goals : List GoalRecord) (entries : List (ℕ × Held)) (i : ℕ) (info : GoalInfo) (entry : ℕ × Held) → goal_ids goals ≡ held_ids (held_goals_of entries) →
+pub named-at : (goals : List GoalRecord) (entries : List (ℕ × KeptWithGoal)) (i : ℕ) (info : GoalInfo) (entry : ℕ × KeptWithGoal) → goal_ids goals ≡ held_ids (held_goals_of entries) →
     slice_get (map info_of goals) i ≡ Some info → Some entry ≡ slice_get entries i → entry.0 ≡ info.id
 named-at [] entries i info entry same at is = absurd cc
 named-at (goal ∷ goals) [] i info entry same at is = absurd cc
@@ -34,7 +34,7 @@ named-at (goal ∷ goals) (one ∷ entries) zero info entry same at is =
     let first : entry ≡ one = cc in
     let told : info_of goal ≡ info = cc in
     let named : goal.id ≡ one.0 = cc in
-    ap (λ (it : ℕ × Held). it.0) first ∙ sym named ∙ ap (λ (it : GoalInfo). it.id) told
+    ap (λ (it : ℕ × KeptWithGoal). it.0) first ∙ sym named ∙ ap (λ (it : GoalInfo). it.id) told
 named-at (goal ∷ goals) (one ∷ entries) (suc i) info entry same at is = named-at goals entries i info entry (cc) at is
 
 -- where a server works on no goal none is awake

@@ -19,7 +19,7 @@ use Rattle.exec_msg.specs.declared.line.Line.TheVariants as line
 use Rattle.exec_msg.specs.Lists.{change_first}
 use Rattle.exec_entity.proofs.FoundEntries.{found_number}
 use Rattle.exec_rules.specs.Close.{ask_where, respond, moved_lines, answer_cancel, cancel, tell, tell_end, with_ended, end_in, end}
-use Rattle.exec_rules.specs.World.{WorldState, ServerEntry, ActionClientEntry, is_server_at, add_line, add_lines, push, push_any, goals_of, action_client_at, goals_in}
+use Rattle.exec_rules.specs.World.{WorldState, ServerEntry, ActionClientEntry, is_server_at, add_line, add_lines, push, push_any, goals_at, action_client_at, goals_in}
 use Rattle.exec_rules.specs.declared.item.Item.TheVariants as item
 use Rattle.exec_entity.specs.inner.Numbered.{FindsByNumber}
 use Rattle.exec_msg.specs.Places.{first_place}
@@ -189,14 +189,14 @@ module _ (id : GoalId) (value : ℤ) (reached : State) where
       λ i. fold (λ before client. tell server (sym named i) (status_of (sym state i)) (sym result i) client before) (add_line (line.State server (sym named i) (status_of (sym state i))) world) goal.askers
 
 -- the world in which an event ended a goal, its askers told
-ended_world : (server : EntityNo) (id : GoalId) (event : Event) (value : ℤ) (moment : Moment) (reached : State) (world : WorldState) → Some reached ≡ end_state id event (goals_of server world) →
+ended_world : (server : EntityNo) (id : GoalId) (event : Event) (value : ℤ) (moment : Moment) (reached : State) (world : WorldState) → Some reached ≡ end_state id event (goals_at server world) →
     fold (λ before client. tell server id (status_of reached) value client before) (add_line (line.State server id (status_of reached)) (with_ended server id event value moment world))
-    (askers_in id (goals_of server (with_ended server id event value moment world))) ≡ end server id event value moment world
+    (askers_in id (goals_at server (with_ended server id event value moment world))) ≡ end server id event value moment world
 ended_world server id event value moment reached world leads =
     let there = goals_changed server (change_first (has_id id) (after_end event value moment)) refl world.servers in
-    let ended : Ends id value reached (find (has_id id) (goals_of server (with_ended server id event value moment world))) =
-    subst (λ (goals : List GoalRecord). Ends id value reached (find (has_id id) goals)) (sym there) (ended_in id value reached event moment (goals_of server world) leads) in
-    told_ends id value reached server (with_ended server id event value moment world) (find (has_id id) (goals_of server (with_ended server id event value moment world))) ended
+    let ended : Ends id value reached (find (has_id id) (goals_at server (with_ended server id event value moment world))) =
+    subst (λ (goals : List GoalRecord). Ends id value reached (find (has_id id) goals)) (sym there) (ended_in id value reached event moment (goals_at server world) leads) in
+    told_ends id value reached server (with_ended server id event value moment world) (find (has_id id) (goals_at server (with_ended server id event value moment world))) ended
     ∙ ap (λ found. end_in found server id event value moment world) leads
 
 -- the same where it is known which world and which status these are

@@ -14,9 +14,9 @@ use Rattle.exec_entity.proofs.HeldEntries.{find-lookup}
 use Rattle.exec_entity.proofs.Serving.{held_ids}
 use Rattle.exec_entity.specs.inner.Keeping.{AreDistinct, AreKept, IsFor}
 use Rattle.exec_entity.specs.inner.Server.{held_goal_of, held_goals_of}
-use Rattle.exec_entity.specs.declared.server.Held.{Held}
+use Rattle.exec_entity.specs.declared.server.KeptWithGoal.{KeptWithGoal}
 
-among-at : (entries : List (ℕ × Held)) (place id : ℕ) → IsFor (held_goals_of entries) place id → is_among (held_ids (held_goals_of entries)) id ≡ true
+among-at : (entries : List (ℕ × KeptWithGoal)) (place id : ℕ) → IsFor (held_goals_of entries) place id → is_among (held_ids (held_goals_of entries)) id ≡ true
 among-at [] place id named = absurd cc
 among-at (entry ∷ entries) zero id named =
     let is : entry.0 ≡ id = cc in
@@ -28,7 +28,7 @@ among-at (entry ∷ entries) (suc place) id named = by (entry.0 == id) (among-at
     by false is = is
 
 -- what stands before a place isn't for its goal
-differs : (entry : ℕ × Held) (entries : List (ℕ × Held)) (place id : ℕ) → AreDistinct (held_ids (held_goals_of (entry ∷ entries))) → IsFor (held_goals_of entries) place id → (entry.0 == id) ≡ false
+differs : (entry : ℕ × KeptWithGoal) (entries : List (ℕ × KeptWithGoal)) (place id : ℕ) → AreDistinct (held_ids (held_goals_of (entry ∷ entries))) → IsFor (held_goals_of entries) place id → (entry.0 == id) ≡ false
 differs entry entries place id distinct named = by (entry.0 == id) refl
   where
     by : (b : Bool) → (entry.0 == id) ≡ b → b ≡ false
@@ -39,13 +39,13 @@ differs entry entries place id distinct named = by (entry.0 == id) refl
     by false is = refl
 
 -- what is kept for a goal, where it stands at a place of entries of which no two are for one goal
-pub record KeptAt (id : ℕ) (held : Held) (entries : List (ℕ × Held)) (place : ℕ) : Type 0 where
+pub record KeptAt (id : ℕ) (held : KeptWithGoal) (entries : List (ℕ × KeptWithGoal)) (place : ℕ) : Type 0 where
   pub distinct : AreDistinct (held_ids (held_goals_of entries))
   pub named : IsFor (held_goals_of entries) place id
   pub kept : Some held ≡ slice_get (values_of entries) place
 
 -- the entries of a server's map are such
-pub kept-at : (id : ℕ) (held : Held) (goals : List GoalRecord) (entries : List (ℕ × Held)) (helds : List HeldGoal) (place : ℕ) → held_goals_of entries ≡ helds → AreKept goals (held_goals_of entries)
+pub kept-at : (id : ℕ) (held : KeptWithGoal) (goals : List GoalRecord) (entries : List (ℕ × KeptWithGoal)) (helds : List HeldGoal) (place : ℕ) → held_goals_of entries ≡ helds → AreKept goals (held_goals_of entries)
     → IsFor helds place id → Some held ≡ slice_get (values_of entries) place → KeptAt id held entries place
 kept-at id held goals entries helds place are all named kept = record {
   distinct = subst AreDistinct all.same all.distinct;
@@ -54,7 +54,7 @@ kept-at id held goals entries helds place are all named kept = record {
 }
 
 -- it is found by the goal's identifier
-pub found-at : (id : ℕ) (held : Held) (entries : List (ℕ × Held)) (place : ℕ) → KeptAt id held entries place → find (is_for id) (held_goals_of entries) ≡ Some (held_goal_of (id, held))
+pub found-at : (id : ℕ) (held : KeptWithGoal) (entries : List (ℕ × KeptWithGoal)) (place : ℕ) → KeptAt id held entries place → find (is_for id) (held_goals_of entries) ≡ Some (held_goal_of (id, held))
 found-at id held [] place at = let kept = at.kept in absurd cc
 found-at id held (entry ∷ entries) zero at =
     let named = at.named in
@@ -67,14 +67,14 @@ found-at id held (entry ∷ entries) (suc place) at =
     ∙ found-at id held entries place (record { distinct = at.distinct.1; named = at.named; kept = at.kept })
 
 -- and a change of it is a change of what is kept for the goal
-pub changed-at : {id : ℕ} {held : Held} {entries : List (ℕ × Held)} {place : ℕ} → KeptAt id held entries place → (after : Held) (change : HeldGoal → HeldGoal) → held_goal_of (id, after) ≡ change (held_goal_of (id, held))
+pub changed-at : {id : ℕ} {held : KeptWithGoal} {entries : List (ℕ × KeptWithGoal)} {place : ℕ} → KeptAt id held entries place → (after : KeptWithGoal) (change : HeldGoal → HeldGoal) → held_goal_of (id, after) ≡ change (held_goal_of (id, held))
     → held_goals_of (set_value_at entries place after) ≡ change_first (is_for id) change (held_goals_of entries)
 changed-at {id} {held} {entries} {place} at after change changes = walk entries place at
   where
-    chosen : ℕ × Held → List (ℕ × Held) → Bool → List HeldGoal
+    chosen : ℕ × KeptWithGoal → List (ℕ × KeptWithGoal) → Bool → List HeldGoal
     chosen entry entries b = if b then change (held_goal_of entry) ∷ held_goals_of entries else held_goal_of entry ∷ change_first (is_for id) change (held_goals_of entries)
 
-    walk : (entries : List (ℕ × Held)) (place : ℕ) → KeptAt id held entries place → held_goals_of (set_value_at entries place after) ≡ change_first (is_for id) change (held_goals_of entries)
+    walk : (entries : List (ℕ × KeptWithGoal)) (place : ℕ) → KeptAt id held entries place → held_goals_of (set_value_at entries place after) ≡ change_first (is_for id) change (held_goals_of entries)
     walk [] place at = let kept = at.kept in absurd cc
     walk (entry ∷ entries) zero at =
         let named = at.named in
@@ -87,13 +87,13 @@ changed-at {id} {held} {entries} {place} at after change changes = walk entries 
         ap (λ (goals : List HeldGoal). held_goal_of entry ∷ goals) (walk entries place (record { distinct = at.distinct.1; named = at.named; kept = at.kept }))
         ∙ ap (chosen entry entries) (sym (differs entry entries place id at.distinct at.named))
 
-named_here : (entries : List (ℕ × Held)) (place d : ℕ) → place < length (keys_of entries) → IsFor (held_goals_of entries) place (get_or (keys_of entries) place d)
+named_here : (entries : List (ℕ × KeptWithGoal)) (place d : ℕ) → place < length (keys_of entries) → IsFor (held_goals_of entries) place (get_or (keys_of entries) place d)
 named_here [] place d within = absurd (omega (arith, within))
 named_here (entry ∷ entries) zero d within = refl
 named_here (entry ∷ entries) (suc place) d within = named_here entries place d (omega (arith, within))
 
 -- where the map finds an entry, what stands there is for its key
-pub named-at-found : (test : ℕ → Bool) (id : ℕ) → ((key : ℕ) → test key ≡ (key == id)) → (entries : List (ℕ × Held)) (found : Option ℕ) → found ≡ position test (keys_of entries) → IfSome found (λ place. IsFor (held_goals_of entries) place id)
+pub named-at-found : (test : ℕ → Bool) (id : ℕ) → ((key : ℕ) → test key ≡ (key == id)) → (entries : List (ℕ × KeptWithGoal)) (found : Option ℕ) → found ≡ position test (keys_of entries) → IfSome found (λ place. IsFor (held_goals_of entries) place id)
 named-at-found test id same entries None is = tt
 named-at-found test id same entries (Some place) is =
     let first = position-Some test (keys_of entries) place 0 (sym is) in
@@ -101,10 +101,10 @@ named-at-found test id same entries (Some place) is =
     subst (IsFor (held_goals_of entries) place) key (named_here entries place 0 first.0)
 
 -- where the map finds no entry, nothing is kept for the goal
-pub none-found : (test : ℕ → Bool) (id : ℕ) → ((key : ℕ) → test key ≡ (key == id)) → (entries : List (ℕ × Held)) (found : Option ℕ) → is_some found ≡ is_some (lookup test entries) → IfNone found (find (is_for id) (held_goals_of entries) ≡ None)
+pub none-found : (test : ℕ → Bool) (id : ℕ) → ((key : ℕ) → test key ≡ (key == id)) → (entries : List (ℕ × KeptWithGoal)) (found : Option ℕ) → is_some found ≡ is_some (lookup test entries) → IfNone found (find (is_for id) (held_goals_of entries) ≡ None)
 none-found test id same entries (Some place) is = tt
 none-found test id same entries None is = find-lookup test id same entries ∙ by (lookup test entries) is
   where
-    by : (rest : Option Held) → false ≡ is_some rest → option_map (λ held. held_goal_of (id, held)) rest ≡ None
+    by : (rest : Option KeptWithGoal) → false ≡ is_some rest → option_map (λ held. held_goal_of (id, held)) rest ≡ None
     by None none = refl
     by (Some held) none = absurd cc

@@ -14,7 +14,7 @@ use Rattle.exec_task.proofs.Moments.{before_never, awake-from}
 use Rattle.exec_rules.specs.Ready.{is_task_awake, turn_at}
 use Rattle.exec_rules.specs.World.{GoalWork, HeldGoal, is_for}
 use Rattle.exec_entity.proofs.Serving.{goal_ids, held_ids}
-use Rattle.exec_entity.specs.declared.server.Held.{Held}
+use Rattle.exec_entity.specs.declared.server.KeptWithGoal.{KeptWithGoal}
 use Rattle.exec_entity.specs.inner.Keeping.{AreDistinct, AreKept}
 use Rattle.exec_entity.specs.inner.Server.{held_goal_of, held_goals_of}
 use Rattle.exec_entity.specs.inner.Waking.{wake_in, wakes_of}
@@ -79,13 +79,13 @@ told-by-wake moment goals helds i d info before kept at =
 -- ---- entries change
 
 -- a value that is set at a place sets what stands there
-pub wake-set : (entries : List (ℕ × Held)) (place : ℕ) (after : Held) → wakes_of (held_goals_of (set_value_at entries place after)) ≡ slice_set (wakes_of (held_goals_of entries)) place (wake_in (held_goal_of (0, after)).work)
+pub wake-set : (entries : List (ℕ × KeptWithGoal)) (place : ℕ) (after : KeptWithGoal) → wakes_of (held_goals_of (set_value_at entries place after)) ≡ slice_set (wakes_of (held_goals_of entries)) place (wake_in (held_goal_of (0, after)).work)
 wake-set [] place after = refl
 wake-set (entry ∷ entries) zero after = refl
 wake-set (entry ∷ entries) (suc place) after = ap (λ (wakes : List ℕ). wake_in (held_goal_of entry).work ∷ wakes) (wake-set entries place after)
 
 -- where an entry is removed, what stands at its place is
-wake-removed : (test : ℕ → Bool) (entries : List (ℕ × Held)) (place : ℕ) → place < length (keys_of entries) → test (get_or (keys_of entries) place 0) ≡ true → ((k : ℕ) → k < place → test (get_or (keys_of entries) k 0) ≡ false) →
+wake-removed : (test : ℕ → Bool) (entries : List (ℕ × KeptWithGoal)) (place : ℕ) → place < length (keys_of entries) → test (get_or (keys_of entries) place 0) ≡ true → ((k : ℕ) → k < place → test (get_or (keys_of entries) k 0) ≡ false) →
     wakes_of (held_goals_of (remove_entry test entries)) ≡ remove (wakes_of (held_goals_of entries)) place
 wake-removed test [] place within passes others = absurd (omega (arith, within))
 wake-removed test (entry ∷ entries) zero within passes others =
@@ -95,30 +95,30 @@ wake-removed test (entry ∷ entries) (suc place) within passes others =
     ∙ ap (λ (wakes : List ℕ). wake_in (held_goal_of entry).work ∷ wakes) (wake-removed test entries place (omega (arith, within)) passes (λ k before. others (suc k) (omega (arith, before))))
 
 -- the place at which the map found it is one of the list's
-pub place-within : (test : ℕ → Bool) (entries : List (ℕ × Held)) (place : ℕ) → Some place ≡ position test (keys_of entries) → place < length (wakes_of (held_goals_of entries))
+pub place-within : (test : ℕ → Bool) (entries : List (ℕ × KeptWithGoal)) (place : ℕ) → Some place ≡ position test (keys_of entries) → place < length (wakes_of (held_goals_of entries))
 place-within test entries place is = let within = (position-Some test (keys_of entries) place 0 (sym is)).0 in by entries within
   where
-    by : (entries : List (ℕ × Held)) → place < length (keys_of entries) → place < length (wakes_of (held_goals_of entries))
+    by : (entries : List (ℕ × KeptWithGoal)) → place < length (keys_of entries) → place < length (wakes_of (held_goals_of entries))
     by entries within = subst (λ (n : ℕ). place < n) (as-long entries) within
       where
-        as-long : (entries : List (ℕ × Held)) → length (keys_of entries) ≡ length (wakes_of (held_goals_of entries))
+        as-long : (entries : List (ℕ × KeptWithGoal)) → length (keys_of entries) ≡ length (wakes_of (held_goals_of entries))
         as-long [] = refl
         as-long (entry ∷ entries) = ap suc (as-long entries)
 
-pub wake-removed-at : (test : ℕ → Bool) (entries : List (ℕ × Held)) (place : ℕ) → Some place ≡ position test (keys_of entries) → wakes_of (held_goals_of (remove_entry test entries)) ≡ remove (wakes_of (held_goals_of entries)) place
+pub wake-removed-at : (test : ℕ → Bool) (entries : List (ℕ × KeptWithGoal)) (place : ℕ) → Some place ≡ position test (keys_of entries) → wakes_of (held_goals_of (remove_entry test entries)) ≡ remove (wakes_of (held_goals_of entries)) place
 wake-removed-at test entries place is =
     let first = position-Some test (keys_of entries) place 0 (sym is) in
     wake-removed test entries place first.0 first.1 first.2
 
 -- from when on the task of an entry is awake
-pub wake-at : (entries : List (ℕ × Held)) (place wake : ℕ) (entry : ℕ × Held) → slice_get entries place ≡ Some entry → wake ≡ wake_in (held_goal_of entry).work → slice_get (wakes_of (held_goals_of entries)) place ≡ Some wake
+pub wake-at : (entries : List (ℕ × KeptWithGoal)) (place wake : ℕ) (entry : ℕ × KeptWithGoal) → slice_get entries place ≡ Some entry → wake ≡ wake_in (held_goal_of entry).work → slice_get (wakes_of (held_goals_of entries)) place ≡ Some wake
 wake-at [] place wake entry there is = absurd cc
 wake-at (first ∷ entries) zero wake entry there is =
     let same : first ≡ entry = cc in
-    ap Some (ap (λ (entry : ℕ × Held). wake_in (held_goal_of entry).work) same ∙ sym is)
+    ap Some (ap (λ (entry : ℕ × KeptWithGoal). wake_in (held_goal_of entry).work) same ∙ sym is)
 wake-at (first ∷ entries) (suc place) wake entry there is = wake-at entries place wake entry there is
 
-pub length-wakes : (entries : List (ℕ × Held)) → length (wakes_of (held_goals_of entries)) ≡ length entries
+pub length-wakes : (entries : List (ℕ × KeptWithGoal)) → length (wakes_of (held_goals_of entries)) ≡ length entries
 length-wakes entries = length-map (held_goals_of entries) (λ (one : HeldGoal). wake_in one.work) ∙ length-map entries held_goal_of
 
 -- what is kept before its first poll, behind all others, is awake from the start

@@ -12,7 +12,7 @@ mod found;
 mod polling;
 
 use exec_goal::{Asked, CancelAnswer, CancelRequest, GoalInfo, Goals, State};
-use exec_msg::{Acceptance, CancelDecision, EntityNo, Event, GoalId, Items, Memory, Moment};
+use exec_msg::{Acceptance, CancelDecision, Elements, EntityNo, Event, GoalId, Memory, Moment};
 use exec_rules::Handler;
 use exec_task::GoalTask;
 pub use found::Servers;
@@ -44,7 +44,7 @@ impl Model for GoalRequest {
 // What a server keeps with a goal's record: its task, the action client that sent the goal, if one did, and the number of the
 // goal's last arrival. The task is `None` while it is out.
 #[derive(Drop)]
-pub(crate) struct Held {
+pub(crate) struct KeptWithGoal {
     pub(crate) task: Option<GoalTask>,
     pub(crate) client: Option<EntityNo>,
     pub(crate) arrival: u64,
@@ -57,7 +57,7 @@ pub struct Server {
     handler: Handler,
     timeout: Option<u64>,
     goals: Goals,
-    held: IndexMap<GoalId, Held>,
+    held: IndexMap<GoalId, KeptWithGoal>,
     // For each entry of `held`, at its place, the moment from which on its task is awake if its goal isn't being canceled, in
     // ticks. Each round reads it for every goal. An entry is so large that each would cost a fetch from memory.
     wakes: Vec<u64>,
@@ -138,7 +138,7 @@ impl Server {
     }
 
     // The action client that sent a goal, if one did.
-    pub(crate) fn client_of(&self, id: GoalId) -> Option<EntityNo>
+    pub(crate) fn sender_at(&self, id: GoalId) -> Option<EntityNo>
         ensures { result ≡ option_map_or (λ held. held.client) (find (is_for id) self.now.held) None }
     {
         self.held.get(&id)?.client
@@ -175,7 +175,7 @@ impl Server {
         ensures unchanged { OnErr result (self.new ≡ self.old) }
     {
         let task = self.new_task(request.value)?;
-        let held = Held {
+        let held = KeptWithGoal {
             client: request.client,
             task: Some(task),
             arrival: number,
@@ -205,7 +205,7 @@ impl Server {
     ///
     /// # Errors
     /// [`Memory`] if a growth was refused.
-    pub fn candidates(&self, request: &CancelRequest) -> Result<Items<GoalInfo>, Memory>
+    pub fn candidates(&self, request: &CancelRequest) -> Result<Elements<GoalInfo>, Memory>
         ensures { IfOk result (λ infos. infos ≡ map info_of (candidates request.now self.now.goals)) }
     {
         self.goals.candidates(request)
@@ -270,7 +270,7 @@ impl Server {
 }
 
 // Adds work after what is kept, under a new identifier. There is room for it.
-fn insert_new(held: &mut IndexMap<GoalId, Held>, id: GoalId, new: Held)
+fn insert_new(held: &mut IndexMap<GoalId, KeptWithGoal>, id: GoalId, new: KeptWithGoal)
     requires room { 0 < spare held.old }
     requires new { list_any (is_for id) (held_goals_of held.old.entries) ≡ false }
     ensures { held_goals_of held.new.entries ≡ held_goals_of held.old.entries ++ held_goal_of (id, new) ∷ [] }
@@ -279,7 +279,7 @@ fn insert_new(held: &mut IndexMap<GoalId, Held>, id: GoalId, new: Held)
 }
 
 // Drops what is kept under an identifier, if anything is, with the moment from which on it is awake.
-fn remove(held: &mut IndexMap<GoalId, Held>, wakes: &mut Vec<u64>, id: GoalId)
+fn remove(held: &mut IndexMap<GoalId, KeptWithGoal>, wakes: &mut Vec<u64>, id: GoalId)
     requires { wakes.old.items ≡ wakes_of (held_goals_of held.old.entries) }
     ensures held { held_goals_of held.new.entries ≡ drop_first (is_for id) (held_goals_of held.old.entries) }
     ensures wakes { wakes.new.items ≡ wakes_of (held_goals_of held.new.entries) }

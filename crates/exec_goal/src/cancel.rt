@@ -6,7 +6,7 @@ ghost use Rattle.exec_goal.specs.Info.{info_of};
 ghost use Rattle.exec_goal.specs.Table.{GoalRecord};
 
 use crate::info::GoalInfo;
-use exec_msg::{CancelDecision, GoalId, Items, Memory, ReturnCode};
+use exec_msg::{CancelDecision, Elements, GoalId, Memory, ReturnCode};
 use indexmap::IndexSet;
 use std::alloc::Global;
 use std::marker::Model;
@@ -60,7 +60,7 @@ pub struct CancelAnswer {
     /// The return code.
     pub code: ReturnCode,
     /// The goals that moved, in the order of their acceptance.
-    pub moved: Items<GoalId>,
+    pub moved: Elements<GoalId>,
 }
 
 // The identifiers that a cancel handler accepted. One is found in constant time.

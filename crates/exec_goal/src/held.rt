@@ -1,7 +1,7 @@
 use crate::info::GoalInfo;
 use crate::state::State;
 use crate::tally::has_passed;
-use exec_msg::{Acceptance, EntityNo, GoalId, Items, Moment};
+use exec_msg::{Acceptance, Elements, EntityNo, GoalId, Moment};
 use std::alloc::Global;
 
 // A goal that a server holds, without its identifier. The table finds it by that.
@@ -15,7 +15,7 @@ pub(crate) struct GoalEntry {
     // The stamp until the goal ends.
     pub(crate) ended: Moment,
     // The action clients that asked for its result, in the order of asking.
-    pub(crate) askers: Items<EntityNo>,
+    pub(crate) askers: Elements<EntityNo>,
 }
 
 impl GoalEntry {
@@ -40,7 +40,7 @@ impl GoalEntry {
             state,
             result: 0,
             ended: moment,
-            askers: Items::new(alloc),
+            askers: Elements::new(alloc),
         }
     }
 

@@ -13,9 +13,9 @@ use Rattle.exec_plan.specs.inner.Entries.{entities_in as entries_of}
 use Rattle.exec_graph.specs.Faults.{drafted_names}
 use Rattle.exec_plan.specs.Graph.{EntityData}
 use Rattle.exec_plan.specs.Names.{are_distinct}
-use Rattle.exec_graph.specs.Numbers.{Placed, entities_of}
+use Rattle.exec_graph.specs.Numbers.{NodeEntity, entities_of}
 use Rattle.exec_msg.specs.Options.{each}
-use Rattle.exec_graph.specs.Resolved.{entity_in, topic_in}
+use Rattle.exec_graph.specs.Resolved.{resolved_entity, resolved_topic}
 use Rattle.exec_plan.specs.declared.entity.Declared.{Declared}
 use Rattle.exec_graph.proofs.NameLists.{from_place}
 use Rattle.exec_plan.proofs.SameTexts.{bytes_sym, is_text}
@@ -24,7 +24,7 @@ use Rattle.exec_plan.proofs.SameTexts.{bytes_sym, is_text}
 abbrev pub title : EntityData → List ℕ
 title entity = entity.name
 
-abbrev pub name_of : Placed → List ℕ
+abbrev pub name_of : NodeEntity → List ℕ
 name_of placed = placed.entity.name
 
 -- what a name is declared as
@@ -81,7 +81,7 @@ front_distinct (text ∷ front) rest distinct =
 
 -- ---- topics
 
-topic_names : (texts : List (List ℕ)) → map title (map topic_in texts) ≡ texts
+topic_names : (texts : List (List ℕ)) → map title (map resolved_topic texts) ≡ texts
 topic_names [] = refl
 topic_names (text ∷ texts) = ap (λ (ts : List (List ℕ)). text ∷ ts) (topic_names texts)
 
@@ -94,30 +94,30 @@ one_more all front after rest next distinct are appends =
 
 -- the topics so far gain the next
 pub next_topic : (topics : List (List ℕ)) (i : ℕ) (topic : List ℕ) (front after : List EntityData) (text : List ℕ) → i < length topics → topic ≡ get_or topics i topic → text ≡ topic →
-    (list_any (is_text text) (map title front) ≡ false → after ≡ front ++ topic_in text ∷ []) →
-    are_distinct topics ≡ true → front ++ map topic_in (drop i topics) ≡ map topic_in topics →
-    after ++ map topic_in (drop (i + 1) topics) ≡ map topic_in topics
+    (list_any (is_text text) (map title front) ≡ false → after ≡ front ++ resolved_topic text ∷ []) →
+    are_distinct topics ≡ true → front ++ map resolved_topic (drop i topics) ≡ map resolved_topic topics →
+    after ++ map resolved_topic (drop (i + 1) topics) ≡ map resolved_topic topics
 next_topic topics i topic front after text within there same appends distinct holds =
     let here : drop i topics ≡ topic ∷ drop (i + 1) topics = from_place topics i topic within there in
-    one_more (map topic_in topics) front after (map topic_in (drop (i + 1) topics)) (topic_in text)
+    one_more (map resolved_topic topics) front after (map resolved_topic (drop (i + 1) topics)) (resolved_topic text)
     (ap are_distinct (topic_names topics) ∙ distinct)
-    (ap (λ (name : List ℕ). front ++ topic_in name ∷ map topic_in (drop (i + 1) topics)) same
-    ∙ ap (λ (ts : List (List ℕ)). front ++ map topic_in ts) (sym here) ∙ holds)
+    (ap (λ (name : List ℕ). front ++ resolved_topic name ∷ map resolved_topic (drop (i + 1) topics)) same
+    ∙ ap (λ (ts : List (List ℕ)). front ++ map resolved_topic ts) (sym here) ∙ holds)
     appends
 
 -- ---- entities
 
 -- what stands so far, and then what is left, is all
-abbrev pub Stands : GraphDraft → List Placed → List EntityData → Type 0
+abbrev pub Stands : GraphDraft → List NodeEntity → List EntityData → Type 0
 Stands draft left front =
     (map title front ++ map name_of left ≡ drafted_names draft)
-    × (option_map (λ others. front ++ others) (each (entity_in draft) left) ≡ option_map (λ others. map topic_in draft.topics ++ others) (each (entity_in draft) (entities_of draft)))
+    × (option_map (λ others. front ++ others) (each (resolved_entity draft) left) ≡ option_map (λ others. map resolved_topic draft.topics ++ others) (each (resolved_entity draft) (entities_of draft)))
 
 -- the topics stand first
-pub starts : (draft : GraphDraft) (left : List Placed) (front : List EntityData) → left ≡ entities_of draft → front ≡ map topic_in draft.topics → Stands draft left front
+pub starts : (draft : GraphDraft) (left : List NodeEntity) (front : List EntityData) → left ≡ entities_of draft → front ≡ map resolved_topic draft.topics → Stands draft left front
 starts draft left front those first = (
-  ap (λ (es : List EntityData). map title es ++ map name_of left) first ∙ ap (λ (ts : List (List ℕ)). ts ++ map name_of left) (topic_names draft.topics) ∙ ap (λ (ps : List Placed). draft.topics ++ map name_of ps) those,
-  (λ i. option_map (λ others. first i ++ others) (each (entity_in draft) (those i))),
+  ap (λ (es : List EntityData). map title es ++ map name_of left) first ∙ ap (λ (ts : List (List ℕ)). ts ++ map name_of left) (topic_names draft.topics) ∙ ap (λ (ps : List NodeEntity). draft.topics ++ map name_of ps) those,
+  (λ i. option_map (λ others. first i ++ others) (each (resolved_entity draft) (those i))),
 )
 
 read_one : (front : List EntityData) (next : EntityData) (rest : Option (List EntityData)) → option_map (λ others. (front ++ next ∷ []) ++ others) rest ≡ option_map (λ others. front ++ others) (option_and_then (λ ys. Some (next ∷ ys)) rest)
@@ -125,38 +125,38 @@ read_one front next None = refl
 read_one front next (Some others) = ap (λ (es : List EntityData). Some es) (append_assoc front (next ∷ []) others)
 
 -- what stands gains the next
-pub next_stands : (draft : GraphDraft) (left rest : List Placed) (placed : Placed) (front after : List EntityData) (text : List ℕ) (is : Declared) → left ≡ placed ∷ rest → text ≡ name_of placed →
-    are_distinct (drafted_names draft) ≡ true → entity_in draft placed ≡ Some (entity (name_of placed) is) →
+pub next_stands : (draft : GraphDraft) (left rest : List NodeEntity) (placed : NodeEntity) (front after : List EntityData) (text : List ℕ) (is : Declared) → left ≡ placed ∷ rest → text ≡ name_of placed →
+    are_distinct (drafted_names draft) ≡ true → resolved_entity draft placed ≡ Some (entity (name_of placed) is) →
     (list_any (is_text text) (map title front) ≡ false → after ≡ front ++ entity text is ∷ []) →
     Stands draft left front → Stands draft rest after
 next_stands draft left rest placed front after text is here same distinct gives appends before =
     let names : map title front ++ text ∷ map name_of rest ≡ drafted_names draft =
-    ap (λ (name : List ℕ). map title front ++ name ∷ map name_of rest) same ∙ ap (λ (ps : List Placed). map title front ++ map name_of ps) (sym here) ∙ before.0 in
+    ap (λ (name : List ℕ). map title front ++ name ∷ map name_of rest) same ∙ ap (λ (ps : List NodeEntity). map title front ++ map name_of ps) (sym here) ∙ before.0 in
     let last : after ≡ front ++ entity text is ∷ [] = appends (not_in_front (map title front) text (map name_of rest) (ap are_distinct names ∙ distinct)) in (
       ap (λ (es : List EntityData). map title es ++ map name_of rest) last
           ∙ ap (λ (ns : List (List ℕ)). ns ++ map name_of rest) (map-append title front (entity text is ∷ []))
           ∙ append_assoc (map title front) (text ∷ []) (map name_of rest)
           ∙ names,
-      ap (λ (es : List EntityData). option_map (λ others. es ++ others) (each (entity_in draft) rest)) last
-          ∙ read_one front (entity text is) (each (entity_in draft) rest)
-          ∙ ap (λ (name : List ℕ). option_map (λ others. front ++ others) (option_and_then (λ ys. Some (entity name is ∷ ys)) (each (entity_in draft) rest))) same
-          ∙ ap (λ (o : Option EntityData). option_map (λ others. front ++ others) (option_and_then (λ y. option_and_then (λ ys. Some (y ∷ ys)) (each (entity_in draft) rest)) o)) (sym gives)
-          ∙ ap (λ (ps : List Placed). option_map (λ others. front ++ others) (each (entity_in draft) ps)) (sym here)
+      ap (λ (es : List EntityData). option_map (λ others. es ++ others) (each (resolved_entity draft) rest)) last
+          ∙ read_one front (entity text is) (each (resolved_entity draft) rest)
+          ∙ ap (λ (name : List ℕ). option_map (λ others. front ++ others) (option_and_then (λ ys. Some (entity name is ∷ ys)) (each (resolved_entity draft) rest))) same
+          ∙ ap (λ (o : Option EntityData). option_map (λ others. front ++ others) (option_and_then (λ y. option_and_then (λ ys. Some (y ∷ ys)) (each (resolved_entity draft) rest)) o)) (sym gives)
+          ∙ ap (λ (ps : List NodeEntity). option_map (λ others. front ++ others) (each (resolved_entity draft) ps)) (sym here)
           ∙ before.1,
     )
 
 -- nothing stands where the next is nothing
-pub none_stands : (draft : GraphDraft) (left rest : List Placed) (placed : Placed) (front : List EntityData) → left ≡ placed ∷ rest → entity_in draft placed ≡ None → Stands draft left front →
-    option_map (λ others. map topic_in draft.topics ++ others) (each (entity_in draft) (entities_of draft)) ≡ None
+pub none_stands : (draft : GraphDraft) (left rest : List NodeEntity) (placed : NodeEntity) (front : List EntityData) → left ≡ placed ∷ rest → resolved_entity draft placed ≡ None → Stands draft left front →
+    option_map (λ others. map resolved_topic draft.topics ++ others) (each (resolved_entity draft) (entities_of draft)) ≡ None
 none_stands draft left rest placed front here none before =
     sym before.1
-    ∙ ap (λ (ps : List Placed). option_map (λ others. front ++ others) (each (entity_in draft) ps)) here
-    ∙ ap (λ (o : Option EntityData). option_map (λ others. front ++ others) (option_and_then (λ y. option_and_then (λ ys. Some (y ∷ ys)) (each (entity_in draft) rest)) o)) none
+    ∙ ap (λ (ps : List NodeEntity). option_map (λ others. front ++ others) (each (resolved_entity draft) ps)) here
+    ∙ ap (λ (o : Option EntityData). option_map (λ others. front ++ others) (option_and_then (λ y. option_and_then (λ ys. Some (y ∷ ys)) (each (resolved_entity draft) rest)) o)) none
 
 -- all stand where nothing is left
-pub all_stand : (draft : GraphDraft) (left : List Placed) (front : List EntityData) → left ≡ [] → Stands draft left front →
-    option_map (λ others. map topic_in draft.topics ++ others) (each (entity_in draft) (entities_of draft)) ≡ Some front
+pub all_stand : (draft : GraphDraft) (left : List NodeEntity) (front : List EntityData) → left ≡ [] → Stands draft left front →
+    option_map (λ others. map resolved_topic draft.topics ++ others) (each (resolved_entity draft) (entities_of draft)) ≡ Some front
 all_stand draft left front none stands =
     sym stands.1
-    ∙ ap (λ (ps : List Placed). option_map (λ others. front ++ others) (each (entity_in draft) ps)) none
+    ∙ ap (λ (ps : List NodeEntity). option_map (λ others. front ++ others) (each (resolved_entity draft) ps)) none
     ∙ ap (λ (es : List EntityData). Some es) (append-nil front)

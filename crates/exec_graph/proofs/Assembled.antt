@@ -17,10 +17,10 @@ use Rattle.exec_plan.specs.Graph as graph
 use Rattle.exec_plan.specs.Graph.{EntityData, GraphData}
 use Rattle.exec_plan.specs.Lawful.{IsLawful}
 use Rattle.exec_plan.specs.Names.{is_name, are_distinct}
-use Rattle.exec_graph.specs.Numbers.{Placed, entities_of, groups_of, groups_from, named_group, scope_of}
+use Rattle.exec_graph.specs.Numbers.{NodeEntity, entities_of, groups_of, groups_from, named_group, scope_of}
 use Rattle.exec_msg.specs.Options.{◌>>=◌, each}
 use Rattle.exec_graph.specs.Refusals.{fault_in}
-use Rattle.exec_graph.specs.Resolved.{entity_in, graph_in, topic_in}
+use Rattle.exec_graph.specs.Resolved.{resolved_entity, resolved_graph, resolved_topic}
 use Rattle.exec_graph.specs.Scripts.{is_reentrant, entity_faults, script_faults}
 use Rattle.exec_graph.specs.declared.draft.NodeDraft.{NodeDraft}
 use Rattle.exec_plan.specs.declared.entity.CallbackGroup.{CallbackGroup}
@@ -37,7 +37,7 @@ use Rattle.exec_graph.proofs.Resolving.{graph_of, IsBuilt, built, has_group}
 
 -- ---- the faults of scripts
 
-entity_same : (draft : GraphDraft) (placed : Placed) (entity : EntityData) → IsBuilt draft placed entity → faults_of (groups_of draft) entity.is ≡ entity_faults draft placed
+entity_same : (draft : GraphDraft) (placed : NodeEntity) (entity : EntityData) → IsBuilt draft placed entity → faults_of (groups_of draft) entity.is ≡ entity_faults draft placed
 entity_same draft placed entity build =
     let has = has_group draft placed build.number build.found in
     let scope = scope_of draft placed.node in
@@ -47,14 +47,14 @@ entity_same draft placed entity build =
     ∙ ap (λ (b : Bool). filter_map (fault_at b) (scripts_of build.is)) reentrant
     ∙ scripts_same scope (is_reentrant draft placed) (scripts_of placed.entity.is) (scripts_of build.is) build.read.scripts
 
-entities_same : (draft : GraphDraft) (placed : List Placed) (entities : List EntityData) → AreRead (entity_in draft) placed entities → flat_map (λ entity. faults_of (groups_of draft) entity.is) entities ≡ flat_map (entity_faults draft) placed
+entities_same : (draft : GraphDraft) (placed : List NodeEntity) (entities : List EntityData) → AreRead (resolved_entity draft) placed entities → flat_map (λ entity. faults_of (groups_of draft) entity.is) entities ≡ flat_map (entity_faults draft) placed
 entities_same draft [] [] reads = refl
 entities_same draft [] (entity ∷ entities) reads = absurd reads
 entities_same draft (p ∷ placed) [] reads = absurd reads
 entities_same draft (p ∷ placed) (entity ∷ entities) reads =
     λ i. entity_same draft p entity (built draft p entity reads.0) i ++ entities_same draft placed entities reads.1 i
 
-topics_have_none : (groups : List CallbackGroup) (topics : List (List ℕ)) (entities : List EntityData) → flat_map (λ entity. faults_of groups entity.is) (map topic_in topics ++ entities) ≡ flat_map (λ entity. faults_of groups entity.is) entities
+topics_have_none : (groups : List CallbackGroup) (topics : List (List ℕ)) (entities : List EntityData) → flat_map (λ entity. faults_of groups entity.is) (map resolved_topic topics ++ entities) ≡ flat_map (λ entity. faults_of groups entity.is) entities
 topics_have_none groups [] entities = refl
 topics_have_none groups (topic ∷ topics) entities = topics_have_none groups topics entities
 
@@ -63,13 +63,13 @@ values_same f [] = refl
 values_same {B} f (entry ∷ entries) = ap (λ (rest : List B). f entry.1 ++ rest) (values_same f entries)
 
 -- the faults of a graph's scripts are those of its draft
-faults_same : (draft : GraphDraft) (entries : List (String Global × Declared)) → option_map (λ others. map topic_in draft.topics ++ others) (each (entity_in draft) (entities_of draft)) ≡ Some (entries_of entries) → flat_map (faults_of (groups_of draft)) (values_of entries) ≡ script_faults draft
+faults_same : (draft : GraphDraft) (entries : List (String Global × Declared)) → option_map (λ others. map resolved_topic draft.topics ++ others) (each (resolved_entity draft) (entities_of draft)) ≡ Some (entries_of entries) → flat_map (faults_of (groups_of draft)) (values_of entries) ≡ script_faults draft
 faults_same draft entries is =
     values_same (faults_of (groups_of draft)) entries
-    ∙ mapped_read _ (each (entity_in draft) (entities_of draft)) _ (entries_of entries) is (λ entities read e.
+    ∙ mapped_read _ (each (resolved_entity draft) (entities_of draft)) _ (entries_of entries) is (λ entities read e.
     ap (flat_map (λ entity. faults_of (groups_of draft) entity.is)) (sym e)
     ∙ topics_have_none (groups_of draft) draft.topics entities
-    ∙ entities_same draft (entities_of draft) entities (are_read (entity_in draft) (entities_of draft) entities read))
+    ∙ entities_same draft (entities_of draft) entities (are_read (resolved_entity draft) (entities_of draft) entities read))
 
 -- ---- what is found
 
@@ -137,7 +137,7 @@ module _ (draft : GraphDraft) (found : DirectoryData) (there : Some found ≡ th
         let keeps = small_kept draft small in
         let topics = leb-true (length draft.topics) TOPICS keeps.few_topics in
         let entities = leb-true (length (entities_of draft)) ENTITIES keeps.few_entities in
-        omega (arith, topics, entities, length-append draft.topics (map (λ placed. placed.entity.name) (entities_of draft)), length-map (entities_of draft) (λ (placed : Placed). placed.entity.name))
+        omega (arith, topics, entities, length-append draft.topics (map (λ placed. placed.entity.name) (entities_of draft)), length-map (entities_of draft) (λ (placed : NodeEntity). placed.entity.name))
 
     -- names have numbers of 16 bits
     pub few_names : length found.names ≤ 65536
@@ -166,18 +166,18 @@ module _ (draft : GraphDraft) (found : DirectoryData) (there : Some found ≡ th
         omega (arith, names_few, length-map texts text_of, long)
 
     -- what isn't there has a faulty script
-    pub of_unread : option_map (λ others. map topic_in draft.topics ++ others) (each (entity_in draft) (entities_of draft)) ≡ None → fault_in draft ≡ Some graph_fault.Script
+    pub of_unread : option_map (λ others. map resolved_topic draft.topics ++ others) (each (resolved_entity draft) (entities_of draft)) ≡ None → fault_in draft ≡ Some graph_fault.Script
     of_unread none = by (has_faulty_script draft) refl
       where
         by : (b : Bool) → has_faulty_script draft ≡ b → fault_in draft ≡ Some graph_fault.Script
         by true faulty = script_by draft named small faulty
         by false spelt =
             let there = has_entities draft (names_kept draft named).resolved spelt in
-            let missing = unmapped _ (each (entity_in draft) (entities_of draft)) none in
+            let missing = unmapped _ (each (resolved_entity draft) (entities_of draft)) none in
             let contrary : true ≡ false = sym there ∙ ap is_some missing in
             absurd cc
 
-    module _ (groups : List CallbackGroup) (grouped : groups ≡ groups_of draft) (entries : List (String Global × Declared)) (read : option_map (λ others. map topic_in draft.topics ++ others) (each (entity_in draft) (entities_of draft)) ≡ Some (entries_of entries)) (faults : List ScriptFault) (listed : faults ≡ flat_map (faults_of groups) (values_of entries)) where
+    module _ (groups : List CallbackGroup) (grouped : groups ≡ groups_of draft) (entries : List (String Global × Declared)) (read : option_map (λ others. map resolved_topic draft.topics ++ others) (each (resolved_entity draft) (entities_of draft)) ≡ Some (entries_of entries)) (faults : List ScriptFault) (listed : faults ≡ flat_map (faults_of groups) (values_of entries)) where
       faults_are : faults ≡ script_faults draft
       faults_are = listed ∙ ap (λ (groups : List CallbackGroup). flat_map (faults_of groups) (values_of entries)) grouped ∙ faults_same draft entries read
 
@@ -199,10 +199,10 @@ module _ (draft : GraphDraft) (found : DirectoryData) (there : Some found ≡ th
 -- ---- the graph
 
 -- the names of a graph
-graph_names : (draft : GraphDraft) (made : GraphData) → graph_in draft ≡ Some made → graph.names_of made ≡ drafted_names draft
+graph_names : (draft : GraphDraft) (made : GraphData) → resolved_graph draft ≡ Some made → graph.names_of made ≡ drafted_names draft
 graph_names draft made is =
-    then_read _ (each (entity_in draft) (entities_of draft)) _ made is (λ entities read e.
-    ap graph.names_of (sym (same_Some (graph_of draft entities) made e)) ∙ lawful.names_kept draft entities (are_read (entity_in draft) (entities_of draft) entities read))
+    then_read _ (each (resolved_entity draft) (entities_of draft)) _ made is (λ entities read e.
+    ap graph.names_of (sym (same_Some (graph_of draft entities) made e)) ∙ lawful.names_kept draft entities (are_read (resolved_entity draft) (entities_of draft) entities read))
 
 -- a graph of these parts
 abbrev pub graph_with : List (List ℕ) → List CallbackGroup → List EntityData → GraphData
@@ -216,11 +216,11 @@ made_by nodes groups topics all (Some others) is =
     λ i. Some (graph_with nodes groups (same i))
 
 module _ (draft : GraphDraft) (made : GraphData) (nodes : made.nodes ≡ map (λ node. node.name) draft.nodes) (grouped : made.groups ≡ groups_of draft)
-    (entities : option_map (λ others. map topic_in draft.topics ++ others) (each (entity_in draft) (entities_of draft)) ≡ Some made.entities) where
+    (entities : option_map (λ others. map resolved_topic draft.topics ++ others) (each (resolved_entity draft) (entities_of draft)) ≡ Some made.entities) where
   -- what is made is the graph
-  pub graph_is : graph_in draft ≡ Some made
+  pub graph_is : resolved_graph draft ≡ Some made
   graph_is =
-      made_by (map (λ node. node.name) draft.nodes) (groups_of draft) (map topic_in draft.topics) made.entities (each (entity_in draft) (entities_of draft)) entities
+      made_by (map (λ node. node.name) draft.nodes) (groups_of draft) (map resolved_topic draft.topics) made.entities (each (resolved_entity draft) (entities_of draft)) entities
       ∙ (λ i. Some (graph_with (sym nodes i) (sym grouped i) made.entities))
 
   -- it is lawful

@@ -5,7 +5,7 @@ use Rattle.std.proofs.lemmas.Bool.{leb-true, le-leb, eqb-true, and_parts, and_fr
 use Rattle.std.proofs.lemmas.List.{map-append}
 use Rattle.exec_plan.specs.Entity.{entity_kinds, rank_of, kind_of_entity, is_of}
 use Rattle.exec_plan.specs.Lawful.{is_ascending_from}
-use Rattle.exec_graph.specs.Numbers.{Placed, entities_from, entities_of}
+use Rattle.exec_graph.specs.Numbers.{NodeEntity, entities_from, entities_of}
 use Rattle.exec_graph.specs.declared.draft.GraphDraft.{GraphDraft}
 use Rattle.exec_plan.specs.declared.entity.EntityKind.{EntityKind}
 
@@ -32,15 +32,15 @@ all_mapped f block [] same = tt
 all_mapped f block (x ∷ xs) same = (same x, all_mapped f block xs same)
 
 -- the place of a placed entity's kind in the order of numbers
-abbrev pub rank_at : Placed → ℕ
+abbrev pub rank_at : NodeEntity → ℕ
 rank_at placed = rank_of (kind_of_entity placed.entity.is)
 
 -- those of a kind
-abbrev of_kind : List Placed → EntityKind → List Placed
+abbrev of_kind : List NodeEntity → EntityKind → List NodeEntity
 of_kind placed kind = filter (λ placed. is_of kind placed.entity.is) placed
 
 -- are of its rank
-all_of : (kind : EntityKind) (placed : List Placed) → AreAll (rank_of kind) (map rank_at (of_kind placed kind))
+all_of : (kind : EntityKind) (placed : List NodeEntity) → AreAll (rank_of kind) (map rank_at (of_kind placed kind))
 all_of kind [] = tt
 all_of kind (p ∷ placed) = by (is_of kind p.entity.is) refl (all_of kind placed) where
   by : (b : Bool) → is_of kind p.entity.is ≡ b → AreAll (rank_of kind) (map rank_at (of_kind placed kind)) → AreAll (rank_of kind) (map rank_at (cond b (p ∷ of_kind placed kind) (of_kind placed kind)))
@@ -48,7 +48,7 @@ all_of kind (p ∷ placed) = by (is_of kind p.entity.is) refl (all_of kind place
   by false is others = others
 
 -- those of kinds whose ranks ascend
-kinds_ascend : (entity_kinds : List EntityKind) (least : ℕ) (placed : List Placed) → is_ascending_from least (map rank_of entity_kinds) ≡ true → is_ascending_from least (map rank_at (flat_map (of_kind placed) entity_kinds)) ≡ true
+kinds_ascend : (entity_kinds : List EntityKind) (least : ℕ) (placed : List NodeEntity) → is_ascending_from least (map rank_of entity_kinds) ≡ true → is_ascending_from least (map rank_at (flat_map (of_kind placed) entity_kinds)) ≡ true
 kinds_ascend [] least placed ascends = refl
 kinds_ascend (kind ∷ entity_kinds) least placed ascends =
     let later = is_ascending_from (rank_of kind) (map rank_of entity_kinds) in

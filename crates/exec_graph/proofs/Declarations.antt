@@ -4,7 +4,7 @@ use Rattle.std.specs.List.{filter, flat_map, list_any}
 use Rattle.std.proofs.lemmas.List.Folds.{list_any-append}
 use Rattle.exec_graph.specs.declared.draft.GraphDraft.{GraphDraft}
 use Rattle.exec_plan.specs.Entity.{Drafted, entity_kinds, is_of}
-use Rattle.exec_graph.specs.Numbers.{Placed, placed_in, entities_from, entities_of, server_named}
+use Rattle.exec_graph.specs.Numbers.{NodeEntity, node_entity, entities_from, entities_of, server_named}
 use Rattle.exec_graph.specs.declared.draft.EntityDraft.{EntityDraft}
 use Rattle.exec_graph.specs.declared.draft.NodeDraft.{NodeDraft}
 use Rattle.exec_plan.specs.declared.entity.EntityKind.{EntityKind}
@@ -13,7 +13,7 @@ use Rattle.exec_plan.specs.declared.entity.EntityOf.TheVariants.{Timer, Subscrip
 use Rattle.exec_plan.proofs.Positions.{found_any}
 
 -- whether a placed entity is the action server of a name
-abbrev is_action : List ℕ → Placed → Bool
+abbrev is_action : List ℕ → NodeEntity → Bool
 is_action name placed = is_of kind.Server placed.entity.is && bytes_eq placed.entity.name name
 
 -- ---- tests of the entities of all kinds
@@ -49,10 +49,10 @@ none_so [] = refl
 none_so (x ∷ xs) = none_so xs
 
 -- whether a placed entity is of one of these kinds
-abbrev is_one_of : List EntityKind → Placed → Bool
+abbrev is_one_of : List EntityKind → NodeEntity → Bool
 is_one_of entity_kinds placed = list_any (λ kind. is_of kind placed.entity.is) entity_kinds
 
-any_of_kinds : (test : Placed → Bool) (all : List Placed) (entity_kinds : List EntityKind) → list_any test (flat_map (λ kind. filter (λ placed. is_of kind placed.entity.is) all) entity_kinds) ≡ list_any (λ placed. is_one_of entity_kinds placed && test placed) all
+any_of_kinds : (test : NodeEntity → Bool) (all : List NodeEntity) (entity_kinds : List EntityKind) → list_any test (flat_map (λ kind. filter (λ placed. is_of kind placed.entity.is) all) entity_kinds) ≡ list_any (λ placed. is_one_of entity_kinds placed && test placed) all
 any_of_kinds test all [] = none_so all
 any_of_kinds test all (kind ∷ entity_kinds) =
     list_any-append test (filter (λ placed. is_of kind placed.entity.is) all) (flat_map (λ kind. filter (λ placed. is_of kind placed.entity.is) all) entity_kinds)
@@ -69,21 +69,21 @@ has_kind (Server entity) = refl
 has_kind (ActionClient entity) = refl
 
 -- in the order of numbers there are as many as among all
-ordered : (test : Placed → Bool) (draft : GraphDraft) → list_any test (entities_of draft) ≡ list_any test (entities_from 0 draft.nodes)
+ordered : (test : NodeEntity → Bool) (draft : GraphDraft) → list_any test (entities_of draft) ≡ list_any test (entities_from 0 draft.nodes)
 ordered test draft =
     any_of_kinds test (entities_from 0 draft.nodes) entity_kinds
     ∙ (λ i. list_any (λ placed. has_kind placed.entity.is i && test placed) (entities_from 0 draft.nodes))
 
 -- ---- the servers of nodes
 
-of_node : (name : List ℕ) (node : ℕ) (entities : List EntityDraft) → list_any (is_action name) (map (placed_in node) entities) ≡ list_any (λ entity. is_of kind.Server entity.is && bytes_eq entity.name name) entities
+of_node : (name : List ℕ) (node : ℕ) (entities : List EntityDraft) → list_any (is_action name) (map (node_entity node) entities) ≡ list_any (λ entity. is_of kind.Server entity.is && bytes_eq entity.name name) entities
 of_node name node [] = refl
 of_node name node (entity ∷ entities) = ap (λ (b : Bool). (is_of kind.Server entity.is && bytes_eq entity.name name) || b) (of_node name node entities)
 
 of_nodes : (name : List ℕ) (first : ℕ) (nodes : List NodeDraft) → list_any (is_action name) (entities_from first nodes) ≡ list_any (λ node. list_any (λ entity. is_of kind.Server entity.is && bytes_eq entity.name name) node.entities) nodes
 of_nodes name first [] = refl
 of_nodes name first (node ∷ nodes) =
-    list_any-append (is_action name) (map (placed_in first) node.entities) (entities_from (suc first) nodes)
+    list_any-append (is_action name) (map (node_entity first) node.entities) (entities_from (suc first) nodes)
     ∙ ap₂ (λ (a b : Bool). a || b) (of_node name first node.entities) (of_nodes name (suc first) nodes)
 
 -- an action of a name is declared where a node has a server of that name

@@ -3,7 +3,7 @@ use Rattle.std.proofs.Common.{◌≡◌, ℕ, Bool, true, false, ◌&&◌, if◌
 use Rattle.std.specs.Bool.{then_some}
 use Rattle.exec_graph.specs.inner.Directory.{DirectoryData, NodeGroupsData, names_from}
 use Rattle.exec_graph.specs.Faults.{are_names}
-use Rattle.exec_graph.specs.Numbers.{Placed}
+use Rattle.exec_graph.specs.Numbers.{NodeEntity}
 use Rattle.exec_graph.proofs.NameLists.{is_new, added_to_none}
 
 joined_by : (b : Bool) (rest first : Option (List (List ℕ))) (next : List (List ℕ) → Option (List (List ℕ))) → rest ≡ option_and_then next first → (if b then rest else None) ≡ option_and_then next (if b then first else None)
@@ -47,10 +47,10 @@ module _ (topics others start after : List (List ℕ)) (a : Bool) (empty : start
     names_added is = sym (all_added ∙ ap (λ (b : Bool). then_some b last) is) ∙ added_to_none (topics ++ others)
 
 -- a directory of these parts
-abbrev directory : ℕ → List (List ℕ) → List NodeGroupsData → List Placed → DirectoryData
+abbrev directory : ℕ → List (List ℕ) → List NodeGroupsData → List NodeEntity → DirectoryData
 directory topics names groups entities = record { topics = topics; names = names; groups = groups; entities = entities }
 
-pub made_of : (h n : Bool) (count topics : ℕ) (found names : List (List ℕ)) (gathered groups : List NodeGroupsData) (placed entities : List Placed) → count ≡ topics → Some found ≡ then_some n names → Some gathered ≡ then_some h groups → placed ≡ entities →
+pub made_of : (h n : Bool) (count topics : ℕ) (found names : List (List ℕ)) (gathered groups : List NodeGroupsData) (placed entities : List NodeEntity) → count ≡ topics → Some found ≡ then_some n names → Some gathered ≡ then_some h groups → placed ≡ entities →
     Some (directory count found gathered placed) ≡ then_some (h && n) (directory topics names groups entities)
 made_of true true count topics found names gathered groups placed entities same named grouped ordered =
     let found_is : found ≡ names = cc in

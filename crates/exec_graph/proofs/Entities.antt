@@ -10,8 +10,8 @@ use Rattle.exec_plan.specs.Entity.{Spelled, RoleScriptData, is_within, scripts_o
 use Rattle.exec_graph.specs.Faults.{has_short_scripts}
 use Rattle.exec_plan.specs.Graph.{EntityData, GraphData, in_group}
 use Rattle.exec_plan.specs.Lawful.{IsLawfulScript, IsLawfulDeclared, is_declared}
-use Rattle.exec_graph.specs.Numbers.{Placed, entities_of, scope_of}
-use Rattle.exec_graph.specs.Resolved.{script_in, entity_in, topic_in}
+use Rattle.exec_graph.specs.Numbers.{NodeEntity, entities_of, scope_of}
+use Rattle.exec_graph.specs.Resolved.{resolved_script, resolved_entity, resolved_topic}
 use Rattle.exec_graph.specs.Scripts.{fault_of, entity_faults}
 use Rattle.exec_plan.specs.declared.entity.CallbackGroup.{CallbackGroup}
 use Rattle.exec_msg.specs.declared.limits.TheConstants.{INSTRUCTIONS}
@@ -39,9 +39,9 @@ ok_as : (read : Result (List Instr) ScriptFault) (script : List Instr) → resul
 ok_as (Ok found) script e = cc
 ok_as (Err fault) script e = absurd cc
 
-script_lawful : (shape : GraphData) (group : CallbackGroup) (scope : ScopeNames) (spelt : RoleScriptData Spelled) (roled : RoleScriptData Script) → Knows scope shape group.node → roled_by (script_in scope) spelt ≡ Some roled → fault_of scope (not group.exclusive) spelt ≡ None → nat_le (length spelt.script) INSTRUCTIONS ≡ true → IsLawfulScript shape group roled
+script_lawful : (shape : GraphData) (group : CallbackGroup) (scope : ScopeNames) (spelt : RoleScriptData Spelled) (roled : RoleScriptData Script) → Knows scope shape group.node → roled_by (resolved_script scope) spelt ≡ Some roled → fault_of scope (not group.exclusive) spelt ≡ None → nat_le (length spelt.script) INSTRUCTIONS ≡ true → IsLawfulScript shape group roled
 script_lawful shape group scope spelt roled knows read faultless short =
-    mapped_read _ (script_in scope spelt.script) _ roled read (λ script found is.
+    mapped_read _ (resolved_script scope spelt.script) _ roled read (λ script found is.
     let ok = ok_as (script_of scope spelt.script) script found in
     let by = spelt_by shape group.node scope spelt.script script knows ok in
     subst (IsLawfulScript shape group) is
@@ -51,7 +51,7 @@ script_lawful shape group scope spelt roled knows read faultless short =
       known = by.known;
     }))
 
-all_scripts : (shape : GraphData) (group : CallbackGroup) (scope : ScopeNames) (spelt : List (RoleScriptData Spelled)) (roled : List (RoleScriptData Script)) → Knows scope shape group.node → AreRead (roled_by (script_in scope)) spelt roled → filter_map (fault_of scope (not group.exclusive)) spelt ≡ [] → list_all (λ script. nat_le (length script.script) INSTRUCTIONS) spelt ≡ true → All (IsLawfulScript shape group) roled
+all_scripts : (shape : GraphData) (group : CallbackGroup) (scope : ScopeNames) (spelt : List (RoleScriptData Spelled)) (roled : List (RoleScriptData Script)) → Knows scope shape group.node → AreRead (roled_by (resolved_script scope)) spelt roled → filter_map (fault_of scope (not group.exclusive)) spelt ≡ [] → list_all (λ script. nat_le (length script.script) INSTRUCTIONS) spelt ≡ true → All (IsLawfulScript shape group) roled
 all_scripts shape group scope [] [] knows reads faultless short = All-nil (IsLawfulScript shape group)
 all_scripts shape group scope [] (r ∷ roled) knows reads faultless short = absurd reads
 all_scripts shape group scope (s ∷ spelt) [] knows reads faultless short = absurd reads
@@ -65,7 +65,7 @@ all_scripts shape group scope (s ∷ spelt) (r ∷ roled) knows reads faultless 
 
 -- ---- entities
 
-entity_lawful : (source : GraphDraft) (entities : List EntityData) (placed : Placed) (entity : EntityData) → AreEntities source entities → entity_in source placed ≡ Some entity → (is_within placed.entity.is && has_short_scripts placed.entity.is) ≡ true → entity_faults source placed ≡ [] → IsLawfulDeclared (graph_of source entities) entity.is
+entity_lawful : (source : GraphDraft) (entities : List EntityData) (placed : NodeEntity) (entity : EntityData) → AreEntities source entities → resolved_entity source placed ≡ Some entity → (is_within placed.entity.is && has_short_scripts placed.entity.is) ≡ true → entity_faults source placed ≡ [] → IsLawfulDeclared (graph_of source entities) entity.is
 entity_lawful source entities placed entity reads read within faultless =
     let build = built source placed entity read in
     let has = has_group source placed build.number build.found in
@@ -85,7 +85,7 @@ entity_lawful source entities placed entity reads read within faultless =
     } in
     subst (IsLawfulDeclared (graph_of source entities)) (sym build.declared) lawful
 
-each_lawful : (source : GraphDraft) (entities : List EntityData) (placed : List Placed) (some : List EntityData) → AreEntities source entities → AreRead (entity_in source) placed some → list_all (λ placed. is_within placed.entity.is && has_short_scripts placed.entity.is) placed ≡ true → flat_map (entity_faults source) placed ≡ [] → All (λ entity. IsLawfulDeclared (graph_of source entities) entity.is) some
+each_lawful : (source : GraphDraft) (entities : List EntityData) (placed : List NodeEntity) (some : List EntityData) → AreEntities source entities → AreRead (resolved_entity source) placed some → list_all (λ placed. is_within placed.entity.is && has_short_scripts placed.entity.is) placed ≡ true → flat_map (entity_faults source) placed ≡ [] → All (λ entity. IsLawfulDeclared (graph_of source entities) entity.is) some
 each_lawful source entities [] [] reads these within faultless = All-nil (λ entity. IsLawfulDeclared (graph_of source entities) entity.is)
 each_lawful source entities [] (e ∷ some) reads these within faultless = absurd these
 each_lawful source entities (p ∷ placed) [] reads these within faultless = absurd these
@@ -97,8 +97,8 @@ each_lawful source entities (p ∷ placed) (e ∷ some) reads these within fault
     (each_lawful source entities placed some reads these.1 (and_parts here behind within).1 (back_nothing (entity_faults source p) (flat_map (entity_faults source) placed) faultless))
 
 -- topics and entities are lawful
-pub entities_lawful : (source : GraphDraft) (entities : List EntityData) → AreEntities source entities → list_all (λ placed. is_within placed.entity.is && has_short_scripts placed.entity.is) (entities_of source) ≡ true → flat_map (entity_faults source) (entities_of source) ≡ [] → All (λ entity. IsLawfulDeclared (graph_of source entities) entity.is) (map topic_in source.topics ++ entities)
+pub entities_lawful : (source : GraphDraft) (entities : List EntityData) → AreEntities source entities → list_all (λ placed. is_within placed.entity.is && has_short_scripts placed.entity.is) (entities_of source) ≡ true → flat_map (entity_faults source) (entities_of source) ≡ [] → All (λ entity. IsLawfulDeclared (graph_of source entities) entity.is) (map resolved_topic source.topics ++ entities)
 entities_lawful source entities reads within faultless =
-    All-append (λ entity. IsLawfulDeclared (graph_of source entities) entity.is) (map topic_in source.topics) entities
-    (All-map (λ entity. IsLawfulDeclared (graph_of source entities) entity.is) topic_in source.topics (λ k d below. tt))
+    All-append (λ entity. IsLawfulDeclared (graph_of source entities) entity.is) (map resolved_topic source.topics) entities
+    (All-map (λ entity. IsLawfulDeclared (graph_of source entities) entity.is) resolved_topic source.topics (λ k d below. tt))
     (each_lawful source entities (entities_of source) entities reads reads within faultless)

@@ -8,7 +8,7 @@ use Rattle.exec_graph.specs.inner.Directory.{fault_at}
 use Rattle.exec_script.specs.Instruction.{Script}
 use Rattle.exec_plan.specs.Entity.{Spelled, RoleScriptData}
 use Rattle.exec_graph.specs.Faults.{is_of_variable}
-use Rattle.exec_graph.specs.Resolved.{script_in}
+use Rattle.exec_graph.specs.Resolved.{resolved_script}
 use Rattle.exec_graph.specs.Scripts.{fault_of}
 use Rattle.exec_script.specs.Legality.{legality_of}
 use Rattle.exec_script.specs.Spelling.{ScopeNames, script_of, ◌>>=◌}
@@ -54,11 +54,11 @@ others_none None others none = none
 others_none (Some fault) others none = (or_parts (is_another fault) (list_any is_another others) none).1
 
 -- scripts of which none has another fault than that of a variable are spelt well
-pub all_spelt : (scope : ScopeNames) (reentrant : Bool) (scripts : List (RoleScriptData Spelled)) → list_any is_another (filter_map (fault_of scope reentrant) scripts) ≡ false → list_all (λ roled. is_some (script_in scope roled.script)) scripts ≡ true
+pub all_spelt : (scope : ScopeNames) (reentrant : Bool) (scripts : List (RoleScriptData Spelled)) → list_any is_another (filter_map (fault_of scope reentrant) scripts) ≡ false → list_all (λ roled. is_some (resolved_script scope roled.script)) scripts ≡ true
 all_spelt scope reentrant [] none = refl
 all_spelt scope reentrant (roled ∷ scripts) none =
     let others = filter_map (fault_of scope reentrant) scripts in
-    and_from (is_some (script_in scope roled.script)) (list_all (λ roled. is_some (script_in scope roled.script)) scripts)
+    and_from (is_some (resolved_script scope roled.script)) (list_all (λ roled. is_some (resolved_script scope roled.script)) scripts)
     (spelt_by (script_of scope roled.script) (λ script. legality_of script (record { reentrant = reentrant; role = roled.role })) others (script_other scope roled.script) none)
     (all_spelt scope reentrant scripts (others_none (fault_of scope reentrant roled) others none))
 
@@ -69,7 +69,7 @@ fault_by reentrant runs (Ok script) is e = ap (fault_at reentrant) (sym (same_So
 fault_by reentrant runs (Err fault) is e = absurd cc
 
 -- the faults of scripts that were read are those of their spelling
-pub scripts_same : (scope : ScopeNames) (reentrant : Bool) (spelt : List (RoleScriptData Spelled)) (scripts : List (RoleScriptData Script)) → AreRead (roled_by (script_in scope)) spelt scripts → filter_map (fault_at reentrant) scripts ≡ filter_map (fault_of scope reentrant) spelt
+pub scripts_same : (scope : ScopeNames) (reentrant : Bool) (spelt : List (RoleScriptData Spelled)) (scripts : List (RoleScriptData Script)) → AreRead (roled_by (resolved_script scope)) spelt scripts → filter_map (fault_at reentrant) scripts ≡ filter_map (fault_of scope reentrant) spelt
 scripts_same scope reentrant [] [] reads = refl
 scripts_same scope reentrant [] (is ∷ scripts) reads = absurd reads
 scripts_same scope reentrant (from ∷ spelt) [] reads = absurd reads

@@ -5,9 +5,9 @@ use Rattle.std.proofs.lemmas.Bool.{leb-true, and_parts}
 use Rattle.std.proofs.lemmas.List.{length-map, map-append}
 use Rattle.std.proofs.lemmas.List.Elements.{filter-append}
 use Rattle.std.proofs.lemmas.Option.{same_Some}
-use Rattle.exec_graph.specs.Resolved.{entity_in, topic_in, graph_in}
+use Rattle.exec_graph.specs.Resolved.{resolved_entity, resolved_topic, resolved_graph}
 use Rattle.exec_graph.specs.declared.draft.GraphDraft.{GraphDraft}
-use Rattle.exec_graph.specs.Numbers.{Placed, entities_of, groups_of}
+use Rattle.exec_graph.specs.Numbers.{NodeEntity, entities_of, groups_of}
 use Rattle.exec_msg.specs.Options.{each}
 use Rattle.exec_graph.specs.Faults.{has_named_groups, drafted_names}
 use Rattle.exec_plan.specs.Graph as graph
@@ -26,19 +26,19 @@ use Rattle.exec_plan.proofs.Reading.{then_read, AreRead, are_read, as_many, seen
 
 -- ---- names
 
-topic_names : (topics : List (List ℕ)) → map (λ entity. entity.name) (map topic_in topics) ≡ topics
+topic_names : (topics : List (List ℕ)) → map (λ entity. entity.name) (map resolved_topic topics) ≡ topics
 topic_names [] = refl
 topic_names (name ∷ topics) = ap (λ (names : List (List ℕ)). name ∷ names) (topic_names topics)
 
 pub names_kept : (source : GraphDraft) (entities : List EntityData) → AreEntities source entities → graph.names_of (graph_of source entities) ≡ drafted_names source
 names_kept source entities reads =
-    map-append (λ (entity : EntityData). entity.name) (map topic_in source.topics) entities
+    map-append (λ (entity : EntityData). entity.name) (map resolved_topic source.topics) entities
     ∙ ap (λ (names : List (List ℕ)). names ++ map (λ entity. entity.name) entities) (topic_names source.topics)
-    ∙ ap (λ (names : List (List ℕ)). source.topics ++ names) (seen_alike (entity_in source) (λ placed. placed.entity.name) (λ entity. entity.name) (entities_of source) entities (λ placed entity read. (built source placed entity read).named_as) reads)
+    ∙ ap (λ (names : List (List ℕ)). source.topics ++ names) (seen_alike (resolved_entity source) (λ placed. placed.entity.name) (λ entity. entity.name) (entities_of source) entities (λ placed entity read. (built source placed entity read).named_as) reads)
 
 -- ---- how many
 
-no_topics : (source : GraphDraft) (placed : List Placed) (entities : List EntityData) → AreRead (entity_in source) placed entities → filter (λ entity. is_topic entity.is) entities ≡ []
+no_topics : (source : GraphDraft) (placed : List NodeEntity) (entities : List EntityData) → AreRead (resolved_entity source) placed entities → filter (λ entity. is_topic entity.is) entities ≡ []
 no_topics source [] [] reads = refl
 no_topics source [] (e ∷ entities) reads = absurd reads
 no_topics source (p ∷ placed) [] reads = absurd reads
@@ -46,7 +46,7 @@ no_topics source (p ∷ placed) (e ∷ entities) reads =
     let fails = no_topic source p e (built source p e reads.0) in
     rw fails (no_topics source placed entities reads.1)
 
-all_entities : (source : GraphDraft) (placed : List Placed) (entities : List EntityData) → AreRead (entity_in source) placed entities → filter (λ entity. not (is_topic entity.is)) entities ≡ entities
+all_entities : (source : GraphDraft) (placed : List NodeEntity) (entities : List EntityData) → AreRead (resolved_entity source) placed entities → filter (λ entity. not (is_topic entity.is)) entities ≡ entities
 all_entities source [] [] reads = refl
 all_entities source [] (e ∷ entities) reads = absurd reads
 all_entities source (p ∷ placed) [] reads = absurd reads
@@ -54,21 +54,21 @@ all_entities source (p ∷ placed) (e ∷ entities) reads =
     let fails = no_topic source p e (built source p e reads.0) in
     rw fails (ap (λ (es : List EntityData). e ∷ es) (all_entities source placed entities reads.1))
 
-topics_counted : (source : GraphDraft) (entities : List EntityData) → AreEntities source entities → length (filter (λ entity. is_topic entity.is) (map topic_in source.topics ++ entities)) ≡ length source.topics
+topics_counted : (source : GraphDraft) (entities : List EntityData) → AreEntities source entities → length (filter (λ entity. is_topic entity.is) (map resolved_topic source.topics ++ entities)) ≡ length source.topics
 topics_counted source entities reads =
-    ap (λ (es : List EntityData). length es) (filter-append (λ (entity : EntityData). is_topic entity.is) (map topic_in source.topics) entities)
-    ∙ length-append (filter (λ entity. is_topic entity.is) (map topic_in source.topics)) (filter (λ entity. is_topic entity.is) entities)
-    ∙ ap (λ (es : List EntityData). length es + length (filter (λ entity. is_topic entity.is) entities)) (filter_same (λ (entity : EntityData). is_topic entity.is) topic_in source.topics (λ name. refl))
-    ∙ ap (λ (es : List EntityData). length (map topic_in source.topics) + length es) (no_topics source (entities_of source) entities reads)
-    ∙ (let same = length-map source.topics topic_in in omega (arith, same))
+    ap (λ (es : List EntityData). length es) (filter-append (λ (entity : EntityData). is_topic entity.is) (map resolved_topic source.topics) entities)
+    ∙ length-append (filter (λ entity. is_topic entity.is) (map resolved_topic source.topics)) (filter (λ entity. is_topic entity.is) entities)
+    ∙ ap (λ (es : List EntityData). length es + length (filter (λ entity. is_topic entity.is) entities)) (filter_same (λ (entity : EntityData). is_topic entity.is) resolved_topic source.topics (λ name. refl))
+    ∙ ap (λ (es : List EntityData). length (map resolved_topic source.topics) + length es) (no_topics source (entities_of source) entities reads)
+    ∙ (let same = length-map source.topics resolved_topic in omega (arith, same))
 
-entities_counted : (source : GraphDraft) (entities : List EntityData) → AreEntities source entities → length (filter (λ entity. not (is_topic entity.is)) (map topic_in source.topics ++ entities)) ≡ length (entities_of source)
+entities_counted : (source : GraphDraft) (entities : List EntityData) → AreEntities source entities → length (filter (λ entity. not (is_topic entity.is)) (map resolved_topic source.topics ++ entities)) ≡ length (entities_of source)
 entities_counted source entities reads =
-    ap (λ (es : List EntityData). length es) (filter-append (λ (entity : EntityData). not (is_topic entity.is)) (map topic_in source.topics) entities)
-    ∙ length-append (filter (λ entity. not (is_topic entity.is)) (map topic_in source.topics)) (filter (λ entity. not (is_topic entity.is)) entities)
-    ∙ ap (λ (es : List EntityData). length es + length (filter (λ entity. not (is_topic entity.is)) entities)) (filter_none (λ (entity : EntityData). not (is_topic entity.is)) topic_in source.topics (λ name. refl))
+    ap (λ (es : List EntityData). length es) (filter-append (λ (entity : EntityData). not (is_topic entity.is)) (map resolved_topic source.topics) entities)
+    ∙ length-append (filter (λ entity. not (is_topic entity.is)) (map resolved_topic source.topics)) (filter (λ entity. not (is_topic entity.is)) entities)
+    ∙ ap (λ (es : List EntityData). length es + length (filter (λ entity. not (is_topic entity.is)) entities)) (filter_none (λ (entity : EntityData). not (is_topic entity.is)) resolved_topic source.topics (λ name. refl))
     ∙ ap (λ (es : List EntityData). 0 + length es) (all_entities source (entities_of source) entities reads)
-    ∙ (let same = as_many (entity_in source) (entities_of source) entities reads in omega (arith, same))
+    ∙ (let same = as_many (resolved_entity source) (entities_of source) entities reads in omega (arith, same))
 
 -- ---- nodes and blocks
 
@@ -85,17 +85,17 @@ node_lawful source entities node named below =
       distinct = ap are_distinct names ∙ (and_parts (list_all is_name texts) (are_distinct texts) has.passes).1;
     }
 
-topic_blocks : (topics : List (List ℕ)) → map (λ entity. block_of entity.is) (map topic_in topics) ≡ map (λ name. 0) topics
+topic_blocks : (topics : List (List ℕ)) → map (λ entity. block_of entity.is) (map resolved_topic topics) ≡ map (λ name. 0) topics
 topic_blocks [] = refl
 topic_blocks (name ∷ topics) = ap (λ (ns : List ℕ). 0 ∷ ns) (topic_blocks topics)
 
-blocks_kept : (source : GraphDraft) (entities : List EntityData) → AreEntities source entities → is_ascending_from 0 (map (λ entity. block_of entity.is) (map topic_in source.topics ++ entities)) ≡ true
+blocks_kept : (source : GraphDraft) (entities : List EntityData) → AreEntities source entities → is_ascending_from 0 (map (λ entity. block_of entity.is) (map resolved_topic source.topics ++ entities)) ≡ true
 blocks_kept source entities reads =
     let blocks = map rank_at (entities_of source) in
     ap (is_ascending_from 0)
-    (map-append (λ (entity : EntityData). block_of entity.is) (map topic_in source.topics) entities
+    (map-append (λ (entity : EntityData). block_of entity.is) (map resolved_topic source.topics) entities
     ∙ ap (λ (ns : List ℕ). ns ++ map (λ entity. block_of entity.is) entities) (topic_blocks source.topics)
-    ∙ ap (λ (ns : List ℕ). map (λ name. 0) source.topics ++ ns) (seen_alike (entity_in source) rank_at (λ entity. block_of entity.is) (entities_of source) entities (λ placed entity read. same_block source placed entity (built source placed entity read)) reads))
+    ∙ ap (λ (ns : List ℕ). map (λ name. 0) source.topics ++ ns) (seen_alike (resolved_entity source) rank_at (λ entity. block_of entity.is) (entities_of source) entities (λ placed entity read. same_block source placed entity (built source placed entity read)) reads))
     ∙ block_before 0 0 (map (λ name. 0) source.topics) blocks (omega arith) (all_mapped (λ name. 0) 0 source.topics (λ name. refl))
     (lower_start 0 1 blocks (omega arith) (entities_ascend source))
 
@@ -127,8 +127,8 @@ kept_lawful source entities keeps reads =
     }
 
 -- a draft without a fault has a lawful graph, if it has one
-pub graph_lawful : (source : GraphDraft) (made : GraphData) → fault_in source ≡ None → graph_in source ≡ Some made → IsLawful made
+pub graph_lawful : (source : GraphDraft) (made : GraphData) → fault_in source ≡ None → resolved_graph source ≡ Some made → IsLawful made
 graph_lawful source made faultless is =
-    then_read _ (each (entity_in source) (entities_of source)) _ made is (λ entities read e.
+    then_read _ (each (resolved_entity source) (entities_of source)) _ made is (λ entities read e.
     subst IsLawful (same_Some (graph_of source entities) made e)
-    (kept_lawful source entities (kept source faultless) (are_read (entity_in source) (entities_of source) entities read)))
+    (kept_lawful source entities (kept source faultless) (are_read (resolved_entity source) (entities_of source) entities read)))

@@ -5,7 +5,7 @@ use Rattle.std.proofs.lemmas.Option.{same_Some}
 use Rattle.exec_graph.specs.inner.Directory.{DirectoryData, Linked, IsLinked, directory_of, group_in, linked_in, reference_number, number_in}
 use Rattle.exec_graph.specs.declared.draft.GraphDraft.{GraphDraft}
 use Rattle.exec_plan.specs.Entity.{ReferenceData, Drafted, reference_of, if_there}
-use Rattle.exec_graph.specs.Numbers.{Placed, groups_of, group_named, is_group}
+use Rattle.exec_graph.specs.Numbers.{NodeEntity, groups_of, group_named, is_group}
 use Rattle.exec_msg.specs.Options.{each}
 use Rattle.exec_graph.proofs.EntityResolving.{has_links}
 use Rattle.exec_graph.proofs.Lookups.{number_below}
@@ -35,7 +35,7 @@ module _ (draft : GraphDraft) (found : DirectoryData) (from : found ≡ director
       let named : group_named draft node name ≡ Some number = sym (group_same draft node name) ∙ ap (λ (d : DirectoryData). group_in d node name) (sym from) ∙ there in
       omega (arith, groups, found_within (is_group node name) 0 (groups_of draft) number named)
 
-  one_linked : (placed : Placed) (linked : Linked) → linked_in found placed ≡ Some linked → IsLinked found linked
+  one_linked : (placed : NodeEntity) (linked : Linked) → linked_in found placed ≡ Some linked → IsLinked found linked
   one_linked placed linked is =
       let links = has_links found placed linked is in
       record {
@@ -44,7 +44,7 @@ module _ (draft : GraphDraft) (found : DirectoryData) (from : found ≡ director
         reference = references_few found placed.entity.is linked.reference names links.reference;
       }
 
-  each_linked : (placed : List Placed) (linked : List Linked) → AreRead (linked_in found) placed linked → All (IsLinked found) linked
+  each_linked : (placed : List NodeEntity) (linked : List Linked) → AreRead (linked_in found) placed linked → All (IsLinked found) linked
   each_linked [] [] reads = All-nil (IsLinked found)
   each_linked [] (l ∷ linked) reads = absurd reads
   each_linked (p ∷ placed) [] reads = absurd reads
@@ -54,11 +54,11 @@ module _ (draft : GraphDraft) (found : DirectoryData) (from : found ≡ director
   pub are_linked : (linked : List Linked) → each (linked_in found) found.entities ≡ Some linked → All (IsLinked found) linked
   are_linked linked all = each_linked found.entities linked (are_read (linked_in found) found.entities linked all)
 
-same_entities : (directory : DirectoryData) (placed : List Placed) (linked : List Linked) → AreRead (linked_in directory) placed linked → map (λ linked. linked.placed) linked ≡ placed
+same_entities : (directory : DirectoryData) (placed : List NodeEntity) (linked : List Linked) → AreRead (linked_in directory) placed linked → map (λ linked. linked.placed) linked ≡ placed
 same_entities directory [] [] reads = refl
 same_entities directory [] (l ∷ linked) reads = absurd reads
 same_entities directory (p ∷ placed) [] reads = absurd reads
-same_entities directory (p ∷ placed) (l ∷ linked) reads = ap₂ (λ (one : Placed) (others : List Placed). one ∷ others) (has_links directory p l reads.0).same (same_entities directory placed linked reads.1)
+same_entities directory (p ∷ placed) (l ∷ linked) reads = ap₂ (λ (one : NodeEntity) (others : List NodeEntity). one ∷ others) (has_links directory p l reads.0).same (same_entities directory placed linked reads.1)
 
 -- those that were linked are the directory's entities
 pub entities_linked : (directory : DirectoryData) (linked : List Linked) → each (linked_in directory) directory.entities ≡ Some linked → map (λ linked. linked.placed) linked ≡ directory.entities

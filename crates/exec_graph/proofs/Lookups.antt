@@ -17,8 +17,8 @@ use Rattle.exec_plan.specs.declared.entity.EntityOf.{EntityOf}
 use Rattle.exec_plan.specs.declared.entity.EntityOf.TheVariants.{Timer, Subscription, Service, Client, Server, ActionClient}
 use Rattle.exec_graph.specs.Faults.{drafted_names}
 use Rattle.exec_plan.specs.Names.{are_distinct}
-use Rattle.exec_graph.specs.Numbers.{Placed, entities_of, topic_named, entity_named, named, scope_of}
-use Rattle.exec_graph.specs.Resolved.{script_in}
+use Rattle.exec_graph.specs.Numbers.{NodeEntity, entities_of, topic_named, entity_named, named, scope_of}
+use Rattle.exec_graph.specs.Resolved.{resolved_script}
 use Rattle.exec_plan.specs.declared.entity.EntityKind.TheVariants as entity_kind
 use Rattle.exec_plan.specs.declared.entity.parts.Referent.{Referent}
 use Rattle.exec_plan.specs.declared.entity.parts.Referent.TheVariants as referent
@@ -28,7 +28,7 @@ use Rattle.exec_plan.proofs.SameTexts.{is_text}
 use Rattle.exec_graph.proofs.TextPlaces.{found_within}
 
 -- whether an entity passes and has this name
-abbrev is_wanted : (Placed → Bool) → List ℕ → Placed → Bool
+abbrev is_wanted : (NodeEntity → Bool) → List ℕ → NodeEntity → Bool
 is_wanted test name placed = test placed && bytes_eq placed.entity.name name
 
 -- ---- names that stand once
@@ -39,7 +39,7 @@ unfound_by true false first rest is none = none
 unfound_by false b first rest is none = none
 
 -- entities of other names
-unfound : (test : Placed → Bool) (name : List ℕ) (first : ℕ) (entities : List Placed) → list_any (is_text name) (map name_of entities) ≡ false → position_from (is_wanted test name) first entities ≡ None
+unfound : (test : NodeEntity → Bool) (name : List ℕ) (first : ℕ) (entities : List NodeEntity) → list_any (is_text name) (map name_of entities) ≡ false → position_from (is_wanted test name) first entities ≡ None
 unfound test name first [] none = refl
 unfound test name first (placed ∷ entities) none =
     unfound_by (test placed) (bytes_eq (name_of placed) name) first (position_from (is_wanted test name) (first + 1) entities)
@@ -56,14 +56,14 @@ stands_once name text texts same distinct =
 -- ---- entities
 
 -- the entity at a number behind so many topics, with the number
-abbrev placed_at : ℕ → List Placed → ℕ → Option (ℕ × Placed)
+abbrev placed_at : ℕ → List NodeEntity → ℕ → Option (ℕ × NodeEntity)
 placed_at topics entities number = if nat_lt number topics then None else option_map (λ placed. (number, placed)) (slice_get entities (number - topics))
 
-at_end : (front : List Placed) (placed : Placed) (entities : List Placed) → slice_get (front ++ placed ∷ entities) (length front) ≡ Some placed
+at_end : (front : List NodeEntity) (placed : NodeEntity) (entities : List NodeEntity) → slice_get (front ++ placed ∷ entities) (length front) ≡ Some placed
 at_end [] placed entities = refl
 at_end (other ∷ front) placed entities = at_end front placed entities
 
-found_here : (topics : ℕ) (front : List Placed) (placed : Placed) (entities : List Placed) → placed_at topics (front ++ placed ∷ entities) (topics + length front) ≡ Some (topics + length front, placed)
+found_here : (topics : ℕ) (front : List NodeEntity) (placed : NodeEntity) (entities : List NodeEntity) → placed_at topics (front ++ placed ∷ entities) (topics + length front) ≡ Some (topics + length front, placed)
 found_here topics front placed entities =
     let back : topics + length front - topics ≡ length front = omega arith in
     rw (le-ltb (topics + length front) topics (omega arith), back, at_end front placed entities) refl
@@ -77,15 +77,15 @@ later_by true number rest = refl
 later_by false number rest = refl
 
 -- the number of an entity that passes a test
-abbrev passing : (Placed → Bool) → ℕ × Placed → Option ℕ
+abbrev passing : (NodeEntity → Bool) → ℕ × NodeEntity → Option ℕ
 passing test found = then_some (test found.1) found.0
 
-module _ (test : Placed → Bool) (name : List ℕ) (topics : ℕ) where
+module _ (test : NodeEntity → Bool) (name : List ℕ) (topics : ℕ) where
   -- what is found among entities, behind those in front
-  abbrev found_among : List Placed → Option ℕ → Option ℕ
+  abbrev found_among : List NodeEntity → Option ℕ → Option ℕ
   found_among all number = option_and_then (passing test) (option_and_then (placed_at topics all) number)
 
-  among_by : (b : Bool) (front : List Placed) (placed : Placed) (entities : List Placed) (first : ℕ) → first ≡ topics + length front → bytes_eq (name_of placed) name ≡ b → are_distinct (map name_of (placed ∷ entities)) ≡ true →
+  among_by : (b : Bool) (front : List NodeEntity) (placed : NodeEntity) (entities : List NodeEntity) (first : ℕ) → first ≡ topics + length front → bytes_eq (name_of placed) name ≡ b → are_distinct (map name_of (placed ∷ entities)) ≡ true →
       (found_among (front ++ placed ∷ entities) (position_from (is_text name) (first + 1) (map name_of entities)) ≡ position_from (is_wanted test name) (first + 1) entities) →
       found_among (front ++ placed ∷ entities) (cond b (Some first) (position_from (is_text name) (first + 1) (map name_of entities)))
       ≡ cond (test placed && b) (Some first) (position_from (is_wanted test name) (first + 1) entities)
@@ -96,20 +96,20 @@ module _ (test : Placed → Bool) (name : List ℕ) (topics : ℕ) where
   among_by false front placed entities first is same distinct others =
       others ∙ later_by (test placed) first (position_from (is_wanted test name) (first + 1) entities)
 
-  among : (front entities : List Placed) (first : ℕ) → first ≡ topics + length front → are_distinct (map name_of entities) ≡ true →
+  among : (front entities : List NodeEntity) (first : ℕ) → first ≡ topics + length front → are_distinct (map name_of entities) ≡ true →
       found_among (front ++ entities) (position_from (is_text name) first (map name_of entities)) ≡ position_from (is_wanted test name) first entities
   among front [] first is distinct = refl
   among front (placed ∷ entities) first is distinct =
       let next : first + 1 ≡ topics + length (front ++ placed ∷ []) = omega (arith, is, length-append front (placed ∷ [])) in
       ap (λ (b : Bool). found_among (front ++ placed ∷ entities) (cond b (Some first) (position_from (is_text name) (first + 1) (map name_of entities)))) refl
       ∙ among_by (bytes_eq (name_of placed) name) front placed entities first is refl distinct
-      (ap (λ (all : List Placed). found_among all (position_from (is_text name) (first + 1) (map name_of entities))) (sym (append_assoc front (placed ∷ []) entities))
+      (ap (λ (all : List NodeEntity). found_among all (position_from (is_text name) (first + 1) (map name_of entities))) (sym (append_assoc front (placed ∷ []) entities))
       ∙ among (front ++ placed ∷ []) entities (first + 1) next (and_parts (not (list_any (is_text (name_of placed)) (map name_of entities))) (are_distinct (map name_of entities)) distinct).1)
 
-  below : (first : ℕ) (entities : List Placed) → first < topics → option_and_then (passing test) (placed_at topics entities first) ≡ None
+  below : (first : ℕ) (entities : List NodeEntity) → first < topics → option_and_then (passing test) (placed_at topics entities first) ≡ None
   below first entities less = rw (lt-ltb first topics less) refl
 
-  behind_by : (b : Bool) (text : List ℕ) (texts : List (List ℕ)) (entities : List Placed) (first : ℕ) → first < topics → bytes_eq text name ≡ b → are_distinct (text ∷ texts ++ map name_of entities) ≡ true →
+  behind_by : (b : Bool) (text : List ℕ) (texts : List (List ℕ)) (entities : List NodeEntity) (first : ℕ) → first < topics → bytes_eq text name ≡ b → are_distinct (text ∷ texts ++ map name_of entities) ≡ true →
       found_among entities (position_from (is_text name) (first + 1) (texts ++ map name_of entities)) ≡ position_from (is_wanted test name) topics entities →
       found_among entities (cond b (Some first) (position_from (is_text name) (first + 1) (texts ++ map name_of entities))) ≡ position_from (is_wanted test name) topics entities
   behind_by true text texts entities first less same distinct others =
@@ -117,7 +117,7 @@ module _ (test : Placed → Bool) (name : List ℕ) (topics : ℕ) where
       ∙ sym (unfound test name topics entities (or_parts (list_any (is_text name) texts) (list_any (is_text name) (map name_of entities)) (sym (list_any-append (is_text name) texts (map name_of entities)) ∙ stands_once name text (texts ++ map name_of entities) same distinct)).1)
   behind_by false text texts entities first less same distinct others = others
 
-  behind : (texts : List (List ℕ)) (entities : List Placed) (first : ℕ) → topics ≡ first + length texts → are_distinct (texts ++ map name_of entities) ≡ true →
+  behind : (texts : List (List ℕ)) (entities : List NodeEntity) (first : ℕ) → topics ≡ first + length texts → are_distinct (texts ++ map name_of entities) ≡ true →
       found_among entities (position_from (is_text name) first (texts ++ map name_of entities)) ≡ position_from (is_wanted test name) topics entities
   behind [] entities first is distinct =
       let same : first ≡ topics = omega (arith, is) in
@@ -127,7 +127,7 @@ module _ (test : Placed → Bool) (name : List ℕ) (topics : ℕ) where
       (behind texts entities (first + 1) (omega (arith, is)) (and_parts (not (list_any (is_text text) (texts ++ map name_of entities))) (are_distinct (texts ++ map name_of entities)) distinct).1)
 
 -- an entity is found by its name
-pub entity_found : (draft : GraphDraft) (test : Placed → Bool) (name : List ℕ) → are_distinct (drafted_names draft) ≡ true → entity_number (directory_of draft) test name ≡ entity_named draft test name
+pub entity_found : (draft : GraphDraft) (test : NodeEntity → Bool) (name : List ℕ) → are_distinct (drafted_names draft) ≡ true → entity_number (directory_of draft) test name ≡ entity_named draft test name
 entity_found draft test name distinct = behind test name (length draft.topics) draft.topics (entities_of draft) 0 (omega arith) distinct
 
 -- ---- topics
@@ -192,10 +192,10 @@ module _ {S T : Type 0} (number : Referent → List ℕ → Option ℕ) (read : 
 
 -- what an entity of a node is that is linked
 pub resolved_same : (draft : GraphDraft) → are_distinct (drafted_names draft) ≡ true → (node : ℕ) (reference : Option ℕ) (entity : Drafted) → reference_number (directory_of draft) entity ≡ Some reference →
-    resolved_by (record { directory = directory_of draft; node = node }) reference entity ≡ read_by (named draft) (script_in (scope_of draft node)) entity
+    resolved_by (record { directory = directory_of draft; node = node }) reference entity ≡ read_by (named draft) (resolved_script (scope_of draft node)) entity
 resolved_same draft distinct node reference entity there =
-    read_same (number_in (directory_of draft)) (script_in (scope_in (directory_of draft) node)) reference entity there
-    ∙ (λ i. read_by (λ to name. number_same draft distinct to name i) (script_in (scope_same draft distinct node i)) entity)
+    read_same (number_in (directory_of draft)) (resolved_script (scope_in (directory_of draft) node)) reference entity there
+    ∙ (λ i. read_by (λ to name. number_same draft distinct to name i) (resolved_script (scope_same draft distinct node i)) entity)
 
 -- ---- bounds
 
@@ -216,13 +216,13 @@ number_below directory (referent.Entity kind) name number found =
     then_read _ (position_of directory name) _ pair named (λ place there e2.
     subst (λ (n : ℕ). n < length directory.names) (at_place place pair e2 ∙ where_is (is_of kind pair.1.entity.is) pair.0 number e1) (position_below name directory place there)))
   where
-    mapped : (place : ℕ) (o : Option Placed) (pair : ℕ × Placed) → option_map (λ placed. (place, placed)) o ≡ Some pair → place ≡ pair.0
+    mapped : (place : ℕ) (o : Option NodeEntity) (pair : ℕ × NodeEntity) → option_map (λ placed. (place, placed)) o ≡ Some pair → place ≡ pair.0
     mapped place None pair e = absurd cc
-    mapped place (Some placed) pair e = ap (λ (p : ℕ × Placed). p.0) (same_Some (place, placed) pair e)
+    mapped place (Some placed) pair e = ap (λ (p : ℕ × NodeEntity). p.0) (same_Some (place, placed) pair e)
 
-    chosen : (b : Bool) (place : ℕ) (o : Option Placed) (pair : ℕ × Placed) → (if b then None else option_map (λ placed. (place, placed)) o) ≡ Some pair → place ≡ pair.0
+    chosen : (b : Bool) (place : ℕ) (o : Option NodeEntity) (pair : ℕ × NodeEntity) → (if b then None else option_map (λ placed. (place, placed)) o) ≡ Some pair → place ≡ pair.0
     chosen true place o pair e = absurd cc
     chosen false place o pair e = mapped place o pair e
 
-    at_place : (place : ℕ) (pair : ℕ × Placed) → Directory.placed_at directory place ≡ Some pair → place ≡ pair.0
+    at_place : (place : ℕ) (pair : ℕ × NodeEntity) → Directory.placed_at directory place ≡ Some pair → place ≡ pair.0
     at_place place pair e = chosen (nat_lt place directory.topics) place (slice_get directory.entities (place - directory.topics)) pair e

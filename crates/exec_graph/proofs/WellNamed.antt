@@ -10,7 +10,7 @@ use Rattle.exec_graph.specs.declared.draft.GraphDraft.{GraphDraft}
 use Rattle.exec_plan.specs.Entity.{ReferenceData, Drafted, reference_of, refers, if_there}
 use Rattle.exec_graph.specs.Faults.{are_names, has_named_groups, drafted_names, is_resolved, is_well_named}
 use Rattle.exec_plan.specs.Names.{is_name, are_distinct}
-use Rattle.exec_graph.specs.Numbers.{Placed, entities_of, groups_from, named_group, is_group, same_name, group_named}
+use Rattle.exec_graph.specs.Numbers.{NodeEntity, entities_of, groups_from, named_group, is_group, same_name, group_named}
 use Rattle.exec_msg.specs.Options.{◌>>=◌, each}
 use Rattle.exec_graph.specs.declared.draft.GroupDraft.{GroupDraft}
 use Rattle.exec_graph.specs.declared.draft.NodeDraft.{NodeDraft}
@@ -102,15 +102,15 @@ is_referred directory entity = by (reference_of entity) where
   by (Some reference) = mapped (number_in directory reference.to reference.name)
 
 -- an entity with these numbers
-abbrev linked : Placed → ℕ → Option ℕ → Linked
+abbrev linked : NodeEntity → ℕ → Option ℕ → Linked
 linked placed group reference = record { placed = placed; group = group; reference = reference }
 
-both_there : (group : Option ℕ) (reference : Option (Option ℕ)) (placed : Placed) → is_some (group >>= (λ group. reference >>= (λ reference. Some (linked placed group reference)))) ≡ (is_some group && is_some reference)
+both_there : (group : Option ℕ) (reference : Option (Option ℕ)) (placed : NodeEntity) → is_some (group >>= (λ group. reference >>= (λ reference. Some (linked placed group reference)))) ≡ (is_some group && is_some reference)
 both_there None reference placed = refl
 both_there (Some group) None placed = refl
 both_there (Some group) (Some reference) placed = refl
 
-links_same : (draft : GraphDraft) → are_distinct (drafted_names draft) ≡ true → (placed : Placed) → is_some (linked_in (directory_of draft) placed) ≡ is_resolved draft placed
+links_same : (draft : GraphDraft) → are_distinct (drafted_names draft) ≡ true → (placed : NodeEntity) → is_some (linked_in (directory_of draft) placed) ≡ is_resolved draft placed
 links_same draft distinct placed =
     both_there (group_in (directory_of draft) placed.node placed.entity.group) (reference_number (directory_of draft) placed.entity.is) placed
     ∙ (λ i. is_some (group_same draft placed.node placed.entity.group i) && is_referred (directory_of draft) placed.entity.is i)
@@ -128,7 +128,7 @@ both_some (Some y) None = refl
 both_some (Some y) (Some ys) = refl
 
 -- all are linked where each is
-all_linked : (link : Placed → Option Linked) (placed : List Placed) → is_some (each link placed) ≡ list_all (λ one. is_some (link one)) placed
+all_linked : (link : NodeEntity → Option Linked) (placed : List NodeEntity) → is_some (each link placed) ≡ list_all (λ one. is_some (link one)) placed
 all_linked link [] = refl
 all_linked link (one ∷ placed) = both_some (link one) (each link placed) ∙ ap (λ (t : Bool). is_some (link one) && t) (all_linked link placed)
 

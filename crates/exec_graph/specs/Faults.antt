@@ -4,7 +4,7 @@ use Rattle.std.specs.Prelude.{ℕ, List, ◌++◌, length, map, Bool, true, fals
 use Rattle.exec_graph.specs.declared.draft.GraphDraft.{GraphDraft}
 use Rattle.exec_plan.specs.Entity.{Drafted, refers, is_within, scripts_of}
 use Rattle.exec_graph.specs.declared.draft.NodeDraft.{NodeDraft}
-use Rattle.exec_graph.specs.Numbers.{Placed, entities_of, named, group_named}
+use Rattle.exec_graph.specs.Numbers.{NodeEntity, entities_of, named, group_named}
 use Rattle.exec_graph.specs.Scripts.{script_faults}
 use Rattle.exec_plan.specs.Names.{is_name, are_distinct}
 use Rattle.exec_msg.specs.declared.limits.TheConstants.{NODES, NAMED_GROUPS, TOPICS, ENTITIES, INSTRUCTIONS}
@@ -22,7 +22,7 @@ abbrev pub has_named_groups : NodeDraft → Bool
 has_named_groups node = are_names (map (λ group. group.name) node.groups)
 
 -- the group that an entity names is of its node, and what it refers to is declared
-abbrev pub is_resolved : GraphDraft → Placed → Bool
+abbrev pub is_resolved : GraphDraft → NodeEntity → Bool
 is_resolved draft placed = is_some (group_named draft placed.node placed.entity.group) && refers (λ to name. is_some (named draft to name)) placed.entity.is
 
 -- the names of topics and entities

@@ -18,21 +18,21 @@ use Rattle.exec_script.specs.Spelling.{ScopeNames}
 -- ---- entities
 
 -- an entity with the number of its node
-pub record Placed : Type 0 where
+pub record NodeEntity : Type 0 where
   pub node : ℕ
   pub entity : EntityDraft
 
 -- an entity of a node
-abbrev pub placed_in : ℕ → EntityDraft → Placed
-placed_in node entity = record { node = node; entity = entity }
+abbrev pub node_entity : ℕ → EntityDraft → NodeEntity
+node_entity node entity = record { node = node; entity = entity }
 
 -- the entities of nodes in order, of which the first has this number
-abbrev pub entities_from : ℕ → List NodeDraft → List Placed
+abbrev pub entities_from : ℕ → List NodeDraft → List NodeEntity
 entities_from number [] = []
-entities_from number (node ∷ nodes) = map (placed_in number) node.entities ++ entities_from (suc number) nodes
+entities_from number (node ∷ nodes) = map (node_entity number) node.entities ++ entities_from (suc number) nodes
 
 -- the entities of a graph in the order of their numbers: by kind, and within a kind in the order of declaration
-abbrev pub entities_of : GraphDraft → List Placed
+abbrev pub entities_of : GraphDraft → List NodeEntity
 entities_of draft = flat_map (λ kind. filter (λ placed. is_of kind placed.entity.is) (entities_from 0 draft.nodes)) entity_kinds
 
 -- the number of the topic of a name; topics have the first numbers
@@ -40,7 +40,7 @@ abbrev pub topic_named : GraphDraft → List ℕ → Option EntityNo
 topic_named draft name = position_from (λ topic. bytes_eq topic name) 0 draft.topics
 
 -- the number of the entity of a name that passes a test; entities have the numbers behind those of the topics
-abbrev pub entity_named : GraphDraft → (Placed → Bool) → List ℕ → Option EntityNo
+abbrev pub entity_named : GraphDraft → (NodeEntity → Bool) → List ℕ → Option EntityNo
 entity_named draft test name = position_from (λ placed. test placed && bytes_eq placed.entity.name name) (length draft.topics) (entities_of draft)
 
 -- the number of the entity of a kind and a name, in whatever node

@@ -22,9 +22,9 @@ abbrev pub fault_in : GraphDraft → Option GraphFault
 fault_in draft = find (λ fault. has_fault fault draft) faults_in_order
 
 -- the number of a fault
-abbrev pub number_of_fault : GraphFault → ℕ
-number_of_fault Name = 4
-number_of_fault Limit = 5
-number_of_fault Script = 6
-number_of_fault GroupVariable = 7
-number_of_fault Memory = 10
+abbrev pub graph_fault_number : GraphFault → ℕ
+graph_fault_number Name = 4
+graph_fault_number Limit = 5
+graph_fault_number Script = 6
+graph_fault_number GroupVariable = 7
+graph_fault_number Memory = 10

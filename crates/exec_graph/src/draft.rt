@@ -12,7 +12,7 @@ pub(crate) mod scope;
 pub(crate) mod texts;
 
 use crate::spelled::Spelled;
-use exec_msg::Items;
+use exec_msg::Elements;
 use exec_plan::EntityOf;
 use exec_script::WordText;
 
@@ -45,16 +45,16 @@ pub struct NodeDraft {
     /// Its name.
     pub name: WordText,
     /// Its named callback groups.
-    pub groups: Items<GroupDraft>,
+    pub groups: Elements<GroupDraft>,
     /// Its entities of all kinds. Those of one kind are numbered in this order.
-    pub entities: Items<EntityDraft>,
+    pub entities: Elements<EntityDraft>,
 }
 
 /// What a graph declares.
 #[derive(Debug, Drop)]
 pub struct GraphDraft {
     /// The names of its topics, in the order of their numbers.
-    pub topics: Items<WordText>,
+    pub topics: Elements<WordText>,
     /// Its nodes, in the order of their numbers.
-    pub nodes: Items<NodeDraft>,
+    pub nodes: Elements<NodeDraft>,
 }

@@ -1,5 +1,5 @@
 ghost use Rattle.std.specs.Prelude.{◌≡◌};
-ghost use Rattle.exec_graph.specs.Refusals.{number_of_fault};
+ghost use Rattle.exec_graph.specs.Refusals.{graph_fault_number};
 ghost use Rattle.exec_graph.specs.declared.fault.GraphFault.TheVariants as graph_fault;
 
 use exec_msg::Memory;
@@ -29,7 +29,7 @@ pub enum GraphFault {
 impl GraphFault {
     /// The number of the fault, from 4 to 10.
     pub fn number(self) -> u8
-        ensures { result ≡ number_of_fault self }
+        ensures { result ≡ graph_fault_number self }
     {
         self as u8
     }

@@ -2,7 +2,7 @@
 use Rattle.std.specs.Prelude.{ℕ, List, Bool, Option}
 
 -- a reader: the bytes that it has left, where it tells them, and whether a read has failed
-pub record Source : Type 0 where
+pub record ReaderState : Type 0 where
   pub remaining : Option (List ℕ)
   pub failed : Bool
 

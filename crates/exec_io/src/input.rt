@@ -30,9 +30,9 @@ pub struct InputStream<R: Read> {
 }
 
 impl<R: Read> Model for InputStream<R> {
-    ghost use Rattle.exec_io.specs.Streams.{Source};
+    ghost use Rattle.exec_io.specs.Streams.{ReaderState};
 
-    ghost Value = { Source };
+    ghost Value = { ReaderState };
 
     ghost view = { λ input. record { remaining = R.remaining input.reader; failed = input.failed } };
 }

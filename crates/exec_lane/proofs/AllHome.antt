@@ -9,10 +9,10 @@ use Rattle.exec_msg.specs.Numbers.{EntityNo}
 use Rattle.exec_lane.proofs.ComingHome.{AreApart, ComesBehind, NonePolls, all_with_callback, apart_with_callback, comes_behind, did_with, home_after, home_of, homes_of, lanes_past, put_beside, ran_of, ran_with, same_for}
 use Rattle.exec_lane.proofs.Putting.{left_by_home, left_by_put, out_is, polled_home, task_put, work_twice}
 use Rattle.exec_lane.specs.Gather.{all_ran, ran_each, ran_in}
-use Rattle.exec_lane.specs.Lane.{AreFinished, Entry, IsFinished, Lane, LaneState, entry_in, lane_at, lane_home, lanes_home, lanes_of, opened, opened_lanes, run_entry, task_home, tasks_home, tasks_out, variables_at, variables_home, with_callback, without_task}
+use Rattle.exec_lane.specs.Lane.{AreFinished, IsFinished, Lane, LaneCallback, LaneState, entry_in, lane_at, lane_home, lanes_home, lanes_of, opened, opened_lanes, run_entry, task_home, tasks_home, tasks_out, variables_for_lane, variables_home, with_callback, without_task}
 use Rattle.exec_lane.specs.declared.gathering.Ran.{Ran}
 use Rattle.exec_script.specs.declared.effects.Effect.{Effect}
-use Rattle.exec_rules.specs.Callback.{Outcome}
+use Rattle.exec_rules.specs.Callback.{AfterCallback}
 use Rattle.exec_rules.specs.Calls.{AreHome, HaveVariables, IsHomeFor, polls_same}
 use Rattle.exec_rules.specs.Run.{all_apart, all_home, apart, apart_with, brought_home, effects_of, variables_for, with_polled, with_variables_for, work_after, work_for}
 use Rattle.exec_script.specs.Script.{Variables}
@@ -39,7 +39,7 @@ work_beside server of one variables world = by of one.exclusive
     by (cause.Woke id value canceling) false = refl
 
 -- what comes home of a callback whose task was out, comes home as if the task had been there
-brought : (one : Ready) (work : Option GoalWork) (outcome : Outcome (List Effect)) (world : WorldState) → work_for one.entity one.cause world ≡ work → IsHomeFor one.entity one.cause world →
+brought : (one : Ready) (work : Option GoalWork) (outcome : AfterCallback (List Effect)) (world : WorldState) → work_for one.entity one.cause world ≡ work → IsHomeFor one.entity one.cause world →
     task_home one.entity one.cause (option_map (work_after outcome.task) work) (with_variables_for one outcome.variables (task_put one.entity one.cause None world)) ≡ brought_home one outcome world
 brought one work outcome world is home = by one.cause refl is home
   where
@@ -98,7 +98,7 @@ works_left : (first : WorldState) (one : Ready) (rest : List Ready) (variables :
 works_left first one [] variables world after is apart works = tt
 works_left first one (other ∷ rest) variables world after is apart works =
     let out : WorldState = task_put one.entity one.cause None world in
-    let did : Outcome (List Effect) = did_with first one variables in (
+    let did : AfterCallback (List Effect) = did_with first one variables in (
       ap (work_for other.entity other.cause) is
           ∙ left_by_home one.entity one.cause (option_map (work_after did.task) (work_for one.entity one.cause first)) other (with_variables_for one did.variables out) apart.0
           ∙ work_beside other.entity other.cause one did.variables out
@@ -130,7 +130,7 @@ came first (one ∷ rest) lanes world may =
     let next : homes_of first (with_callback lanes one) out ≡ brought_home one (apart one here) here =
     after
     ∙ brought one (work_for one.entity one.cause first) (did_with first one (variables_for one here)) here may.works.0 (home_there one.entity one.cause first here may.works.0 may.home.0)
-    ∙ ap (λ (outcome : Outcome (List Effect)). brought_home one outcome here) did in
+    ∙ ap (λ (outcome : AfterCallback (List Effect)). brought_home one outcome here) did in
     let rest_came : Came first rest (with_callback lanes one) out =
     came first rest (with_callback lanes one) out
     (record {
@@ -143,7 +143,7 @@ came first (one ∷ rest) lanes world may =
       within = may.within.1;
     }) in
     let ran : ran_with first one (variables_for one (homes_of first lanes out)) ≡ record { ready = one; effects = effects_of (apart one here) } =
-    ap (λ (outcome : Outcome (List Effect)). record { ready = one; effects = effects_of outcome }) (ap (did_with first one) found ∙ did) in
+    ap (λ (outcome : AfterCallback (List Effect)). record { ready = one; effects = effects_of outcome }) (ap (did_with first one) found ∙ did) in
     let more : List Ran = all_ran rest (all_apart rest (homes_of first (with_callback lanes one) out)) in
     record {
       home = rest_came.home ∙ ap (all_home rest) next;
@@ -158,15 +158,15 @@ came first (one ∷ rest) lanes world may =
 -- a lane all of whose callbacks ran
 finished_lane : (first world : WorldState) (opening : List Ready) (lane : Lane) → IsFinished (opened first opening) lane → lane_home world lane ≡ home_of first world opening
 finished_lane first world opening lane finished =
-    let entries : List Entry = map (entry_in first) opening in
-    (λ i. tasks_home (finished.entries i) (lane_at (finished.variables i) (finished.entries i) (finished.done i)).done (variables_home (finished.entries i) (lane_at (finished.variables i) (finished.entries i) (finished.done i)).variables world))
-    ∙ ap (λ (all : List Entry). let state : LaneState = fold run_entry (record { variables = variables_at first opening; done = [] }) all in tasks_home entries state.done (variables_home entries state.variables world)) (take_all (length entries) entries (omega arith))
+    let entries : List LaneCallback = map (entry_in first) opening in
+    (λ i. tasks_home (finished.entries i) (lane_at (finished.variables i) (finished.entries i) (finished.done i)).left (variables_home (finished.entries i) (lane_at (finished.variables i) (finished.entries i) (finished.done i)).variables world))
+    ∙ ap (λ (all : List LaneCallback). let state : LaneState = fold run_entry (record { variables = variables_for_lane first opening; left = [] }) all in tasks_home entries state.left (variables_home entries state.variables world)) (take_all (length entries) entries (omega arith))
 
 finished_ran : (first : WorldState) (opening : List Ready) (lane : Lane) → IsFinished (opened first opening) lane → ran_in lane ≡ ran_of first opening
 finished_ran first opening lane finished =
-    let entries : List Entry = map (entry_in first) opening in
-    (λ i. ran_each (finished.entries i) (lane_at (finished.variables i) (finished.entries i) (finished.done i)).done)
-    ∙ ap (λ (all : List Entry). ran_each entries (fold run_entry (record { variables = variables_at first opening; done = [] }) all).done) (take_all (length entries) entries (omega arith))
+    let entries : List LaneCallback = map (entry_in first) opening in
+    (λ i. ran_each (finished.entries i) (lane_at (finished.variables i) (finished.entries i) (finished.done i)).left)
+    ∙ ap (λ (all : List LaneCallback). ran_each entries (fold run_entry (record { variables = variables_for_lane first opening; left = [] }) all).left) (take_all (length entries) entries (omega arith))
 
 finished_lanes : (first world : WorldState) (openings : List (List Ready)) (lanes : List Lane) → AreFinished (map (opened first) openings) lanes → lanes_home lanes world ≡ homes_of first openings world
 finished_lanes first world [] [] finished = refl

@@ -11,12 +11,12 @@ use Rattle.std.proofs.lemmas.List.Sums.{fold-append}
 use Rattle.exec_msg.specs.Numbers.{EntityNo}
 use Rattle.exec_lane.proofs.Putting.{put_past, task_put, variables_left, variables_put, variables_turned, variables_twice}
 use Rattle.exec_lane.specs.Gather.{ran_each}
-use Rattle.exec_lane.specs.Lane.{Done, Entry, LaneState, done_by, entry_in, goes_into, is_beside, run_entry, task_home, tasks_home, variables_at, variables_home, with_callback}
+use Rattle.exec_lane.specs.Lane.{LaneCallback, LaneState, LeftByCallback, entry_in, goes_into, is_beside, left_by_callback, run_entry, task_home, tasks_home, variables_for_lane, variables_home, with_callback}
 use Rattle.exec_lane.specs.declared.gathering.Ran.{Ran}
 use Rattle.exec_msg.specs.Lists.{change_first}
 use Rattle.exec_script.specs.declared.effects.Effect.{Effect}
 use Rattle.exec_script.specs.Zeros.{zeros}
-use Rattle.exec_rules.specs.Callback.{Outcome}
+use Rattle.exec_rules.specs.Callback.{AfterCallback}
 use Rattle.exec_rules.specs.Calls.{polls_same}
 use Rattle.exec_rules.specs.Run.{apart, apart_with, effects_of, variables_for, with_variables_for, work_after, work_for}
 use Rattle.exec_script.specs.Script.{Variables}
@@ -29,22 +29,22 @@ use Rattle.exec_rules.specs.declared.ready.Ready.{Ready}
 
 -- how it stands
 abbrev pub left_of : WorldState → List Ready → LaneState
-left_of first lane = fold run_entry (record { variables = variables_at first lane; done = [] }) (map (entry_in first) lane)
+left_of first lane = fold run_entry (record { variables = variables_for_lane first lane; left = [] }) (map (entry_in first) lane)
 
 -- a world in which what it took is home
 abbrev pub home_of : WorldState → WorldState → List Ready → WorldState
-home_of first world lane = tasks_home (map (entry_in first) lane) (left_of first lane).done (variables_home (map (entry_in first) lane) (left_of first lane).variables world)
+home_of first world lane = tasks_home (map (entry_in first) lane) (left_of first lane).left (variables_home (map (entry_in first) lane) (left_of first lane).variables world)
 
 abbrev pub homes_of : WorldState → List (List Ready) → WorldState → WorldState
 homes_of first lanes world = fold (home_of first) world lanes
 
 -- what its callbacks did
 abbrev pub ran_of : WorldState → List Ready → List Ran
-ran_of first lane = ran_each (map (entry_in first) lane) (left_of first lane).done
+ran_of first lane = ran_each (map (entry_in first) lane) (left_of first lane).left
 
 -- ---- a callback's variables and work, put before or behind a lane comes home
 
-tasks_keep : (entries : List Entry) (done : List Done) (world : WorldState) → (tasks_home entries done world).variables ≡ world.variables
+tasks_keep : (entries : List LaneCallback) (done : List LeftByCallback) (world : WorldState) → (tasks_home entries done world).variables ≡ world.variables
 tasks_keep [] done world = refl
 tasks_keep (entry ∷ entries) [] world = tasks_keep entries [] (task_home entry.ready.entity entry.ready.cause entry.work world) ∙ keeps entry.ready.entity entry.ready.cause entry.work
   where
@@ -73,7 +73,7 @@ task_beside server (cause.Woke id value canceling) (Some work) one variables wor
     by true = refl
     by false = refl
 
-tasks_beside : (entries : List Entry) (done : List Done) (one : Ready) (variables : Variables) (world : WorldState) → tasks_home entries done (with_variables_for one variables world) ≡ with_variables_for one variables (tasks_home entries done world)
+tasks_beside : (entries : List LaneCallback) (done : List LeftByCallback) (one : Ready) (variables : Variables) (world : WorldState) → tasks_home entries done (with_variables_for one variables world) ≡ with_variables_for one variables (tasks_home entries done world)
 tasks_beside [] done one variables world = refl
 tasks_beside (entry ∷ entries) [] one variables world =
     ap (tasks_home entries []) (task_beside entry.ready.entity entry.ready.cause entry.work one variables world)
@@ -86,7 +86,7 @@ tasks_beside (entry ∷ entries) (did ∷ done) one variables world =
 abbrev pub NonePolls : Ready → List Ready → Type 0
 NonePolls one lane = AllByRecursion (λ other. polls_same other one ≡ false) lane
 
-tasks_past : (first : WorldState) (lane : List Ready) (done : List Done) (one : Ready) (work : Option GoalWork) (world : WorldState) → NonePolls one lane →
+tasks_past : (first : WorldState) (lane : List Ready) (done : List LeftByCallback) (one : Ready) (work : Option GoalWork) (world : WorldState) → NonePolls one lane →
     tasks_home (map (entry_in first) lane) done (task_put one.entity one.cause work world) ≡ task_put one.entity one.cause work (tasks_home (map (entry_in first) lane) done world)
 tasks_past first [] done one work world apart = refl
 tasks_past first (other ∷ lane) [] one work world apart =
@@ -113,8 +113,8 @@ lane_past : (first : WorldState) (lane : List Ready) (one : Ready) (work : Optio
     home_of first (task_put one.entity one.cause work world) lane ≡ task_put one.entity one.cause work (home_of first world lane)
 lane_past first [] one work world apart = refl
 lane_past first (other ∷ lane) one work world apart =
-    ap (tasks_home (map (entry_in first) (other ∷ lane)) (left_of first (other ∷ lane)).done) (put_beside one work other (left_of first (other ∷ lane)).variables world)
-    ∙ tasks_past first (other ∷ lane) (left_of first (other ∷ lane)).done one work (with_variables_for other (left_of first (other ∷ lane)).variables world) apart
+    ap (tasks_home (map (entry_in first) (other ∷ lane)) (left_of first (other ∷ lane)).left) (put_beside one work other (left_of first (other ∷ lane)).variables world)
+    ∙ tasks_past first (other ∷ lane) (left_of first (other ∷ lane)).left one work (with_variables_for other (left_of first (other ∷ lane)).variables world) apart
 
 pub lanes_past : (first : WorldState) (lanes : List (List Ready)) (one : Ready) (work : Option GoalWork) (world : WorldState) → AllByRecursion (NonePolls one) lanes →
     homes_of first lanes (task_put one.entity one.cause work world) ≡ task_put one.entity one.cause work (homes_of first lanes world)
@@ -130,8 +130,8 @@ lane_beside : (first : WorldState) (lane : List Ready) (one : Ready) (variables 
     home_of first (with_variables_for one variables world) lane ≡ with_variables_for one variables (home_of first world lane)
 lane_beside first [] one variables world apart = refl
 lane_beside first (other ∷ lane) one variables world apart =
-    ap (tasks_home (map (entry_in first) (other ∷ lane)) (left_of first (other ∷ lane)).done) (variables_turned one other variables (left_of first (other ∷ lane)).variables world apart)
-    ∙ tasks_beside (map (entry_in first) (other ∷ lane)) (left_of first (other ∷ lane)).done one variables (with_variables_for other (left_of first (other ∷ lane)).variables world)
+    ap (tasks_home (map (entry_in first) (other ∷ lane)) (left_of first (other ∷ lane)).left) (variables_turned one other variables (left_of first (other ∷ lane)).variables world apart)
+    ∙ tasks_beside (map (entry_in first) (other ∷ lane)) (left_of first (other ∷ lane)).left one variables (with_variables_for other (left_of first (other ∷ lane)).variables world)
 
 lanes_beside : (first : WorldState) (lanes : List (List Ready)) (one : Ready) (variables : Variables) (world : WorldState) → AllByRecursion (TakesNot one) lanes →
     homes_of first lanes (with_variables_for one variables world) ≡ with_variables_for one variables (homes_of first lanes world)
@@ -151,7 +151,7 @@ lane_leaves : (first : WorldState) (lane : List Ready) (one : Ready) (world : Wo
 lane_leaves first [] one world apart = refl
 lane_leaves first (other ∷ lane) one world apart =
     let began : WorldState = with_variables_for other (left_of first (other ∷ lane)).variables world in
-    same_for one began (home_of first world (other ∷ lane)) (tasks_keep (map (entry_in first) (other ∷ lane)) (left_of first (other ∷ lane)).done began)
+    same_for one began (home_of first world (other ∷ lane)) (tasks_keep (map (entry_in first) (other ∷ lane)) (left_of first (other ∷ lane)).left began)
     ∙ variables_left one other (left_of first (other ∷ lane)).variables world apart
 
 lanes_leave : (first : WorldState) (lanes : List (List Ready)) (one : Ready) (world : WorldState) → AllByRecursion (TakesNot one) lanes → variables_for one (homes_of first lanes world) ≡ variables_for one world
@@ -161,21 +161,21 @@ lanes_leave first (lane ∷ lanes) one world apart = lanes_leave first lanes one
 -- ---- one more callback
 
 -- as many callbacks left something as ran
-as_many : (state : LaneState) (entries : List Entry) → length (fold run_entry state entries).done ≡ length state.done + length entries
+as_many : (state : LaneState) (entries : List LaneCallback) → length (fold run_entry state entries).left ≡ length state.left + length entries
 as_many state [] = omega arith
 as_many state (entry ∷ entries) =
     let rest = as_many (run_entry state entry) entries in
-    let one = length_push state.done (done_by entry.work (apart_with entry.ready entry.work state.variables)) in
+    let one = length_push state.left (left_by_callback entry.work (apart_with entry.ready entry.work state.variables)) in
     omega (arith, rest, one)
 
-tasks_more : (entries : List Entry) (done : List Done) (entry : Entry) (did : Done) (world : WorldState) → length done ≡ length entries →
+tasks_more : (entries : List LaneCallback) (done : List LeftByCallback) (entry : LaneCallback) (did : LeftByCallback) (world : WorldState) → length done ≡ length entries →
     tasks_home (entries ++ entry ∷ []) (done ++ did ∷ []) world ≡ task_home entry.ready.entity entry.ready.cause did.work (tasks_home entries done world)
 tasks_more [] [] entry did world same = refl
 tasks_more [] (one ∷ done) entry did world same = absurd (omega (arith, same))
 tasks_more (one ∷ entries) [] entry did world same = absurd (omega (arith, same))
 tasks_more (one ∷ entries) (other ∷ done) entry did world same = tasks_more entries done entry did (task_home one.ready.entity one.ready.cause other.work world) (omega (arith, same))
 
-ran_more : (entries : List Entry) (done : List Done) (entry : Entry) (did : Done) → length done ≡ length entries →
+ran_more : (entries : List LaneCallback) (done : List LeftByCallback) (entry : LaneCallback) (did : LeftByCallback) → length done ≡ length entries →
     ran_each (entries ++ entry ∷ []) (done ++ did ∷ []) ≡ ran_each entries done ++ record { ready = entry.ready; effects = did.effects } ∷ []
 ran_more [] [] entry did same = refl
 ran_more [] (one ∷ done) entry did same = absurd (omega (arith, same))
@@ -183,7 +183,7 @@ ran_more (one ∷ entries) [] entry did same = absurd (omega (arith, same))
 ran_more (one ∷ entries) (other ∷ done) entry did same = ap (λ (all : List Ran). record { ready = one.ready; effects = other.effects } ∷ all) (ran_more entries done entry did (omega (arith, same)))
 
 -- what a callback does whose goal has its work of a first world, with these variables
-abbrev pub did_with : WorldState → Ready → Variables → Outcome (List Effect)
+abbrev pub did_with : WorldState → Ready → Variables → AfterCallback (List Effect)
 did_with first one variables = apart_with one (work_for one.entity one.cause first) variables
 
 -- what it brings home
@@ -196,11 +196,11 @@ ran_with first one variables = record { ready = one; effects = effects_of (did_w
 
 left_more : (first : WorldState) (other : Ready) (lane : List Ready) (one : Ready) → left_of first ((other ∷ lane) ++ one ∷ []) ≡ run_entry (left_of first (other ∷ lane)) (entry_in first one)
 left_more first other lane one =
-    ap (λ (entries : List Entry). fold run_entry (record { variables = variables_for other first; done = [] }) entries) (map-append (entry_in first) (other ∷ lane) (one ∷ []))
-    ∙ fold-append run_entry (record { variables = variables_for other first; done = [] }) (map (entry_in first) (other ∷ lane)) (entry_in first one ∷ [])
+    ap (λ (entries : List LaneCallback). fold run_entry (record { variables = variables_for other first; left = [] }) entries) (map-append (entry_in first) (other ∷ lane) (one ∷ []))
+    ∙ fold-append run_entry (record { variables = variables_for other first; left = [] }) (map (entry_in first) (other ∷ lane)) (entry_in first one ∷ [])
 
-left_as_many : (first : WorldState) (other : Ready) (lane : List Ready) → length (left_of first (other ∷ lane)).done ≡ length (map (entry_in first) (other ∷ lane))
-left_as_many first other lane = let all = as_many (record { variables = variables_for other first; done = [] }) (map (entry_in first) (other ∷ lane)) in omega (arith, all)
+left_as_many : (first : WorldState) (other : Ready) (lane : List Ready) → length (left_of first (other ∷ lane)).left ≡ length (map (entry_in first) (other ∷ lane))
+left_as_many first other lane = let all = as_many (record { variables = variables_for other first; left = [] }) (map (entry_in first) (other ∷ lane)) in omega (arith, all)
 
 -- the variables of callbacks beside each other are those of one group
 for_one : (one other : Ready) (variables : Variables) (world : WorldState) → is_beside one other ≡ true → with_variables_for other variables world ≡ with_variables_for one variables world
@@ -213,25 +213,25 @@ for_one one other variables world beside =
 lane_more : (first world : WorldState) (other : Ready) (lane : List Ready) (one : Ready) → is_beside one other ≡ true →
     home_of first world ((other ∷ lane) ++ one ∷ []) ≡ home_after first one (left_of first (other ∷ lane)).variables (home_of first world (other ∷ lane))
 lane_more first world other lane one beside =
-    let entries : List Entry = map (entry_in first) (other ∷ lane) in
+    let entries : List LaneCallback = map (entry_in first) (other ∷ lane) in
     let state : LaneState = left_of first (other ∷ lane) in
-    let did : Outcome (List Effect) = did_with first one state.variables in
+    let did : AfterCallback (List Effect) = did_with first one state.variables in
     let after : WorldState = with_variables_for other did.variables world in
-    ap (λ (last : LaneState). tasks_home (map (entry_in first) ((other ∷ lane) ++ one ∷ [])) last.done (with_variables_for other last.variables world)) (left_more first other lane one)
-    ∙ ap (λ (all : List Entry). tasks_home all (state.done ++ done_by (work_for one.entity one.cause first) did ∷ []) after) (map-append (entry_in first) (other ∷ lane) (one ∷ []))
-    ∙ tasks_more entries state.done (entry_in first one) (done_by (work_for one.entity one.cause first) did) after (left_as_many first other lane)
+    ap (λ (last : LaneState). tasks_home (map (entry_in first) ((other ∷ lane) ++ one ∷ [])) last.left (with_variables_for other last.variables world)) (left_more first other lane one)
+    ∙ ap (λ (all : List LaneCallback). tasks_home all (state.left ++ left_by_callback (work_for one.entity one.cause first) did ∷ []) after) (map-append (entry_in first) (other ∷ lane) (one ∷ []))
+    ∙ tasks_more entries state.left (entry_in first one) (left_by_callback (work_for one.entity one.cause first) did) after (left_as_many first other lane)
     ∙ ap (λ (last : WorldState). task_home one.entity one.cause (option_map (work_after did.task) (work_for one.entity one.cause first)) last)
-    (ap (tasks_home entries state.done) (sym (variables_twice other state.variables did.variables world) ∙ for_one one other did.variables (with_variables_for other state.variables world) beside)
-    ∙ tasks_beside entries state.done one did.variables (with_variables_for other state.variables world))
+    (ap (tasks_home entries state.left) (sym (variables_twice other state.variables did.variables world) ∙ for_one one other did.variables (with_variables_for other state.variables world) beside)
+    ∙ tasks_beside entries state.left one did.variables (with_variables_for other state.variables world))
 
 lane_ran_more : (first : WorldState) (other : Ready) (lane : List Ready) (one : Ready) → ran_of first ((other ∷ lane) ++ one ∷ []) ≡ ran_of first (other ∷ lane) ++ ran_with first one (left_of first (other ∷ lane)).variables ∷ []
 lane_ran_more first other lane one =
-    let entries : List Entry = map (entry_in first) (other ∷ lane) in
+    let entries : List LaneCallback = map (entry_in first) (other ∷ lane) in
     let state : LaneState = left_of first (other ∷ lane) in
-    let did : Outcome (List Effect) = did_with first one state.variables in
-    ap (λ (last : LaneState). ran_each (map (entry_in first) ((other ∷ lane) ++ one ∷ [])) last.done) (left_more first other lane one)
-    ∙ ap (λ (all : List Entry). ran_each all (state.done ++ done_by (work_for one.entity one.cause first) did ∷ [])) (map-append (entry_in first) (other ∷ lane) (one ∷ []))
-    ∙ ran_more entries state.done (entry_in first one) (done_by (work_for one.entity one.cause first) did) (left_as_many first other lane)
+    let did : AfterCallback (List Effect) = did_with first one state.variables in
+    ap (λ (last : LaneState). ran_each (map (entry_in first) ((other ∷ lane) ++ one ∷ [])) last.left) (left_more first other lane one)
+    ∙ ap (λ (all : List LaneCallback). ran_each all (state.left ++ left_by_callback (work_for one.entity one.cause first) did ∷ [])) (map-append (entry_in first) (other ∷ lane) (one ∷ []))
+    ∙ ran_more entries state.left (entry_in first one) (left_by_callback (work_for one.entity one.cause first) did) (left_as_many first other lane)
 
 -- the variables that a lane brings home are its group's
 lane_brings : (first world : WorldState) (other : Ready) (lane : List Ready) (one : Ready) → is_beside one other ≡ true → one.group < length world.variables →
@@ -240,7 +240,7 @@ lane_brings first world other lane one beside within =
     let state : LaneState = left_of first (other ∷ lane) in
     let began : WorldState = with_variables_for other state.variables world in
     let each = and_parts one.exclusive other.exclusive (and_parts (one.exclusive && other.exclusive) (one.group == other.group) beside).0 in
-    same_for one began (home_of first world (other ∷ lane)) (tasks_keep (map (entry_in first) (other ∷ lane)) state.done began)
+    same_for one began (home_of first world (other ∷ lane)) (tasks_keep (map (entry_in first) (other ∷ lane)) state.left began)
     ∙ ap (variables_for one) (for_one one other state.variables world beside)
     ∙ variables_put one state.variables world each.0 within
 
@@ -248,7 +248,7 @@ lane_brings first world other lane one beside within =
 as_many_groups : (first world : WorldState) (lane : List Ready) → length (home_of first world lane).variables ≡ length world.variables
 as_many_groups first world [] = refl
 as_many_groups first world (other ∷ lane) =
-    ap length (tasks_keep (map (entry_in first) (other ∷ lane)) (left_of first (other ∷ lane)).done (with_variables_for other (left_of first (other ∷ lane)).variables world)) ∙ by other.exclusive
+    ap length (tasks_keep (map (entry_in first) (other ∷ lane)) (left_of first (other ∷ lane)).left (with_variables_for other (left_of first (other ∷ lane)).variables world)) ∙ by other.exclusive
   where
     by : (b : Bool) → length (if b then with_variables other.group (left_of first (other ∷ lane)).variables world else world).variables ≡ length world.variables
     by true = length-set world.variables other.group (left_of first (other ∷ lane)).variables
@@ -299,7 +299,7 @@ task_past first lanes one work began after polls came = by work one.cause refl
 home_past : (first : WorldState) (lanes : List (List Ready)) (one : Ready) (variables : Variables) (world : WorldState) → AllByRecursion (TakesNot one) lanes → AllByRecursion (NonePolls one) lanes →
     homes_of first lanes (home_after first one variables world) ≡ home_after first one variables (homes_of first lanes world)
 home_past first lanes one variables world takes_not polls =
-    let did : Outcome (List Effect) = did_with first one variables in
+    let did : AfterCallback (List Effect) = did_with first one variables in
     task_past first lanes one (option_map (work_after did.task) (work_for one.entity one.cause first)) (with_variables_for one did.variables world) (with_variables_for one did.variables (homes_of first lanes world)) polls
     (lanes_beside first lanes one did.variables world takes_not)
 

@@ -4,7 +4,7 @@ use Rattle.std.specs.List.{AllByRecursion, IsDistinct, fold, list_any}
 use Rattle.std.proofs.lemmas.List.{reverse-append, reverse-reverse}
 use Rattle.exec_msg.specs.Numbers.{EntityNo, GoalId}
 use Rattle.exec_lane.proofs.Putting.{apart_work, left_by_put, out_is}
-use Rattle.exec_lane.specs.Lane.{Lane, entry_in, goes_into, lanes_of, opened, opened_lanes, tasks_out, variables_at, with_callback, without_task}
+use Rattle.exec_lane.specs.Lane.{Lane, entry_in, goes_into, lanes_of, opened, opened_lanes, tasks_out, variables_for_lane, with_callback, without_task}
 use Rattle.exec_lane.specs.inner.Cuts.{callbacks_of, cut_from, lane_with, opened_slots, slot_in, takes, with_slot}
 use Rattle.exec_lane.specs.inner.Slots.{SlotState, entries_of}
 use Rattle.exec_msg.specs.Lists.{change_first}
@@ -102,7 +102,7 @@ all_variables_stay : (list : List Ready) (world : WorldState) → (tasks_out lis
 all_variables_stay [] world = refl
 all_variables_stay (one ∷ list) world = all_variables_stay list (without_task one.entity one.cause world) ∙ variables_stay one.entity one.cause world
 
-variables_same : (after world : WorldState) (lane : List Ready) → after.variables ≡ world.variables → variables_at after lane ≡ variables_at world lane
+variables_same : (after world : WorldState) (lane : List Ready) → after.variables ≡ world.variables → variables_for_lane after lane ≡ variables_for_lane world lane
 variables_same after world [] same = refl
 variables_same after world (first ∷ lane) same = ap (λ (all : List Variables). if first.exclusive then slice_index_or all first.group zeros else zeros) same
 
@@ -113,7 +113,7 @@ entries_are world (one ∷ lane) = ap (λ others. entry_in world one ∷ others)
 opened_so : (after world : WorldState) → after.variables ≡ world.variables → (lanes : List (List Ready)) → map (opened_slots after) (slots_of world lanes) ≡ map (opened world) lanes
 opened_so after world same [] = refl
 opened_so after world same (lane ∷ lanes) =
-    (λ i. record { variables = (ap (variables_at after) (callbacks_back world lane) ∙ variables_same after world lane same) i; entries = entries_are world lane i; done = 0; failed = false } ∷ opened_so after world same lanes i)
+    (λ i. record { variables = (ap (variables_for_lane after) (callbacks_back world lane) ∙ variables_same after world lane same) i; entries = entries_are world lane i; done = 0; failed = false } ∷ opened_so after world same lanes i)
 
 -- what is cut and then opened are the lanes of the list
 pub opened_are : (list : List Ready) (world : WorldState) → AreHome list world → map (opened_slots (tasks_out list world)) (cut_from [] list world) ≡ opened_lanes list world

@@ -1,6 +1,6 @@
 -- A worked example: the lane of two timers of one callback group in their first round.
 use Rattle.std.specs.Prelude.{ℤ, pos, List, [], ◌∷◌, codes, map, true, None}
-use Rattle.exec_lane.specs.Lane.{Entry, Done, LaneState}
+use Rattle.exec_lane.specs.Lane.{LaneCallback, LeftByCallback, LaneState}
 use Rattle.exec_plan.specs.Graph.{in_group}
 use Rattle.exec_plan.specs.Plan.{PlanData}
 use Rattle.exec_plan.specs.declared.order.Order.TheVariants as order
@@ -48,17 +48,17 @@ abbrev pub first_ready : List Ready
 first_ready = ready_in 1 (new_world shared)
 
 -- a callback that polls no goal
-abbrev pub alone : Ready → Entry
+abbrev pub alone : Ready → LaneCallback
 alone one = record { ready = one; work = None }
 
 -- the entries of their lane
-abbrev pub first_entries : List Entry
+abbrev pub first_entries : List LaneCallback
 first_entries = map alone first_ready
 
 -- a callback that logs a value
-abbrev pub logs : ℤ → Done
+abbrev pub logs : ℤ → LeftByCallback
 logs value = record { effects = record { list = effect.Log value ∷ []; close = close.Nothing }; work = None }
 
 -- the lane after both: the first doubled the variable 0, and the second added 1 to it
 abbrev pub lane_done : LaneState
-lane_done = record { variables = pos 1 ∷ pos 0 ∷ pos 0 ∷ pos 0 ∷ pos 0 ∷ pos 0 ∷ pos 0 ∷ pos 0 ∷ []; done = logs (pos 0) ∷ logs (pos 1) ∷ [] }
+lane_done = record { variables = pos 1 ∷ pos 0 ∷ pos 0 ∷ pos 0 ∷ pos 0 ∷ pos 0 ∷ pos 0 ∷ pos 0 ∷ []; left = logs (pos 0) ∷ logs (pos 1) ∷ [] }

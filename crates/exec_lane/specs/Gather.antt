@@ -1,20 +1,20 @@
 -- What lanes bring home.
 use Rattle.std.specs.Prelude.{List, [], ◌∷◌, map, IsPermutation, IsSortedByKey}
 use Rattle.std.specs.Ordering.{nat_cmp}
-use Rattle.exec_lane.specs.Lane.{Done, Entry, Lane, state_of}
+use Rattle.exec_lane.specs.Lane.{Lane, LaneCallback, LeftByCallback, state_of}
 use Rattle.exec_lane.specs.declared.gathering.Ran.{Ran}
 use Rattle.exec_lane.specs.declared.outcome.Outcome.{Outcome}
 use Rattle.exec_script.specs.declared.effects.Effects.{Effects}
 use Rattle.exec_rules.specs.declared.ready.Ready.{Ready}
 
 -- the callbacks that ran, each with what it did
-abbrev pub ran_each : List Entry → List Done → List Ran
+abbrev pub ran_each : List LaneCallback → List LeftByCallback → List Ran
 ran_each (entry ∷ entries) (did ∷ done) = record { ready = entry.ready; effects = did.effects } ∷ ran_each entries done
 ran_each _ _ = []
 
 -- the callbacks of a lane that ran
 abbrev pub ran_in : Lane → List Ran
-ran_in lane = ran_each lane.entries (state_of lane).done
+ran_in lane = ran_each lane.entries (state_of lane).left
 
 -- what a callback that ran did, and what those of a lane that ran did, in their order
 abbrev pub outcome_of : Ran → Outcome

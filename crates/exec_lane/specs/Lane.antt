@@ -8,7 +8,7 @@ use Rattle.exec_msg.specs.Lists.{change_first}
 use Rattle.exec_script.specs.Zeros.{zeros}
 use Rattle.exec_script.specs.declared.effects.Effect.{Effect}
 use Rattle.exec_script.specs.declared.effects.Effects.{Effects}
-use Rattle.exec_rules.specs.Callback.{Outcome}
+use Rattle.exec_rules.specs.Callback.{AfterCallback}
 use Rattle.exec_rules.specs.Run.{apart_with, effects_of, variables_for, with_variables_for, work_after, work_for}
 use Rattle.exec_script.specs.Script.{Variables}
 use Rattle.exec_rules.specs.World.{GoalWork, WorldState, with_work}
@@ -53,35 +53,35 @@ as_lane (one ∷ others) = (one ∷ others) ∷ []
 -- ---- what a lane does
 
 -- a ready callback of a lane, with the work of the goal that it polls, if it polls one
-pub record Entry : Type 0 where
+pub record LaneCallback : Type 0 where
   pub ready : Ready
   pub work : Option GoalWork
 
 -- what a callback of a lane left: what it did, and the work of the goal that it polled
-pub record Done : Type 0 where
+pub record LeftByCallback : Type 0 where
   pub effects : Effects
   pub work : Option GoalWork
 
 -- a lane after some of its callbacks: the variables of its group, and what each of them left
 pub record LaneState : Type 0 where
   pub variables : Variables
-  pub done : List Done
+  pub left : List LeftByCallback
 
 -- what a callback left that came out so, where the goal that it polled did this work before
-abbrev pub done_by : Option GoalWork → Outcome (List Effect) → Done
-done_by work outcome = record { effects = effects_of outcome; work = option_map (work_after outcome.task) work }
+abbrev pub left_by_callback : Option GoalWork → AfterCallback (List Effect) → LeftByCallback
+left_by_callback work outcome = record { effects = effects_of outcome; work = option_map (work_after outcome.task) work }
 
 -- the lane after one more callback came out so
-abbrev pub after_outcome : LaneState → Option GoalWork → Outcome (List Effect) → LaneState
-after_outcome lane work outcome = record { variables = outcome.variables; done = lane.done ++ done_by work outcome ∷ [] }
+abbrev pub after_outcome : LaneState → Option GoalWork → AfterCallback (List Effect) → LaneState
+after_outcome lane work outcome = record { variables = outcome.variables; left = lane.left ++ left_by_callback work outcome ∷ [] }
 
 -- the lane after one more callback
-abbrev pub run_entry : LaneState → Entry → LaneState
+abbrev pub run_entry : LaneState → LaneCallback → LaneState
 run_entry lane entry = after_outcome lane entry.work (apart_with entry.ready entry.work lane.variables)
 
 -- a lane after its first callbacks, so many of them, from the variables of its group as they were at first
-abbrev pub lane_at : Variables → List Entry → ℕ → LaneState
-lane_at variables entries count = fold run_entry (record { variables = variables; done = [] }) (take count entries)
+abbrev pub lane_at : Variables → List LaneCallback → ℕ → LaneState
+lane_at variables entries count = fold run_entry (record { variables = variables; left = [] }) (take count entries)
 
 -- ---- lanes of a world
 
@@ -89,7 +89,7 @@ lane_at variables entries count = fold run_entry (record { variables = variables
 -- ran, and whether one of them was refused memory
 pub record Lane : Type 0 where
   pub variables : Variables
-  pub entries : List Entry
+  pub entries : List LaneCallback
   pub done : ℕ
   pub failed : Bool
 
@@ -98,17 +98,17 @@ abbrev pub state_of : Lane → LaneState
 state_of lane = lane_at lane.variables lane.entries lane.done
 
 -- a callback with the work of the goal that it polls, as the world has it
-abbrev pub entry_in : WorldState → Ready → Entry
+abbrev pub entry_in : WorldState → Ready → LaneCallback
 entry_in world one = record { ready = one; work = work_for one.entity one.cause world }
 
 -- the variables with which a lane begins: those of its first callback's group
-abbrev pub variables_at : WorldState → List Ready → Variables
-variables_at world [] = zeros
-variables_at world (first ∷ lane) = variables_for first world
+abbrev pub variables_for_lane : WorldState → List Ready → Variables
+variables_for_lane world [] = zeros
+variables_for_lane world (first ∷ lane) = variables_for first world
 
 -- a lane is opened, with its variables and tasks as the world has them
 abbrev pub opened : WorldState → List Ready → Lane
-opened world lane = record { variables = variables_at world lane; entries = map (entry_in world) lane; done = 0; failed = false }
+opened world lane = record { variables = variables_for_lane world lane; entries = map (entry_in world) lane; done = 0; failed = false }
 
 -- the lanes of a ready list, opened
 abbrev pub opened_lanes : List Ready → WorldState → List Lane
@@ -131,19 +131,19 @@ task_home server (cause.Woke id value canceling) (Some work) world = with_work s
 task_home server _ _ world = world
 
 -- the world in which the works of a lane's goals are home, as their callbacks left them, or as they were where these didn't run
-abbrev pub tasks_home : List Entry → List Done → WorldState → WorldState
+abbrev pub tasks_home : List LaneCallback → List LeftByCallback → WorldState → WorldState
 tasks_home [] done world = world
 tasks_home (entry ∷ entries) [] world = tasks_home entries [] (task_home entry.ready.entity entry.ready.cause entry.work world)
 tasks_home (entry ∷ entries) (did ∷ done) world = tasks_home entries done (task_home entry.ready.entity entry.ready.cause did.work world)
 
 -- the world in which the variables of a lane's group are home
-abbrev pub variables_home : List Entry → Variables → WorldState → WorldState
+abbrev pub variables_home : List LaneCallback → Variables → WorldState → WorldState
 variables_home [] variables world = world
 variables_home (first ∷ entries) variables world = with_variables_for first.ready variables world
 
 -- the world in which all that a lane took is home, as its callbacks left it
 abbrev pub lane_home : WorldState → Lane → WorldState
-lane_home world lane = tasks_home lane.entries (state_of lane).done (variables_home lane.entries (state_of lane).variables world)
+lane_home world lane = tasks_home lane.entries (state_of lane).left (variables_home lane.entries (state_of lane).variables world)
 
 abbrev pub lanes_home : List Lane → WorldState → WorldState
 lanes_home lanes world = fold lane_home world lanes

@@ -1,6 +1,6 @@
 ghost use Rattle.std.specs.Prelude.{◌≡◌, ◌<◌};
 
-use crate::lane_box::Slot;
+use crate::lane_box::CallbackSlot;
 use exec_msg::{Memory, PlaceTable};
 use exec_plan::GroupNo;
 use std::alloc::Global;
@@ -10,7 +10,7 @@ use std::marker::Model;
 #[derive(Drop)]
 pub(crate) struct Cut {
     alloc: Global,
-    lanes: Vec<Vec<Slot>>,
+    lanes: Vec<Vec<CallbackSlot>>,
     of_group: PlaceTable,
 }
 
@@ -43,7 +43,7 @@ impl Cut {
     }
 
     // Adds a slot to the lane of its group. If there is none, it begins one.
-    pub(crate) fn push(&mut self, slot: Slot) -> Result<(), Memory>
+    pub(crate) fn push(&mut self, slot: CallbackSlot) -> Result<(), Memory>
         ensures { OnOk result (self.new ≡ with_slot self.old slot) }
     {
         match self.place(&slot) {
@@ -53,14 +53,14 @@ impl Cut {
     }
 
     // The lanes of slots.
-    pub(crate) fn into_lanes(self) -> Vec<Vec<Slot>>
+    pub(crate) fn into_lanes(self) -> Vec<Vec<CallbackSlot>>
         ensures { map (λ lane. lane.items) result.items ≡ self }
     {
         self.lanes
     }
 
     // The place of the lane that a slot goes into, from 0.
-    fn place(&self, slot: &Slot) -> Option<usize>
+    fn place(&self, slot: &CallbackSlot) -> Option<usize>
         ensures { result ≡ place_for slot.now self.now }
     {
         if !slot.ready.exclusive {
@@ -70,7 +70,7 @@ impl Cut {
     }
 
     // Adds a slot to the lane at this place. It is the lane that the slot belongs to.
-    fn join(&mut self, place: usize, slot: Slot) -> Result<(), Memory>
+    fn join(&mut self, place: usize, slot: CallbackSlot) -> Result<(), Memory>
         requires { place_for slot self.old ≡ Some place }
         ensures { OnOk result (self.new ≡ change_at place (lane_with slot) self.old) }
     {
@@ -79,7 +79,7 @@ impl Cut {
     }
 
     // Begins a lane after the others.
-    fn begin(&mut self, slot: Slot) -> Result<(), Memory>
+    fn begin(&mut self, slot: CallbackSlot) -> Result<(), Memory>
         requires { place_for slot self.old ≡ None }
         ensures { OnOk result (self.new ≡ self.old ++ (slot ∷ []) ∷ []) }
     {

@@ -8,7 +8,7 @@ ghost use Rattle.exec_lane.specs.inner.Homing.{ran_first, slot_home, slots_home}
 ghost use Rattle.exec_lane.specs.inner.Slots.{entries_of};
 ghost use Rattle.exec_rules.specs.World.{work_of};
 
-use crate::lane_box::{LaneBox, Slot};
+use crate::lane_box::{CallbackSlot, LaneBox};
 use exec_msg::{EntityNo, Lines, Memory};
 use exec_script::{Bank, Effects};
 use exec_task::GoalTask;
@@ -98,7 +98,7 @@ fn bring_lane_home<L: Lines>(
 }
 
 // Each callback of a reentrant group begins with variables of 0, so those of such a lane are dropped.
-fn bring_bank_home<L: Lines>(slots: &[Slot], bank: Bank, world: &mut World<L>)
+fn bring_bank_home<L: Lines>(slots: &[CallbackSlot], bank: Bank, world: &mut World<L>)
     ensures { world.new ≡ record world.old { state = variables_home (entries_of slots.now) bank world.old.state } }
 {
     if let Some(first) = slots.first()
@@ -110,7 +110,7 @@ fn bring_bank_home<L: Lines>(slots: &[Slot], bank: Bank, world: &mut World<L>)
 
 // Brings home the tasks of the callbacks' goals, in their order. Lists the first `done` callbacks, which are those that ran.
 fn bring_slots_home<L: Lines>(
-    slots: Vec<Slot>,
+    slots: Vec<CallbackSlot>,
     done: usize,
     world: &mut World<L>,
     all: &mut Vec<Ran>,
@@ -130,7 +130,7 @@ fn bring_slots_home<L: Lines>(
 
 // The same of one callback. It ran if there are still some that did.
 fn bring_slot_home<L: Lines>(
-    slot: Slot,
+    slot: CallbackSlot,
     still: usize,
     world: &mut World<L>,
     all: &mut Vec<Ran>,
@@ -138,7 +138,7 @@ fn bring_slot_home<L: Lines>(
     ensures ran { OnOk result (all.new.items ≡ all.old.items ++ ran_first still (slot ∷ [])) }
     ensures home { OnOk result (world.new ≡ record world.old { state = slot_home world.old.state slot }) }
 {
-    let Slot { ready, task, did } = slot;
+    let CallbackSlot { ready, task, did } = slot;
     bring_task_home(ready.entity, &ready.cause, task, world);
     if still > 0
         && let Some(effects) = did

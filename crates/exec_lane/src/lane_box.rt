@@ -19,13 +19,13 @@ use std::snapshot::Snapshot;
 
 // A callback of a lane, the task of the goal that it polls, and what it did if it ran.
 #[derive(Drop)]
-pub(crate) struct Slot {
+pub(crate) struct CallbackSlot {
     pub(crate) ready: Ready,
     pub(crate) task: Option<GoalTask>,
     pub(crate) did: Option<Effects>,
 }
 
-impl Model for Slot {
+impl Model for CallbackSlot {
     ghost use Rattle.std.specs.Option.{option_map};
     ghost use Rattle.exec_lane.specs.inner.Slots.{SlotState};
     ghost use Rattle.exec_rules.specs.World.{work_of};
@@ -35,7 +35,7 @@ impl Model for Slot {
     ghost view = { λ slot. record { ready = slot.ready; work = option_map work_of slot.task; did = slot.did } };
 }
 
-impl Slot {
+impl CallbackSlot {
     // Runs the callback apart from the world, with its group's variables. It was reported to a gate before. If memory is
     // refused, nothing changes.
     fn run(
@@ -66,9 +66,9 @@ pub struct LaneBox {
     poller: Poller,
     // What the lane was opened with. These have no bytes.
     first_bank: Snapshot<Bank>,
-    first_slots: Snapshot<Vec<Slot>>,
+    first_slots: Snapshot<Vec<CallbackSlot>>,
     bank: Bank,
-    slots: Vec<Slot>,
+    slots: Vec<CallbackSlot>,
     done: usize,
     failed: bool,
 }
@@ -84,13 +84,17 @@ impl Model for LaneBox {
 
     ghost invariant = { λ lane.
         (lane.bank ≡ (lane_at lane.first_bank.value (entries_of lane.first_slots.value.items) lane.done).variables)
-        × (lane.slots.items ≡ slots_at (lane_at lane.first_bank.value (entries_of lane.first_slots.value.items) lane.done).done lane.first_slots.value.items)
+        × (lane.slots.items ≡ slots_at (lane_at lane.first_bank.value (entries_of lane.first_slots.value.items) lane.done).left lane.first_slots.value.items)
         × (lane.done ≤ length lane.first_slots.value.items) };
 }
 
 impl LaneBox {
     // A lane of these callbacks. None of them ran.
-    pub(crate) fn open(alloc: Global, bank: Bank, slots: Vec<Slot>) -> Result<LaneBox, Memory>
+    pub(crate) fn open(
+        alloc: Global,
+        bank: Bank,
+        slots: Vec<CallbackSlot>,
+    ) -> Result<LaneBox, Memory>
         ensures { IfOk result (λ lane. lane ≡ record { variables = bank; entries = entries_of slots.items; done = 0; failed = false }) }
     {
         Ok(LaneBox {
@@ -106,7 +110,7 @@ impl LaneBox {
     }
 
     // The variables of its group, its callbacks, and how many of these ran.
-    pub(crate) fn into_parts(self) -> (Bank, Vec<Slot>, usize)
+    pub(crate) fn into_parts(self) -> (Bank, Vec<CallbackSlot>, usize)
         ensures home { (world : _) → slots_home result.1.items (variables_home (entries_of result.1.items) result.0 world) ≡ lane_home world self }
         ensures ran { ran_first result.2 result.1.items ≡ ran_in self }
     {

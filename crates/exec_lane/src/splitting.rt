@@ -1,14 +1,14 @@
 //! How a ready list is cut into lanes.
 ghost use Rattle.std.specs.Prelude.{◌≡◌, [], map, true, IfOk, OnErr, OnOk};
 ghost use Rattle.std.specs.Option.{option_map};
-ghost use Rattle.exec_lane.specs.Lane.{opened_lanes, tasks_out, variables_at, without_task};
+ghost use Rattle.exec_lane.specs.Lane.{opened_lanes, tasks_out, variables_for_lane, without_task};
 ghost use Rattle.exec_lane.specs.inner.Cuts.{callbacks_of, cut_from, opened_slots, slot_in};
 ghost use Rattle.exec_rules.specs.Calls.{AreHome, IsHomeFor};
 ghost use Rattle.exec_rules.specs.Run.{work_for};
 ghost use Rattle.exec_rules.specs.World.{work_of};
 
 use crate::cut::Cut;
-use crate::lane_box::{LaneBox, Slot};
+use crate::lane_box::{CallbackSlot, LaneBox};
 use exec_msg::{EntityNo, GoalId, Lines, Memory};
 use exec_script::Bank;
 use exec_task::GoalTask;
@@ -68,13 +68,13 @@ fn cut<L: Lines>(alloc: Global, mut list: Vec<Ready>, world: &mut World<L>) -> R
 }
 
 // A callback as a slot, with the task of the goal that it polls.
-fn take_slot<L: Lines>(ready: Ready, world: &mut World<L>) -> Slot
+fn take_slot<L: Lines>(ready: Ready, world: &mut World<L>) -> CallbackSlot
     requires { IsHomeFor ready.entity ready.cause world.old.state }
     ensures slot { result ≡ slot_in world.old.state ready }
     ensures out { world.new ≡ record world.old { state = without_task ready.entity ready.cause world.old.state } }
 {
     let task = take_polled(ready.entity, &ready.cause, world);
-    Slot {
+    CallbackSlot {
         ready,
         task,
         did: None,
@@ -96,7 +96,7 @@ fn take_polled<L: Lines>(server: EntityNo, cause: &Cause, world: &mut World<L>) 
 // Opens lanes, each with the variables of its group.
 fn open_all<L: Lines>(
     alloc: Global,
-    mut lanes: Vec<Vec<Slot>>,
+    mut lanes: Vec<Vec<CallbackSlot>>,
     world: &mut World<L>,
 ) -> Result<Vec<LaneBox>, Memory>
     ensures lanes { IfOk result (λ opened. opened.items ≡ map (opened_slots world.old.state) (map (λ lane. lane.items) lanes.items)) }
@@ -111,7 +111,11 @@ fn open_all<L: Lines>(
 }
 
 // Opens a lane with the variables of its first callback's group, or with none if the group is reentrant.
-fn open<L: Lines>(alloc: Global, lane: Vec<Slot>, world: &mut World<L>) -> Result<LaneBox, Memory>
+fn open<L: Lines>(
+    alloc: Global,
+    lane: Vec<CallbackSlot>,
+    world: &mut World<L>,
+) -> Result<LaneBox, Memory>
     ensures lane { IfOk result (λ opened. opened ≡ opened_slots world.old.state lane.items) }
     ensures same { world.new ≡ world.old }
 {
@@ -119,8 +123,8 @@ fn open<L: Lines>(alloc: Global, lane: Vec<Slot>, world: &mut World<L>) -> Resul
     LaneBox::open(alloc, bank, lane)
 }
 
-fn bank_for<L: Lines>(lane: &[Slot], world: &mut World<L>) -> Bank
-    ensures bank { result ≡ variables_at world.old.state (callbacks_of lane.now) }
+fn bank_for<L: Lines>(lane: &[CallbackSlot], world: &mut World<L>) -> Bank
+    ensures bank { result ≡ variables_for_lane world.old.state (callbacks_of lane.now) }
     ensures same { world.new ≡ world.old }
 {
     match lane.first() {

@@ -19,7 +19,7 @@ use Rattle.exec_laws.specs.Exchanges.{is_asked, is_result_taken, is_result_lost}
 use Rattle.exec_rules.specs.Item.{taker_of}
 use Rattle.exec_rules.specs.Lines.{is_loss}
 use Rattle.exec_rules.specs.Shape.{shape_of}
-use Rattle.exec_rules.specs.Transcript.{entity_at, first_world, server_in}
+use Rattle.exec_rules.specs.Transcript.{entity_at, first_world, server_of}
 use Rattle.exec_rules.specs.World.{WorldState, Queue, ServerEntry, add_line, drop_line, is_queue, lost_by, push, push_any, next_arrival}
 use Rattle.exec_rules.specs.declared.item.Item.{Item}
 use Rattle.exec_rules.specs.declared.item.Item.TheVariants as item
@@ -53,7 +53,7 @@ module _ (plan : PlanData) (client : EntityNo) where
 
   -- the server that the client asks has a queue for asks, and the client one for results
   pub record HasQueues : Type 0 where
-    pub asks : list_any (is_queue (server_in (entity_at plan.graph client).is) kind.Ask) (first_world plan).queues ≡ true
+    pub asks : list_any (is_queue (server_of (entity_at plan.graph client).is) kind.Ask) (first_world plan).queues ≡ true
     pub results : list_any (is_queue client kind.Result) (first_world plan).queues ≡ true
 
   -- ---- a world

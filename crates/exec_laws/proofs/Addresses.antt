@@ -14,15 +14,15 @@ use Rattle.exec_rules.proofs.Pairs.{all_append, all_unmapped}
 use Rattle.exec_rules.specs.Item.{taker_of}
 use Rattle.exec_rules.specs.Shape.{client_shape, action_client_shape, shape_of}
 use Rattle.exec_rules.specs.Ready.{queue_taken}
-use Rattle.exec_rules.specs.Transcript.{entity_at, service_in, server_in, new_queue, new_client, new_action_clients, first_world}
+use Rattle.exec_rules.specs.Transcript.{entity_at, service_of, server_of, new_queue, new_client, new_action_clients, first_world}
 use Rattle.exec_rules.specs.World.{WorldState, Queue, ClientEntry, ActionClientEntry, is_queue, queue_after, client_at, action_client_at, is_client_at, is_action_client_at}
 use Rattle.exec_rules.specs.declared.item.Item.{Item}
 
 -- where a graph says that clients send their requests
 abbrev pub routes_of : GraphData → Routes
 routes_of graph = record {
-  service = λ client entity. service_in (entity_at graph client).is == entity;
-  server = λ client entity. server_in (entity_at graph client).is == entity;
+  service = λ client entity. service_of (entity_at graph client).is == entity;
+  server = λ client entity. server_of (entity_at graph client).is == entity;
 }
 
 -- what holds of all holds of what is found
@@ -39,18 +39,18 @@ all_found {A} P test (first ∷ all) one p found = by (test first) refl (all_fou
 -- ---- clients know where they send
 
 abbrev ClientKnows : GraphData → ClientEntry → Type 0
-ClientKnows graph entry = (service_in (entity_at graph entry.entity).is == entry.service) ≡ true
+ClientKnows graph entry = (service_of (entity_at graph entry.entity).is == entry.service) ≡ true
 
 abbrev ActionClientKnows : GraphData → ActionClientEntry → Type 0
-ActionClientKnows graph entry = (server_in (entity_at graph entry.entity).is == entry.server) ≡ true
+ActionClientKnows graph entry = (server_of (entity_at graph entry.entity).is == entry.server) ≡ true
 
 new_clients_know : (graph : GraphData) (numbers : List EntityNo) → AllByRecursion (ClientKnows graph) (map client_shape (map (new_client graph) numbers))
 new_clients_know graph [] = tt
-new_clients_know graph (number ∷ numbers) = (eq-eqb (service_in (entity_at graph number).is) (service_in (entity_at graph number).is) refl, new_clients_know graph numbers)
+new_clients_know graph (number ∷ numbers) = (eq-eqb (service_of (entity_at graph number).is) (service_of (entity_at graph number).is) refl, new_clients_know graph numbers)
 
 new_action_clients_know : (graph : GraphData) (place : ℕ) (numbers : List EntityNo) → AllByRecursion (ActionClientKnows graph) (map action_client_shape (new_action_clients graph place numbers))
 new_action_clients_know graph place [] = tt
-new_action_clients_know graph place (number ∷ numbers) = (eq-eqb (server_in (entity_at graph number).is) (server_in (entity_at graph number).is) refl, new_action_clients_know graph (suc place) numbers)
+new_action_clients_know graph place (number ∷ numbers) = (eq-eqb (server_of (entity_at graph number).is) (server_of (entity_at graph number).is) refl, new_action_clients_know graph (suc place) numbers)
 
 module _ (plan : PlanData) (world : WorldState) (same : shape_of world ≡ shape_of (first_world plan)) where
   pub client_knows : (number : EntityNo) (client : ClientEntry) → client_at number world ≡ Some client → (routes_of plan.graph).service client.entity client.service ≡ true

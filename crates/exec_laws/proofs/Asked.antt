@@ -24,7 +24,7 @@ use Rattle.exec_rules.proofs.Pairs.{all_weaker}
 use Rattle.exec_laws.proofs.Views.{turned}
 use Rattle.exec_rules.specs.Close.{accepted_lines, moved_lines, tell}
 use Rattle.exec_laws.specs.Exchanges.{is_ask_taken, is_result_told, waiting_for, waiting_in}
-use Rattle.exec_rules.specs.World.{WorldState, ServerEntry, is_server_at, add_line, add_lines, drop_line, lost_by, queued, push, goals_of, with_call, goals_in, next_arrival}
+use Rattle.exec_rules.specs.World.{WorldState, ServerEntry, is_server_at, add_line, add_lines, drop_line, lost_by, queued, push, goals_at, with_call, goals_in, next_arrival}
 use Rattle.exec_rules.specs.declared.item.Item.{Item}
 use Rattle.exec_rules.specs.declared.item.Item.TheVariants as item
 
@@ -88,7 +88,7 @@ module _ (server : EntityNo) (id : GoalId) where
   Balanced owed lines goals = many (is_ask_taken server id) lines ≡ many (is_result_told server id) lines + (length (waiting_in id goals) + owed)
 
   abbrev pub Owes : ℕ → WorldState → Type 0
-  Owes owed world = HasDistinct world × Balanced owed world.lines (goals_of server world)
+  Owes owed world = HasDistinct world × Balanced owed world.lines (goals_at server world)
 
   pub others_balanced : (owed : ℕ) (lines more : List Line) (goals : List GoalRecord) → AllByRecursion IsOther more → Balanced owed lines goals → Balanced owed (lines ++ more) goals
   others_balanced owed lines more goals none p =
@@ -99,7 +99,7 @@ module _ (server : EntityNo) (id : GoalId) where
       omega (arith, a, b, c, d, p)
 
   pub lines_owe : (owed : ℕ) (lines : List Line) (world : WorldState) → AllByRecursion IsOther lines → Owes owed world → Owes owed (add_lines lines world)
-  lines_owe owed lines world none p = (p.0, others_balanced owed world.lines lines (goals_of server world) none p.1)
+  lines_owe owed lines world none p = (p.0, others_balanced owed world.lines lines (goals_at server world) none p.1)
 
   drops_other : (entity : EntityNo) (items : List Item) → AllByRecursion IsOther (map (drop_line entity) items)
   drops_other entity [] = tt
@@ -202,10 +202,10 @@ module _ (server : EntityNo) (id : GoalId) where
   -- ---- a server that is changed
 
   pub served : {change : ServerEntry → ServerEntry} {goals : List GoalRecord → List GoalRecord} → Makes change goals → (other : EntityNo) (world : WorldState) →
-      (other ≡ server → waiting_in id (goals (goals_of server world)) ≡ waiting_in id (goals_of server world)) → waiting_in id (goals_in server (change_first (is_server_at other) change world.servers)) ≡ waiting_in id (goals_of server world)
+      (other ≡ server → waiting_in id (goals (goals_at server world)) ≡ waiting_in id (goals_at server world)) → waiting_in id (goals_in server (change_first (is_server_at other) change world.servers)) ≡ waiting_in id (goals_at server world)
   served {change} {goals} m other world here = by (old_or_new m server other world.servers)
     where
-      by : OldOrNew server other change goals world.servers → waiting_in id (goals_in server (change_first (is_server_at other) change world.servers)) ≡ waiting_in id (goals_of server world)
+      by : OldOrNew server other change goals world.servers → waiting_in id (goals_in server (change_first (is_server_at other) change world.servers)) ≡ waiting_in id (goals_at server world)
       by (inl same) = ap (λ (some : List GoalRecord). waiting_in id some) same
       by (inr new) = ap (λ (some : List GoalRecord). waiting_in id some) new.1 ∙ here new.0
 
@@ -231,15 +231,15 @@ module _ (server : EntityNo) (id : GoalId) where
     execution_kept = λ other goal world found p. (
       (moves_kept distinct_kept.basic).execution_kept other goal world found p.0,
       others_balanced owed world.lines (line.State other goal.id (status_of (after_event event.Execute goal).state) ∷ []) _ ((refl, refl), tt)
-          (same_wait owed world.lines (goals_of server world) _ (served (changing (change_first (has_id goal.id) (after_event event.Execute))) other world (λ is. waiting_left goal.id (after_event event.Execute) (λ one. refl) executed_waits (goals_of server world))) p.1),
+          (same_wait owed world.lines (goals_at server world) _ (served (changing (change_first (has_id goal.id) (after_event event.Execute))) other world (λ is. waiting_left goal.id (after_event event.Execute) (λ one. refl) executed_waits (goals_at server world))) p.1),
     );
     answer_kept = λ other decisions returned count world p. (
       (moves_kept distinct_kept.basic).answer_kept other decisions returned count world p.0,
-      others_balanced owed world.lines (moved_lines other (moved decisions (goals_of other world)) ++ line.Code other returned count ∷ []) _ (moved_other other (moved decisions (goals_of other world)) (line.Code other returned count ∷ []) ((refl, refl), tt))
-          (same_wait owed world.lines (goals_of server world) _ (served (changing (table_after decisions)) other world (λ is. answered_waits decisions (goals_of server world))) p.1),
+      others_balanced owed world.lines (moved_lines other (moved decisions (goals_at other world)) ++ line.Code other returned count ∷ []) _ (moved_other other (moved decisions (goals_at other world)) (line.Code other returned count ∷ []) ((refl, refl), tt))
+          (same_wait owed world.lines (goals_at server world) _ (served (changing (table_after decisions)) other world (λ is. answered_waits decisions (goals_at server world))) p.1),
     );
-    tasks_kept = λ other goal task world p. (distinct_kept.basic.tasks_kept other goal task world p.0, same_wait owed world.lines (goals_of server world) _ (served (tasking goal task) other world (λ is. refl)) p.1);
-    arrivals_kept = λ other goal world p. (distinct_kept.basic.arrivals_kept other goal world p.0, same_wait owed world.lines (goals_of server world) _ (served (goal_arriving goal (next_arrival world)) other world (λ is. refl)) p.1);
+    tasks_kept = λ other goal task world p. (distinct_kept.basic.tasks_kept other goal task world p.0, same_wait owed world.lines (goals_at server world) _ (served (tasking goal task) other world (λ is. refl)) p.1);
+    arrivals_kept = λ other goal world p. (distinct_kept.basic.arrivals_kept other goal world p.0, same_wait owed world.lines (goals_at server world) _ (served (goal_arriving goal (next_arrival world)) other world (λ is. refl)) p.1);
     sending_kept = λ client world p. p;
     variables_kept = λ group variables world p. p;
   }
@@ -254,7 +254,7 @@ module _ (server : EntityNo) (id : GoalId) where
   told_owes owed other goal status value client world p =
       push_owes owed client (item.Result goal status value) (add_line (line.Result other goal status value) world) (p.0, balanced)
     where
-      balanced : Balanced owed (world.lines ++ line.Result other goal status value ∷ []) (goals_of server world)
+      balanced : Balanced owed (world.lines ++ line.Result other goal status value ∷ []) (goals_at server world)
       balanced =
           let a = many_more (is_ask_taken server id) world.lines (line.Result other goal status value ∷ []) in
           let b = many_more (is_result_told server id) world.lines (line.Result other goal status value ∷ []) in

@@ -42,8 +42,8 @@ use Rattle.exec_laws.specs.Exchanges.{IsToldOnce, ask_in, is_asked, is_result_ta
 use Rattle.exec_rules.specs.Item.{taker_of}
 use Rattle.exec_rules.specs.Lines.{is_loss}
 use Rattle.exec_rules.specs.Shape.{action_client_shape, shape_of}
-use Rattle.exec_rules.specs.Transcript.{entity_at, as_entity, first_world, last_world, new_action_clients, server_in, takes_from_queue}
-use Rattle.exec_rules.specs.World.{WorldState, Queue, ServerEntry, ActionClientEntry, action_client_at, goals_in, goals_of, is_action_client_at, is_queue, is_server_at}
+use Rattle.exec_rules.specs.Transcript.{entity_at, as_entity, first_world, last_world, new_action_clients, server_of, takes_from_queue}
+use Rattle.exec_rules.specs.World.{WorldState, Queue, ServerEntry, ActionClientEntry, action_client_at, goals_in, goals_at, is_action_client_at, is_queue, is_server_at}
 use Rattle.exec_rules.specs.declared.item.Item.{Item}
 use Rattle.exec_rules.specs.declared.item.Item.TheVariants as item
 
@@ -109,7 +109,7 @@ flying_both one other (queue ∷ queues) = let first = by queue.items in let res
 
 module _ (plan : PlanData) (client : EntityNo) (id : GoalId) where
   abbrev server : EntityNo
-  server = server_in (entity_at plan.graph client).is
+  server = server_of (entity_at plan.graph client).is
 
   -- results for the client stand in its queue for results
   no_result : (entity : EntityNo) (one : Item) (of : Kind) → taker_of one ≡ of → (entity == client) && (ready_number of == ready_number kind.Result) ≡ false → of_result plan client id entity one ≡ 0
@@ -181,7 +181,7 @@ module _ (plan : PlanData) (client : EntityNo) (id : GoalId) where
 
       by : (b : Bool) → from == client ≡ b → weigh ((from == client) && (goal == id)) 1 ≡ 0
       by true g =
-          let there : server ≡ entity = ap (λ (n : EntityNo). server_in (entity_at plan.graph n).is) (sym (eqb-true from client g)) ∙ its in
+          let there : server ≡ entity = ap (λ (n : EntityNo). server_of (entity_at plan.graph n).is) (sym (eqb-true from client g)) ∙ its in
           absurd (true≢false (sym (ap (λ (b : Bool). b && true) (eq-eqb entity server (sym there))) ∙ other))
       by false g = rw g refl
   no_ask entity (item.Response goal accepted) of e its f = refl
@@ -263,7 +263,7 @@ module _ (plan : PlanData) (client : EntityNo) (id : GoalId) where
       others (asker ∷ askers) q = by (asker == client) refl (others askers q.1)
         where
           by : (b : Bool) → asker == client ≡ b → among client askers ≡ 0 → among client (asker ∷ askers) ≡ 0
-          by true e more = absurd (differs (sym (ap (λ (n : EntityNo). server_in (entity_at plan.graph n).is) (sym (eqb-true asker client e)) ∙ q.0)))
+          by true e more = absurd (differs (sym (ap (λ (n : EntityNo). server_of (entity_at plan.graph n).is) (sym (eqb-true asker client e)) ∙ q.0)))
           by false e more = rw e (omega (arith, more))
 
       waits : (b : Bool) → is_terminal goal.state ≡ b → among client (waiting_for (Some goal)) ≡ 0
@@ -330,11 +330,11 @@ module _ (plan : PlanData) (lawful : IsLawful plan.graph) where
       by (Some entity) f g = ap (λ (one : EntityData). test one.is) (get_or_from_slice_get plan.graph.entities number entity (record { name = []; is = declared.Topic }) f) ∙ g
 
   -- an action client's server is one
-  server_stands : (what : Declared) → is_action_client what ≡ true → IsLawfulDeclared plan.graph what → is_server (declared_at plan.graph (server_in (as_entity what).is)) ≡ true
+  server_stands : (what : Declared) → is_action_client what ≡ true → IsLawfulDeclared plan.graph what → is_server (declared_at plan.graph (server_of (as_entity what).is)) ≡ true
   server_stands declared.Topic e law = absurd (true≢false (sym e))
   server_stands (declared.Entity entity) e law = by entity.group entity.is e law.referring
     where
-      by : (group : ℕ) (is : Resolved) → is_action_client (in_group group is) ≡ true → refers (is_declared plan.graph) is ≡ true → is_server (declared_at plan.graph (server_in (as_entity (in_group group is)).is)) ≡ true
+      by : (group : ℕ) (is : Resolved) → is_action_client (in_group group is) ≡ true → refers (is_declared plan.graph) is ≡ true → is_server (declared_at plan.graph (server_of (as_entity (in_group group is)).is)) ≡ true
       by group (Timer what) f r = absurd (true≢false (sym f))
       by group (Subscription what) f r = absurd (true≢false (sym f))
       by group (Service what) f r = absurd (true≢false (sym f))
@@ -362,7 +362,7 @@ module _ (plan : PlanData) (lawful : IsLawful plan.graph) where
 
   has_queues : (client : EntityNo) → IsThere client → HasQueues plan client
   has_queues client p = record {
-    asks = queue_stands plan kind.Ask refl (server_in (entity_at plan.graph client).is) (takes_asks (declared_at plan.graph (server_in (entity_at plan.graph client).is)) (server_stands (declared_at plan.graph client) p.0 p.1));
+    asks = queue_stands plan kind.Ask refl (server_of (entity_at plan.graph client).is) (takes_asks (declared_at plan.graph (server_of (entity_at plan.graph client).is)) (server_stands (declared_at plan.graph client) p.0 p.1));
     results = queue_stands plan kind.Result refl client (takes_results (declared_at plan.graph client) p.0);
   }
 
@@ -387,11 +387,11 @@ told_once plan lawful number client found = record {
     kinds : AreOfTheirKinds world
     kinds = rounds_keep kinds_kept plan 1 plan.moments (first_world plan) (kinds_first plan.order plan.graph (filter (λ waitable. takes_from_queue waitable.kind) (wait_set plan.graph)))
 
-    its : server_in (entity_at plan.graph client.entity).is ≡ client.server
+    its : server_of (entity_at plan.graph client.entity).is ≡ client.server
     its = eqb-true _ client.server (action_client_knows plan world shape number client found)
 
     told_each : (id : GoalId) → many (is_asked client.entity id) world.lines ≡ many (is_result_taken client.entity id) world.lines + times id accounts.lost + times id (flat_map result_in (items_of client.entity kind.Result world))
-        + times client.entity (waiting_in id (goals_of client.server world)) + times id (flat_map (ask_in client.entity) (items_of client.server kind.Ask world))
+        + times client.entity (waiting_in id (goals_at client.server world)) + times id (flat_map (ask_in client.entity) (items_of client.server kind.Ask world))
     told_each id =
         let all = accounts.each id in
         let most = accounts.sound (has_queues plan lawful client.entity (client_stands plan lawful world shape number client found)) id in
@@ -399,11 +399,11 @@ told_once plan lawful number client found = record {
         let both = flying_both (of_ask plan client.entity id) (of_result plan client.entity id) world.queues in
         let results = results_held plan client.entity id world (wired plan world shape).queues kinds in
         let asks = subst (λ (n : EntityNo). flying (of_ask plan client.entity id) world.queues ≡ among id (flat_map (ask_in client.entity) (items_of n kind.Ask world))) its (asks_held plan client.entity id world (wired plan world shape).queues kinds (all_owned plan).asks) in
-        let waits = subst (λ (n : EntityNo). noted_by client.entity id world.servers ≡ among client.entity (waiting_in id (goals_of n world))) its
+        let waits = subst (λ (n : EntityNo). noted_by client.entity id world.servers ≡ among client.entity (waiting_in id (goals_at n world))) its
         (noted_here plan client.entity id world.servers (subst (λ (numbers : List EntityNo). Pairs NumbersApart numbers) (sym (wired plan world shape).listed) (numbers_apart is_server 0 plan.graph.entities)) (all_owned plan).notes
-        (distinct_ids plan 1 plan.moments (server_in (entity_at plan.graph client.entity).is))) in
+        (distinct_ids plan 1 plan.moments (server_of (entity_at plan.graph client.entity).is))) in
         let a = times_among id accounts.lost in
         let b = times_among id (flat_map result_in (items_of client.entity kind.Result world)) in
-        let c = times_among client.entity (waiting_in id (goals_of client.server world)) in
+        let c = times_among client.entity (waiting_in id (goals_at client.server world)) in
         let d = times_among id (flat_map (ask_in client.entity) (items_of client.server kind.Ask world)) in
         omega (arith, all, most, none, both, results, asks, waits, a, b, c, d)

@@ -21,7 +21,7 @@ use Rattle.exec_laws.specs.Goals.{may_be_polled}
 use Rattle.exec_rules.specs.Run.{unclosed}
 use Rattle.exec_rules.specs.Run.{run}
 use Rattle.exec_rules.specs.Transcript.{run_all}
-use Rattle.exec_rules.specs.World.{WorldState, ServerEntry, is_server_at, add_line, goals_of, goals_in, next_arrival}
+use Rattle.exec_rules.specs.World.{WorldState, ServerEntry, is_server_at, add_line, goals_at, goals_in, next_arrival}
 use Rattle.exec_rules.specs.declared.ready.Cause.TheVariants as cause
 use Rattle.exec_rules.specs.declared.ready.Ready.{Ready}
 
@@ -112,11 +112,11 @@ module _ (canceling : Bool) (id : GoalId) where
 module _ (server : EntityNo) (id : GoalId) (canceling : Bool) where
   -- no two goals of a server have one identifier, and a server's goal may be polled
   abbrev pub StaysAtWork : WorldState → Type 0
-  StaysAtWork world = HasDistinct world × AtWork canceling id (goals_of server world)
+  StaysAtWork world = HasDistinct world × AtWork canceling id (goals_at server world)
 
   -- where some server's goals are changed
-  changed : {change : ServerEntry → ServerEntry} {goals : List GoalRecord → List GoalRecord} → Makes change goals → (other : EntityNo) (world : WorldState) → AtWork canceling id (goals_of server world) →
-      (other ≡ server → AtWork canceling id (goals (goals_of server world))) → AtWork canceling id (goals_in server (change_first (is_server_at other) change world.servers))
+  changed : {change : ServerEntry → ServerEntry} {goals : List GoalRecord → List GoalRecord} → Makes change goals → (other : EntityNo) (world : WorldState) → AtWork canceling id (goals_at server world) →
+      (other ≡ server → AtWork canceling id (goals (goals_at server world))) → AtWork canceling id (goals_in server (change_first (is_server_at other) change world.servers))
   changed {change} {goals} m other world p here = by (old_or_new m server other world.servers)
     where
       by : OldOrNew server other change goals world.servers → AtWork canceling id (goals_in server (change_first (is_server_at other) change world.servers))
@@ -132,11 +132,11 @@ module _ (server : EntityNo) (id : GoalId) (canceling : Bool) where
     action_clients_known = λ number client world found p. refl;
     execution_kept = λ other goal world found p. (
       (moves_kept distinct_kept.basic).execution_kept other goal world found p.0,
-      changed (changing (change_first (has_id goal.id) (after_event event.Execute))) other world p.1 (λ is. after_execution canceling id goal.id (goals_of server world) p.1),
+      changed (changing (change_first (has_id goal.id) (after_event event.Execute))) other world p.1 (λ is. after_execution canceling id goal.id (goals_at server world) p.1),
     );
     answer_kept = λ other decisions returned count world p. (
       (moves_kept distinct_kept.basic).answer_kept other decisions returned count world p.0,
-      changed (changing (table_after decisions)) other world p.1 (λ is. after_answers canceling id decisions (goals_of server world) p.1),
+      changed (changing (table_after decisions)) other world p.1 (λ is. after_answers canceling id decisions (goals_at server world) p.1),
     );
     tasks_kept = λ other goal task world p. (distinct_kept.basic.tasks_kept other goal task world p.0, changed (tasking goal task) other world p.1 (λ is. p.1));
     arrivals_kept = λ other goal world p. (distinct_kept.basic.arrivals_kept other goal world p.0, changed (goal_arriving goal (next_arrival world)) other world p.1 (λ is. p.1));
@@ -149,7 +149,7 @@ module _ (server : EntityNo) (id : GoalId) (canceling : Bool) where
     results_kept = λ other goal status value client world p. p;
     notes_kept = λ other goal change world same unmoved p. (
       (tells_kept distinct_kept.basic).notes_kept other goal change world same unmoved p.0,
-      changed (changing (change_first (has_id goal) change)) other world p.1 (λ is. ap (λ (held : Option State). may_be_polled canceling held) (state_left change same id goal unmoved (goals_of server world)) ∙ p.1),
+      changed (changing (change_first (has_id goal) change)) other world p.1 (λ is. ap (λ (held : Option State). may_be_polled canceling held) (state_left change same id goal unmoved (goals_at server world)) ∙ p.1),
     );
   }
 
@@ -157,7 +157,7 @@ module _ (server : EntityNo) (id : GoalId) (canceling : Bool) where
   abbrev pub PollsAnother : Ready → Type 0
   PollsAnother one = (goal : GoalId) (value : ℤ) (asked : Bool) → one.cause ≡ cause.Woke goal value asked → one.entity ≡ server → goal == id ≡ false
 
-  said_at_work : (other : EntityNo) (found : Option GoalRecord) (world : WorldState) → AtWork canceling id (goals_of server world) → AtWork canceling id (goals_of server (state_said other found world))
+  said_at_work : (other : EntityNo) (found : Option GoalRecord) (world : WorldState) → AtWork canceling id (goals_at server world) → AtWork canceling id (goals_at server (state_said other found world))
   said_at_work other None world p = p
   said_at_work other (Some goal) world p = p
 
@@ -165,7 +165,7 @@ module _ (server : EntityNo) (id : GoalId) (canceling : Bool) where
   ended_at_work one other goal value asked by result world same p = (
     end_kept distinct_kept.basic one.entity goal by result one.moment world p.0,
     said_at_work one.entity (goal_at one.entity goal (with_ended one.entity goal by result one.moment world)) (with_ended one.entity goal by result one.moment world)
-        (changed (changing (change_first (has_id goal) (after_end by result one.moment))) one.entity world p.1 (λ is. ap (λ (held : Option State). may_be_polled canceling held) (state_of_other (after_end by result one.moment) (λ record_of. refl) id goal (other goal value asked same is) (goals_of server world)) ∙ p.1)),
+        (changed (changing (change_first (has_id goal) (after_end by result one.moment))) one.entity world p.1 (λ is. ap (λ (held : Option State). may_be_polled canceling held) (state_of_other (after_end by result one.moment) (λ record_of. refl) id goal (other goal value asked same is) (goals_at server world)) ∙ p.1)),
   )
 
   -- so it stays at work while such callbacks run
@@ -174,7 +174,7 @@ module _ (server : EntityNo) (id : GoalId) (canceling : Bool) where
       run_keeps at_work_moves one (λ before none q. q)
       (λ request how before same room q. (
         distinct_kept.accepts_kept one.entity one.moment how request before room q.0,
-        changed (accepting (next_arrival before) one.moment how request) one.entity before q.1 (λ is. after_acceptance canceling id (goals_of server before) (new_goal request.id request.value one.moment how) q.1),
+        changed (accepting (next_arrival before) one.moment how request) one.entity before q.1 (λ is. after_acceptance canceling id (goals_at server before) (new_goal request.id request.value one.moment how) q.1),
       ))
       (ends_told at_work_moves at_work_tells one (λ goal value asked by result reached before same leads q. ended_at_work one other goal value asked by result before same q))
       (asks_told at_work_moves at_work_tells one (λ before q. q))

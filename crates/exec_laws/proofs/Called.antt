@@ -17,7 +17,7 @@ use Rattle.exec_laws.proofs.Gathered.{IsAlone, list_gathered}
 use Rattle.exec_rules.proofs.OfKinds.{AreOfTheirKinds}
 use Rattle.exec_rules.proofs.Wiring.{IsWired}
 use Rattle.exec_rules.specs.Ready.{answered_by_first, call_answered, item_ready, kind_of, queue_ready, ready_list, reply_taken}
-use Rattle.exec_rules.specs.World.{WorldState, Queue, ClientEntry, is_client_at, goals_of}
+use Rattle.exec_rules.specs.World.{WorldState, Queue, ClientEntry, is_client_at, goals_at}
 use Rattle.exec_rules.specs.declared.item.Item.{Item}
 use Rattle.exec_rules.specs.declared.item.Item.TheVariants as item
 use Rattle.exec_rules.specs.declared.ready.Cause.{Cause}
@@ -206,7 +206,7 @@ module _ (client : EntityNo) where
     queue_numbers : (queue : Queue) → by_queue queue ≡ number_first queue.handler.entity queue.items
     queue_numbers queue = by queue.items
       where
-        by : (items : List Item) → flat_map number_in (item_ready moment queue.handler (goals_of queue.handler.entity world) items) ≡ number_first queue.handler.entity items
+        by : (items : List Item) → flat_map number_in (item_ready moment queue.handler (goals_at queue.handler.entity world) items) ≡ number_first queue.handler.entity items
         by [] = refl
         by (first ∷ items) = append-nil (number_of queue.handler.entity first)
 

@@ -18,7 +18,7 @@ use Rattle.exec_rules.specs.Item.{taker_of}
 use Rattle.exec_rules.specs.Ready.{is_callback_of}
 use Rattle.exec_rules.specs.Lines.{is_answer}
 use Rattle.exec_rules.specs.Ready.{kind_of, queue_taken}
-use Rattle.exec_rules.specs.Transcript.{entity_at, service_in, server_in}
+use Rattle.exec_rules.specs.Transcript.{entity_at, service_of, server_of}
 use Rattle.exec_rules.specs.World.{Queue, is_queue, queue_after}
 use Rattle.exec_rules.specs.declared.item.Item.{Item}
 use Rattle.exec_rules.specs.declared.item.Item.TheVariants as item
@@ -174,22 +174,22 @@ module _ (routes : Routes) (channel : Channel) where
 
 -- the channel of an answer
 abbrev pub channel_of : GraphData → EntityNo → Kind → Channel
-channel_of graph entity kind.Reply = replies (service_in (entity_at graph entity).is)
-channel_of graph entity kind.Response = responses (server_in (entity_at graph entity).is)
-channel_of graph entity kind.Code = codes (server_in (entity_at graph entity).is)
+channel_of graph entity kind.Reply = replies (service_of (entity_at graph entity).is)
+channel_of graph entity kind.Response = responses (server_of (entity_at graph entity).is)
+channel_of graph entity kind.Code = codes (server_of (entity_at graph entity).is)
 channel_of graph entity _ = asks entity
 
 pub its_channel : (graph : GraphData) (entity : EntityNo) (of : Kind) → is_answer of ≡ true → takes (routes_of graph) (channel_of graph entity of) entity of ≡ true
 its_channel graph entity kind.Timer e = absurd cc
 its_channel graph entity kind.Message e = absurd cc
 its_channel graph entity kind.Request e = absurd cc
-its_channel graph entity kind.Reply e = eq-eqb (service_in (entity_at graph entity).is) (service_in (entity_at graph entity).is) refl
+its_channel graph entity kind.Reply e = eq-eqb (service_of (entity_at graph entity).is) (service_of (entity_at graph entity).is) refl
 its_channel graph entity kind.Goal e = absurd cc
 its_channel graph entity kind.Cancel e = absurd cc
 its_channel graph entity kind.Ask e = eq-eqb entity entity refl
 its_channel graph entity kind.Poll e = absurd cc
-its_channel graph entity kind.Response e = eq-eqb (server_in (entity_at graph entity).is) (server_in (entity_at graph entity).is) refl
-its_channel graph entity kind.Code e = eq-eqb (server_in (entity_at graph entity).is) (server_in (entity_at graph entity).is) refl
+its_channel graph entity kind.Response e = eq-eqb (server_of (entity_at graph entity).is) (server_of (entity_at graph entity).is) refl
+its_channel graph entity kind.Code e = eq-eqb (server_of (entity_at graph entity).is) (server_of (entity_at graph entity).is) refl
 its_channel graph entity kind.Feedback e = absurd cc
 its_channel graph entity kind.Result e = absurd cc
 

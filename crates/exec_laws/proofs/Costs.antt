@@ -24,7 +24,7 @@ use Rattle.exec_rules.specs.Shape.{queue_shape, server_shape, shape_of, timer_sh
 use Rattle.exec_rules.specs.Ready.{all_ready, candidates_for, due_ready, is_goal_awake, item_ready, placed_from, poll_ready, queue_ready, rank_under, ready_for, ready_list, script_to_take, woken}
 use Rattle.exec_rules.specs.Sorting.{sorted_by}
 use Rattle.exec_rules.specs.Transcript.{first_world, new_queue, new_server, new_timer, takes_from_queue}
-use Rattle.exec_rules.specs.World.{Queue, ServerEntry, TimerEntry, WorldState, goals_of, has_room_for, is_server_at, goals_in}
+use Rattle.exec_rules.specs.World.{Queue, ServerEntry, TimerEntry, WorldState, goals_at, has_room_for, is_server_at, goals_in}
 use Rattle.exec_rules.specs.declared.item.Item.{Item}
 use Rattle.exec_rules.specs.declared.item.Item.TheVariants as item
 use Rattle.exec_rules.specs.declared.ready.Ready.{Ready}
@@ -106,9 +106,9 @@ short_taken (item.Result id status value) goals script p = p
 item_short : (moment : Moment) (world : WorldState) (queue : Queue) → IsShort queue.handler.script → AllByRecursion IsShortReady (queue_ready moment world queue)
 item_short moment world queue p = by queue.items
   where
-    by : (items : List Item) → AllByRecursion IsShortReady (item_ready moment queue.handler (goals_of queue.handler.entity world) items)
+    by : (items : List Item) → AllByRecursion IsShortReady (item_ready moment queue.handler (goals_at queue.handler.entity world) items)
     by [] = tt
-    by (first ∷ items) = (short_taken first (goals_of queue.handler.entity world) queue.handler.script p, tt)
+    by (first ∷ items) = (short_taken first (goals_at queue.handler.entity world) queue.handler.script p, tt)
 
 -- the callbacks of a ready list have short scripts
 pub list_short : (moment : Moment) (world : WorldState) → IsSmall world → AllByRecursion IsShortReady (ready_list moment world)
@@ -144,9 +144,9 @@ due_cost moment entry = by (is_due entry.timer moment) refl
 item_cost : (moment : Moment) (world : WorldState) (queue : Queue) → AllByRecursion IsSmallServer world.servers → cost_of_all (queue_ready moment world queue) ≤ of_item
 item_cost moment world queue servers = by queue.items
   where
-    by : (items : List Item) → cost_of_all (item_ready moment queue.handler (goals_of queue.handler.entity world) items) ≤ of_item
+    by : (items : List Item) → cost_of_all (item_ready moment queue.handler (goals_at queue.handler.entity world) items) ≤ of_item
     by [] = omega arith
-    by (first ∷ items) = omega (arith, few_candidates first (goals_of queue.handler.entity world) (few_goals queue.handler.entity world.servers servers))
+    by (first ∷ items) = omega (arith, few_candidates first (goals_at queue.handler.entity world) (few_goals queue.handler.entity world.servers servers))
 
 poll_cost : (moment : Moment) (entry : ServerEntry) → length entry.goals ≤ GOALS → cost_of_all (poll_ready moment entry) ≤ of_polls
 poll_cost moment entry few = omega (arith, few, filter_less (is_goal_awake moment entry.held) entry.goals, each (filter (is_goal_awake moment entry.held) entry.goals))

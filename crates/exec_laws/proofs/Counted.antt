@@ -32,10 +32,10 @@ use Rattle.exec_laws.proofs.Increase.{RisesByOnes, run_of_plan}
 use Rattle.exec_laws.proofs.Waiting.{accepted_none, all_left, answered_less, asked_more, goals_changed, server_ended, servers_changed, waiting_at, waiting_for_all, waits_moved}
 use Rattle.exec_rules.proofs.Pairs.{all_map}
 use Rattle.exec_rules.specs.Close.{GoalRequest, accept_where, answer_ask, ask_where, cancel, close_cause, close_item, close_poll, end_in, goal_at, pend, respond, server_accepting, tell, tell_end, with_ended}
-use Rattle.exec_rules.specs.Give.{call_by, cancel_all_by, cancel_goal_by, client_of, execute_goal, give, give_feedback, oldest_accepted, publish, send_goal_by}
+use Rattle.exec_rules.specs.Give.{call_by, cancel_all_by, cancel_goal_by, execute_goal, give, give_feedback, oldest_accepted, publish, send_goal_by, sender_at}
 use Rattle.exec_rules.specs.Run.{with_polled, with_variables_for}
 use Rattle.exec_rules.specs.Transcript.{feed_one, first_world, new_server, new_topic, rounds, subscribes_to}
-use Rattle.exec_rules.specs.World.{ActionClientEntry, ClientEntry, GoalWork, TopicEntry, WorldState, action_client_at, add_line, arrived, change_goals, client_at, goals_of, is_for, is_server_at, next_in, push, push_any, subscribers_of, with_variables}
+use Rattle.exec_rules.specs.World.{ActionClientEntry, ClientEntry, GoalWork, TopicEntry, WorldState, action_client_at, add_line, arrived, change_goals, client_at, goals_at, is_for, is_server_at, next_in, push, push_any, subscribers_at, with_variables}
 use Rattle.exec_rules.specs.declared.item.Item.{Item}
 use Rattle.exec_rules.specs.declared.item.Item.TheVariants as item
 use Rattle.exec_rules.specs.declared.ready.Cause.{Cause}
@@ -103,7 +103,7 @@ module _ (most : ℕ) (world : WorldState) (p : IsCounted most world) where
   once after q = counted_more (suc most) (most + 768) after (omega arith) q
 
   all_published : (topic : EntityNo) (value : ℤ) → IsCounted (most + 768) (publish topic value world)
-  all_published topic value = published most (most + 768) value (subscribers_of topic world) world (omega (arith, few_subscribers topic world.topics p.0)) p
+  all_published topic value = published most (most + 768) value (subscribers_at topic world) world (omega (arith, few_subscribers topic world.topics p.0)) p
 
   one_called : (client : Option ClientEntry) (value : ℤ) → IsCounted (most + 768) (call_by client value world)
   one_called None value = as_many
@@ -133,10 +133,10 @@ module _ (most : ℕ) (world : WorldState) (p : IsCounted most world) where
   feedback_given server (cause.Took taken) value = as_many
   feedback_given server (cause.Woke id goal canceling) value =
       let said : WorldState = add_line (line.Feedback server id value) world in
-      once (push_any (client_of server id world) (item.Feedback id value) said) (sent_any most (client_of server id world) (item.Feedback id value) said p)
+      once (push_any (sender_at server id world) (item.Feedback id value) said) (sent_any most (sender_at server id world) (item.Feedback id value) said p)
 
   given : (one : Ready) (does : Effect) → IsCounted (most + 768) (give one does world)
-  given one (effect.Publish topic value) = published most (most + 768) value (subscribers_of topic world) (add_line (line.Pub topic value) world) (omega (arith, few_subscribers topic world.topics p.0)) p
+  given one (effect.Publish topic value) = published most (most + 768) value (subscribers_at topic world) (add_line (line.Pub topic value) world) (omega (arith, few_subscribers topic world.topics p.0)) p
   given one (effect.Call client value) = one_called (client_at client world) value
   given one (effect.SendGoal client value) = one_sent (action_client_at client world) value
   given one (effect.CancelAll client stamp) = all_canceled (action_client_at client world) stamp
@@ -182,7 +182,7 @@ end_told most server None world p = counted_more most (most + 0) world (omega ar
 end_told most server (Some goal) world p = all_told most server goal.id (status_of goal.state) goal.result goal.askers (add_line (line.State server goal.id (status_of goal.state)) world) p
 
 -- those that are told were counted when they asked
-ended_in : (most : ℕ) (found : Option State) (server : EntityNo) (id : GoalId) (by : Event) (value : ℤ) (moment : Moment) (world : WorldState) → end_state id by (goals_of server world) ≡ found → IsCounted most world → IsCounted most (end_in found server id by value moment world)
+ended_in : (most : ℕ) (found : Option State) (server : EntityNo) (id : GoalId) (by : Event) (value : ℤ) (moment : Moment) (world : WorldState) → end_state id by (goals_at server world) ≡ found → IsCounted most world → IsCounted most (end_in found server id by value moment world)
 ended_in most None server id by value moment world leads p = p
 ended_in most (Some reached) server id by value moment world leads p =
     let after : WorldState = with_ended server id by value moment world in
@@ -199,7 +199,7 @@ module _ (most : ℕ) (world : WorldState) (p : IsCounted most world) where
       counted_more (suc (suc most)) (most + 768) (close_item entity moment (item.Goal id client value) closing world) (omega arith)
       (sent_any (suc most) client _ _ (accepted most _ p _ entity moment (record { id = id; client = client; value = value })))
   item_closed entity moment (item.Cancel request client) closing = canceled_by most world p entity request client _
-  item_closed entity moment (item.Ask id client) closing = answered most world p entity id client (asked_for id (goals_of entity world))
+  item_closed entity moment (item.Ask id client) closing = answered most world p entity id client (asked_for id (goals_at entity world))
   item_closed entity moment (item.Response id accepts) closing = responded most world p (action_client_at entity world) id accepts
   item_closed entity moment (item.Message value) closing = as_many most world p
   item_closed entity moment (item.Reply number value) closing = as_many most world p
@@ -209,7 +209,7 @@ module _ (most : ℕ) (world : WorldState) (p : IsCounted most world) where
 
   poll_closed : (server : EntityNo) (id : GoalId) (moment : Moment) (closing : Close) → IsCounted (most + 768) (close_poll server id moment closing world)
   poll_closed server id moment (close.Ended by value) =
-      counted_more most (most + 768) (close_poll server id moment (close.Ended by value) world) (omega arith) (ended_in most (end_state id by (goals_of server world)) server id by value moment world refl p)
+      counted_more most (most + 768) (close_poll server id moment (close.Ended by value) world) (omega arith) (ended_in most (end_state id by (goals_at server world)) server id by value moment world refl p)
   poll_closed server id moment close.Nothing = as_many most world p
   poll_closed server id moment (close.Reply reply) = as_many most world p
   poll_closed server id moment (close.Decide decision) = as_many most world p

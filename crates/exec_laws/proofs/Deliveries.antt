@@ -37,12 +37,12 @@ use Rattle.exec_rules.specs.Shape.{shape_of}
 use Rattle.exec_rules.specs.Ready.{ready_list, run_line, take_inputs}
 use Rattle.exec_rules.specs.Run.{run}
 use Rattle.exec_rules.specs.Transcript.{first_world, expire_lines, expire, feed_one, feed, at_snapshot, run_all, round, rounds, pending_by, closing_lines, last_world}
-use Rattle.exec_rules.specs.World.{WorldState, Queue, add_line, add_lines, is_queue, drop_line, lost_by, push, subscribers_of, with_call}
+use Rattle.exec_rules.specs.World.{WorldState, Queue, add_line, add_lines, is_queue, drop_line, lost_by, push, subscribers_at, with_call}
 use Rattle.exec_rules.specs.declared.item.Item.{Item}
 use Rattle.exec_rules.specs.declared.item.Item.TheVariants as item
 use Rattle.exec_rules.specs.declared.ready.Ready.{Ready}
 
-module _ (plan : PlanData) (topic subscription : EntityNo) (among : Contains (subscribers_of topic (first_world plan)) subscription) where
+module _ (plan : PlanData) (topic subscription : EntityNo) (among : Contains (subscribers_at topic (first_world plan)) subscription) where
   -- ---- lines
 
   abbrev published : List Line → List ℤ
@@ -164,8 +164,8 @@ module _ (plan : PlanData) (topic subscription : EntityNo) (among : Contains (su
   published_sent : (sent hand said : List ℤ) (other : EntityNo) (value : ℤ) (world : WorldState) → IsSending sent hand said world → IsSending (sent ++ only_if (other == topic) value) hand said (publish other value world)
   published_sent sent hand said other value world d =
       subst (λ (some : List ℤ). IsSending (sent ++ some) hand said (publish other value world))
-      (ap (λ (all : List EntityNo). flat_map (brought subscription value) all) (ap (λ (shape : WorldState). subscribers_of other shape) d.base.1) ∙ messages_brought plan topic subscription among other value)
-      (messages_sent sent hand said value (subscribers_of other world) world d)
+      (ap (λ (all : List EntityNo). flat_map (brought subscription value) all) (ap (λ (shape : WorldState). subscribers_at other shape) d.base.1) ∙ messages_brought plan topic subscription among other value)
+      (messages_sent sent hand said value (subscribers_at other world) world d)
 
   -- with its line
   publication : (hand : List ℤ) (other : EntityNo) (value : ℤ) (world : WorldState) → Delivers hand world → Delivers hand (publish other value (add_line (line.Pub other value) world))

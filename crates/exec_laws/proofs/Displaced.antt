@@ -40,7 +40,7 @@ use Rattle.exec_rules.specs.Ready.{all_ready, due_ready, item_ready, placed_from
 use Rattle.exec_rules.specs.Sorting.{sorted_by}
 use Rattle.exec_rules.specs.Run.{run}
 use Rattle.exec_rules.specs.Transcript.{takes_from_queue, first_world, expire_lines, expire, at_snapshot, run_all, round, rounds, pending_by, closing_lines, lines_of, new_queue}
-use Rattle.exec_rules.specs.World.{WorldState, Queue, TimerEntry, ServerEntry, ClientEntry, add_line, is_queue, drop_line, lost_by, push, goals_of, change_goals, add_lines, with_task, with_call, with_goal_sent, with_variables, next_arrival}
+use Rattle.exec_rules.specs.World.{WorldState, Queue, TimerEntry, ServerEntry, ClientEntry, add_line, is_queue, drop_line, lost_by, push, goals_at, change_goals, add_lines, with_task, with_call, with_goal_sent, with_variables, next_arrival}
 use Rattle.exec_rules.specs.declared.item.Item.{Item}
 use Rattle.exec_rules.specs.declared.item.Item.TheVariants as item
 use Rattle.exec_rules.specs.declared.ready.Ready.{Ready}
@@ -218,8 +218,8 @@ module _ (plan : PlanData) (deep_first : AllByRecursion (λ queue. 1 ≤ queue.d
     execution_kept = λ server goal world found s.
         kept rest world (execute_goal server (Some goal) world) (line.State server goal.id (status_of (after_event event.Execute goal).state) ∷ []) s ((moves_kept shapes.basic).execution_kept server goal world found s.shape) refl refl refl;
     answer_kept = λ server decisions returned many world s.
-        kept rest world (canceled server decisions returned many world) (moved_lines server (moved decisions (goals_of server world)) ++ line.Code server returned many ∷ []) s ((moves_kept shapes.basic).answer_kept server decisions returned many world s.shape) refl refl
-        (lossless_more (moved_lines server (moved decisions (goals_of server world))) (line.Code server returned many ∷ []) (moved_lossless server (moved decisions (goals_of server world))) refl);
+        kept rest world (canceled server decisions returned many world) (moved_lines server (moved decisions (goals_at server world)) ++ line.Code server returned many ∷ []) s ((moves_kept shapes.basic).answer_kept server decisions returned many world s.shape) refl refl
+        (lossless_more (moved_lines server (moved decisions (goals_at server world))) (line.Code server returned many ∷ []) (moved_lossless server (moved decisions (goals_at server world))) refl);
     tasks_kept = λ server id task world s. same_lines rest world (with_task server id task world) s (shapes.basic.tasks_kept server id task world s.shape) refl refl;
     arrivals_kept = λ server id world s. same_lines rest world (goal_arrived server id world) s (shapes.basic.arrivals_kept server id world s.shape) refl refl;
     sending_kept = λ client world s. same_lines rest world (with_goal_sent client world) s (shapes.basic.sending_kept client world s.shape) refl refl;
@@ -301,7 +301,7 @@ module _ (routes : Routes) (server : EntityNo) where
   queue_weighs : (moment : Moment) (world : WorldState) (queue : Queue) → IsOfItsKind queue → count (sends_to routes (asks server)) (queue_ready moment world queue) ≤ weigh (takes routes (responses server) queue.handler.entity queue.kind) (length queue.items)
   queue_weighs moment world queue p = by queue.items (recursion_from_All (λ one. taker_of one ≡ queue.kind) queue.items p)
     where
-      by : (items : List Item) → AllByRecursion (λ one. taker_of one ≡ queue.kind) items → count (sends_to routes (asks server)) (item_ready moment queue.handler (goals_of queue.handler.entity world) items) ≤ weigh (takes routes (responses server) queue.handler.entity queue.kind) (length items)
+      by : (items : List Item) → AllByRecursion (λ one. taker_of one ≡ queue.kind) items → count (sends_to routes (asks server)) (item_ready moment queue.handler (goals_at queue.handler.entity world) items) ≤ weigh (takes routes (responses server) queue.handler.entity queue.kind) (length items)
       by [] q = omega arith
       by (first ∷ items) q =
           let weighs = first_weighs queue.handler.entity first (length items) in
@@ -346,7 +346,7 @@ module _ (routes : Routes) (moment : Moment) (world : WorldState) where
   well_taken : (queue : Queue) → IsAddressed routes queue → AllByRecursion Well (queue_ready moment world queue)
   well_taken queue p = by queue.items p
     where
-      by : (items : List Item) → AllByRecursion (λ one. is_sent_well routes queue.handler.entity one ≡ true) items → AllByRecursion Well (item_ready moment queue.handler (goals_of queue.handler.entity world) items)
+      by : (items : List Item) → AllByRecursion (λ one. is_sent_well routes queue.handler.entity one ≡ true) items → AllByRecursion Well (item_ready moment queue.handler (goals_at queue.handler.entity world) items)
       by [] q = tt
       by (first ∷ items) q = (q.0, tt)
 

@@ -23,7 +23,7 @@ use Rattle.exec_rules.specs.Close.{held_goal, server_accepting}
 use Rattle.exec_rules.specs.Item.{taker_of}
 use Rattle.exec_rules.specs.Ready.{queue_taken, ready_list}
 use Rattle.exec_rules.specs.Transcript.{at_snapshot, first_world, rounds, server_expired}
-use Rattle.exec_rules.specs.World.{GoalWork, Handler, HeldGoal, Queue, ServerEntry, WorldState, arrived, held_by, held_in, is_for, is_queue, is_server_at, next_arrival, next_in, queue_after}
+use Rattle.exec_rules.specs.World.{GoalWork, Handler, HeldGoal, Queue, ServerEntry, WorldState, arrived, held_at, held_in, is_for, is_queue, is_server_at, next_arrival, next_in, queue_after}
 use Rattle.exec_rules.specs.declared.item.Item.{Item}
 use Rattle.exec_rules.specs.declared.ready.Ready.{Ready}
 use Rattle.exec_rules.specs.inner.Numbering.{IsNumbered}
@@ -317,11 +317,11 @@ items_left plan number next round moment moments later entity of by =
     left_in before.arrivals entity of before.queues after.queues (is_later plan number next round moment moments later by).2
 
 pub goals_left : (plan : PlanData) (number next round moment : ℕ) (moments later : List ℕ) (server : EntityNo) → plan.order ≡ order.Arrival →
-    All (HadItsNumber (rounds plan number moments (first_world plan)).arrivals (held_by server (rounds plan number moments (first_world plan)))) (held_by server (at_snapshot plan round moment (rounds plan next later (rounds plan number moments (first_world plan)))))
+    All (HadItsNumber (rounds plan number moments (first_world plan)).arrivals (held_at server (rounds plan number moments (first_world plan)))) (held_at server (at_snapshot plan round moment (rounds plan next later (rounds plan number moments (first_world plan)))))
 goals_left plan number next round moment moments later server by =
     let before : WorldState = rounds plan number moments (first_world plan) in
     let after : WorldState = at_snapshot plan round moment (rounds plan next later before) in
-    All-from_recursion (HadItsNumber before.arrivals (held_by server before)) (held_by server after) (goals_in_step before.arrivals server before.servers after.servers (is_later plan number next round moment moments later by).3)
+    All-from_recursion (HadItsNumber before.arrivals (held_at server before)) (held_at server after) (goals_in_step before.arrivals server before.servers after.servers (is_later plan number next round moment moments later by).3)
 
 pub earlier_first : (plan : PlanData) (number next round moment : ℕ) (moments later : List ℕ) → plan.order ≡ order.Arrival →
     HasEarlierFirst (rounds plan number moments (first_world plan)).arrivals moment (at_snapshot plan round moment (rounds plan next later (rounds plan number moments (first_world plan))))

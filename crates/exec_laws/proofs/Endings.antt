@@ -15,7 +15,7 @@ use Rattle.exec_script.specs.declared.effects.Close.TheVariants as close
 use Rattle.exec_script.specs.declared.effects.Effect.{Effect}
 use Rattle.exec_script.specs.declared.step.Stop.{Stop}
 use Rattle.exec_script.specs.declared.step.Stop.TheVariants as stop
-use Rattle.exec_task.specs.Task.{TaskState, has_ended, is_reached, is_awake, ending_event, after_stop, run_of, task_answer, poll_input}
+use Rattle.exec_task.specs.Task.{TaskState, has_ended, is_reached, is_awake, ending_event, after_stop, resumption_of, task_answer, poll_input}
 use Rattle.exec_task.specs.declared.wait.Ending.{Ending}
 use Rattle.exec_task.specs.declared.wait.Turn.{Turn}
 use Rattle.exec_laws.proofs.AtWork.{IsIn, is_in, PollsAnother, StaysAtWork, all_others_run, stays_unclosed}
@@ -33,7 +33,7 @@ use Rattle.exec_rules.specs.Ready.{take_inputs, turn_at, run_line}
 use Rattle.exec_rules.specs.Run.{work_for, variables_for, outcome_in}
 use Rattle.exec_rules.specs.Transcript.{at_snapshot, first_world, rounds}
 use Rattle.exec_script.specs.Script.{Variables}
-use Rattle.exec_rules.specs.World.{WorldState, GoalWork, add_line, goals_of}
+use Rattle.exec_rules.specs.World.{WorldState, GoalWork, add_line, goals_at}
 use Rattle.exec_rules.specs.declared.ready.Cause.{Cause}
 use Rattle.exec_rules.specs.declared.ready.Cause.TheVariants as cause
 use Rattle.exec_rules.specs.declared.ready.Ready.{Ready}
@@ -78,10 +78,10 @@ module _ (turn : Turn) (by : Event) (value : ℤ) where
       where_awake : (b : Bool) → is_awake work.task turn ≡ b → (poll_where b put turn work variables given).close ≡ close.Ended by value → EndsSo turn.canceling by
       where_awake false asleep ends = absurd cc
       where_awake true awake ends =
-          let none : work.task.ending ≡ None = unended work.task.ending (and_parts (not (has_ended work.task)) (is_reached work.task.waits turn.moment || (turn.canceling && not work.task.told)) awake).0 in
-          let ran = run_of put work.script work.value turn work.task variables given in
-          let closes : close_of_answer (task_answer (after_stop turn ran.stop (record work.task { registers = ran.registers; told = work.task.told || turn.canceling }))) ≡ close.Ended by value = rw awake at ends in
-          stopped ran.stop (record work.task { registers = ran.registers; told = work.task.told || turn.canceling }) none (resumed_ending put work.script work.task.place work.task.registers variables None (poll_input work.value turn) given) closes
+          let none : work.task.ending ≡ None = unended work.task.ending (and_parts (not (has_ended work.task)) (is_reached work.task.waits turn.moment || (turn.canceling && not work.task.knows_canceling)) awake).0 in
+          let ran = resumption_of put work.script work.value turn work.task variables given in
+          let closes : close_of_answer (task_answer (after_stop turn ran.stop (record work.task { registers = ran.registers; knows_canceling = work.task.knows_canceling || turn.canceling }))) ≡ close.Ended by value = rw awake at ends in
+          stopped ran.stop (record work.task { registers = ran.registers; knows_canceling = work.task.knows_canceling || turn.canceling }) none (resumed_ending put work.script work.task.place work.task.registers variables None (poll_input work.value turn) given) closes
 
 -- such an event leads to a terminal state from one that may be polled so
 leads_on : (canceling : Bool) (by : Event) (at : State) → EndsSo canceling by → may_be_polled canceling (Some at) ≡ true → is_some (where_terminal (moved_to by (Some at))) ≡ true
@@ -158,17 +158,17 @@ module _ (plan : PlanData) (number : ℕ) (moments : List Moment) (next : ℕ) (
       ))
 
   -- a goal that is polled may be polled so in its turn
-  pub polled_at_work : may_be_polled canceling (state_in id (goals_of one.entity here)) ≡ true
+  pub polled_at_work : may_be_polled canceling (state_in id (goals_at one.entity here)) ≡ true
   polled_at_work = at_turn.1
 
   -- and where its poll is closed
-  pub closed_at_work : may_be_polled canceling (state_in id (goals_of one.entity (unclosed one here))) ≡ true
+  pub closed_at_work : may_be_polled canceling (state_in id (goals_at one.entity (unclosed one here))) ≡ true
   closed_at_work = (stays_unclosed one.entity id canceling one here at_turn).1
 
   -- so an ending is allowed
-  pub ending_allowed : (by : Event) (result : ℤ) → (outcome_in one here).close ≡ close.Ended by result → end_state id by (goals_of one.entity (unclosed one here)) ≢ None
+  pub ending_allowed : (by : Event) (result : ℤ) → (outcome_in one here).close ≡ close.Ended by result → end_state id by (goals_at one.entity (unclosed one here)) ≢ None
   ending_allowed by result ends none =
-      let goals : List GoalRecord = goals_of one.entity (unclosed one here) in
+      let goals : List GoalRecord = goals_at one.entity (unclosed one here) in
       let held : IsIn canceling (state_in id goals) = is_in canceling (state_in id goals) closed_at_work in
       let so : (act (cause.Woke id value canceling) (give one) one (work_for one.entity one.cause here) (variables_for one here) (add_line (run_line one) here)).close ≡ close.Ended by result =
       subst (λ (why : Cause). (act why (give one) one (work_for one.entity one.cause here) (variables_for one here) (add_line (run_line one) here)).close ≡ close.Ended by result) polls ends in

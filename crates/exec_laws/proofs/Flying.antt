@@ -13,7 +13,7 @@ use Rattle.exec_rules.proofs.Sorting.{sum_sorted}
 use Rattle.exec_rules.specs.Item.{taker_of}
 use Rattle.exec_rules.specs.Ready.{all_ready, due_ready, item_ready, placed_from, poll_ready, queue_ready, queue_taken, rank_under, ready_list}
 use Rattle.exec_rules.specs.Sorting.{sorted_by}
-use Rattle.exec_rules.specs.World.{WorldState, Queue, TimerEntry, is_queue, lost_from, queue_after, goals_of}
+use Rattle.exec_rules.specs.World.{WorldState, Queue, TimerEntry, is_queue, lost_from, queue_after, goals_at}
 use Rattle.exec_rules.specs.declared.item.Item.{Item}
 use Rattle.exec_rules.specs.declared.ready.Cause.{Cause}
 use Rattle.exec_rules.specs.declared.ready.Cause.TheVariants as cause
@@ -116,7 +116,7 @@ module _ (weight : EntityNo → Item → ℕ) where
     queue_hands : (queue : Queue) → hands (queue_ready moment world queue) ≡ first_weight queue.handler.entity queue.items
     queue_hands queue = by queue.items
       where
-        by : (items : List Item) → hands (item_ready moment queue.handler (goals_of queue.handler.entity world) items) ≡ first_weight queue.handler.entity items
+        by : (items : List Item) → hands (item_ready moment queue.handler (goals_at queue.handler.entity world) items) ≡ first_weight queue.handler.entity items
         by [] = refl
         by (first ∷ items) = omega arith
 

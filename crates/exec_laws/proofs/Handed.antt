@@ -18,7 +18,7 @@ use Rattle.exec_rules.proofs.Wiring.{IsWired, QueuesApart}
 use Rattle.exec_laws.specs.Exchanges.{taken_at}
 use Rattle.exec_rules.specs.Item.{taker_of, first_of}
 use Rattle.exec_rules.specs.Ready.{item_ready, kind_of, queue_ready, queue_taken, ready_list, run_line}
-use Rattle.exec_rules.specs.World.{WorldState, Queue, goals_of, is_queue}
+use Rattle.exec_rules.specs.World.{WorldState, Queue, goals_at, is_queue}
 use Rattle.exec_rules.specs.declared.item.Item.{Item}
 use Rattle.exec_rules.specs.declared.ready.Ready.{Ready}
 
@@ -73,7 +73,7 @@ module _ (subscription : EntityNo) where
         empty true = refl
         empty false = refl
 
-        by : (items : List Item) → AllByRecursion (λ one. taker_of one ≡ queue.kind) items → flat_map handed (item_ready moment queue.handler (goals_of queue.handler.entity world) items) ≡ (if is_queue subscription kind.Message queue then take 1 (map first_of items) else [])
+        by : (items : List Item) → AllByRecursion (λ one. taker_of one ≡ queue.kind) items → flat_map handed (item_ready moment queue.handler (goals_at queue.handler.entity world) items) ≡ (if is_queue subscription kind.Message queue then take 1 (map first_of items) else [])
         by [] q = empty (is_queue subscription kind.Message queue)
         by (first ∷ items) q =
             append-nil _ ∙ taken_said (taker_of first) queue.handler.entity (first_of first) _ _

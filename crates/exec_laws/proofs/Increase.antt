@@ -12,7 +12,7 @@ use Rattle.exec_plan.specs.Lawful.{IsLawfulPlan}
 use Rattle.exec_plan.specs.Plan.{PlanData, Fed, Feed}
 use Rattle.exec_msg.specs.declared.line.Line.{Line}
 use Rattle.exec_msg.specs.declared.line.Line.TheVariants as line
-use Rattle.exec_script.specs.Script.{CallInput, ScriptState, after_step, follow, passed_by, resumed, step_of, Variables}
+use Rattle.exec_script.specs.Script.{CallInput, ScriptState, after_step, follow, skipped_by, resumed, step_of, Variables}
 use Rattle.exec_script.specs.Zeros.{zeros}
 use Rattle.exec_script.specs.declared.effects.Close.{Close}
 use Rattle.exec_script.specs.declared.effects.Effect.{Effect}
@@ -28,7 +28,7 @@ use Rattle.exec_laws.proofs.Costs.{IsShortReady, cost_of, cost_of_all, few_steps
 use Rattle.exec_rules.proofs.Running.{one_keeps, round_keeps, snapshot_keeps}
 use Rattle.exec_rules.proofs.Shapes.{shape_kept}
 use Rattle.exec_laws.proofs.Short.{IsShort, IsShortWork, IsSmall, IsSmallServer, first_small, small_kept, filter_less}
-use Rattle.exec_rules.specs.Callback.{Handling, Outcome, act, call_in, candidate_input, handle, instructions_of, poll, poll_where, take_item}
+use Rattle.exec_rules.specs.Callback.{AfterCallback, CancelHandling, act, call_in, candidate_input, handle_cancel, instructions_of, poll, poll_where, take_item}
 use Rattle.exec_rules.specs.Close.{close_cause}
 use Rattle.exec_rules.specs.Give.{give}
 use Rattle.exec_rules.specs.Shape.{shape_of}
@@ -62,7 +62,7 @@ module _ {Made : ℕ → WorldState → Type 0} (r : RisesByOnes Made) (one : Re
   stepped : (most place : ℕ) (does : Step) (state : ScriptState WorldState) → Made most state.given → Made (suc most) (after_step (give one) place does state).given
   stepped most place (step.Give does) state p = r.given most one does state.given p
   stepped most place (step.Store destination value) state p = r.weaker most (suc most) state.given (omega arith) p
-  stepped most place (step.Pass count) state p = r.weaker most (suc most) state.given (omega arith) p
+  stepped most place (step.Skip count) state p = r.weaker most (suc most) state.given (omega arith) p
   stepped most place (step.Answer value) state p = r.weaker most (suc most) state.given (omega arith) p
   stepped most place (step.Wait ticks) state p = r.weaker most (suc most) state.given (omega arith) p
   stepped most place step.Yield state p = r.weaker most (suc most) state.given (omega arith) p
@@ -72,20 +72,20 @@ module _ {Made : ℕ → WorldState → Type 0} (r : RisesByOnes Made) (one : Re
   followed most more input [] place over state grows p = r.weaker most more state.given (omega (arith, grows)) p
   followed most more input (instruction ∷ rest) place (suc over) state grows p = followed most more input rest (suc place) over state (omega (arith, grows)) p
   followed most more input (instruction ∷ rest) place zero state grows p =
-      followed (suc most) more input rest (suc place) (passed_by (step_of instruction state.registers state.variables input) (length rest))
+      followed (suc most) more input rest (suc place) (skipped_by (step_of instruction state.registers state.variables input) (length rest))
       (after_step (give one) (suc place) (step_of instruction state.registers state.variables input) state) (omega (arith, grows))
       (stepped most (suc place) (step_of instruction state.registers state.variables input) state p)
 
   -- a short script raises it by as many as it may have at most
   ran : (most : ℕ) (script : List Instr) (place : ℕ) (registers variables : List ℤ) (answer : Option ℤ) (input : CallInput) (world : WorldState) → IsShort script → Made most world → Made (most + INSTRUCTIONS) (resumed (give one) script place registers variables answer input world).given
   ran most script place registers variables answer input world short p =
-      followed most (most + INSTRUCTIONS) input (drop place script) place 0 (record { registers = registers; variables = variables; answer = answer; given = world; stop = stop.End }) (omega (arith, short, length-drop place script)) p
+      followed most (most + INSTRUCTIONS) input (drop place script) place 0 (record { registers = registers; variables = variables; reply_or_decision = answer; given = world; stop = stop.End }) (omega (arith, short, length-drop place script)) p
 
   -- and a callback by as much, and once more for each candidate of a cancel request
-  all_handled_by : (most more : ℕ) (candidates : List GoalInfo) (handling : Handling WorldState) → IsShort (instructions_of one.script) → most + length candidates * INSTRUCTIONS ≤ more → Made most handling.given → Made more (fold (handle (give one) one) handling candidates).given
+  all_handled_by : (most more : ℕ) (candidates : List GoalInfo) (handling : CancelHandling WorldState) → IsShort (instructions_of one.script) → most + length candidates * INSTRUCTIONS ≤ more → Made most handling.given → Made more (fold (handle_cancel (give one) one) handling candidates).given
   all_handled_by most more [] handling short grows p = r.weaker most more handling.given (omega (arith, grows)) p
   all_handled_by most more (candidate ∷ candidates) handling short grows p =
-      all_handled_by (most + INSTRUCTIONS) more candidates (handle (give one) one handling candidate) short (omega (arith, grows))
+      all_handled_by (most + INSTRUCTIONS) more candidates (handle_cancel (give one) one handling candidate) short (omega (arith, grows))
       (ran most (instructions_of one.script) 0 zeros handling.variables None (candidate_input one.moment candidate) handling.given short p)
 
   module _ (most : ℕ) (script : IsShortReady one) (variables : Variables) (world : WorldState) (p : Made most world) where
@@ -149,7 +149,7 @@ short_for server (cause.Woke id value canceling) world p = short_works server id
 run_raises : {Made : ℕ → WorldState → Type 0} → RisesByOnes Made → (most : ℕ) (one : Ready) (world : WorldState) → IsShortReady one → IsSmall world → Made most world → Made (most + cost_of one) (run one world)
 run_raises {Made = Made} r most one world script worlds p =
     let before_closing : ℕ = most + length one.candidates * INSTRUCTIONS + INSTRUCTIONS in
-    let outcome : Outcome WorldState = outcome_in one world in
+    let outcome : AfterCallback WorldState = outcome_in one world in
     r.weaker (suc before_closing) (most + cost_of one) (run one world) (omega arith)
     (r.closed before_closing one.entity one.moment one.cause outcome.close (unclosed one world)
     (r.polled before_closing one.entity one.cause outcome.task _

@@ -38,7 +38,7 @@ use Rattle.exec_rules.specs.Lines.{statuses_of}
 use Rattle.exec_rules.specs.Ready.{kind_of, ready_list, run_line, take_inputs}
 use Rattle.exec_rules.specs.Run.{run}
 use Rattle.exec_rules.specs.Transcript.{takes_from_queue, first_world, server_expired, expire_lines, expire, at_snapshot, run_all, round, rounds, pending_by, closing_lines, lines_of}
-use Rattle.exec_rules.specs.World.{WorldState, drop_line, lost_by, queued, push, ServerEntry, ClientEntry, is_server_at, add_line, add_lines, goals_of, change_goals, has_room_for, with_call, goals_in, next_arrival}
+use Rattle.exec_rules.specs.World.{WorldState, drop_line, lost_by, queued, push, ServerEntry, ClientEntry, is_server_at, add_line, add_lines, goals_at, change_goals, has_room_for, with_call, goals_in, next_arrival}
 use Rattle.exec_rules.specs.declared.item.Item.{Item}
 use Rattle.exec_rules.specs.declared.item.Item.TheVariants as item
 use Rattle.exec_rules.specs.declared.ready.Cause.{Cause}
@@ -49,14 +49,14 @@ use Rattle.exec_rules.specs.declared.ready.Ready.{Ready}
 module _ (server : EntityNo) (id : GoalId) (listed : List EntityNo) where
   -- the statuses that a world's lines say of a goal fit the state that its server holds_id; and these are the servers
   abbrev View : WorldState → Type 0
-  View world = Fits server id world.lines (goals_of server world) × (servers_of world ≡ listed)
+  View world = Fits server id world.lines (goals_at server world) × (servers_of world ≡ listed)
 
   view_lines : (lines : List Line) (world : WorldState) → statuses_of server id lines ≡ [] → View world → View (add_lines lines world)
-  view_lines lines world quiet v = (fits_quiet server id world.lines (goals_of server world) v.0 lines (goals_of server world) quiet refl v.0.distinct, v.1)
+  view_lines lines world quiet v = (fits_quiet server id world.lines (goals_at server world) v.0 lines (goals_at server world) quiet refl v.0.distinct, v.1)
 
   -- a server that is changed: of the goal's own server it is said what its goals are then
   changed : {change : ServerEntry → ServerEntry} {goals : List GoalRecord → List GoalRecord} → Makes change goals → (other : EntityNo) (lines : List Line) (world : WorldState) →
-      (other ≡ server → Fits server id lines (goals (goals_of server world))) → (other == server ≡ false → Fits server id lines (goals_of server world)) → (other ≡ server → (list_any (is_server_at server) world.servers ≡ true) ⊎ (goals [] ≡ [])) → servers_of world ≡ listed →
+      (other ≡ server → Fits server id lines (goals (goals_at server world))) → (other == server ≡ false → Fits server id lines (goals_at server world)) → (other ≡ server → (list_any (is_server_at server) world.servers ≡ true) ⊎ (goals [] ≡ [])) → servers_of world ≡ listed →
       Fits server id lines (goals_in server (change_first (is_server_at other) change world.servers)) × (map (λ entry. entry.handler.entity) (change_first (is_server_at other) change world.servers) ≡ listed)
   changed {change} {goals} m other lines world here apart there same = (by (other == server) refl, part_changed (λ entry. entry.handler.entity) (is_server_at other) change m.stays world.servers ∙ same)
     where
@@ -68,33 +68,33 @@ module _ (server : EntityNo) (id : GoalId) (listed : List EntityNo) where
       by false e = subst (λ (some : List GoalRecord). Fits server id lines some) (sym (goals_apart m server other world.servers e)) (apart e)
 
   -- lines of another server
-  elsewhere : (lines : List Line) (world : WorldState) → statuses_of server id lines ≡ [] → View world → Fits server id (world.lines ++ lines) (goals_of server world)
+  elsewhere : (lines : List Line) (world : WorldState) → statuses_of server id lines ≡ [] → View world → Fits server id (world.lines ++ lines) (goals_at server world)
   elsewhere lines world quiet v = (view_lines lines world quiet v).0
 
   held_view : (other : EntityNo) (goal : GoalId) (change : GoalRecord → GoalRecord) (world : WorldState) → ((one : GoalRecord) → (change one).id ≡ one.id) → ((one : GoalRecord) → (change one).state ≡ one.state) → View world → View (change_goals other (change_first (has_id goal) change) world)
   held_view other goal change world same unmoved v =
       changed (changing (change_first (has_id goal) change)) other world.lines world
-      (λ is. fits_left server id world.lines (goals_of server world) v.0 (change_first (has_id goal) change (goals_of server world)) (state_left change same id goal unmoved (goals_of server world))
-      (subst (λ (some : List GoalId). Distinct some) (sym (ids_changed goal change same (goals_of server world))) v.0.distinct))
+      (λ is. fits_left server id world.lines (goals_at server world) v.0 (change_first (has_id goal) change (goals_at server world)) (state_left change same id goal unmoved (goals_at server world))
+      (subst (λ (some : List GoalId). Distinct some) (sym (ids_changed goal change same (goals_at server world))) v.0.distinct))
       (λ differs. v.0) (λ is. inr refl) v.1
 
   execution_view : (other : EntityNo) (goal : GoalRecord) (world : WorldState) → oldest_accepted other world ≡ Some goal → View world → View (execute_goal other (Some goal) world)
   execution_view other goal world found v =
       let said : EntityNo → List Line = λ n. line.State n goal.id (status_of (after_event event.Execute goal).state) ∷ [] in
       changed (changing (change_first (has_id goal.id) (after_event event.Execute))) other (world.lines ++ said other) world
-      (λ is. subst (λ (n : EntityNo). Fits server id (world.lines ++ said n) (change_first (has_id goal.id) (after_event event.Execute) (goals_of server world))) (sym is)
-      (fits_executed server id world.lines (goals_of server world) v.0 goal (ap (λ (n : EntityNo). oldest_accepted n world) (sym is) ∙ found)))
+      (λ is. subst (λ (n : EntityNo). Fits server id (world.lines ++ said n) (change_first (has_id goal.id) (after_event event.Execute) (goals_at server world))) (sym is)
+      (fits_executed server id world.lines (goals_at server world) v.0 goal (ap (λ (n : EntityNo). oldest_accepted n world) (sym is) ∙ found)))
       (λ differs. elsewhere (said other) world (said_of_other_server server id other goal.id (status_of (after_event event.Execute goal).state) differs) v) (λ is. inr refl) v.1
 
   answer_view : (other : EntityNo) (decisions : List Decided) (returned : ReturnCode) (count : ℕ) (world : WorldState) → View world → View (canceled other decisions returned count world)
   answer_view other decisions returned count world v =
-      let said : EntityNo → List Line = λ n. moved_lines n (moved decisions (goals_of n world)) ++ line.Code n returned count ∷ [] in
+      let said : EntityNo → List Line = λ n. moved_lines n (moved decisions (goals_at n world)) ++ line.Code n returned count ∷ [] in
       changed (changing (table_after decisions)) other (world.lines ++ said other) world
-      (λ is. subst (λ (n : EntityNo). Fits server id (world.lines ++ said n) (table_after decisions (goals_of server world))) (sym is) (fits_answered server id world.lines (goals_of server world) v.0 decisions returned count))
+      (λ is. subst (λ (n : EntityNo). Fits server id (world.lines ++ said n) (table_after decisions (goals_at server world))) (sym is) (fits_answered server id world.lines (goals_at server world) v.0 decisions returned count))
       (λ differs. elsewhere (said other) world
-      (flat_map-append _ (moved_lines other (moved decisions (goals_of other world))) (line.Code other returned count ∷ [])
-      ∙ append-nil (statuses_of server id (moved_lines other (moved decisions (goals_of other world))))
-      ∙ apart_said server id other (moved decisions (goals_of other world)) differs) v) (λ is. inr refl) v.1
+      (flat_map-append _ (moved_lines other (moved decisions (goals_at other world))) (line.Code other returned count ∷ [])
+      ∙ append-nil (statuses_of server id (moved_lines other (moved decisions (goals_at other world))))
+      ∙ apart_said server id other (moved decisions (goals_at other world)) differs) v) (λ is. inr refl) v.1
 
   drops_quiet : (entity : EntityNo) (items : List Item) → statuses_of server id (map (drop_line entity) items) ≡ []
   drops_quiet entity [] = refl
@@ -128,12 +128,12 @@ module _ (server : EntityNo) (id : GoalId) (listed : List EntityNo) where
   any_listed [] = refl
   any_listed (entry ∷ servers) = ap (λ (b : Bool). (entry.handler.entity == server) || b) (any_listed servers)
 
-  accept_view : (other : EntityNo) (moment : Moment) (how : Acceptance) (request : GoalRequest) (world : WorldState) → is_listed listed other ≡ true → has_room_for request.id (goals_of other world) ≡ true → View world → View (accept other moment how request world)
+  accept_view : (other : EntityNo) (moment : Moment) (how : Acceptance) (request : GoalRequest) (world : WorldState) → is_listed listed other ≡ true → has_room_for request.id (goals_at other world) ≡ true → View world → View (accept other moment how request world)
   accept_view other moment how request world there room v =
       changed (accepting (next_arrival world) moment how request) other (world.lines ++ accepted_lines other request.id how) world
-      (λ is. subst (λ (n : EntityNo). Fits server id (world.lines ++ accepted_lines n request.id how) (goals_of server world ++ new_goal request.id request.value moment how ∷ [])) (sym is)
-      (fits_accepted server id world.lines (goals_of server world) v.0 request moment how
-      (subst (λ (n : EntityNo). holds_id request.id (goals_of n world) ≡ false) is (room_without request.id (goals_of other world) room))))
+      (λ is. subst (λ (n : EntityNo). Fits server id (world.lines ++ accepted_lines n request.id how) (goals_at server world ++ new_goal request.id request.value moment how ∷ [])) (sym is)
+      (fits_accepted server id world.lines (goals_at server world) v.0 request moment how
+      (subst (λ (n : EntityNo). holds_id request.id (goals_at n world) ≡ false) is (room_without request.id (goals_at other world) room))))
       (λ differs. elsewhere (accepted_lines other request.id how) world (accepted_elsewhere server id other request.id how differs) v)
       (λ is. inl (any_listed world.servers ∙ ap (λ (some : List EntityNo). is_listed some server) v.1 ∙ ap (λ (n : EntityNo). is_listed listed n) (sym is) ∙ there)) v.1
 
@@ -141,25 +141,25 @@ module _ (server : EntityNo) (id : GoalId) (listed : List EntityNo) where
   abbrev Leads : Type 0
   Leads = (before : State) (by : Event) (reached : State) → after before by ≡ Some reached → Transition before by reached
 
-  end_view : Leads → (other : EntityNo) (goal : GoalId) (by : Event) (value : ℤ) (moment : Moment) (reached : State) (world : WorldState) → end_state goal by (goals_of other world) ≡ Some reached → View world → View (ended other goal by value moment world)
+  end_view : Leads → (other : EntityNo) (goal : GoalId) (by : Event) (value : ℤ) (moment : Moment) (reached : State) (world : WorldState) → end_state goal by (goals_at other world) ≡ Some reached → View world → View (ended other goal by value moment world)
   end_view moves other goal by value moment reached world leads v =
       where_found (goal_at other goal (with_ended other goal by value moment world)) (ap (λ (some : List GoalRecord). find (has_id goal) some) (sym (goals_here (changing ending) other world.servers (inr refl))))
     where
       ending : List GoalRecord → List GoalRecord
       ending goals = change_first (has_id goal) (after_end by value moment) goals
 
-      where_found : (found : Option GoalRecord) → find (has_id goal) (ending (goals_of other world)) ≡ found → View (state_said other found (with_ended other goal by value moment world))
+      where_found : (found : Option GoalRecord) → find (has_id goal) (ending (goals_at other world)) ≡ found → View (state_said other found (with_ended other goal by value moment world))
       where_found None none =
           changed (changing ending) other world.lines world
-          (λ is. absurd (ended_found (goals_of other world) goal by value moment reached leads none))
+          (λ is. absurd (ended_found (goals_at other world) goal by value moment reached leads none))
           (λ differs. v.0) (λ is. inr refl) v.1
       where_found (Some one) found =
           let said : EntityNo → List Line = λ n. line.State n one.id (status_of one.state) ∷ [] in
           changed (changing ending) other (world.lines ++ said other) world
-          (λ is. subst (λ (n : EntityNo). Fits server id (world.lines ++ said n) (ending (goals_of server world))) (sym is)
-          (fits_ended server id world.lines (goals_of server world) v.0 moves goal by value moment reached one
-          (subst (λ (n : EntityNo). end_state goal by (goals_of n world) ≡ Some reached) is leads)
-          (subst (λ (n : EntityNo). find (has_id goal) (ending (goals_of n world)) ≡ Some one) is found)))
+          (λ is. subst (λ (n : EntityNo). Fits server id (world.lines ++ said n) (ending (goals_at server world))) (sym is)
+          (fits_ended server id world.lines (goals_at server world) v.0 moves goal by value moment reached one
+          (subst (λ (n : EntityNo). end_state goal by (goals_at n world) ≡ Some reached) is leads)
+          (subst (λ (n : EntityNo). find (has_id goal) (ending (goals_at n world)) ≡ Some one) is found)))
           (λ differs. elsewhere (said other) world (said_of_other_server server id other one.id (status_of one.state) differs) v) (λ is. inr refl) v.1
 
   -- ---- expiry
@@ -180,7 +180,7 @@ module _ (server : EntityNo) (id : GoalId) (listed : List EntityNo) where
       let said : List Line = flat_map (expire_lines moment) world.servers in
       let left = expired_goals moment server world.servers in (
         subst (λ (some : List GoalRecord). Fits server id (world.lines ++ said) some) (sym left.1)
-            (fits_expired server id (world.lines ++ said) (goals_of server world) (elsewhere said world (expiry_quiet moment world.servers) v) moment left.0),
+            (fits_expired server id (world.lines ++ said) (goals_at server world) (elsewhere said world (expiry_quiet moment world.servers) v) moment left.0),
         part_mapped (λ entry. entry.handler.entity) (server_expired moment) (λ entry. refl) world.servers ∙ v.1,
       )
 

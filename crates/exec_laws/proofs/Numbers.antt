@@ -29,11 +29,11 @@ use Rattle.exec_rules.proofs.Keeping.{fold_keeps}
 use Rattle.exec_rules.proofs.Pairs.{all_map, all_weaker}
 use Rattle.exec_laws.proofs.Short.{all_changed}
 use Rattle.exec_rules.specs.Close.{answer_ask, ask_where, accept_where, close_cause, close_item, close_poll, end_in, goal_at, respond, tell, tell_end, with_ended, pend}
-use Rattle.exec_rules.specs.Give.{call_by, cancel_all_by, cancel_goal_by, client_of, execute_goal, give, give_feedback, oldest_accepted, publish, send_goal_by}
+use Rattle.exec_rules.specs.Give.{call_by, cancel_all_by, cancel_goal_by, execute_goal, give, give_feedback, oldest_accepted, publish, send_goal_by, sender_at}
 use Rattle.exec_rules.specs.Ready.{answered_by_first, call_answered, reply_taken, take_inputs}
 use Rattle.exec_rules.specs.Run.{with_polled, with_variables_for}
 use Rattle.exec_rules.specs.Transcript.{feed_one, first_world, new_action_clients, new_client, rounds}
-use Rattle.exec_rules.specs.World.{ActionClientEntry, ClientEntry, WorldState, action_client_at, add_line, client_at, goals_of, is_client_at, push, push_any, subscribers_of, with_variables}
+use Rattle.exec_rules.specs.World.{ActionClientEntry, ClientEntry, WorldState, action_client_at, add_line, client_at, goals_at, is_client_at, push, push_any, subscribers_at, with_variables}
 use Rattle.exec_rules.specs.declared.item.Item.{Item}
 use Rattle.exec_rules.specs.declared.item.Item.TheVariants as item
 use Rattle.exec_rules.specs.declared.ready.Cause.{Cause}
@@ -65,7 +65,7 @@ module _ (most : ℕ) (world : WorldState) (p : HaveMade most world) where
   as_many = more_made most (suc most) world (omega arith) p
 
   published : (topic : EntityNo) (value : ℤ) → HaveMade most (publish topic value world)
-  published topic value = fold_keeps (HaveMade most) (λ before subscriber. push subscriber (item.Message value) before) (λ before subscriber q. q) (subscribers_of topic world) world p
+  published topic value = fold_keeps (HaveMade most) (λ before subscriber. push subscriber (item.Message value) before) (λ before subscriber q. q) (subscribers_at topic world) world p
 
   one_called : (client : Option ClientEntry) (value : ℤ) → HaveMade (suc most) (call_by client value world)
   one_called None value = as_many
@@ -96,7 +96,7 @@ module _ (most : ℕ) (world : WorldState) (p : HaveMade most world) where
   feedback_given : (server : EntityNo) (why : Cause) (value : ℤ) → HaveMade (suc most) (give_feedback server why value world)
   feedback_given server cause.Due value = as_many
   feedback_given server (cause.Took taken) value = as_many
-  feedback_given server (cause.Woke id goal canceling) value = given_back server id value (client_of server id world)
+  feedback_given server (cause.Woke id goal canceling) value = given_back server id value (sender_at server id world)
 
 given : (most : ℕ) (one : Ready) (does : Effect) (world : WorldState) → HaveMade most world → HaveMade (suc most) (give one does world)
 given most one (effect.Publish topic value) world p = more_made most (suc most) (publish topic value (add_line (line.Pub topic value) world)) (omega arith) (published most (add_line (line.Pub topic value) world) p topic value)
@@ -141,7 +141,7 @@ module _ (most : ℕ) where
   item_closed entity moment (item.Request client number value) closing world p = p
   item_closed entity moment (item.Goal id client value) closing world p = pushed client _ _ (accepted _ entity moment (record { id = id; client = client; value = value }) _ p)
   item_closed entity moment (item.Cancel request client) closing world p = pushed client _ _ p
-  item_closed entity moment (item.Ask id client) closing world p = answered entity id client (asked_for id (goals_of entity world)) world p
+  item_closed entity moment (item.Ask id client) closing world p = answered entity id client (asked_for id (goals_at entity world)) world p
   item_closed entity moment (item.Response id accepted) closing world p = responded (action_client_at entity world) id accepted world p
   item_closed entity moment (item.Message value) closing world p = p
   item_closed entity moment (item.Reply number value) closing world p = p
@@ -158,7 +158,7 @@ module _ (most : ℕ) where
   pended order.Arrival server id world p = p
 
   poll_closed : (server : EntityNo) (id : GoalId) (moment : Moment) (closing : Close) (world : WorldState) → HaveMade most world → HaveMade most (close_poll server id moment closing world)
-  poll_closed server id moment (close.Ended by value) world p = ended_in (end_state id by (goals_of server world)) server id by value moment world p
+  poll_closed server id moment (close.Ended by value) world p = ended_in (end_state id by (goals_at server world)) server id by value moment world p
   poll_closed server id moment close.Nothing world p = p
   poll_closed server id moment (close.Reply reply) world p = p
   poll_closed server id moment (close.Decide decision) world p = p

@@ -39,16 +39,16 @@ use Rattle.exec_laws.proofs.Flying.{flying, flying_after, flying_taken, hand_by,
 use Rattle.exec_rules.proofs.Keeping.{callback_keeps, fold_keeps, publish_kept}
 use Rattle.exec_rules.proofs.Pairs.{all_append, all_flat, all_map}
 use Rattle.exec_rules.proofs.Running.{found_test}
-use Rattle.exec_rules.specs.Callback.{Outcome}
-use Rattle.exec_rules.specs.Close.{GoalRequest, reply_in, decision_in, decisions_in, accepted_lines, moved_lines, accept_where, answer_goal, cancel, tell, tell_end, answer_ask, ask_where, respond, with_ended, goal_at, end_in, close_item, close_poll, close_cause, pend}
+use Rattle.exec_rules.specs.Callback.{AfterCallback}
+use Rattle.exec_rules.specs.Close.{GoalRequest, reply_of_close, decision_of_close, decisions_of_close, accepted_lines, moved_lines, accept_where, answer_goal, cancel, tell, tell_end, answer_ask, ask_where, respond, with_ended, goal_at, end_in, close_item, close_poll, close_cause, pend}
 use Rattle.exec_laws.specs.Exchanges.{is_asked}
-use Rattle.exec_rules.specs.Give.{publish, call_by, send_goal_by, send_cancel, cancel_all_by, cancel_goal_by, oldest_accepted, execute_goal, client_of, give_feedback, give}
+use Rattle.exec_rules.specs.Give.{publish, call_by, send_goal_by, send_cancel, cancel_all_by, cancel_goal_by, oldest_accepted, execute_goal, sender_at, give_feedback, give}
 use Rattle.exec_rules.specs.Item.{goal_id}
 use Rattle.exec_rules.specs.Ready.{ready_list, run_line, take_inputs}
 use Rattle.exec_rules.specs.Run.{outcome_in, run, unclosed, variables_for, with_polled, with_variables_for, work_for}
 use Rattle.exec_rules.specs.Transcript.{takes_from_queue, first_world, new_queue, expire_lines, expire, feed_one, at_snapshot, run_all, round, rounds, pending_by, closing_lines, lines_of}
 use Rattle.exec_script.specs.Script.{Variables}
-use Rattle.exec_rules.specs.World.{WorldState, Queue, ClientEntry, ActionClientEntry, add_line, drop_line, lost_by, goals_of, has_room_for, push, push_any, with_call, with_goal_sent, with_variables, client_at, action_client_at, is_action_client_at, next_arrival}
+use Rattle.exec_rules.specs.World.{WorldState, Queue, ClientEntry, ActionClientEntry, add_line, drop_line, lost_by, goals_at, has_room_for, push, push_any, with_call, with_goal_sent, with_variables, client_at, action_client_at, is_action_client_at, next_arrival}
 use Rattle.exec_rules.specs.declared.item.Item.{Item}
 use Rattle.exec_rules.specs.declared.item.Item.TheVariants as item
 use Rattle.exec_rules.specs.declared.ready.Cause.{Cause}
@@ -206,7 +206,7 @@ module _ (client : EntityNo) (id : GoalId) where
   feedback_once owed server cause.Due value world p = p
   feedback_once owed server (cause.Took taken) value world p = p
   feedback_once owed server (cause.Woke goal given canceling) value world p =
-      freely_any owed (client_of server goal world) (item.Feedback goal value) (add_line (line.Feedback server goal value) world) (λ to. refl) (line_once owed (line.Feedback server goal value) world refl p)
+      freely_any owed (sender_at server goal world) (item.Feedback goal value) (add_line (line.Feedback server goal value) world) (λ to. refl) (line_once owed (line.Feedback server goal value) world refl p)
 
   published_once : (owed : ℕ) (topic : EntityNo) (value : ℤ) (world : WorldState) → IsOnce owed world → IsOnce owed (publish topic value world)
   published_once owed topic value world p = publish_kept {P = IsOnce owed} (λ entity one before q. freely owed entity (item.Message one) before refl q) topic value world p
@@ -247,7 +247,7 @@ module _ (client : EntityNo) (id : GoalId) where
   poll_once owed server goal moment (close.DecideCancel decision) world p = p
   poll_once owed server goal moment (close.Decisions decisions) world p = p
   poll_once owed server goal moment close.Pending world p = pend_once owed world.order server goal world p
-  poll_once owed server goal moment (close.Ended by value) world p = ended_once owed server goal by value moment (end_state goal by (goals_of server world)) world p
+  poll_once owed server goal moment (close.Ended by value) world p = ended_once owed server goal by value moment (end_state goal by (goals_at server world)) world p
 
   answer_ask_once : (owed : ℕ) (server : EntityNo) (goal : GoalId) (asker : EntityNo) (asked : Asked) (world : WorldState) → IsOnce owed world → IsOnce owed (answer_ask server goal asker asked world)
   answer_ask_once owed server goal asker (told status value) world p = told_once owed server goal status value asker world p
@@ -268,7 +268,7 @@ module _ (client : EntityNo) (id : GoalId) where
 
   answer_once : (rest : ℕ) (server : EntityNo) (moment : Moment) (wanted : Decision) (request : GoalRequest) (world : WorldState) → IsOnce (of_sender request.id request.client + rest) world → IsOnce rest (answer_goal server moment wanted request world)
   answer_once rest server moment wanted request world p =
-      let made : Decision = if has_room_for request.id (goals_of server world) then wanted else decision.Reject in
+      let made : Decision = if has_room_for request.id (goals_at server world) then wanted else decision.Reject in
       response_once rest request.client request.id (is_accepting made) _
       (accept_once (of_sender request.id request.client + rest) (acceptance_of made) server moment request (add_line (line.Decide server request.id made) world)
       (line_once (of_sender request.id request.client + rest) (line.Decide server request.id made) world refl p))
@@ -279,8 +279,8 @@ module _ (client : EntityNo) (id : GoalId) where
 
   cancel_once : (owed : ℕ) (server : EntityNo) (request : CancelRequest) (from : Option EntityNo) (decisions : List Decided) (world : WorldState) → IsOnce owed world → IsOnce owed (cancel server request from decisions world)
   cancel_once owed server request from decisions world p =
-      let goals : List GoalRecord = moved decisions (goals_of server world) in
-      let returned : ReturnCode = code_of request decisions (goals_of server world) in
+      let goals : List GoalRecord = moved decisions (goals_at server world) in
+      let returned : ReturnCode = code_of request decisions (goals_at server world) in
       freely_any owed from (item.Code returned (length goals)) _ (λ to. refl)
       (more_lines owed world.queues world.action_clients world.lines (moved_lines server goals ++ line.Code server returned (length goals) ∷ []) (moved_none server goals (line.Code server returned (length goals) ∷ []) (refl, tt)) p)
 
@@ -301,11 +301,11 @@ module _ (client : EntityNo) (id : GoalId) where
   item_once : (rest : ℕ) (entity : EntityNo) (moment : Moment) (taken : Item) (closing : Close) (world : WorldState) → IsOnce (weight entity taken + rest) world → IsOnce rest (close_item entity moment taken closing world)
   item_once rest entity moment (item.Message value) closing world p = lighter _ rest world (omega arith) p
   item_once rest entity moment (item.Request from number value) closing world p =
-      freely rest from (item.Reply number (reply_in closing)) (add_line (line.Reply entity (reply_in closing)) world) refl (line_once rest (line.Reply entity (reply_in closing)) world refl (lighter _ rest world (omega arith) p))
+      freely rest from (item.Reply number (reply_of_close closing)) (add_line (line.Reply entity (reply_of_close closing)) world) refl (line_once rest (line.Reply entity (reply_of_close closing)) world refl (lighter _ rest world (omega arith) p))
   item_once rest entity moment (item.Reply number value) closing world p = lighter _ rest world (omega arith) p
-  item_once rest entity moment (item.Goal goal from value) closing world p = answer_once rest entity moment (decision_in closing) (record { id = goal; client = from; value = value }) world p
-  item_once rest entity moment (item.Cancel request from) closing world p = cancel_once rest entity request from (decisions_in closing) world (lighter _ rest world (omega arith) p)
-  item_once rest entity moment (item.Ask goal asker) closing world p = answer_ask_once rest entity goal asker (asked_for goal (goals_of entity world)) world (lighter _ rest world (omega arith) p)
+  item_once rest entity moment (item.Goal goal from value) closing world p = answer_once rest entity moment (decision_of_close closing) (record { id = goal; client = from; value = value }) world p
+  item_once rest entity moment (item.Cancel request from) closing world p = cancel_once rest entity request from (decisions_of_close closing) world (lighter _ rest world (omega arith) p)
+  item_once rest entity moment (item.Ask goal asker) closing world p = answer_ask_once rest entity goal asker (asked_for goal (goals_at entity world)) world (lighter _ rest world (omega arith) p)
   item_once rest entity moment (item.Response goal accepted) closing world p = respond_once rest entity (action_client_at entity world) goal accepted world refl p
   item_once rest entity moment (item.Code returned count) closing world p = lighter _ rest world (omega arith) p
   item_once rest entity moment (item.Feedback goal value) closing world p = lighter _ rest world (omega arith) p
@@ -334,7 +334,7 @@ module _ (client : EntityNo) (id : GoalId) where
   run_once : (one : Ready) (rest : List Ready) (world : WorldState) → IsOnce (hands weight (one ∷ rest)) world → IsOnce (hands weight rest) (run one world)
   run_once one rest world p =
       let owed : ℕ = hand_by weight one.entity one.cause + hands weight rest in
-      let outcome : Outcome WorldState = outcome_in one world in
+      let outcome : AfterCallback WorldState = outcome_in one world in
       close_once (hands weight rest) one.entity one.moment one.cause outcome.close (unclosed one world)
       (polled_once owed one.entity one.cause outcome.task _
       (variables_once owed one outcome.variables outcome.given

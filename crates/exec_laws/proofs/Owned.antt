@@ -29,8 +29,8 @@ use Rattle.exec_rules.specs.Lines.{is_answer}
 use Rattle.exec_rules.specs.Ready.{due_ready, item_ready, poll_ready, queue_ready, ready_list, take_inputs}
 use Rattle.exec_rules.specs.Run.{run}
 use Rattle.exec_rules.specs.Shape.{shape_of}
-use Rattle.exec_rules.specs.Transcript.{entity_at, first_world, new_server, server_expired, server_in, takes_from_queue, at_snapshot, last_world, run_all, round, rounds}
-use Rattle.exec_rules.specs.World.{WorldState, Queue, ServerEntry, TimerEntry, add_line, goals_of, is_server_at, push, next_arrival}
+use Rattle.exec_rules.specs.Transcript.{entity_at, first_world, new_server, server_expired, server_of, takes_from_queue, at_snapshot, last_world, run_all, round, rounds}
+use Rattle.exec_rules.specs.World.{WorldState, Queue, ServerEntry, TimerEntry, add_line, goals_at, is_server_at, push, next_arrival}
 use Rattle.exec_rules.specs.declared.item.Item.{Item}
 use Rattle.exec_rules.specs.declared.item.Item.TheVariants as item
 use Rattle.exec_rules.specs.declared.ready.Cause.{Cause}
@@ -40,7 +40,7 @@ use Rattle.exec_rules.specs.declared.ready.Ready.{Ready}
 module _ (plan : PlanData) where
   -- a server is the one that an action client asks
   abbrev pub IsItsServer : EntityNo → EntityNo → Type 0
-  IsItsServer server client = server_in (entity_at plan.graph client).is ≡ server
+  IsItsServer server client = server_of (entity_at plan.graph client).is ≡ server
 
   -- an ask stands at its client's server
   abbrev pub IsAtItsServer : EntityNo → Item → Type 0
@@ -191,7 +191,7 @@ module _ (plan : PlanData) where
         notes = served (accepting (next_arrival before) one.moment how request) one.entity (λ some r. all_append (AreItsClients one.entity) some (new_goal request.id request.value one.moment how ∷ []) r (tt, tt)) before.servers q.notes;
       })
       (λ goal value canceling by result reached before same leads q. own_end one.entity (goal_at one.entity goal (with_ended one.entity goal by result one.moment before)) _ (own_ended one.entity goal by result one.moment before q))
-      (λ goal from before same q. own_answered one.entity goal from (asked_for goal (goals_of one.entity before)) before (subst (λ (why : Cause). IsTakenThere one.entity why) same its) q)
+      (λ goal from before same q. own_answered one.entity goal from (asked_for goal (goals_at one.entity before)) before (subst (λ (why : Cause). IsTakenThere one.entity why) same its) q)
       (λ from goal accepted before same found q.
       own_sent from.server (item.Ask goal from.entity) _ (eqb-true _ from.server (action_client_knows plan before q.shape one.entity from found)) (record { shape = q.shape; asks = q.asks; notes = q.notes }))
       (λ entity new before a other q. own_sent entity new before (no_ask_back entity new other) q)
@@ -223,7 +223,7 @@ module _ (plan : PlanData) where
       taken : (queue : Queue) → Holds IsAtItsServer queue → AllByRecursion TakesThere (queue_ready moment world queue)
       taken queue q = by queue.items q
         where
-          by : (items : List Item) → AllByRecursion (IsAtItsServer queue.handler.entity) items → AllByRecursion TakesThere (item_ready moment queue.handler (goals_of queue.handler.entity world) items)
+          by : (items : List Item) → AllByRecursion (IsAtItsServer queue.handler.entity) items → AllByRecursion TakesThere (item_ready moment queue.handler (goals_at queue.handler.entity world) items)
           by [] r = tt
           by (first ∷ items) r = (r.0, tt)
 

@@ -21,7 +21,7 @@ use Rattle.exec_rules.proofs.Wiring.{NumbersApart, IsWired, numbers_apart}
 use Rattle.exec_laws.specs.Goals.{may_be_polled}
 use Rattle.exec_rules.specs.Ready.{all_ready, due_ready, is_goal_awake, item_ready, placed_from, poll_ready, queue_ready, rank_under, ready_list}
 use Rattle.exec_rules.specs.Sorting.{sorted_by}
-use Rattle.exec_rules.specs.World.{WorldState, Queue, TimerEntry, ServerEntry, goals_of, goals_in}
+use Rattle.exec_rules.specs.World.{WorldState, Queue, TimerEntry, ServerEntry, goals_at, goals_in}
 use Rattle.exec_rules.specs.declared.item.Item.{Item}
 use Rattle.exec_rules.specs.declared.ready.Cause.TheVariants as cause
 use Rattle.exec_rules.specs.declared.ready.Ready.{Ready}
@@ -46,7 +46,7 @@ none_due moment entry = by (is_due entry.timer moment) refl
 none_taken : (moment : Moment) (world : WorldState) (queue : Queue) → AllByRecursion NoPoll (queue_ready moment world queue)
 none_taken moment world queue = by queue.items
   where
-    by : (items : List Item) → AllByRecursion NoPoll (item_ready moment queue.handler (goals_of queue.handler.entity world) items)
+    by : (items : List Item) → AllByRecursion NoPoll (item_ready moment queue.handler (goals_at queue.handler.entity world) items)
     by [] = tt
     by (first ∷ items) = ((λ id value canceling same. absurd cc), tt)
 
@@ -123,7 +123,7 @@ module _ (graph : GraphData) (moment : Moment) (world : WorldState) (wires : IsW
 
   -- an entry's goals are its server's, and no two have one identifier
   record IsOwn (entry : ServerEntry) : Type 0 where
-    own : goals_of entry.handler.entity world ≡ entry.goals
+    own : goals_at entry.handler.entity world ≡ entry.goals
     apart : Distinct (ids entry.goals)
 
   all_own : AllByRecursion IsOwn world.servers
@@ -134,7 +134,7 @@ module _ (graph : GraphData) (moment : Moment) (world : WorldState) (wires : IsW
 
   -- a callback polls, if it does, a goal that may be polled so
   abbrev pub PollsAtWork : Ready → Type 0
-  PollsAtWork one = (id : GoalId) (value : ℤ) (canceling : Bool) → one.cause ≡ cause.Woke id value canceling → AtWork canceling id (goals_of one.entity world)
+  PollsAtWork one = (id : GoalId) (value : ℤ) (canceling : Bool) → one.cause ≡ cause.Woke id value canceling → AtWork canceling id (goals_at one.entity world)
 
   idle_at_work : (all : List Ready) → AllByRecursion NoPoll all → AllByRecursion PollsAtWork all
   idle_at_work all p = all_weaker NoPoll PollsAtWork (λ one none id value canceling same. absurd (none id value canceling same)) all p
@@ -149,12 +149,12 @@ module _ (graph : GraphData) (moment : Moment) (world : WorldState) (wires : IsW
       (all_filter (λ goal. state_in goal.id entry.goals ≡ Some goal.state) (is_goal_awake moment entry.held) entry.goals (each_found entry.goals own.apart))
       (all_passed (is_goal_awake moment entry.held) entry.goals))
     where
-      polled : (goal : GoalRecord) → state_in goal.id entry.goals ≡ Some goal.state → is_worked_on goal.state ≡ true → (id : GoalId) (value : ℤ) (canceling : Bool) → cause.Woke goal.id goal.value (is_canceling goal.state) ≡ cause.Woke id value canceling → AtWork canceling id (goals_of entry.handler.entity world)
+      polled : (goal : GoalRecord) → state_in goal.id entry.goals ≡ Some goal.state → is_worked_on goal.state ≡ true → (id : GoalId) (value : ℤ) (canceling : Bool) → cause.Woke goal.id goal.value (is_canceling goal.state) ≡ cause.Woke id value canceling → AtWork canceling id (goals_at entry.handler.entity world)
       polled goal found works id value canceling same =
           let named : goal.id ≡ id = cc in
           let asked : is_canceling goal.state ≡ canceling = cc in
-          subst (λ (b : Bool). AtWork b id (goals_of entry.handler.entity world)) asked
-          (subst (λ (n : GoalId). AtWork (is_canceling goal.state) n (goals_of entry.handler.entity world)) named
+          subst (λ (b : Bool). AtWork b id (goals_at entry.handler.entity world)) asked
+          (subst (λ (n : GoalId). AtWork (is_canceling goal.state) n (goals_at entry.handler.entity world)) named
           (subst (λ (goals : List GoalRecord). AtWork (is_canceling goal.state) goal.id goals) (sym own.own)
           (ap (λ held. may_be_polled (is_canceling goal.state) held) found ∙ polled_so goal.state works)))
 

@@ -37,7 +37,7 @@ use Rattle.exec_rules.specs.Ready.{ready_list, run_line, line_of, input_of, take
 use Rattle.exec_rules.specs.Shape.{shape_of}
 use Rattle.exec_rules.specs.Run.{run}
 use Rattle.exec_rules.specs.Transcript.{takes_from_queue, first_world, new_client, new_queue, expire_lines, expire, at_snapshot, run_all, round, rounds, pending_by, closing_lines, last_world, lines_of}
-use Rattle.exec_rules.specs.World.{WorldState, ClientEntry, add_line, client_at, is_client_at, goals_of}
+use Rattle.exec_rules.specs.World.{WorldState, ClientEntry, add_line, client_at, is_client_at, goals_at}
 use Rattle.exec_rules.specs.declared.item.Item.{Item}
 use Rattle.exec_rules.specs.declared.item.Item.TheVariants as item
 use Rattle.exec_rules.specs.declared.ready.Cause.{Cause}
@@ -63,7 +63,7 @@ module _ (client : EntityNo) where
     calls_kept = called client hand owed;
     action_clients_known = λ number from world found k. refl;
     execution_kept = λ server goal world found k. more_lines client hand owed world.queues world.clients world.lines (line.State server goal.id (status_of (after_event event.Execute goal).state) ∷ []) ((refl, refl), tt) k;
-    answer_kept = λ server decisions returned count world k. more_lines client hand owed world.queues world.clients world.lines (moved_lines server (moved decisions (goals_of server world)) ++ line.Code server returned count ∷ []) (moved_mute server (moved decisions (goals_of server world)) (line.Code server returned count ∷ []) ((refl, refl), tt)) k;
+    answer_kept = λ server decisions returned count world k. more_lines client hand owed world.queues world.clients world.lines (moved_lines server (moved decisions (goals_at server world)) ++ line.Code server returned count ∷ []) (moved_mute server (moved decisions (goals_at server world)) (line.Code server returned count ∷ []) ((refl, refl), tt)) k;
     tasks_kept = λ server id task world k. k;
     arrivals_kept = λ server id world k. k;
     sending_kept = λ from world k. k;

@@ -29,7 +29,7 @@ use Rattle.exec_laws.specs.Exchanges.{is_ask_taken, is_result_told, waiting_in}
 use Rattle.exec_rules.specs.Ready.{ready_list, run_line, line_of, input_of, take_inputs}
 use Rattle.exec_rules.specs.Run.{run}
 use Rattle.exec_rules.specs.Transcript.{first_world, expire_lines, expire, at_snapshot, round, rounds, pending_by, closing_lines, lines_of, last_world}
-use Rattle.exec_rules.specs.World.{WorldState, is_server_at, add_line, goals_of, has_room_for, goals_in, next_arrival}
+use Rattle.exec_rules.specs.World.{WorldState, is_server_at, add_line, goals_at, has_room_for, goals_in, next_arrival}
 use Rattle.exec_rules.specs.declared.item.Item.{Item}
 use Rattle.exec_rules.specs.declared.item.Item.TheVariants as item
 use Rattle.exec_rules.specs.declared.ready.Cause.{Cause}
@@ -85,7 +85,7 @@ module _ (server : EntityNo) (id : GoalId) where
   Owing owed world = Owes server id owed world
 
   -- an ask is answered, or its client is noted
-  ask_owes : (other : EntityNo) (goal : GoalId) (client : EntityNo) (asked : Asked) (world : WorldState) → asked_for goal (goals_of other world) ≡ asked → Owing (weigh (concerns server id other goal) 1) world → Owing 0 (answer_ask other goal client asked world)
+  ask_owes : (other : EntityNo) (goal : GoalId) (client : EntityNo) (asked : Asked) (world : WorldState) → asked_for goal (goals_at other world) ≡ asked → Owing (weigh (concerns server id other goal) 1) world → Owing 0 (answer_ask other goal client asked world)
   ask_owes other goal client (told status value) world is p =
       told_owes server id 0 other goal status value client world (subst (λ (n : ℕ). Owing n world) (omega arith) p)
   ask_owes other goal client unknown world is p =
@@ -99,9 +99,9 @@ module _ (server : EntityNo) (id : GoalId) where
       by : (b c : Bool) → other == server ≡ b → goal == id ≡ c → Balanced server id 0 world.lines (goals_in server (change_first (is_server_at other) (λ entry. record entry { goals = noting entry.goals }) world.servers))
       by true true e f =
           let here : other ≡ server = eqb-true other server e in
-          let found = comes_later server id (find (has_id goal) (goals_of other world)) is in
-          let at : find (has_id goal) (goals_of server world) ≡ Some found.0 = ap (λ (n : EntityNo). find (has_id goal) (goals_of n world)) (sym here) ∙ found.1.0 in
-          let one_more = noted server id goal client (goals_of server world) found.0 at found.1.1 f in
+          let found = comes_later server id (find (has_id goal) (goals_at other world)) is in
+          let at : find (has_id goal) (goals_at server world) ≡ Some found.0 = ap (λ (n : EntityNo). find (has_id goal) (goals_at n world)) (sym here) ∙ found.1.0 in
+          let one_more = noted server id goal client (goals_at server world) found.0 at found.1.1 f in
           let owes : weigh (concerns server id other goal) 1 ≡ 1 = rw (e, f) refl in
           let balance = p.1 in
           subst (λ (n : EntityNo). Balanced server id 0 world.lines (goals_in server (change_first (is_server_at n) (λ entry. record entry { goals = noting entry.goals }) world.servers))) (sym here)
@@ -109,16 +109,16 @@ module _ (server : EntityNo) (id : GoalId) where
           (omega (arith, one_more, owes, balance)))
       by true false e f =
           let owes : weigh (concerns server id other goal) 1 ≡ 0 = rw (e, f) refl in
-          same_wait server id 0 world.lines (goals_of server world) _
-          (served server id (changing noting) other world (λ is_here. waiting_apart server id goal (asked_by client) (λ one. refl) f (goals_of server world)))
-          (subst (λ (n : ℕ). Balanced server id n world.lines (goals_of server world)) owes p.1)
+          same_wait server id 0 world.lines (goals_at server world) _
+          (served server id (changing noting) other world (λ is_here. waiting_apart server id goal (asked_by client) (λ one. refl) f (goals_at server world)))
+          (subst (λ (n : ℕ). Balanced server id n world.lines (goals_at server world)) owes p.1)
       by false c e f =
           let owes : weigh (concerns server id other goal) 1 ≡ 0 = rw e refl in
           subst (λ (goals : List GoalRecord). Balanced server id 0 world.lines goals) (sym (goals_apart (changing noting) server other world.servers e))
-          (subst (λ (n : ℕ). Balanced server id n world.lines (goals_of server world)) owes p.1)
+          (subst (λ (n : ℕ). Balanced server id n world.lines (goals_at server world)) owes p.1)
 
   -- a goal ends: each that asked is told
-  end_owes : (other : EntityNo) (goal : GoalId) (by : Event) (value : ℤ) (moment : Moment) (reached : State) (world : WorldState) → end_state goal by (goals_of other world) ≡ Some reached → Owing 0 world → Owing 0 (end_in (Some reached) other goal by value moment world)
+  end_owes : (other : EntityNo) (goal : GoalId) (by : Event) (value : ℤ) (moment : Moment) (reached : State) (world : WorldState) → end_state goal by (goals_at other world) ≡ Some reached → Owing 0 world → Owing 0 (end_in (Some reached) other goal by value moment world)
   end_owes other goal by value moment reached world leads p = where_found (goal_at other goal over) (ap (λ (goals : List GoalRecord). find (has_id goal) goals) (sym (goals_here (changing ending) other world.servers (inr refl))))
     where
       ending : List GoalRecord → List GoalRecord
@@ -127,40 +127,40 @@ module _ (server : EntityNo) (id : GoalId) where
       over : WorldState
       over = with_ended other goal by value moment world
 
-      where_found : (found : Option GoalRecord) → find (has_id goal) (ending (goals_of other world)) ≡ found → Owing 0 (tell_end other found over)
-      where_found None none = absurd (ended_found (goals_of other world) goal by value moment reached leads none)
+      where_found : (found : Option GoalRecord) → find (has_id goal) (ending (goals_at other world)) ≡ found → Owing 0 (tell_end other found over)
+      where_found None none = absurd (ended_found (goals_at other world) goal by value moment reached leads none)
       where_found (Some one) found =
           all_told server id other one.id (status_of one.state) one.result one.askers (add_line (line.State other one.id (status_of one.state)) over)
           (lines_owe server id (weigh (concerns server id other one.id) (length one.askers)) (line.State other one.id (status_of one.state) ∷ []) over ((refl, refl), tt)
-          (apart, subst (λ (n : GoalId). Balanced server id (weigh (concerns server id other n) (length one.askers)) world.lines (goals_of server over)) (sym named) (balanced (other == server) (goal == id) refl refl)))
+          (apart, subst (λ (n : GoalId). Balanced server id (weigh (concerns server id other n) (length one.askers)) world.lines (goals_at server over)) (sym named) (balanced (other == server) (goal == id) refl refl)))
         where
           named : one.id ≡ goal
-          named = eqb-true one.id goal (found_test (has_id goal) (ending (goals_of other world)) one found)
+          named = eqb-true one.id goal (found_test (has_id goal) (ending (goals_at other world)) one found)
 
           apart : HasDistinct over
           apart = distinct_kept.basic.goals_kept other ending world (ids_changed goal (after_end by value moment) (λ record_of. refl)) p.0
 
-          balanced : (b c : Bool) → other == server ≡ b → goal == id ≡ c → Balanced server id (weigh (concerns server id other goal) (length one.askers)) world.lines (goals_of server over)
+          balanced : (b c : Bool) → other == server ≡ b → goal == id ≡ c → Balanced server id (weigh (concerns server id other goal) (length one.askers)) world.lines (goals_at server over)
           balanced true true e f =
               let here : other ≡ server = eqb-true other server e in
               let same : goal ≡ id = eqb-true goal id f in
-              let waits = ended_waits goal by value moment reached one (goals_of other world) leads found in
-              let before : length (waiting_in id (goals_of server world)) ≡ length one.askers = ap (λ (n : GoalId). length (waiting_in n (goals_of server world))) (sym same) ∙ ap (λ (n : EntityNo). length (waiting_in goal (goals_of n world))) (sym here) ∙ ap (λ (some : List EntityNo). length some) waits.0 in
-              let behind : length (waiting_in id (goals_of server over)) ≡ 0 =
-              ap (λ (n : EntityNo). length (waiting_in id (goals_of n over))) (sym here) ∙ ap (λ (n : GoalId). length (waiting_in n (goals_of other over))) (sym same)
+              let waits = ended_waits goal by value moment reached one (goals_at other world) leads found in
+              let before : length (waiting_in id (goals_at server world)) ≡ length one.askers = ap (λ (n : GoalId). length (waiting_in n (goals_at server world))) (sym same) ∙ ap (λ (n : EntityNo). length (waiting_in goal (goals_at n world))) (sym here) ∙ ap (λ (some : List EntityNo). length some) waits.0 in
+              let behind : length (waiting_in id (goals_at server over)) ≡ 0 =
+              ap (λ (n : EntityNo). length (waiting_in id (goals_at n over))) (sym here) ∙ ap (λ (n : GoalId). length (waiting_in n (goals_at other over))) (sym same)
               ∙ ap (λ (goals : List GoalRecord). length (waiting_in goal goals)) (goals_here (changing ending) other world.servers (inr refl)) ∙ ap (λ (some : List EntityNo). length some) waits.1 in
               let owes : weigh (concerns server id other goal) (length one.askers) ≡ length one.askers = rw (e, f) refl in
               let balance = p.1 in
               omega (arith, before, behind, owes, balance)
           balanced true false e f =
               let owes : weigh (concerns server id other goal) (length one.askers) ≡ 0 = rw (e, f) refl in
-              same_wait server id (weigh (concerns server id other goal) (length one.askers)) world.lines (goals_of server world) _
-              (served server id (changing ending) other world (λ is_here. waiting_apart server id goal (after_end by value moment) (λ record_of. refl) f (goals_of server world)))
-              (subst (λ (n : ℕ). Balanced server id n world.lines (goals_of server world)) (sym owes) p.1)
+              same_wait server id (weigh (concerns server id other goal) (length one.askers)) world.lines (goals_at server world) _
+              (served server id (changing ending) other world (λ is_here. waiting_apart server id goal (after_end by value moment) (λ record_of. refl) f (goals_at server world)))
+              (subst (λ (n : ℕ). Balanced server id n world.lines (goals_at server world)) (sym owes) p.1)
           balanced false c e f =
               let owes : weigh (concerns server id other goal) (length one.askers) ≡ 0 = rw e refl in
               subst (λ (goals : List GoalRecord). Balanced server id (weigh (concerns server id other goal) (length one.askers)) world.lines goals) (sym (goals_apart (changing ending) server other world.servers e))
-              (subst (λ (n : ℕ). Balanced server id n world.lines (goals_of server world)) (sym owes) p.1)
+              (subst (λ (n : ℕ). Balanced server id n world.lines (goals_at server world)) (sym owes) p.1)
 
   -- what a callback owes when it begins
   abbrev owed_by : Ready → ℕ
@@ -204,12 +204,12 @@ module _ (server : EntityNo) (id : GoalId) where
       let balance = p.1 in
       (p.0, omega (arith, a, b, c, d, balance))
 
-  accept_owes : (owed : ℕ) (other : EntityNo) (moment : Moment) (how : Acceptance) (request : GoalRequest) (world : WorldState) → has_room_for request.id (goals_of other world) ≡ true → Owing owed world → Owing owed (accept other moment how request world)
+  accept_owes : (owed : ℕ) (other : EntityNo) (moment : Moment) (how : Acceptance) (request : GoalRequest) (world : WorldState) → has_room_for request.id (goals_at other world) ≡ true → Owing owed world → Owing owed (accept other moment how request world)
   accept_owes owed other moment how request world room p = (
     distinct_kept.accepts_kept other moment how request world room p.0,
     others_balanced server id owed world.lines (accepted_lines other request.id how) _ (accepted_other server id other request.id how)
-        (same_wait server id owed world.lines (goals_of server world) _
-        (served server id (accepting (next_arrival world) moment how request) other world (λ is_here. accepted_waits server id (new_goal request.id request.value moment how) refl (goals_of server world))) p.1),
+        (same_wait server id owed world.lines (goals_at server world) _
+        (served server id (accepting (next_arrival world) moment how request) other world (λ is_here. accepted_waits server id (new_goal request.id request.value moment how) refl (goals_at server world))) p.1),
   )
 
   -- a callback that runs
@@ -223,7 +223,7 @@ module _ (server : EntityNo) (id : GoalId) where
       subst (λ (n : ℕ). Owing n (end_in (Some reached) one.entity goal by result one.moment before)) (sym none)
       (end_owes one.entity goal by result one.moment reached before leads (subst (λ (n : ℕ). Owing n before) none q)))
       (λ goal client before same q.
-      ask_owes one.entity goal client (asked_for goal (goals_of one.entity before)) before refl
+      ask_owes one.entity goal client (asked_for goal (goals_at one.entity before)) before refl
       (subst (λ (n : ℕ). Owing n before) (ap (λ (c : Cause). weigh (is_ask_taken server id (line_of one.entity c (input_of one))) 1) same) q))
       (λ entity new before a q. push_owes server id 0 entity new before (subst (λ (n : ℕ). Owing n before) (answers_owe_none one entity new a) q))
       world (begins one world p)
@@ -236,8 +236,8 @@ module _ (server : EntityNo) (id : GoalId) where
         distinct_kept.expiry_kept moment world p.0,
         others_balanced server id 0 world.lines (flat_map (expire_lines moment) world.servers) _
             (all_flat (IsOther server id) (expire_lines moment) (λ entry. all_map (IsOther server id) _ (λ goal. (refl, refl)) (expired moment entry.timeout entry.goals)) world.servers)
-            (same_wait server id 0 world.lines (goals_of server world) _
-            (ap (λ (goals : List GoalRecord). waiting_in id goals) left.1 ∙ kept_waits server id (λ goal. not (is_expired moment left.0 goal)) (forgotten_final moment left.0) (goals_of server world) (p.0 server)) p.1),
+            (same_wait server id 0 world.lines (goals_at server world) _
+            (ap (λ (goals : List GoalRecord). waiting_in id goals) left.1 ∙ kept_waits server id (λ goal. not (is_expired moment left.0 goal)) (forgotten_final moment left.0) (goals_at server world) (p.0 server)) p.1),
       )
 
   round_owes : (plan : PlanData) (number : ℕ) (moment : Moment) (world : WorldState) → Owing 0 world → Owing 0 (round plan number moment world)
@@ -256,12 +256,12 @@ module _ (server : EntityNo) (id : GoalId) where
   pending_other client (suc more) = ((refl, refl), tt)
 
   -- each ask is answered once, or waits
-  pub asks_answered : (plan : PlanData) → length (filter (is_ask_taken server id) (lines_of plan)) ≡ length (filter (is_result_told server id) (lines_of plan)) + length (waiting_in id (goals_of server (last_world plan)))
+  pub asks_answered : (plan : PlanData) → length (filter (is_ask_taken server id) (lines_of plan)) ≡ length (filter (is_result_told server id) (lines_of plan)) + length (waiting_in id (goals_at server (last_world plan)))
   asks_answered plan =
       let first : WorldState = first_world plan in
       let last : WorldState = rounds plan 1 plan.moments first in
-      let none : length (waiting_in id (goals_of server first)) ≡ 0 = ap (λ (goals : List GoalRecord). length (waiting_in id goals)) (first_goals plan.graph server (entities_where is_server plan.graph)) in
-      let begun : Balanced server id 0 [] (goals_of server first) = omega (arith, none) in
+      let none : length (waiting_in id (goals_at server first)) ≡ 0 = ap (λ (goals : List GoalRecord). length (waiting_in id goals)) (first_goals plan.graph server (entities_where is_server plan.graph)) in
+      let begun : Balanced server id 0 [] (goals_at server first) = omega (arith, none) in
       let closed = lines_owe server id 0 (closing_lines (length plan.moments) last) last
       (all_append (IsOther server id) (flat_map (λ entry. pending_by entry.entity (length entry.pending)) last.clients) (line.End (length plan.moments) ∷ [])
       (all_flat (IsOther server id) (λ entry. pending_by entry.entity (length entry.pending)) (λ entry. pending_other entry.entity (length entry.pending)) last.clients) ((refl, refl), tt))

@@ -15,7 +15,7 @@ use Rattle.exec_rules.proofs.Pairs.{Pairs}
 use Rattle.exec_laws.proofs.Standing.{is_declared, queue_stands}
 use Rattle.exec_rules.proofs.Wiring.{NumbersApart, is_listed, numbers_apart, or_more}
 use Rattle.exec_rules.specs.Transcript.{first_world, new_topic, subscribes_to}
-use Rattle.exec_rules.specs.World.{TopicEntry, is_queue, subscribers_of}
+use Rattle.exec_rules.specs.World.{TopicEntry, is_queue, subscribers_at}
 
 -- ---- messages
 
@@ -87,19 +87,19 @@ contained all one held = at all held.0 held.1 held.2
     at (first ∷ some) zero within is = rw (eq-eqb first one is) refl
     at (first ∷ some) (suc k) within is = rw (at some k (omega (arith, within)) is) (or_more (first == one))
 
-module _ (plan : PlanData) (topic subscription : EntityNo) (among : Contains (subscribers_of topic (first_world plan)) subscription) where
+module _ (plan : PlanData) (topic subscription : EntityNo) (among : Contains (subscribers_at topic (first_world plan)) subscription) where
   both : (is_listed (entities_where is_topic plan.graph) topic ≡ true) × (of_entity false (subscribes_to topic) (declared_at plan.graph subscription) ≡ true)
   both = by (is_listed (entities_where is_topic plan.graph) topic) refl
     where
       there : is_listed (if is_listed (entities_where is_topic plan.graph) topic then entities_where (of_entity false (subscribes_to topic)) plan.graph else []) subscription ≡ true
-      there = ap (λ (all : List EntityNo). is_listed all subscription) (sym (new_subscribers plan.graph topic (entities_where is_topic plan.graph))) ∙ contained (subscribers_of topic (first_world plan)) subscription among
+      there = ap (λ (all : List EntityNo). is_listed all subscription) (sym (new_subscribers plan.graph topic (entities_where is_topic plan.graph))) ∙ contained (subscribers_at topic (first_world plan)) subscription among
 
       by : (b : Bool) → is_listed (entities_where is_topic plan.graph) topic ≡ b → (is_listed (entities_where is_topic plan.graph) topic ≡ true) × (of_entity false (subscribes_to topic) (declared_at plan.graph subscription) ≡ true)
       by true e = let here : is_listed (entities_where (of_entity false (subscribes_to topic)) plan.graph) subscription ≡ true = rw e at there in (e, sym (is_declared plan.graph (of_entity false (subscribes_to topic)) refl subscription) ∙ here)
       by false e = let none : false ≡ true = rw e at there in absurd (true≢false (sym none))
 
   -- a message to the subscription's topic is brought to it once, and one to another topic never
-  pub messages_brought : (other : EntityNo) (value : ℤ) → flat_map (brought subscription value) (subscribers_of other (first_world plan)) ≡ only_if (other == topic) value
+  pub messages_brought : (other : EntityNo) (value : ℤ) → flat_map (brought subscription value) (subscribers_at other (first_world plan)) ≡ only_if (other == topic) value
   messages_brought other value =
       ap (λ (all : List EntityNo). flat_map (brought subscription value) all) (new_subscribers plan.graph other (entities_where is_topic plan.graph)) ∙ by (other == topic) (is_listed (entities_where is_topic plan.graph) other) refl refl
     where

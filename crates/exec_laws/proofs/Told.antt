@@ -47,18 +47,18 @@ use Rattle.exec_rules.proofs.Pairs.{all_append, all_flat, all_map}
 use Rattle.exec_rules.proofs.Running.{found_test}
 use Rattle.exec_laws.proofs.Standing.{has_queue}
 use Rattle.exec_laws.proofs.Views.{ended_found}
-use Rattle.exec_rules.specs.Callback.{Outcome}
-use Rattle.exec_rules.specs.Close.{GoalRequest, reply_in, decision_in, decisions_in, accepted_lines, moved_lines, accept_where, answer_goal, cancel, tell, tell_end, answer_ask, ask_where, respond, with_ended, goal_at, end_in, close_item, close_poll, close_cause, pend}
+use Rattle.exec_rules.specs.Callback.{AfterCallback}
+use Rattle.exec_rules.specs.Close.{GoalRequest, reply_of_close, decision_of_close, decisions_of_close, accepted_lines, moved_lines, accept_where, answer_goal, cancel, tell, tell_end, answer_ask, ask_where, respond, with_ended, goal_at, end_in, close_item, close_poll, close_cause, pend}
 use Rattle.exec_laws.specs.Exchanges.{is_asked, is_result_taken, is_result_lost}
-use Rattle.exec_rules.specs.Give.{publish, call_by, send_goal_by, send_cancel, cancel_all_by, cancel_goal_by, oldest_accepted, execute_goal, client_of, give_feedback, give}
+use Rattle.exec_rules.specs.Give.{publish, call_by, send_goal_by, send_cancel, cancel_all_by, cancel_goal_by, oldest_accepted, execute_goal, sender_at, give_feedback, give}
 use Rattle.exec_rules.specs.Item.{goal_id}
 use Rattle.exec_rules.specs.Lines.{is_loss}
 use Rattle.exec_rules.specs.Ready.{ready_list, run_line, line_of, input_of, take_inputs}
 use Rattle.exec_rules.specs.Run.{outcome_in, run, unclosed, variables_for, with_polled, with_variables_for, work_for}
 use Rattle.exec_rules.specs.Shape.{shape_of}
-use Rattle.exec_rules.specs.Transcript.{entity_at, takes_from_queue, first_world, new_queue, new_server, server_in, expire_lines, expire, feed_one, at_snapshot, run_all, round, rounds, pending_by, closing_lines, lines_of, last_world}
+use Rattle.exec_rules.specs.Transcript.{entity_at, takes_from_queue, first_world, new_queue, new_server, server_of, expire_lines, expire, feed_one, at_snapshot, run_all, round, rounds, pending_by, closing_lines, lines_of, last_world}
 use Rattle.exec_script.specs.Script.{Variables}
-use Rattle.exec_rules.specs.World.{WorldState, ClientEntry, ActionClientEntry, add_line, is_queue, goals_of, has_room_for, with_call, with_goal_sent, with_variables, change_goals, client_at, action_client_at, next_arrival}
+use Rattle.exec_rules.specs.World.{WorldState, ClientEntry, ActionClientEntry, add_line, is_queue, goals_at, has_room_for, with_call, with_goal_sent, with_variables, change_goals, client_at, action_client_at, next_arrival}
 use Rattle.exec_rules.specs.declared.item.Item.{Item}
 use Rattle.exec_rules.specs.declared.item.Item.TheVariants as item
 use Rattle.exec_rules.specs.declared.ready.Cause.{Cause}
@@ -77,7 +77,7 @@ module _ (plan : PlanData) (client : EntityNo) where
   goals_fair owed server change world shape none same p = (
     shape,
     renoted plan client owed owed world.queues world.servers _ world.lines
-        (λ id. noted_changed client id (changing change) (ap (λ (goals : List GoalRecord). notes client id goals) none) server world.servers (owed id) (owed id) (ap (λ (n : ℕ). n + owed id) (same id (goals_of server world)))) p.1,
+        (λ id. noted_changed client id (changing change) (ap (λ (goals : List GoalRecord). notes client id goals) none) server world.servers (owed id) (owed id) (ap (λ (n : ℕ). n + owed id) (same id (goals_at server world)))) p.1,
   )
 
   call_fair : (owed : GoalId → ℕ) (from : Option ClientEntry) (value : ℤ) (world : WorldState) → IsFair plan client owed world → IsFair plan client owed (call_by from value world)
@@ -115,7 +115,7 @@ module _ (plan : PlanData) (client : EntityNo) where
   feedback_fair owed server cause.Due value world p = p
   feedback_fair owed server (cause.Took taken) value world p = p
   feedback_fair owed server (cause.Woke goal given canceling) value world p =
-      freely_any plan client owed (client_of server goal world) (item.Feedback goal value) (add_line (line.Feedback server goal value) world) (λ to id. refl) (line_fair plan client owed (line.Feedback server goal value) world ((λ id. refl), ((λ id. refl), refl)) p)
+      freely_any plan client owed (sender_at server goal world) (item.Feedback goal value) (add_line (line.Feedback server goal value) world) (λ to id. refl) (line_fair plan client owed (line.Feedback server goal value) world ((λ id. refl), ((λ id. refl), refl)) p)
 
   published_fair : (owed : GoalId → ℕ) (topic : EntityNo) (value : ℤ) (world : WorldState) → IsFair plan client owed world → IsFair plan client owed (publish topic value world)
   published_fair owed topic value world p = publish_kept {P = IsFair plan client owed} (λ entity one before q. freely plan client owed entity (item.Message one) before (λ id. refl) q) topic value world p
@@ -161,19 +161,19 @@ module _ (plan : PlanData) (client : EntityNo) where
       one_more false false rest = omega arith
 
   -- an ask is answered, or its client is noted
-  ask_answered : (owed : GoalId → ℕ) (server : EntityNo) (goal : GoalId) (asker : EntityNo) (asked : Asked) (world : WorldState) → asked_for goal (goals_of server world) ≡ asked → IsFair plan client (λ id. weigh ((asker == client) && (goal == id)) 1 + owed id) world → IsFair plan client owed (answer_ask server goal asker asked world)
+  ask_answered : (owed : GoalId → ℕ) (server : EntityNo) (goal : GoalId) (asker : EntityNo) (asked : Asked) (world : WorldState) → asked_for goal (goals_at server world) ≡ asked → IsFair plan client (λ id. weigh ((asker == client) && (goal == id)) 1 + owed id) world → IsFair plan client owed (answer_ask server goal asker asked world)
   ask_answered owed server goal asker (told status value) world is p = result_told owed server goal status value asker world p
   ask_answered owed server goal asker unknown world is p = result_told owed server goal status.Unknown (pos 0) asker world p
   ask_answered owed server goal asker later world is p =
-      let found = comes_later server goal (find (has_id goal) (goals_of server world)) is in (
+      let found = comes_later server goal (find (has_id goal) (goals_at server world)) is in (
         (shapes plan client).basic.goals_kept server _ world (ids_changed goal (asked_by asker) (λ one. refl)) p.0,
         renoted plan client (λ id. weigh ((asker == client) && (goal == id)) 1 + owed id) owed world.queues world.servers _ world.lines
             (λ id. noted_changed client id (changing (change_first (has_id goal) (asked_by asker))) refl server world.servers (owed id) (weigh ((asker == client) && (goal == id)) 1 + owed id)
-            (let more = notes_asked client id goal asker found.0 (goals_of server world) found.1.0 found.1.1 in omega (arith, more))) p.1,
+            (let more = notes_asked client id goal asker found.0 (goals_at server world) found.1.0 found.1.1 in omega (arith, more))) p.1,
       )
 
   -- a goal ends: those that are noted are told
-  ended : (owed : GoalId → ℕ) (server : EntityNo) (goal : GoalId) (by : Event) (value : ℤ) (moment : Moment) (reached : Option State) (world : WorldState) → end_state goal by (goals_of server world) ≡ reached → IsFair plan client owed world → IsFair plan client owed (end_in reached server goal by value moment world)
+  ended : (owed : GoalId → ℕ) (server : EntityNo) (goal : GoalId) (by : Event) (value : ℤ) (moment : Moment) (reached : Option State) (world : WorldState) → end_state goal by (goals_at server world) ≡ reached → IsFair plan client owed world → IsFair plan client owed (end_in reached server goal by value moment world)
   ended owed server goal by value moment None world leads p = p
   ended owed server goal by value moment (Some reached) world leads p = where_found (goal_at server goal over) (ap (λ (goals : List GoalRecord). find (has_id goal) goals) (sym (goals_here (changing ending) server world.servers (inr refl))))
     where
@@ -183,16 +183,16 @@ module _ (plan : PlanData) (client : EntityNo) where
       over : WorldState
       over = with_ended server goal by value moment world
 
-      where_found : (found : Option GoalRecord) → find (has_id goal) (ending (goals_of server world)) ≡ found → IsFair plan client owed (tell_end server found over)
-      where_found None none = absurd (ended_found (goals_of server world) goal by value moment reached leads none)
+      where_found : (found : Option GoalRecord) → find (has_id goal) (ending (goals_at server world)) ≡ found → IsFair plan client owed (tell_end server found over)
+      where_found None none = absurd (ended_found (goals_at server world) goal by value moment reached leads none)
       where_found (Some one) found =
-          let named : one.id ≡ goal = eqb-true one.id goal (found_test (has_id goal) (ending (goals_of server world)) one found) in
+          let named : one.id ≡ goal = eqb-true one.id goal (found_test (has_id goal) (ending (goals_at server world)) one found) in
           all_told owed server one.id (status_of one.state) one.result one.askers (add_line (line.State server one.id (status_of one.state)) over)
           (line_fair plan client (λ id. weigh (one.id == id) (among client one.askers) + owed id) (line.State server one.id (status_of one.state)) over ((λ id. refl), ((λ id. refl), refl)) (
             (shapes plan client).basic.goals_kept server _ world (ids_changed goal (after_end by value moment) (λ held. refl)) p.0,
             subst (λ (n : GoalId). Accounts plan client (λ id. weigh (n == id) (among client one.askers) + owed id) over.queues over.servers over.lines) (sym named)
                 (renoted plan client owed (λ id. weigh (goal == id) (among client one.askers) + owed id) world.queues world.servers over.servers world.lines
-                (λ id. let gone = notes_ended client id goal by value moment reached one (goals_of server world) leads found in
+                (λ id. let gone = notes_ended client id goal by value moment reached one (goals_at server world) leads found in
                 noted_changed client id (changing ending) refl server world.servers (weigh (goal == id) (among client one.askers) + owed id) (owed id) (omega (arith, gone))) p.1),
           ))
 
@@ -210,21 +210,21 @@ module _ (plan : PlanData) (client : EntityNo) where
   poll_fair owed server goal moment (close.DecideCancel decision) world p = p
   poll_fair owed server goal moment (close.Decisions decisions) world p = p
   poll_fair owed server goal moment close.Pending world p = pend_fair owed world.order server goal world p
-  poll_fair owed server goal moment (close.Ended by value) world p = ended owed server goal by value moment (end_state goal by (goals_of server world)) world refl p
+  poll_fair owed server goal moment (close.Ended by value) world p = ended owed server goal by value moment (end_state goal by (goals_at server world)) world refl p
 
   -- a goal is accepted that nobody asked for yet
   accepted_silent : (server goal : ℕ) (how : Acceptance) → AllByRecursion (IsSilent plan client) (accepted_lines server goal how)
   accepted_silent server goal acceptance.Execute = (((λ id. refl), ((λ id. refl), refl)), (((λ id. refl), ((λ id. refl), refl)), tt))
   accepted_silent server goal acceptance.Defer = (((λ id. refl), ((λ id. refl), refl)), tt)
 
-  accept_fair : (owed : GoalId → ℕ) (wanted : Option Acceptance) (server : EntityNo) (moment : Moment) (request : GoalRequest) (world : WorldState) → (is_some wanted ≡ true → has_room_for request.id (goals_of server world) ≡ true) → IsFair plan client owed world → IsFair plan client owed (accept_where wanted server moment request world)
+  accept_fair : (owed : GoalId → ℕ) (wanted : Option Acceptance) (server : EntityNo) (moment : Moment) (request : GoalRequest) (world : WorldState) → (is_some wanted ≡ true → has_room_for request.id (goals_at server world) ≡ true) → IsFair plan client owed world → IsFair plan client owed (accept_where wanted server moment request world)
   accept_fair owed None server moment request world room p = p
   accept_fair owed (Some how) server moment request world room p = (
     (shapes plan client).accepts_kept server moment how request world (room refl) p.0,
     more_lines plan client owed world.queues _ world.lines (accepted_lines server request.id how) (accepted_silent server request.id how)
         (renoted plan client owed owed world.queues world.servers _ world.lines
         (λ id. noted_changed client id (accepting (next_arrival world) moment how request) (notes_accepted client id [] (new_goal request.id request.value moment how) refl) server world.servers (owed id) (owed id)
-        (ap (λ (n : ℕ). n + owed id) (notes_accepted client id (goals_of server world) (new_goal request.id request.value moment how) refl))) p.1),
+        (ap (λ (n : ℕ). n + owed id) (notes_accepted client id (goals_at server world) (new_goal request.id request.value moment how) refl))) p.1),
   )
 
   -- a decision that accepts is one for which there is room
@@ -234,9 +234,9 @@ module _ (plan : PlanData) (client : EntityNo) where
 
   answer_fair : (owed : GoalId → ℕ) (server : EntityNo) (moment : Moment) (wanted : Decision) (request : GoalRequest) (world : WorldState) → IsFair plan client owed world → IsFair plan client owed (answer_goal server moment wanted request world)
   answer_fair owed server moment wanted request world p =
-      let made : Decision = if has_room_for request.id (goals_of server world) then wanted else decision.Reject in
+      let made : Decision = if has_room_for request.id (goals_at server world) then wanted else decision.Reject in
       freely_any plan client owed request.client (item.Response request.id (is_accepting made)) _ (λ to id. refl)
-      (accept_fair owed (acceptance_of made) server moment request (add_line (line.Decide server request.id made) world) (roomy (has_room_for request.id (goals_of server world)) wanted)
+      (accept_fair owed (acceptance_of made) server moment request (add_line (line.Decide server request.id made) world) (roomy (has_room_for request.id (goals_at server world)) wanted)
       (line_fair plan client owed (line.Decide server request.id made) world ((λ id. refl), ((λ id. refl), refl)) p))
 
   moved_silent : (server : EntityNo) (goals : List GoalRecord) (more : List Line) → AllByRecursion (IsSilent plan client) more → AllByRecursion (IsSilent plan client) (moved_lines server goals ++ more)
@@ -245,8 +245,8 @@ module _ (plan : PlanData) (client : EntityNo) where
 
   cancel_fair : (owed : GoalId → ℕ) (server : EntityNo) (request : CancelRequest) (from : Option EntityNo) (decisions : List Decided) (world : WorldState) → IsFair plan client owed world → IsFair plan client owed (cancel server request from decisions world)
   cancel_fair owed server request from decisions world p =
-      let goals : List GoalRecord = moved decisions (goals_of server world) in
-      let returned : ReturnCode = code_of request decisions (goals_of server world) in
+      let goals : List GoalRecord = moved decisions (goals_at server world) in
+      let returned : ReturnCode = code_of request decisions (goals_at server world) in
       let changed : IsFair plan client owed (change_goals server (table_after decisions) world) =
       goals_fair owed server (table_after decisions) world ((shapes plan client).basic.goals_kept server _ world (ids_answered decisions) p.0) refl (λ id some. notes_answered client id decisions some) p in
       freely_any plan client owed from (item.Code returned (length goals)) _ (λ to id. refl)
@@ -260,8 +260,8 @@ module _ (plan : PlanData) (client : EntityNo) where
     where
       there : HasQueues plan client → (id : GoalId) (b : Bool) → from.entity == client ≡ b → weigh (not (list_any (is_queue from.server kind.Ask) world.queues)) (weigh ((from.entity == client) && (goal == id)) 1 + 0) ≡ 0
       there queues id true e =
-          let its : server_in (entity_at plan.graph client).is ≡ from.server = ap (λ (n : EntityNo). server_in (entity_at plan.graph n).is) (sym (eqb-true from.entity client e)) ∙ eqb-true _ from.server (action_client_knows plan world p.0 at from found) in
-          let has : list_any (is_queue from.server kind.Ask) world.queues ≡ true = ap (λ (n : EntityNo). list_any (is_queue n kind.Ask) world.queues) (sym its) ∙ has_queue (server_in (entity_at plan.graph client).is) kind.Ask world (first_world plan) p.0 ∙ queues.asks in
+          let its : server_of (entity_at plan.graph client).is ≡ from.server = ap (λ (n : EntityNo). server_of (entity_at plan.graph n).is) (sym (eqb-true from.entity client e)) ∙ eqb-true _ from.server (action_client_knows plan world p.0 at from found) in
+          let has : list_any (is_queue from.server kind.Ask) world.queues ≡ true = ap (λ (n : EntityNo). list_any (is_queue n kind.Ask) world.queues) (sym its) ∙ has_queue (server_of (entity_at plan.graph client).is) kind.Ask world (first_world plan) p.0 ∙ queues.asks in
           ap (λ (b : Bool). weigh (not b) (weigh ((from.entity == client) && (goal == id)) 1 + 0)) has
       there queues id false e = ap (λ (b : Bool). weigh (not (list_any (is_queue from.server kind.Ask) world.queues)) (weigh (b && (goal == id)) 1 + 0)) e ∙ weighs_nothing (not (list_any (is_queue from.server kind.Ask) world.queues))
 
@@ -295,12 +295,12 @@ module _ (plan : PlanData) (client : EntityNo) where
   item_fair : (rest : GoalId → ℕ) (entity : EntityNo) (moment : Moment) (taken : Item) (closing : Close) (world : WorldState) → IsFair plan client (λ id. of_ask plan client id entity taken + rest id) world → IsFair plan client rest (close_item entity moment taken closing world)
   item_fair rest entity moment (item.Message value) closing world p = same_owed plan client _ rest world (λ id. zero_more (rest id)) p
   item_fair rest entity moment (item.Request from number value) closing world p =
-      freely plan client rest from (item.Reply number (reply_in closing)) (add_line (line.Reply entity (reply_in closing)) world) (λ id. refl) (line_fair plan client rest (line.Reply entity (reply_in closing)) world ((λ id. refl), ((λ id. refl), refl)) (same_owed plan client _ rest world (λ id. zero_more (rest id)) p))
+      freely plan client rest from (item.Reply number (reply_of_close closing)) (add_line (line.Reply entity (reply_of_close closing)) world) (λ id. refl) (line_fair plan client rest (line.Reply entity (reply_of_close closing)) world ((λ id. refl), ((λ id. refl), refl)) (same_owed plan client _ rest world (λ id. zero_more (rest id)) p))
   item_fair rest entity moment (item.Reply number value) closing world p = same_owed plan client _ rest world (λ id. zero_more (rest id)) p
   item_fair rest entity moment (item.Goal goal from value) closing world p =
-      answer_fair rest entity moment (decision_in closing) (record { id = goal; client = from; value = value }) world (same_owed plan client _ rest world (λ id. zero_more (rest id)) p)
-  item_fair rest entity moment (item.Cancel request from) closing world p = cancel_fair rest entity request from (decisions_in closing) world (same_owed plan client _ rest world (λ id. zero_more (rest id)) p)
-  item_fair rest entity moment (item.Ask goal asker) closing world p = ask_answered rest entity goal asker (asked_for goal (goals_of entity world)) world refl p
+      answer_fair rest entity moment (decision_of_close closing) (record { id = goal; client = from; value = value }) world (same_owed plan client _ rest world (λ id. zero_more (rest id)) p)
+  item_fair rest entity moment (item.Cancel request from) closing world p = cancel_fair rest entity request from (decisions_of_close closing) world (same_owed plan client _ rest world (λ id. zero_more (rest id)) p)
+  item_fair rest entity moment (item.Ask goal asker) closing world p = ask_answered rest entity goal asker (asked_for goal (goals_at entity world)) world refl p
   item_fair rest entity moment (item.Response goal accepted) closing world p = respond_fair rest entity (action_client_at entity world) goal accepted world refl (same_owed plan client _ rest world (λ id. zero_more (rest id)) p)
   item_fair rest entity moment (item.Code returned count) closing world p = same_owed plan client _ rest world (λ id. zero_more (rest id)) p
   item_fair rest entity moment (item.Feedback goal value) closing world p = same_owed plan client _ rest world (λ id. zero_more (rest id)) p
@@ -331,7 +331,7 @@ module _ (plan : PlanData) (client : EntityNo) where
 
   unclosed_fair : (owed : GoalId → ℕ) (one : Ready) (world : WorldState) → IsFair plan client owed (add_line (run_line one) world) → IsFair plan client owed (unclosed one world)
   unclosed_fair owed one world p =
-      let outcome : Outcome WorldState = outcome_in one world in
+      let outcome : AfterCallback WorldState = outcome_in one world in
       polled_fair owed one.entity one.cause outcome.task _
       (variables_fair owed one outcome.variables outcome.given
       (callback_keeps (IsFair plan client owed) (give one) (λ effect given q. give_fair owed one effect given q) one (work_for one.entity one.cause world) (variables_for one world) (add_line (run_line one) world) p))

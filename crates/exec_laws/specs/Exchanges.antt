@@ -14,7 +14,7 @@ use Rattle.exec_msg.specs.declared.kind.Kind.TheVariants as kind
 use Rattle.exec_msg.specs.declared.line.Line.{Line}
 use Rattle.exec_msg.specs.declared.line.Line.TheVariants as line
 use Rattle.exec_rules.specs.Item.{as_value, first_of}
-use Rattle.exec_rules.specs.World.{WorldState, ClientEntry, ActionClientEntry, goals_of, is_queue}
+use Rattle.exec_rules.specs.World.{WorldState, ClientEntry, ActionClientEntry, goals_at, is_queue}
 use Rattle.exec_rules.specs.declared.item.Item.{Item}
 use Rattle.exec_rules.specs.declared.item.Item.TheVariants as item
 
@@ -84,7 +84,7 @@ pub record IsToldOnce (client : ActionClientEntry) (world : WorldState) : Type 0
   pub losses : length lost ≡ length (filter (is_result_lost client.entity) world.lines)
   pub each : (id : GoalId) → length (filter (is_asked client.entity id) world.lines) ≡
       length (filter (is_result_taken client.entity id) world.lines) + times id lost + times id (flat_map result_in (items_of client.entity kind.Result world))
-      + times client.entity (waiting_in id (goals_of client.server world)) + times id (flat_map (ask_in client.entity) (items_of client.server kind.Ask world))
+      + times client.entity (waiting_in id (goals_at client.server world)) + times id (flat_map (ask_in client.entity) (items_of client.server kind.Ask world))
 
 -- ---- publications
 
@@ -111,8 +111,8 @@ dropped_at subscription (line.Drop entity kind.Message value) = if entity == sub
 dropped_at subscription _ = []
 
 -- what its queue holds
-abbrev pub held_at : EntityNo → WorldState → List ℤ
-held_at subscription world = option_map_or (λ queue. map first_of queue.items) (find (is_queue subscription kind.Message) world.queues) []
+abbrev pub queued_at : EntityNo → WorldState → List ℤ
+queued_at subscription world = option_map_or (λ queue. map first_of queue.items) (find (is_queue subscription kind.Message) world.queues) []
 
 -- how a message leaves a queue: a callback takes it, or it is displaced
 pub data Leaving : Type 0 where
@@ -135,7 +135,7 @@ dropped_by (dropped value) = value ∷ []
 -- it holds; of those that left, lines say in order which its callbacks took, and which were dropped
 pub record IsDelivered (plan : PlanData) (topic subscription : EntityNo) (world : WorldState) : Type 0 where
   pub left : List Leaving
-  pub in_order : flat_map (published_at plan topic) world.lines ≡ map leaving_value left ++ held_at subscription world
+  pub in_order : flat_map (published_at plan topic) world.lines ≡ map leaving_value left ++ queued_at subscription world
   pub takings : flat_map (taken_at subscription) world.lines ≡ flat_map taken_by left
   pub losses : flat_map (dropped_at subscription) world.lines ≡ flat_map dropped_by left
 

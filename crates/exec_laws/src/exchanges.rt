@@ -9,12 +9,12 @@ ghost use Rattle.exec_msg.specs.declared.kind.Kind.TheVariants as kind;
 ghost use Rattle.exec_rules.specs.Item.{goal_id};
 ghost use Rattle.exec_rules.specs.Lines.{is_loss};
 ghost use Rattle.exec_rules.specs.Transcript.{first_world, lines_of, last_world};
-ghost use Rattle.exec_rules.specs.World.{goals_of, subscribers_of, ActionClientEntry, ClientEntry, action_client_at, client_at};
+ghost use Rattle.exec_rules.specs.World.{goals_at, subscribers_at, ActionClientEntry, ClientEntry, action_client_at, client_at};
 
 /// Each message that is published or fed to a topic reaches each subscription of the topic. There it is taken, dropped with a
 /// line, or in the queue at the end. This happens in the order in which the messages were published.
 pub fn messages_are_delivered_in_order()
-    ensures { (plan : PlanData) (topic subscription : ℕ) → Contains (subscribers_of topic (first_world plan)) subscription →
+    ensures { (plan : PlanData) (topic subscription : ℕ) → Contains (subscribers_at topic (first_world plan)) subscription →
         IsDelivered plan topic subscription (last_world plan) }
 {}
 
@@ -28,7 +28,7 @@ pub fn calls_are_answered_once()
 /// waits because the goal hasn't ended.
 pub fn asks_are_answered_once()
     ensures { (plan : PlanData) (server id : ℕ) →
-        length (filter (is_ask_taken server id) (lines_of plan)) ≡ length (filter (is_result_told server id) (lines_of plan)) + length (waiting_in id (goals_of server (last_world plan))) }
+        length (filter (is_ask_taken server id) (lines_of plan)) ≡ length (filter (is_result_told server id) (lines_of plan)) + length (waiting_in id (goals_at server (last_world plan))) }
 {}
 
 /// An action client asks for the result of a goal at most once.
@@ -61,6 +61,6 @@ pub fn asks_go_these_ways()
     ensures lost { length (filter (is_result_lost 2) (lines_of full_result_queue)) ≡ 2 }
     ensures taken { map (λ number. length (filter (is_result_taken 2 (goal_id 0 number)) (lines_of full_result_queue))) (1 ∷ 2 ∷ 3 ∷ []) ≡ 0 ∷ 0 ∷ 1 ∷ [] }
     ensures held { flat_map result_in (items_of 2 kind.Result (last_world (first_rounds 7 full_result_queue))) ≡ goal_id 0 3 ∷ [] }
-    ensures waiting { waiting_in (goal_id 0 3) (goals_of 1 (last_world (first_rounds 6 full_result_queue))) ≡ 2 ∷ [] }
+    ensures waiting { waiting_in (goal_id 0 3) (goals_at 1 (last_world (first_rounds 6 full_result_queue))) ≡ 2 ∷ [] }
     ensures underway { flat_map (ask_in 3) (items_of 1 kind.Ask (last_world (first_rounds 6 full_result_queue))) ≡ goal_id 1 1 ∷ [] }
 {}

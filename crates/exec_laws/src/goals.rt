@@ -10,29 +10,29 @@ ghost use Rattle.exec_msg.specs.declared.goal.GoalStatus.{GoalStatus};
 ghost use Rattle.exec_msg.specs.declared.goal.GoalStatus.TheVariants as status;
 ghost use Rattle.exec_script.specs.declared.effects.Close.TheVariants as close;
 ghost use Rattle.exec_script.specs.declared.effects.Effect.{Effect};
-ghost use Rattle.exec_rules.specs.Callback.{Handling, handle};
+ghost use Rattle.exec_rules.specs.Callback.{CancelHandling, handle_cancel};
 ghost use Rattle.exec_laws.specs.Goals.{AreLawful, IsFinal, MayCome, IsTurn, may_be_polled};
 ghost use Rattle.exec_rules.specs.Lines.{statuses_of};
 ghost use Rattle.exec_rules.specs.Run.{unclosed};
 ghost use Rattle.exec_rules.specs.Run.{outcome_in};
 ghost use Rattle.exec_rules.specs.Transcript.{first_world, lines_of, rounds};
-ghost use Rattle.exec_rules.specs.World.{WorldState, goals_of};
+ghost use Rattle.exec_rules.specs.World.{WorldState, goals_at};
 ghost use Rattle.exec_rules.specs.declared.ready.Cause.TheVariants as cause;
 ghost use Rattle.exec_rules.specs.declared.ready.Ready.{Ready};
 
 /// After a cancel handler ran for candidates, the decisions are those from before, and then one for each candidate, with its
 /// identifier, in order. `S` is what the handler's effects go into.
 pub fn decisions_are_of_the_candidates<S>()
-    ensures before { (give : Effect → S → S) (ready : Ready) (handling : Handling S) (candidates : List GoalInfo) →
-        take (length handling.decisions) (fold (handle give ready) handling candidates).decisions ≡ handling.decisions }
-    ensures identifiers { (give : Effect → S → S) (ready : Ready) (handling : Handling S) (candidates : List GoalInfo) →
-        map decided_goal (drop (length handling.decisions) (fold (handle give ready) handling candidates).decisions) ≡ map (λ candidate. candidate.id) candidates }
+    ensures before { (give : Effect → S → S) (ready : Ready) (handling : CancelHandling S) (candidates : List GoalInfo) →
+        take (length handling.decisions) (fold (handle_cancel give ready) handling candidates).decisions ≡ handling.decisions }
+    ensures identifiers { (give : Effect → S → S) (ready : Ready) (handling : CancelHandling S) (candidates : List GoalInfo) →
+        map decided_goal (drop (length handling.decisions) (fold (handle_cancel give ready) handling candidates).decisions) ≡ map (λ candidate. candidate.id) candidates }
 {}
 
 /// No two goals of one server have the same identifier, after any rounds of a plan.
 pub fn identifiers_differ()
     ensures { (plan : PlanData) (number : ℕ) (moments : List ℕ) (server : ℕ) →
-        IsDistinct (λ one other. one == other) (map (λ goal. goal.id) (goals_of server (rounds plan number moments (first_world plan)))) }
+        IsDistinct (λ one other. one == other) (map (λ goal. goal.id) (goals_at server (rounds plan number moments (first_world plan)))) }
 {}
 
 /// In the transcript of a plan, take the statuses of a server's goals of one identifier. The first says that a goal is
@@ -68,15 +68,15 @@ pub fn goals_have_one_end()
 pub fn polled_goals_stay_at_work()
     ensures turn { (plan : PlanData) (number : ℕ) (moments : List ℕ) (next moment : ℕ) (one : Ready) (here : WorldState) (id : ℕ) (value : ℤ) (canceling : Bool) →
         IsTurn plan next moment (rounds plan number moments (first_world plan)) one here → one.cause ≡ cause.Woke id value canceling →
-        may_be_polled canceling (state_in id (goals_of one.entity here)) ≡ true }
+        may_be_polled canceling (state_in id (goals_at one.entity here)) ≡ true }
     ensures closing { (plan : PlanData) (number : ℕ) (moments : List ℕ) (next moment : ℕ) (one : Ready) (here : WorldState) (id : ℕ) (value : ℤ) (canceling : Bool) →
         IsTurn plan next moment (rounds plan number moments (first_world plan)) one here → one.cause ≡ cause.Woke id value canceling →
-        may_be_polled canceling (state_in id (goals_of one.entity (unclosed one here))) ≡ true }
+        may_be_polled canceling (state_in id (goals_at one.entity (unclosed one here))) ≡ true }
 {}
 
 /// So the ending that a goal's script asks for is always a transition of the goal, and is never without effect.
 pub fn endings_are_allowed()
     ensures { (plan : PlanData) (number : ℕ) (moments : List ℕ) (next moment : ℕ) (one : Ready) (here : WorldState) (id : ℕ) (value : ℤ) (canceling : Bool) (by : Event) (result : ℤ) →
         IsTurn plan next moment (rounds plan number moments (first_world plan)) one here → one.cause ≡ cause.Woke id value canceling →
-        (outcome_in one here).close ≡ close.Ended by result → end_state id by (goals_of one.entity (unclosed one here)) ≢ None }
+        (outcome_in one here).close ≡ close.Ended by result → end_state id by (goals_at one.entity (unclosed one here)) ≢ None }
 {}

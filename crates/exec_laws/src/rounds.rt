@@ -11,7 +11,7 @@ ghost use Rattle.exec_msg.specs.declared.line.Line.TheVariants as line;
 ghost use Rattle.exec_rules.specs.Item.{taker_of};
 ghost use Rattle.exec_rules.specs.Shape.{shape_of};
 ghost use Rattle.exec_rules.specs.Transcript.{at_snapshot, entity_at, first_world, round, rounds};
-ghost use Rattle.exec_rules.specs.World.{WorldState, held_by};
+ghost use Rattle.exec_rules.specs.World.{WorldState, held_at};
 ghost use Rattle.exec_laws.specs.Arrivals.{AreLeftOf, HadItsNumber, HasEarlierFirst, HasRisingNumbers, IsArrival, all_numbers, arrived_in, numbers_at};
 
 /// A round keeps all lines, and then adds its own line first. Rounds keep all lines.
@@ -77,8 +77,8 @@ pub fn earlier_arrivals_are_taken_first()
         (arrived_in entity of (rounds plan number moments (first_world plan)))
         (arrived_in entity of (at_snapshot plan round moment (rounds plan next later (rounds plan number moments (first_world plan))))) }
     ensures goals { (plan : PlanData) (number next round moment : ℕ) (moments later : List ℕ) (server : ℕ) → plan.order ≡ order.Arrival →
-        All (HadItsNumber (rounds plan number moments (first_world plan)).arrivals (held_by server (rounds plan number moments (first_world plan))))
-        (held_by server (at_snapshot plan round moment (rounds plan next later (rounds plan number moments (first_world plan))))) }
+        All (HadItsNumber (rounds plan number moments (first_world plan)).arrivals (held_at server (rounds plan number moments (first_world plan))))
+        (held_at server (at_snapshot plan round moment (rounds plan next later (rounds plan number moments (first_world plan))))) }
     ensures ready { (plan : PlanData) (number next round moment : ℕ) (moments later : List ℕ) → plan.order ≡ order.Arrival →
         HasEarlierFirst (rounds plan number moments (first_world plan)).arrivals moment
         (at_snapshot plan round moment (rounds plan next later (rounds plan number moments (first_world plan)))) }

@@ -13,19 +13,19 @@ use Rattle.exec_msg.specs.declared.memory.Memory.{Memory}
 use Rattle.exec_msg.specs.declared.line.Line.TheVariants as line
 
 -- the word of a kind of callback
-abbrev pub word_of : Kind → List ℕ
-word_of kind.Timer = codes "timer"
-word_of kind.Message = codes "message"
-word_of kind.Request = codes "request"
-word_of kind.Reply = codes "reply"
-word_of kind.Goal = codes "goal"
-word_of kind.Cancel = codes "cancel"
-word_of kind.Ask = codes "ask"
-word_of kind.Poll = codes "poll"
-word_of kind.Response = codes "response"
-word_of kind.Code = codes "code"
-word_of kind.Feedback = codes "feedback"
-word_of kind.Result = codes "result"
+abbrev pub kind_text : Kind → List ℕ
+kind_text kind.Timer = codes "timer"
+kind_text kind.Message = codes "message"
+kind_text kind.Request = codes "request"
+kind_text kind.Reply = codes "reply"
+kind_text kind.Goal = codes "goal"
+kind_text kind.Cancel = codes "cancel"
+kind_text kind.Ask = codes "ask"
+kind_text kind.Poll = codes "poll"
+kind_text kind.Response = codes "response"
+kind_text kind.Code = codes "code"
+kind_text kind.Feedback = codes "feedback"
+kind_text kind.Result = codes "result"
 
 -- the text of an identifier: RFC 9562, section 4, hyphenated and in lower case
 unfoldable pub id_text : GoalId → List ℕ
@@ -53,8 +53,8 @@ id_field (Some id) = id_text id ∷ []
 abbrev pub fields_of : List (List ℕ) → Line → List (List ℕ)
 fields_of names (line.Round number moment) = codes "round" ∷ decimal number ∷ decimal moment ∷ []
 fields_of names (line.Expire server id) = codes "expire" ∷ name_at names server ∷ id_text id ∷ []
-fields_of names (line.Run entity kind input aux id) = codes "run" ∷ name_at names entity ∷ word_of kind ∷ signed_decimal input ∷ signed_decimal aux ∷ id_field id
-fields_of names (line.Drop entity kind input) = codes "drop" ∷ name_at names entity ∷ word_of kind ∷ signed_decimal input ∷ []
+fields_of names (line.Run entity kind input aux id) = codes "run" ∷ name_at names entity ∷ kind_text kind ∷ signed_decimal input ∷ signed_decimal aux ∷ id_field id
+fields_of names (line.Drop entity kind input) = codes "drop" ∷ name_at names entity ∷ kind_text kind ∷ signed_decimal input ∷ []
 fields_of names (line.Pub topic value) = codes "pub" ∷ name_at names topic ∷ signed_decimal value ∷ []
 fields_of names (line.Call client number value) = codes "call" ∷ name_at names client ∷ decimal number ∷ signed_decimal value ∷ []
 fields_of names (line.Reply service value) = codes "reply" ∷ name_at names service ∷ signed_decimal value ∷ []

@@ -1,5 +1,5 @@
 ghost use Rattle.std.specs.Prelude.{◌≡◌, ◌≤◌, length};
-ghost use Rattle.exec_msg.specs.Line.{word_of};
+ghost use Rattle.exec_msg.specs.Line.{kind_text};
 
 /// What a callback is for, in the order in which ready callbacks run. All but [`Kind::Timer`] and [`Kind::Poll`] have a queue
 /// for each entity. The callback takes its input from it.
@@ -35,7 +35,7 @@ impl Kind {
     /// The kind's word in a transcript.
     #[inline(always)]
     pub fn word(self) -> &'static str
-        ensures word { result.now ≡ word_of self }
+        ensures word { result.now ≡ kind_text self }
         ensures bound { length result.now ≤ 8 }
     {
         match self {

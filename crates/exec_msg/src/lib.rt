@@ -1,8 +1,8 @@
 //! What the executor's callbacks and its transcript are made of: moments, names, timers and lines.
 #![tactic(auto)]
 
+mod elements;
 mod goal;
-mod items;
 mod keep_last;
 mod kind;
 pub mod laws;
@@ -22,8 +22,8 @@ mod timer;
 mod transcript;
 mod value_texts;
 
+pub use elements::Elements;
 pub use goal::{Acceptance, CancelDecision, Decision, Event, GoalStatus, ReturnCode};
-pub use items::Items;
 pub use keep_last::KeepLast;
 pub use kind::Kind;
 pub use lazy_queue::LazyQueue;

@@ -16,7 +16,7 @@ use std::mem::size_of;
 /// `aux` is its count, which is its lower half. A cell that says no line gives an identifier. So does a run line on a near
 /// goal, which is one whose halves are below 2^16.
 #[derive(Clone, Copy)]
-pub(crate) enum Cell {
+pub(crate) enum PackedCell {
     Round {
         upper: u16,
         number: u32,
@@ -147,4 +147,4 @@ pub(crate) enum Cell {
     Whole,
 }
 
-const _: () = prove!(size_of::<Cell>() == 12);
+const _: () = prove!(size_of::<PackedCell>() == 12);

@@ -5,7 +5,7 @@ pub(crate) mod numbers;
 
 ghost use Rattle.std.specs.Prelude.{◌≡◌, ◌+◌, ◌<◌, ◌≤◌, [], ◌∷◌, ◌++◌, length, take, decimal};
 ghost use Rattle.std.specs.Fmt.{signed_decimal};
-ghost use Rattle.exec_msg.specs.Line.{greatest_length, spaced, joined, name_at, word_of, id_text};
+ghost use Rattle.exec_msg.specs.Line.{greatest_length, spaced, joined, name_at, kind_text, id_text};
 
 use crate::kind::Kind;
 use crate::name_texts::{NameField, NameTexts};
@@ -142,7 +142,7 @@ pub(crate) fn place_callback(
     kind: Kind,
 ) -> usize
     requires { at + length word.now + greatest_length names.now + 49 ≤ length bytes.old }
-    ensures text { take result bytes.new ≡ take at bytes.old ++ joined (word.now ∷ name_at names.now no ∷ word_of kind ∷ []) }
+    ensures text { take result bytes.new ≡ take at bytes.old ++ joined (word.now ∷ name_at names.now no ∷ kind_text kind ∷ []) }
     ensures within { result ≤ at + length word.now + greatest_length names.now + 10 }
 {
     let end = place_named(bytes, at, word, names, no);
@@ -156,8 +156,8 @@ static KIND_FIELDS: [u8; 192] =
 // A kind's sixteen bytes, and what comes after them.
 #[inline(always)]
 fn kind_field(kind: Kind) -> &'static [u8]
-    ensures field { take (1 + length (word_of kind)) result.now ≡ 32 ∷ word_of kind }
-    ensures within { (length (word_of kind) ≤ 8) × (16 ≤ length result.now) }
+    ensures field { take (1 + length (kind_text kind)) result.now ≡ 32 ∷ kind_text kind }
+    ensures within { (length (kind_text kind) ≤ 8) × (16 ≤ length result.now) }
 {
     &KIND_FIELDS[kind as usize * 16..]
 }
@@ -166,7 +166,7 @@ fn kind_field(kind: Kind) -> &'static [u8]
 #[inline(always)]
 pub(crate) fn place_kind(bytes: &mut [u8], at: usize, kind: Kind) -> usize
     requires { at + 16 ≤ length bytes.old }
-    ensures text { take result bytes.new ≡ take at bytes.old ++ spaced (word_of kind ∷ []) }
+    ensures text { take result bytes.new ≡ take at bytes.old ++ spaced (kind_text kind ∷ []) }
     ensures within { result ≤ at + 9 }
 {
     place_front::<16>(bytes, at, kind_field(kind));

@@ -4,7 +4,7 @@ mod run;
 ghost use Rattle.std.specs.Prelude.{◌≡◌, ◌+◌, ◌<◌, ◌≤◌, [], ◌∷◌, ◌++◌, length, take, codes, decimal, ◌^◌, vec_capacity, vec_len, IfOk, OnErr};
 ghost use Rattle.std.specs.Fmt.{signed_decimal};
 ghost use Rattle.exec_msg.specs.Goal.{status_number, code_number};
-ghost use Rattle.exec_msg.specs.Line.{IsAppended, greatest_length, line_room, joined, name_at, word_of, id_text, fields_of, line_text};
+ghost use Rattle.exec_msg.specs.Line.{IsAppended, greatest_length, line_room, joined, name_at, kind_text, id_text, fields_of, line_text};
 
 use crate::goal::{GoalStatus, ReturnCode};
 use crate::kind::Kind;
@@ -205,7 +205,7 @@ fn place_drop(
     input: i64,
 ) -> usize
     requires { at + greatest_length names.now + 53 ≤ length bytes.old }
-    ensures text { take result bytes.new ≡ take at bytes.old ++ joined (codes "drop" ∷ name_at names.now no ∷ word_of kind ∷ signed_decimal input ∷ []) }
+    ensures text { take result bytes.new ≡ take at bytes.old ++ joined (codes "drop" ∷ name_at names.now no ∷ kind_text kind ∷ signed_decimal input ∷ []) }
     ensures within { result ≤ at + greatest_length names.now + 36 }
 {
     let end = place_callback(bytes, at, "drop", names, no, kind);

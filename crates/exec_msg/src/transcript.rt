@@ -7,7 +7,7 @@ use crate::memory::Memory;
 use crate::name_texts::NameTexts;
 use crate::names::Names;
 use crate::numbers::GoalId;
-use crate::packed::Cell;
+use crate::packed::PackedCell;
 use crate::packed::push::push_line;
 use crate::packed::said::skip_ids;
 use crate::text::{place_line, room_behind};
@@ -18,7 +18,7 @@ use std::marker::Model;
 /// The lines of a transcript in their order. Most take twelve bytes each.
 #[derive(Drop)]
 pub struct Transcript {
-    cells: Vec<Cell>,
+    cells: Vec<PackedCell>,
     // The lines that have no form in cells.
     wholes: Vec<Line>,
     // The identifier that was given last.
@@ -28,13 +28,13 @@ pub struct Transcript {
 impl Model for Transcript {
     ghost use Rattle.std.specs.Prelude.{◌≡◌, List};
     ghost use Rattle.exec_msg.specs.declared.line.Line.{Line};
-    ghost use Rattle.exec_msg.specs.inner.Packed.{id_behind, lines_in, AreTold};
+    ghost use Rattle.exec_msg.specs.inner.Packed.{id_behind, lines_in, HaveWholes};
 
     ghost Value = { List Line };
 
     ghost view = { λ transcript. lines_in transcript.cells.items 0 transcript.wholes.items };
 
-    ghost invariant = { λ transcript. AreTold transcript.cells.items 0 transcript.wholes.items × (id_behind transcript.cells.items 0 ≡ transcript.told) };
+    ghost invariant = { λ transcript. HaveWholes transcript.cells.items 0 transcript.wholes.items × (id_behind transcript.cells.items 0 ≡ transcript.told) };
 }
 
 impl Transcript {
@@ -126,7 +126,7 @@ impl Lines for Transcript {
             return Ok(());
         }
         push_copy(&mut self.wholes, line)?;
-        self.cells.push_reserved(Cell::Whole);
+        self.cells.push_reserved(PackedCell::Whole);
         Ok(())
     }
 }
@@ -136,7 +136,7 @@ impl Lines for Transcript {
 pub struct TextReader<'a> {
     names: NameTexts<'a>,
     texts: ValueTexts,
-    cells: &'a [Cell],
+    cells: &'a [PackedCell],
     wholes: &'a [Line],
     // The identifier that was given last.
     told: GoalId,
@@ -226,7 +226,7 @@ impl<'a> TextReader<'a> {
 // The lines that are left, in local variables while a buffer is filled.
 #[derive(Drop)]
 struct Left<'a> {
-    cells: &'a [Cell],
+    cells: &'a [PackedCell],
     wholes: &'a [Line],
     // The identifier that was given last.
     told: GoalId,

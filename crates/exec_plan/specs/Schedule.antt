@@ -60,7 +60,7 @@ abbrev pub plan_fault_in : List Moment → List Feed → Option PlanFault
 plan_fault_in moments feed = find (λ fault. has_plan_fault fault moments feed) plan_faults_in_order
 
 -- the number of a fault
-abbrev pub plan_number_of : PlanFault → ℕ
-plan_number_of Limit = 5
-plan_number_of Clock = 8
-plan_number_of Id = 9
+abbrev pub plan_fault_number : PlanFault → ℕ
+plan_fault_number Limit = 5
+plan_fault_number Clock = 8
+plan_fault_number Id = 9

@@ -1,5 +1,5 @@
 ghost use Rattle.std.specs.Prelude.{◌≡◌};
-ghost use Rattle.exec_plan.specs.Schedule.{plan_number_of};
+ghost use Rattle.exec_plan.specs.Schedule.{plan_fault_number};
 
 use thiserror::Error;
 
@@ -20,7 +20,7 @@ pub enum PlanFault {
 impl PlanFault {
     /// The number of the fault, from 5 to 9.
     pub fn number(self) -> u8
-        ensures { result ≡ plan_number_of self }
+        ensures { result ≡ plan_fault_number self }
     {
         self as u8
     }

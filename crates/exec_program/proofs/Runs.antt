@@ -11,7 +11,7 @@ use Rattle.exec_doc.specs.declared.refused.Refused.TheVariants as refused
 use Rattle.exec_plan.specs.Plan.{PlanData}
 use Rattle.exec_msg.specs.declared.limits.TheConstants.{DOCUMENT}
 use Rattle.exec_round.specs.Run.{IsRefusalOf}
-use Rattle.exec_program.specs.Program.{AreGoodWords, Gave, HasRun, Left, StreamRun, Took}
+use Rattle.exec_program.specs.Program.{Appended, AreGoodWords, Consumed, HasRun, StreamRun, Unchanged}
 use Rattle.exec_program.specs.inner.Writing.{HasWritten}
 use Rattle.exec_program.specs.declared.program.Failure.{Failure}
 use Rattle.exec_program.specs.declared.program.Failure.TheVariants as failure
@@ -23,7 +23,7 @@ use Rattle.exec_rules.specs.Transcript.{text_of}
 pub record HasRead (words : Result (Vec (String Global)) WordsFault) (input : StreamRun) (document : List ℕ) : Type 0 where
   pub good : AreGoodWords words
   pub sound : words ≢ Err words_fault.Memory
-  pub taken : (bytes : List ℕ) × Took input bytes × (length bytes ≤ DOCUMENT + 1)
+  pub taken : (bytes : List ℕ) × Consumed input bytes × (length bytes ≤ DOCUMENT + 1)
   pub whole : IfSome input.before (λ bytes. document ≡ bytes)
   pub fits : length document ≤ DOCUMENT
   pub end : IsAtEnd input.after
@@ -49,7 +49,7 @@ fits_so P (Some bytes) document whole fits = λ over. absurd (omega (arith, over
 
 -- a run whose document was refused
 pub after_refusal : (words : Result (Vec (String Global)) WordsFault) (input output : StreamRun) (flushed : Bool) (outcome : Result (Unit {0}) Failure) (document : List ℕ) (code : Refused)
-    → outcome ≡ Err (failure.Refused code) → HasRead words input document → Left output → IsRefusalOf document code → HasRun words input output flushed outcome
+    → outcome ≡ Err (failure.Refused code) → HasRead words input document → Unchanged output → IsRefusalOf document code → HasRun words input output flushed outcome
 after_refusal words input output flushed outcome document code is read left refusal =
     let good = read.good in
     let sound = read.sound in
@@ -75,7 +75,7 @@ after_refusal words input output flushed outcome document code is read left refu
 
 -- a run whose output failed behind a front of the text
 pub after_cut_off : (words : Result (Vec (String Global)) WordsFault) (input output : StreamRun) (flushed : Bool) (outcome : Result (Unit {0}) Failure) (document text : List ℕ) (plan : PlanData) (count : ℕ)
-    → outcome ≡ Err failure.WriteFailed → HasRead words input document → document_of document ≡ Some plan → text ≡ text_of plan → Gave output (take count text) → output.failed ≡ true → HasRun words input output flushed outcome
+    → outcome ≡ Err failure.WriteFailed → HasRead words input document → document_of document ≡ Some plan → text ≡ text_of plan → Appended output (take count text) → output.failed ≡ true → HasRun words input output flushed outcome
 after_cut_off words input output flushed outcome document text plan count is read says is_text gave failed =
     let good = read.good in
     let sound = read.sound in
@@ -90,14 +90,14 @@ after_cut_off words input output flushed outcome document text plan count is rea
       whole_document = tt;
       written = tt;
       flushed_then = tt;
-      cut_off = λ _. known_front input.before document (λ one some. Gave output (take some (text_of one))) read.whole plan count says (subst (λ (whole : List ℕ). Gave output (take count whole)) is_text gave);
+      cut_off = λ _. known_front input.before document (λ one some. Appended output (take some (text_of one))) read.whole plan count says (subst (λ (whole : List ℕ). Appended output (take count whole)) is_text gave);
       write_failed = λ _. failed;
       unwritten = λ other. absurd (other refl);
     })
 
 -- a run that wrote the whole text
 pub after_all : (words : Result (Vec (String Global)) WordsFault) (input output : StreamRun) (flushed : Bool) (document text : List ℕ) (plan : PlanData) (unit : Unit {0})
-    → HasRead words input document → document_of document ≡ Some plan → text ≡ text_of plan → Gave output text → flushed ≡ true → HasRun words input output flushed (Ok unit)
+    → HasRead words input document → document_of document ≡ Some plan → text ≡ text_of plan → Appended output text → flushed ≡ true → HasRun words input output flushed (Ok unit)
 after_all words input output flushed document text plan unit read says is_text gave is_flushed =
     let good = read.good in
     let sound = read.sound in
@@ -110,7 +110,7 @@ after_all words input output flushed document text plan unit read says is_text g
       read_failed = search rules;
       refused = search rules;
       whole_document = read.end;
-      written = known_plan input.before document (λ one. Gave output (text_of one)) read.whole plan says (subst (λ (whole : List ℕ). Gave output whole) is_text gave);
+      written = known_plan input.before document (λ one. Appended output (text_of one)) read.whole plan says (subst (λ (whole : List ℕ). Appended output whole) is_text gave);
       flushed_then = is_flushed;
       cut_off = search rules;
       write_failed = search rules;

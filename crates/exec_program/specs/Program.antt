@@ -5,7 +5,7 @@ use Rattle.std.specs.Io.KnownBytes.{Keeps, Appends, Consumes, IsAtEnd}
 use Rattle.std.specs.declared.alloc.Global.{Global}
 use Rattle.std.specs.Global.{Vec}
 use Rattle.exec_doc.specs.Document.{document_of}
-use Rattle.exec_doc.specs.Refusals.{number_of}
+use Rattle.exec_doc.specs.Refusals.{refused_number}
 use Rattle.exec_doc.specs.declared.refused.Refused.{Refused}
 use Rattle.exec_doc.specs.declared.refused.Refused.TheVariants as refused
 use Rattle.exec_plan.specs.Plan.{PlanData}
@@ -30,7 +30,7 @@ AreGoodWords given = IsOkAnd given (λ words. AreSettings (map string_bytes word
 
 -- the line of a refusal on standard error, with its line feed
 abbrev pub refused_line : Refused → List ℕ
-refused_line code = codes "refused " ++ decimal (number_of code) ++ 10 ∷ []
+refused_line code = codes "refused " ++ decimal (refused_number code) ++ 10 ∷ []
 
 -- the line of a failure
 abbrev pub failure_line : Failure → List ℕ
@@ -71,9 +71,9 @@ failure_of_run (running.Refused code) = failure.Refused code
 failure_of_run running.Write = failure.WriteFailed
 
 -- the status of a run that gave nothing where the transcript is written, and else a failure
-abbrev pub outcome_status : {Value : Type 0} → Result Value Failure → Status
-outcome_status (Ok _) = status.Written
-outcome_status (Err told) = failure_status told
+abbrev pub status_by : {Value : Type 0} → Result Value Failure → Status
+status_by (Ok _) = status.Written
+status_by (Err told) = failure_status told
 
 -- what a run did to a stream: its bytes before and after, where the stream tells them, and whether it has failed
 pub record StreamRun : Type 0 where
@@ -82,16 +82,16 @@ pub record StreamRun : Type 0 where
   pub failed : Bool
 
 -- a run took bytes of its input
-abbrev pub Took : StreamRun → List ℕ → Type 0
-Took stream bytes = Consumes stream.before stream.after bytes
+abbrev pub Consumed : StreamRun → List ℕ → Type 0
+Consumed stream bytes = Consumes stream.before stream.after bytes
 
 -- a run gave bytes to its output
-abbrev pub Gave : StreamRun → List ℕ → Type 0
-Gave stream bytes = Appends stream.before stream.after bytes
+abbrev pub Appended : StreamRun → List ℕ → Type 0
+Appended stream bytes = Appends stream.before stream.after bytes
 
 -- a run left a stream as it was
-abbrev pub Left : StreamRun → Type 0
-Left stream = Keeps stream.before stream.after
+abbrev pub Unchanged : StreamRun → Type 0
+Unchanged stream = Keeps stream.before stream.after
 
 -- the facts of a run of the program with these words: what it did to its input and to its output, whether that is flushed,
 -- and what it came to
@@ -99,27 +99,27 @@ pub record HasRun {Value : Type 0} (words : Result (Vec (String Global)) WordsFa
   -- wrong words and nothing else are told as such, and nothing is read then
   pub usage : (outcome ≡ Err failure.Usage) ↔ (¬ AreGoodWords words × words ≢ Err words_fault.Memory)
   pub no_memory_for_words : words ≡ Err words_fault.Memory → outcome ≡ Err (failure.Refused refused.Memory)
-  pub words_first : ¬ AreGoodWords words → Left input
+  pub words_first : ¬ AreGoodWords words → Unchanged input
   -- how much is read, and when that fails
-  pub taken : (bytes : List ℕ) × Took input bytes × (length bytes ≤ DOCUMENT + 1)
+  pub taken : (bytes : List ℕ) × Consumed input bytes × (length bytes ≤ DOCUMENT + 1)
   pub too_long : AreGoodWords words → IfSome input.before (λ bytes. DOCUMENT < length bytes
       → (outcome ≡ Err failure.ReadFailed) ⊎ (outcome ≡ Err (failure.Refused refused.Memory)))
-  pub read_failed : outcome ≡ Err failure.ReadFailed → (input.failed ≡ true) ⊎ ((bytes : List ℕ) × Took input bytes × (DOCUMENT < length bytes))
+  pub read_failed : outcome ≡ Err failure.ReadFailed → (input.failed ≡ true) ⊎ ((bytes : List ℕ) × Consumed input bytes × (DOCUMENT < length bytes))
   -- a refusal has the code of the document, or is one of memory
   pub refused : (code : Refused) → outcome ≡ Err (failure.Refused code) → code ≢ refused.Memory
       → AreGoodWords words × IfSome input.before (λ document. IsRefusalOf document code)
   -- what is written: the whole text of the whole document, flushed; a front of it where the output failed; else nothing
   pub whole_document : OnOk outcome (IsAtEnd input.after)
-  pub written : OnOk outcome (IfSome input.before (λ document. (plan : PlanData) × (document_of document ≡ Some plan) × Gave output (text_of plan)))
+  pub written : OnOk outcome (IfSome input.before (λ document. (plan : PlanData) × (document_of document ≡ Some plan) × Appended output (text_of plan)))
   pub flushed_then : OnOk outcome (flushed ≡ true)
   pub cut_off : outcome ≡ Err failure.WriteFailed → IfSome input.before (λ document. (plan : PlanData) × (count : ℕ)
-      × (document_of document ≡ Some plan) × Gave output (take count (text_of plan)))
+      × (document_of document ≡ Some plan) × Appended output (take count (text_of plan)))
   pub write_failed : outcome ≡ Err failure.WriteFailed → output.failed ≡ true
-  pub unwritten : OnErr outcome (outcome ≢ Err failure.WriteFailed → Left output)
+  pub unwritten : OnErr outcome (outcome ≢ Err failure.WriteFailed → Unchanged output)
 
 -- what standard error gets of a run: nothing where the transcript is written, and else the line of the failure, whole and
 -- flushed, or a front of it where standard error has failed
-pub record IsTold {Value : Type 0} (outcome : Result Value Failure) (errors : StreamRun) (flushed : Bool) : Type 0 where
-  pub silent : OnOk outcome (Left errors)
-  pub told : IfErr outcome (λ told. (Gave errors (failure_line told) × (flushed ≡ true))
-      ⊎ ((errors.failed ≡ true) × ((count : ℕ) × Gave errors (take count (failure_line told)))))
+pub record IsReported {Value : Type 0} (outcome : Result Value Failure) (errors : StreamRun) (flushed : Bool) : Type 0 where
+  pub silent : OnOk outcome (Unchanged errors)
+  pub told : IfErr outcome (λ told. (Appended errors (failure_line told) × (flushed ≡ true))
+      ⊎ ((errors.failed ≡ true) × ((count : ℕ) × Appended errors (take count (failure_line told)))))

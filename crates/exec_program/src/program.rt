@@ -1,6 +1,6 @@
 //! The program over a reader and two writers.
 ghost use Rattle.std.specs.Prelude.{◌≡◌, ◌<◌, ◌≤◌, false, Result, Err};
-ghost use Rattle.exec_program.specs.Program.{HasRun, IsTold, failure_line, failure_status, exit_number, failure_of_words, failure_of_read, failure_of_run, outcome_status, refused_line};
+ghost use Rattle.exec_program.specs.Program.{HasRun, IsReported, failure_line, failure_status, exit_number, failure_of_words, failure_of_read, failure_of_run, status_by, refused_line};
 ghost use Rattle.exec_program.specs.inner.Writing.{HasWritten};
 ghost use Rattle.exec_program.specs.declared.program.Failure.{Failure};
 ghost use Rattle.exec_program.specs.declared.program.Failure.TheVariants.{WriteFailed};
@@ -135,8 +135,8 @@ pub fn execute<H: Threads + Wait + Sync, G: Gate, R: Read, O: Write, E: Write>(
         (record { before = input.old.remaining; after = input.new.remaining; failed = input.new.failed })
         (record { before = output.old.sink.contents; after = output.new.sink.contents; failed = output.new.sink.failed })
         output.new.flushed outcome
-        × (result ≡ outcome_status outcome)
-        × IsTold outcome
+        × (result ≡ status_by outcome)
+        × IsReported outcome
         (record { before = errors.old.sink.contents; after = errors.new.sink.contents; failed = errors.new.sink.failed })
         errors.new.flushed }
 {

@@ -13,16 +13,16 @@ use Rattle.exec_msg.proofs.FirstPlaces.{find-first_place, first_place-changed, f
 use Rattle.exec_rules.specs.World.{Queue, is_queue, queue_after}
 use Rattle.exec_rules.specs.declared.item.Item.{Item}
 use Rattle.exec_msg.specs.Places.{first_place, place_under, change_at, first_noted}
-use Rattle.exec_queue.specs.inner.Queues.{slot_of, has_item, is_filled_at, FindsQueues, CoversFilled, AreFilled}
+use Rattle.exec_queue.specs.inner.Queues.{queue_number, has_item, is_filled_at, FindsQueues, CoversFilled, AreFilled}
 
 -- what a look-up gives is the first place
 pub looked_up : (places : List (Option ℕ)) (queues held : List Queue) → FindsQueues places queues → queues ≡ held
-    → (entity : ℕ) (given of : Kind) → given ≡ of → (slot : ℕ) → slot ≡ slot_of entity given
+    → (entity : ℕ) (given of : Kind) → given ≡ of → (slot : ℕ) → slot ≡ queue_number entity given
     → (found : Option ℕ) → found ≡ place_under slot places → first_place (is_queue entity of) held ≡ found
 looked_up places queues held finds views entity given of named slot counted found is =
     ap (first_place (is_queue entity of)) (sym views)
     ∙ sym (finds entity of)
-    ∙ ap (λ (n : ℕ). place_under n places) (ap (slot_of entity) (sym named) ∙ sym counted)
+    ∙ ap (λ (n : ℕ). place_under n places) (ap (queue_number entity) (sym named) ∙ sym counted)
     ∙ sym is
 
 -- a queue that an item is sent to is found as before
@@ -100,18 +100,18 @@ other_slot a b m n low high is same =
 -- each look-up finds as before, or the queue that is declared
 pub finds_behind : (old made new : List (Option ℕ)) (queues : List Queue) (queue : Queue) (entity slot : ℕ) (of : Kind) → FindsQueues old queues
     → ((other : ℕ) → place_under other made ≡ place_under other old) → slot < length made
-    → slot ≡ slot_of entity of → queue.handler.entity ≡ entity → queue.kind ≡ of → new ≡ change_at slot (first_noted (length queues)) made
+    → slot ≡ queue_number entity of → queue.handler.entity ≡ entity → queue.kind ≡ of → new ≡ change_at slot (first_noted (length queues)) made
     → FindsQueues new (queues ++ queue ∷ [])
 finds_behind old made new queues queue entity slot of finds same within counted is_entity is_kind is = λ other kind.
-    ap (λ places. place_under (slot_of other kind) places) is
-    ∙ noted_at (is_queue other kind queue) (length queues) slot (slot_of other kind) made within
+    ap (λ places. place_under (queue_number other kind) places) is
+    ∙ noted_at (is_queue other kind queue) (length queues) slot (queue_number other kind) made within
     (λ yes. at ∙ same_slot queue.handler.entity other (ready_number queue.kind) (ready_number kind) yes)
     (λ no here. other_slot queue.handler.entity other (ready_number queue.kind) (ready_number kind) (number_bound queue.kind) (number_bound kind) no (sym at ∙ here))
-    ∙ ap (λ found. place_or found (is_queue other kind queue) (length queues)) (same (slot_of other kind) ∙ finds other kind)
+    ∙ ap (λ found. place_or found (is_queue other kind queue) (length queues)) (same (queue_number other kind) ∙ finds other kind)
     ∙ sym (first_place-behind (is_queue other kind) queues queue)
   where
-    at : slot ≡ slot_of queue.handler.entity queue.kind
-    at = counted ∙ (λ i. slot_of (sym is_entity i) (sym is_kind i))
+    at : slot ≡ queue_number queue.handler.entity queue.kind
+    at = counted ∙ (λ i. queue_number (sym is_entity i) (sym is_kind i))
 
 filled_behind : (queues : List Queue) (queue : Queue) (place : ℕ) → queue.items ≡ [] → is_filled_at (queues ++ queue ∷ []) place ≡ is_filled_at queues place
 filled_behind [] queue zero is = ap (λ items. not (length items == 0)) is

@@ -17,7 +17,7 @@ ghost use Rattle.exec_rules.specs.inner.Listing.{listed_behind};
 ghost use Rattle.exec_msg.specs.Places.{change_at};
 ghost use Rattle.exec_rules.specs.inner.Places.{change_each, places_where};
 ghost use Rattle.exec_queue.specs.inner.Numbers.{numbers_of};
-ghost use Rattle.exec_queue.specs.inner.Queues.{slot_of, has_item, is_filled_at, is_in_part, noted_if};
+ghost use Rattle.exec_queue.specs.inner.Queues.{queue_number, has_item, is_filled_at, is_in_part, noted_if};
 
 mod entry;
 mod filled;
@@ -90,7 +90,7 @@ impl Queues {
         ensures ok { OnOk result (self.new ≡ self.old ++ record { handler = handler; kind = kind; depth = depth; items = []; arrivals = no_arrivals order } ∷ []) }
         ensures unchanged { OnErr result (self.new ≡ self.old) }
     {
-        let slot = slot(handler.entity, kind);
+        let slot = queue_number(handler.entity, kind);
         self.places.reserve(slot)?;
         let place = count(&self.entries);
         let queue = LazyQueue::new(self.alloc, depth);
@@ -124,7 +124,7 @@ impl Queues {
         ensures unchanged { OnErr result (self.new ≡ self.old) }
         ensures memory { OnErr result (option_map_or has_item (find (is_queue entity (taker_of item)) self.old) false ≡ false) }
     {
-        let Some(place) = self.places.get(slot(entity, item.kind())) else {
+        let Some(place) = self.places.get(queue_number(entity, item.kind())) else {
             return Ok(None);
         };
         self.settled = false;
@@ -214,7 +214,7 @@ impl Queues {
     pub fn first_number(&self, entity: EntityNo, kind: Kind) -> u64
         ensures { result ≡ option_map_or first_number (find (is_queue entity kind) self.now) 0 }
     {
-        match self.places.get(slot(entity, kind)) {
+        match self.places.get(queue_number(entity, kind)) {
             None => 0,
             Some(place) => first_number_at(&self.entries, place),
         }
@@ -238,7 +238,7 @@ fn bring_script_home(queues: &mut Queues, list: &mut ReadyList, home: &Home)
     ensures queues { queues.new ≡ queues.old }
     ensures others { (handlers : List Handler) (others : List HomeAt) → AreHomes handlers list.old others → AreHomes handlers list.new others }
 {
-    if let Some(script) = list.take_script(home.at) {
+    if let Some(script) = list.take_script(home.place_in_list) {
         queues.bring_home(home.place, script);
     }
 }
@@ -285,8 +285,8 @@ fn needs_numbers(order: Order) -> bool
 }
 
 // The number that a queue is found by.
-fn slot(entity: EntityNo, kind: Kind) -> usize
-    ensures value { result ≡ slot_of entity kind }
+fn queue_number(entity: EntityNo, kind: Kind) -> usize
+    ensures value { result ≡ queue_number entity kind }
     ensures bound { result < 2 ^ 32 }
 {
     entity.0 as usize * (Kind::IN_ORDER.len() + 1) + number(kind)

@@ -6,7 +6,7 @@ ghost use Rattle.exec_rules.specs.declared.homes.Home.{Home};
 ghost use Rattle.exec_rules.specs.inner.Homes.{AreHomes, IsScriptHome};
 ghost use Rattle.exec_rules.specs.inner.Listing.{listed_behind};
 
-use exec_msg::{Items, Memory, Moment, Timer};
+use exec_msg::{Elements, Memory, Moment, Timer};
 use exec_plan::Script;
 use exec_rules::{Cause, Handler, Home, ReadyList};
 use std::alloc::Global;
@@ -65,7 +65,7 @@ impl EntityTimer {
             let script = self.handler.take_script()?;
             let ready = self
                 .handler
-                .ready(now, Cause::Due, Items::new(alloc), Some(script));
+                .ready(now, Cause::Due, Elements::new(alloc), Some(script));
             list.push_from(ready, place, homes)?;
         }
         Ok(())
@@ -118,7 +118,7 @@ fn bring_script_home(timers: &mut Vec<EntityTimer>, list: &mut ReadyList, home: 
     ensures timers { timers.new.items ≡ timers.old.items }
     ensures others { (handlers : List Handler) (others : List Home) → AreHomes handlers list.old others → AreHomes handlers list.new others }
 {
-    if let Some(script) = list.take_script(home.at) {
+    if let Some(script) = list.take_script(home.place_in_list) {
         bring_home_at(timers, home.place, script);
     }
 }

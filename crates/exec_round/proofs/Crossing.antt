@@ -7,14 +7,14 @@ use Rattle.exec_board.proofs.Crossing.{Board-sync, Pass-send}
 use Rattle.exec_lane.proofs.outcome.Outcome.TheSendSync as outcome
 use Rattle.exec_round.proofs.sending.Sender.TheSendSync as sender
 use Rattle.exec_round.specs.contracts.collecting.Workers as Workers
-use Rattle.exec_round.specs.contracts.streaming.Stream as Stream
+use Rattle.exec_round.specs.contracts.streaming.StreamedRound as StreamedRound
 use Rattle.exec_round.specs.contracts.streaming.Worker as Worker
 
 pub Worker-send : IsSend Worker.the_row
 Worker-send = recorded_send Worker.the_field.row _ _ Worker.the_type.to_one (struct_send (shape Worker.the_type) (Pass-send, (sender.the_send, tt)))
 
-pub Stream-sync : IsSync Stream.the_row
-Stream-sync = recorded_sync Stream.the_field.row _ _ Stream.the_type.to_one (struct_sync (shape Stream.the_type) (Board-sync, (search (sendable, crosses, slotted.the_field_sync, outcome.the_send) depth 24, (search sendable, tt))))
+pub StreamedRound-sync : IsSync StreamedRound.the_row
+StreamedRound-sync = recorded_sync StreamedRound.the_field.row _ _ StreamedRound.the_type.to_one (struct_sync (shape StreamedRound.the_type) (Board-sync, (search (sendable, crosses, slotted.the_field_sync, outcome.the_send) depth 24, (search sendable, tt))))
 
 pub Workers-sync : IsSync Workers.the_row
 Workers-sync = search (sendable, crosses) depth 20

@@ -14,7 +14,7 @@ use Rattle.exec_lane.specs.Lane.{Lane}
 use Rattle.exec_lane.specs.Opening.{IsLaneOf, opened_lane}
 use Rattle.exec_lane.specs.declared.outcome.Outcome.{Outcome}
 use Rattle.exec_board.specs.Board.{ClaimView, IsClaimOf}
-use Rattle.exec_board.specs.Seats.{SeatView, Segment, holding, let_go, together}
+use Rattle.exec_board.specs.Seats.{SeatView, Segment, holding, released_lane, together}
 use Rattle.exec_round.proofs.Balances.{behind}
 use Rattle.exec_round.specs.Outcomes.{Hand, joined_hands}
 use Rattle.exec_round.specs.declared.streaming.Worker.{Worker}
@@ -102,13 +102,13 @@ segment_more view lane first end box same from =
 
 -- a lane was claimed, run and released, and what its callbacks did was sent on
 pub visited : (before after : Worker) (claim : ClaimView) (lane : ℕ) (box work : Lane) (held : SeatView) → HasSentAll before → IsClaimOf before.pass.view lane claim → held ≡ holding lane claim.start before.pass.view → box ≡ claim.work →
-    GoesOn box work → HasSent (outcomes_between box box.done work.done) before.sender after.sender → after.pass.view ≡ let_go claim.lane work.done held →
-    (let_go lane work.done (holding lane claim.start before.pass.view) ≡ record before.pass.view { seen = slice_set before.pass.view.seen lane work.done; segments = before.pass.view.segments ++ record { lane = lane; first = claim.start; end = work.done } ∷ [] }) →
+    GoesOn box work → HasSent (outcomes_between box box.done work.done) before.sender after.sender → after.pass.view ≡ released_lane claim.lane work.done held →
+    (released_lane lane work.done (holding lane claim.start before.pass.view) ≡ record before.pass.view { seen = slice_set before.pass.view.seen lane work.done; segments = before.pass.view.segments ++ record { lane = lane; first = claim.start; end = work.done } ∷ [] }) →
     HasSentAll after
 visited before after claim lane box work held was claimed holds box_is goes sent released leaves =
     let view : SeatView = before.pass.view in
     let is : after.pass.view ≡ record view { seen = slice_set view.seen lane work.done; segments = view.segments ++ record { lane = lane; first = claim.start; end = work.done } ∷ [] } =
-    released ∙ (λ i. let_go (claimed.lane i) work.done (holds i)) ∙ leaves in
+    released ∙ (λ i. released_lane (claimed.lane i) work.done (holds i)) ∙ leaves in
     let same : IsLaneOf (opened_lane view.opening lane) box = subst (λ (one : Lane). IsLaneOf (opened_lane view.opening lane) one) (sym box_is) claimed.work.same in
     let from : claim.start ≡ box.done = claimed.start ∙ ap (λ (one : Lane). one.done) (sym box_is) in
     let ran : outcomes_by after.pass.view ≡ outcomes_by view ++ outcomes_between box box.done work.done = ap outcomes_by is ∙ segment_more view lane claim.start work.done box same from in record {

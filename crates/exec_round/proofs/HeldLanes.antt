@@ -5,7 +5,7 @@ use Rattle.exec_lane.specs.Lane.{Lane}
 use Rattle.exec_lane.specs.Opening.{IsLaneOf, opened_lane}
 use Rattle.exec_board.specs.Board.{ClaimView, IsClaimOf, MayRelease, PassView}
 use Rattle.exec_board.proofs.Holding.{start_else, start_here, without_else, without_here}
-use Rattle.exec_board.specs.Seats.{Hold, SeatView, holding, let_go, refused, start_of, without}
+use Rattle.exec_board.specs.Seats.{Hold, SeatView, holding, refused, released_lane, start_of, without}
 
 abbrev pub hold_of : ClaimView → Hold
 hold_of claim = record { lane = claim.lane; start = claim.start }
@@ -124,8 +124,8 @@ module _ (before : PassView) (view : SeatView) (bound : ℕ) (claims others : Li
     }
 
     -- and then the others are held
-    pub let_go_of : (after : SeatView) → after ≡ let_go claim.lane work.done view → HoldsClaims before bound others after
-    let_go_of after is = subst (HoldsClaims before bound others) (sym is) (record {
+    pub released_lane_of : (after : SeatView) → after ≡ released_lane claim.lane work.done view → HoldsClaims before bound others after
+    released_lane_of after is = subst (HoldsClaims before bound others) (sym is) (record {
       opening = has.opening;
       passes = has.passes;
       start = has.start;
@@ -136,8 +136,8 @@ module _ (before : PassView) (view : SeatView) (bound : ℕ) (claims others : Li
 
 -- a claim that was won was given back at once
 pub given_back : (before : PassView) (view : SeatView) (bound : ℕ) (claims : List ClaimView) (has : HoldsClaims before bound claims view) (claim : ClaimView) → claim.board ≡ before.board
-    → IsClaimOf view bound claim → (won_ : SeatView) → won_ ≡ holding bound claim.start view → (back : ClaimView) → back ≡ claim → (after : SeatView) → after ≡ let_go back.lane back.work.done won_
+    → IsClaimOf view bound claim → (won_ : SeatView) → won_ ≡ holding bound claim.start view → (back : ClaimView) → back ≡ claim → (after : SeatView) → after ≡ released_lane back.lane back.work.done won_
     → HoldsClaims before (bound + 1) claims after
 given_back before view bound claims has claim same of won_ holds back is after releases =
-    let_go_of before (holding bound claim.start view) (bound + 1) (claim ∷ claims) claims claim (won before view bound claims has claim same of) (inl refl) claim.work
-    (record { variables = refl; entries = refl }) (omega arith) after (releases ∙ (λ i. let_go (is i).lane (is i).work.done (holds i)))
+    released_lane_of before (holding bound claim.start view) (bound + 1) (claim ∷ claims) claims claim (won before view bound claims has claim same of) (inl refl) claim.work
+    (record { variables = refl; entries = refl }) (omega arith) after (releases ∙ (λ i. released_lane (is i).lane (is i).work.done (holds i)))

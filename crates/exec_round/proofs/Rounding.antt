@@ -9,7 +9,7 @@ use Rattle.exec_lane.specs.Lane.{Lane, lanes_home, tasks_out}
 use Rattle.exec_lane.specs.declared.gathering.Ran.{Ran}
 use Rattle.exec_round.proofs.InOrder.{RiseFrom, sorted_is}
 use Rattle.exec_round.specs.inner.Commits.{after_commits, committed}
-use Rattle.exec_rules.specs.Calls.{WorldData, after_round, after_snapshot, moment_of, ready_in, state_at, with_left}
+use Rattle.exec_rules.specs.Calls.{WorldData, after_round, after_snapshot, moment_of, ready_in, state_at, with_uncommitted}
 use Rattle.exec_rules.specs.Ready.{placed_from, take_inputs}
 use Rattle.exec_rules.specs.Run.{all_apart, all_home, apart, brought_home, commit, commit_all, effects_of}
 use Rattle.exec_rules.specs.Transcript.{run_all}
@@ -19,21 +19,21 @@ use Rattle.exec_rules.specs.declared.ready.Ready.{Ready}
 -- ---- all of a round
 
 -- some callbacks are left
-some_left : (count : ℕ) (world : WorldData) → with_left (suc count) world ≡ record world { left = suc count }
+some_left : (count : ℕ) (world : WorldData) → with_uncommitted (suc count) world ≡ record world { uncommitted = suc count }
 some_left count world =
-    ap (λ (none : Bool). record world { left = suc count; rounds = if none then suc world.rounds else world.rounds }) (ne_eqb (suc count) 0 (λ e. omega (arith, e)))
+    ap (λ (none : Bool). record world { uncommitted = suc count; rounds = if none then suc world.rounds else world.rounds }) (ne_eqb (suc count) 0 (λ e. omega (arith, e)))
 
 -- the last of a round's callbacks ends it
-all_committed : (one : Ran) (others : List Ran) (world : WorldData) → world.left ≡ suc (length others) →
-    after_commits (one ∷ others) world ≡ record world { state = committed (one ∷ others) world.state; rounds = suc world.rounds; left = 0 }
+all_committed : (one : Ran) (others : List Ran) (world : WorldData) → world.uncommitted ≡ suc (length others) →
+    after_commits (one ∷ others) world ≡ record world { state = committed (one ∷ others) world.state; rounds = suc world.rounds; uncommitted = 0 }
 all_committed one [] world left =
-    let none : world.left - 1 ≡ 0 = omega (arith, left) in
-    ap (λ count. with_left count (record world { state = committed (one ∷ []) world.state })) none
+    let none : world.uncommitted - 1 ≡ 0 = omega (arith, left) in
+    ap (λ count. with_uncommitted count (record world { state = committed (one ∷ []) world.state })) none
 all_committed one (next ∷ others) world left =
-    let fewer : world.left - 1 ≡ suc (length others) = omega (arith, left) in
+    let fewer : world.uncommitted - 1 ≡ suc (length others) = omega (arith, left) in
     let given : WorldData = record world { state = committed (one ∷ []) world.state } in
-    let after : WorldData = record given { left = suc (length others) } in
-    ap (λ count. after_commits (next ∷ others) (with_left count given)) fewer
+    let after : WorldData = record given { uncommitted = suc (length others) } in
+    ap (λ count. after_commits (next ∷ others) (with_uncommitted count given)) fewer
     ∙ ap (after_commits (next ∷ others)) (some_left (length others) given)
     ∙ all_committed next others after refl
 
@@ -69,11 +69,11 @@ gathered_is number world list state ran all is gathered did =
 
 -- the world of a snapshot in which something is ready
 snapshot_is : (number : ℕ) (world taken : WorldData) (list : List Ready) → list ≡ ready_in number world → 0 < length list → taken ≡ after_snapshot number world →
-    taken ≡ record world { state = take_inputs (moment_of number world.plan) (state_at number world); left = length list }
+    taken ≡ record world { state = take_inputs (moment_of number world.plan) (state_at number world); uncommitted = length list }
 snapshot_is number world taken [] is some begun = absurd (omega (arith, some))
 snapshot_is number world taken (one ∷ list) is some begun =
     let begun_world : WorldData = record world { state = take_inputs (moment_of number world.plan) (state_at number world) } in
-    begun ∙ ap (λ (ready : List Ready). with_left (length ready) begun_world) (sym is) ∙ some_left (length list) begun_world
+    begun ∙ ap (λ (ready : List Ready). with_uncommitted (length ready) begun_world) (sym is) ∙ some_left (length list) begun_world
 
 -- a round whose callbacks are committed behind the last of them, at home
 round_ends : (number : ℕ) (world taken home : WorldData) (list : List Ready) → list ≡ ready_in number world → 0 < length list → taken ≡ after_snapshot number world →
@@ -84,17 +84,17 @@ round_ends number world taken home [] is some begun at_home law = absurd (omega 
 round_ends number world taken home (one ∷ list) is some begun at_home law =
     let taken_state : WorldState = take_inputs (moment_of number world.plan) (state_at number world) in
     let begun_world : WorldData = record world { state = taken_state } in
-    let here : taken ≡ record begun_world { left = suc (length list) } = snapshot_is number world taken (one ∷ list) is some begun in
+    let here : taken ≡ record begun_world { uncommitted = suc (length list) } = snapshot_is number world taken (one ∷ list) is some begun in
     let all : List Ran = all_ran (one ∷ list) (all_apart (one ∷ list) taken.state) in
     let first : Ran = record { ready = one; effects = effects_of (apart one taken.state) } in
     let others : List Ran = all_ran list (all_apart list (brought_home one (apart one taken.state) taken.state)) in
-    let left : home.left ≡ suc (length others) =
-    ap (λ (w : WorldData). w.left) at_home ∙ ap (λ (w : WorldData). w.left) here ∙ ap suc (sym (as_many list (brought_home one (apart one taken.state) taken.state))) in
+    let left : home.uncommitted ≡ suc (length others) =
+    ap (λ (w : WorldData). w.uncommitted) at_home ∙ ap (λ (w : WorldData). w.uncommitted) here ∙ ap suc (sym (as_many list (brought_home one (apart one taken.state) taken.state))) in
     all_committed first others home left
-    ∙ ap (λ (w : WorldData). record w { state = committed all w.state; rounds = suc w.rounds; left = 0 }) at_home
-    ∙ ap (λ (s : WorldState). record taken { state = s; rounds = suc taken.rounds; left = 0 }) (given_all (one ∷ list) taken.state (all_home (one ∷ list) taken.state) ∙ sym law)
-    ∙ ap (λ (w : WorldData). record w { state = run_all (one ∷ list) w.state; rounds = suc w.rounds; left = 0 }) here
-    ∙ ap (λ (ready : List Ready). record begun_world { state = run_all ready taken_state; rounds = suc world.rounds; left = 0 }) is
+    ∙ ap (λ (w : WorldData). record w { state = committed all w.state; rounds = suc w.rounds; uncommitted = 0 }) at_home
+    ∙ ap (λ (s : WorldState). record taken { state = s; rounds = suc taken.rounds; uncommitted = 0 }) (given_all (one ∷ list) taken.state (all_home (one ∷ list) taken.state) ∙ sym law)
+    ∙ ap (λ (w : WorldData). record w { state = run_all (one ∷ list) w.state; rounds = suc w.rounds; uncommitted = 0 }) here
+    ∙ ap (λ (ready : List Ready). record begun_world { state = run_all ready taken_state; rounds = suc world.rounds; uncommitted = 0 }) is
 
 -- lanes that ran, gathered and committed, are the round
 pub round_is : (number : ℕ) (world taken out home after : WorldData) (list : List Ready) (lanes : List Lane) (all : List Ran) → list ≡ ready_in number world → 0 < length list →
@@ -113,12 +113,12 @@ round_is number world taken out home after list lanes all is some begun left cam
 -- and as many callbacks ran as are to be committed
 pub all_left : (number : ℕ) (world taken out home : WorldData) (list : List Ready) (lanes : List Lane) (all : List Ran) (count : ℕ) → list ≡ ready_in number world →
     taken ≡ after_snapshot number world → out ≡ record taken { state = tasks_out list taken.state } → home ≡ record out { state = lanes_home lanes out.state } →
-    AreGathered (flat_map ran_in lanes) all → IsPermutation (flat_map ran_in lanes) (all_ran list (all_apart list taken.state)) → count ≡ length all → count ≤ home.left
+    AreGathered (flat_map ran_in lanes) all → IsPermutation (flat_map ran_in lanes) (all_ran list (all_apart list taken.state)) → count ≡ length all → count ≤ home.uncommitted
 all_left number world taken out home list lanes all count is begun left came gathered ran_law many =
     let same : count ≡ length list =
     many ∙ ap length (gathered_is number world list taken.state (flat_map ran_in lanes) all is gathered ran_law) ∙ as_many list taken.state in
-    let here : home.left ≡ length list =
-    ap (λ (w : WorldData). w.left) came ∙ ap (λ (w : WorldData). w.left) left ∙ ap (λ (w : WorldData). w.left) begun ∙ ap length (sym is) in
+    let here : home.uncommitted ≡ length list =
+    ap (λ (w : WorldData). w.uncommitted) came ∙ ap (λ (w : WorldData). w.uncommitted) left ∙ ap (λ (w : WorldData). w.uncommitted) begun ∙ ap length (sym is) in
     omega (arith, same, here)
 
 pub some_ready : {A : Type 0} (list : List A) (none : Bool) → none ≡ (length list == 0) → none ≡ false → 0 < length list

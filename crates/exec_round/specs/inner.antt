@@ -2,5 +2,5 @@ pub mod Commits
 pub mod Running
 pub mod Sending
 pub mod Shares
-pub mod Sharing
+pub mod Division
 pub mod Streams

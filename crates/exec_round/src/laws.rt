@@ -4,7 +4,7 @@ ghost use Rattle.crossbeam_queue.specs.Passes.{IsPassOf, ruled_capacity, view};
 ghost use Rattle.exec_round.specs.Outcomes.{Hand, WasHeld, WasHolding, all_parts, first_hand, having_put, having_taken, joined_hands, kept_hand, new_hand};
 ghost use Rattle.exec_lane.specs.declared.outcome.Outcome.{Outcome};
 
-use crate::outcomes::{Halves, Putting, Taking, Together};
+use crate::outcomes::{Putting, QueueJoin, QueueSplit, Taking};
 pub use crate::outcomes::{OutcomePass, OutcomeQueue};
 use exec_lane::Outcome;
 use exec_msg::Memory;
@@ -65,7 +65,7 @@ pub fn split_pass(queue: &OutcomeQueue, pass: &mut OutcomePass) -> OutcomePass
     ensures kept { view pass.new ≡ kept_hand (view pass.old) }
     ensures other { view result ≡ new_hand (view pass.old) }
 {
-    queue.another::<Halves>(pass)
+    queue.another::<QueueSplit>(pass)
 }
 
 /// Joins a pass to another. What it put and took is listed after what the other did.
@@ -75,7 +75,7 @@ pub fn join_pass(queue: &OutcomeQueue, pass: &mut OutcomePass, other: OutcomePas
     ensures queue { IsPassOf queue.now pass.new }
     ensures joined { view pass.new ≡ joined_hands (view pass.old) (view other) }
 {
-    queue.absorb::<Together>(pass, other);
+    queue.absorb::<QueueJoin>(pass, other);
 }
 
 /// The pass that has all parts is the last one. So what it put is what it took and what the queue held.

@@ -5,9 +5,9 @@ use exec_lane::Outcome;
 use std::marker::Model;
 
 /// What the caller with a pass knows. No value of it is made.
-pub struct View;
+pub struct QueueView;
 
-impl Model for View {
+impl Model for QueueView {
     ghost use Rattle.exec_round.specs.Outcomes.{Hand, spent_hand};
 
     ghost Value = { Hand };
@@ -18,7 +18,7 @@ impl Model for View {
 /// The rule: what all passes put is what all took and what the queue holds, each outcome as often.
 pub struct Balance;
 
-impl Protocol<Outcome, View> for Balance {
+impl Protocol<Outcome, QueueView> for Balance {
     ghost use Rattle.exec_round.specs.Outcomes.{Balanced, first_hand};
 
     ghost holds = { Balanced };
@@ -29,14 +29,14 @@ impl Protocol<Outcome, View> for Balance {
 /// An outcome is put.
 pub struct Putting;
 
-impl protocol::Outcome<Outcome, View> for Putting {
+impl protocol::Outcome<Outcome, QueueView> for Putting {
     ghost use Rattle.std.specs.Prelude.{◌≡◌};
     ghost use Rattle.exec_round.specs.Outcomes.{having_put};
 
     ghost then = { λ hand outcome after. after ≡ having_put outcome hand };
 }
 
-impl Lesson<Outcome, View> for Putting {
+impl Lesson<Outcome, QueueView> for Putting {
     ghost use Rattle.exec_round.specs.Outcomes.{WasHeld};
 
     ghost fact = { WasHeld };
@@ -45,23 +45,23 @@ impl Lesson<Outcome, View> for Putting {
 /// An outcome is taken.
 pub struct Taking;
 
-impl protocol::Outcome<Outcome, View> for Taking {
+impl protocol::Outcome<Outcome, QueueView> for Taking {
     ghost use Rattle.std.specs.Prelude.{◌≡◌};
     ghost use Rattle.exec_round.specs.Outcomes.{having_taken};
 
     ghost then = { λ hand outcome after. after ≡ having_taken outcome hand };
 }
 
-impl Lesson<Outcome, View> for Taking {
+impl Lesson<Outcome, QueueView> for Taking {
     ghost use Rattle.exec_round.specs.Outcomes.{WasHeld};
 
     ghost fact = { WasHeld };
 }
 
 /// A pass is split.
-pub struct Halves;
+pub struct QueueSplit;
 
-impl Split<View> for Halves {
+impl Split<QueueView> for QueueSplit {
     ghost use Rattle.exec_round.specs.Outcomes.{kept_hand, new_hand};
 
     ghost left = { kept_hand };
@@ -70,9 +70,9 @@ impl Split<View> for Halves {
 }
 
 /// Two passes are joined.
-pub struct Together;
+pub struct QueueJoin;
 
-impl Join<View> for Together {
+impl Join<QueueView> for QueueJoin {
     ghost use Rattle.exec_round.specs.Outcomes.{joined_hands, spent_hand};
 
     ghost both = { joined_hands };
@@ -81,7 +81,7 @@ impl Join<View> for Together {
 }
 
 /// Outcomes that wait to be collected: a bounded queue that threads share.
-pub type OutcomeQueue = RuledArrayQueue<Outcome, View, Balance>;
+pub type OutcomeQueue = RuledArrayQueue<Outcome, QueueView, Balance>;
 
 /// What one caller knows of such a queue. It has no bytes.
-pub type OutcomePass = Pass<Outcome, View>;
+pub type OutcomePass = Pass<Outcome, QueueView>;

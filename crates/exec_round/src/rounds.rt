@@ -2,7 +2,7 @@
 ghost use Rattle.std.specs.Prelude.{◌≡◌, ◌<◌, ◌≤◌, false, vec_len, IfOk, OnOk};
 ghost use Rattle.exec_lane.specs.Lane.{AreFinished};
 ghost use Rattle.exec_round.specs.inner.Commits.{after_commits, with_effects, with_effects_of};
-ghost use Rattle.exec_round.specs.inner.Sharing.{TakesSome};
+ghost use Rattle.exec_round.specs.inner.Division.{TakesSome};
 ghost use Rattle.exec_rules.specs.Calls.{IsNext, after_commit, after_round};
 
 use crate::claiming::claim_lanes;
@@ -16,9 +16,9 @@ use std::alloc::Global;
 use std::sync::Wait;
 use std::thread::Threads;
 
-// How the lanes of a round are shared among workers.
+// How the lanes of a round are divided among workers.
 #[derive(Clone, Copy)]
-pub(crate) enum Sharing {
+pub(crate) enum Division {
     // Before any lane runs.
     Dealt,
     // By claims, each of at most this many callbacks.
@@ -47,14 +47,14 @@ pub fn round_forked<L: Lines, R: Threads + Sync, G: Gate>(
     ensures { IfOk result (λ after. after ≡ after_round round world) }
 {
     let mut world = world;
-    if run_round(rt, alloc, &mut world, round, workers, Sharing::Dealt, gate).is_err() {
+    if run_round(rt, alloc, &mut world, round, workers, Division::Dealt, gate).is_err() {
         return Err(world.give_up());
     }
     Ok(world)
 }
 
 /// Runs a whole round by at most `workers` workers, 1 or more. Its callbacks are cut into lanes on a board. Each worker claims
-/// a lane that is open, runs at most `quantum` callbacks of it, 1 or more, and releases it, until a turn over all lanes brings
+/// a lane that is open, runs at most `quantum` callbacks of it, 1 or more, and releases it, until a visit to each lane brings
 /// no claim. It runs in a thread of its own if one can be made. What the callbacks did is committed when the last of them has
 /// run. No thread is made for one worker alone. If nobody watches, none is made for a round whose callbacks take less time than
 /// workers to start. If memory is refused, the world is dropped.
@@ -77,8 +77,8 @@ pub fn round_claimed<L: Lines, R: Threads + Sync, G: Gate>(
     ensures { IfOk result (λ after. after ≡ after_round round world) }
 {
     let mut world = world;
-    let sharing = Sharing::Claimed(quantum);
-    if run_round(rt, alloc, &mut world, round, workers, sharing, gate).is_err() {
+    let division = Division::Claimed(quantum);
+    if run_round(rt, alloc, &mut world, round, workers, division, gate).is_err() {
         return Err(world.give_up());
     }
     Ok(world)
@@ -119,12 +119,12 @@ pub(crate) fn run_round<L: Lines, R: Threads + Sync, G: Gate>(
     world: &mut World<L>,
     round: usize,
     workers: usize,
-    sharing: Sharing,
+    division: Division,
     gate: &G,
 ) -> Result<(), Memory>
     requires next { IsNext round world.old }
     requires workers { 0 < workers }
-    requires quantum { TakesSome sharing }
+    requires quantum { TakesSome division }
     ensures { OnOk result (world.new ≡ after_round round world.old) }
 {
     laws::lanes_come_home_as_one_thread_leaves_them();
@@ -137,7 +137,7 @@ pub(crate) fn run_round<L: Lines, R: Threads + Sync, G: Gate>(
         return Ok(world.run_ready(list.as_slice())?);
     };
     let lanes = split(alloc, list, world)?;
-    let ran = run_shared(rt, alloc, lanes, count, sharing, gate)?;
+    let ran = run_shared(rt, alloc, lanes, count, division, gate)?;
     let all = gather(alloc, ran, world)?;
     commit_each(all, world)?;
     Ok(())
@@ -180,22 +180,22 @@ fn run_shared<R: Threads + Sync, G: Gate>(
     alloc: Global,
     lanes: Vec<LaneBox>,
     workers: usize,
-    sharing: Sharing,
+    division: Division,
     gate: &G,
 ) -> Result<Vec<LaneBox>, Memory>
     requires workers { 0 < workers }
-    requires quantum { TakesSome sharing }
+    requires quantum { TakesSome division }
     ensures { IfOk result (λ ran. AreFinished lanes.items ran.items) }
 {
-    match sharing {
-        Sharing::Dealt => run_lanes(rt, alloc, lanes, workers, gate),
-        Sharing::Claimed(quantum) => claim_lanes(rt, alloc, lanes, workers, quantum, gate),
+    match division {
+        Division::Dealt => run_lanes(rt, alloc, lanes, workers, gate),
+        Division::Claimed(quantum) => claim_lanes(rt, alloc, lanes, workers, quantum, gate),
     }
 }
 
 // Commits callbacks that ran, one after another.
 fn commit_each<L: Lines>(all: Gathered, world: &mut World<L>) -> Result<(), Memory>
-    requires { vec_len all ≤ world.old.left }
+    requires { vec_len all ≤ world.old.uncommitted }
     ensures { OnOk result (world.new ≡ after_commits all.items world.old) }
 {
     let mut left = all;
@@ -212,7 +212,7 @@ fn commit_sent<L: Lines>(
     sent: Vec<Outcome>,
     world: &mut World<L>,
 ) -> Result<(), Memory>
-    requires left { vec_len all ≤ world.old.left }
+    requires left { vec_len all ≤ world.old.uncommitted }
     requires one_each { vec_len sent ≡ vec_len all }
     ensures { OnOk result (world.new ≡ after_commits (with_effects_of all.items sent.items) world.old) }
 {
@@ -240,7 +240,7 @@ fn with_effects(one: Ran, outcome: Outcome) -> Ran
 }
 
 fn commit<L: Lines>(one: Ran, world: &mut World<L>) -> Result<(), Memory>
-    requires { 0 < world.old.left }
+    requires { 0 < world.old.uncommitted }
     ensures { OnOk result (world.new ≡ after_commit one.ready one.effects world.old) }
 {
     let Ran { ready, effects } = one;

@@ -9,7 +9,7 @@ ghost use Rattle.exec_round.specs.declared.running.RunFault.TheVariants as fault
 ghost use Rattle.exec_rules.specs.Calls.{new_world};
 ghost use Rattle.exec_rules.specs.Transcript.{lines_of, text_of};
 
-use crate::rounds::{Sharing, run_round, stream_round};
+use crate::rounds::{Division, run_round, stream_round};
 use exec_doc::{Refused, read_document};
 use exec_io::{Out, OutFailed, put_pieces};
 use exec_lane::Gate;
@@ -229,9 +229,9 @@ fn run_each<L: Lines, R: Threads + Sync, G: Gate>(
     ensures lines { OnOk result (world.new.state.lines ≡ lines_of world.old.plan) }
 {
     exec_rules::laws::rounds_follow_one_another();
-    let sharing = Sharing::Claimed(quantum);
+    let division = Division::Claimed(quantum);
     for done in 0..rounds {
-        run_round(rt, alloc, world, done + 1, workers, sharing, gate)?;
+        run_round(rt, alloc, world, done + 1, workers, division, gate)?;
     }
     world.finish()?;
     Ok(())

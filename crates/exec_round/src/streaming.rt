@@ -26,7 +26,7 @@ const CAPACITY: usize = 64;
 // What the workers of a streamed round share: the board, the queue for what the callbacks did, and how many callbacks they run
 // at a claim, at most.
 #[derive(Drop)]
-struct Stream {
+struct StreamedRound {
     board: Board,
     queue: OutcomeQueue,
     quantum: usize,
@@ -66,7 +66,7 @@ fn run_next<R: Wait, G: Gate>(
 // Runs the next callbacks of a lane, at most as many as the quantum, and sends on what they did.
 fn run_some<R: Wait, G: Gate>(
     rt: &R,
-    stream: &Stream,
+    stream: &StreamedRound,
     sender: &mut Sender,
     lane: &mut LaneBox,
     gate: &G,
@@ -92,7 +92,7 @@ impl Worker {
     fn visit<R: Wait, G: Gate>(
         &mut self,
         rt: &R,
-        stream: &Stream,
+        stream: &StreamedRound,
         lane: usize,
         gate: &G,
     ) -> Result<bool, Memory>
@@ -117,7 +117,12 @@ impl Worker {
     }
 
     // Visits each lane once, and answers whether one was claimed.
-    fn turn<R: Wait, G: Gate>(&mut self, rt: &R, stream: &Stream, gate: &G) -> Result<bool, Memory>
+    fn visit_all<R: Wait, G: Gate>(
+        &mut self,
+        rt: &R,
+        stream: &StreamedRound,
+        gate: &G,
+    ) -> Result<bool, Memory>
         requires at { IsWorkerAt stream.now.board (queue_id stream.now.queue) self.old }
         requires sent { HasSentAll self.old }
         ensures at { IsWorkerAt stream.now.board (queue_id stream.now.queue) self.new }
@@ -132,8 +137,13 @@ impl Worker {
         Ok(claimed)
     }
 
-    // Goes over the lanes again and again, until a turn over all brings no claim.
-    fn work<R: Wait, G: Gate>(&mut self, rt: &R, stream: &Stream, gate: &G) -> Result<(), Memory>
+    // Goes over the lanes again and again, until a visit to each of them brings no claim.
+    fn work<R: Wait, G: Gate>(
+        &mut self,
+        rt: &R,
+        stream: &StreamedRound,
+        gate: &G,
+    ) -> Result<(), Memory>
         requires at { IsWorkerAt stream.now.board (queue_id stream.now.queue) self.old }
         requires sent { HasSentAll self.old }
         ensures at { IsWorkerAt stream.now.board (queue_id stream.now.queue) self.new }
@@ -142,7 +152,7 @@ impl Worker {
         ensures seen { OnOk result (IsLast self.old.pass.view → AllSeen self.new.pass.view) }
     {
         for _ in rt.forever() {
-            if !self.turn(rt, stream, gate)? {
+            if !self.visit_all(rt, stream, gate)? {
                 return Ok(());
             }
         }
@@ -151,7 +161,7 @@ impl Worker {
 
     // Splits a worker that has not begun. The first one has the front half of its share of the passes, rounded down, and about
     // half of its parts of the queue. The second one has the rest.
-    fn split(self, alloc: Global, stream: &Stream) -> (Worker, Worker)
+    fn split(self, alloc: Global, stream: &StreamedRound) -> (Worker, Worker)
         requires begins { MayBegin stream.now.board (queue_id stream.now.queue) self }
         requires share { self.pass.view.start + 2 ≤ self.pass.view.stop }
         ensures front { MayBegin stream.now.board (queue_id stream.now.queue) result.0 × (result.0.pass.view ≡ front_half self.pass.view) }
@@ -175,7 +185,7 @@ impl Worker {
 
     // Joins another worker to it. The other's share begins at the end of its own share. If memory is refused, what that one
     // kept is lost.
-    fn join(self, stream: &Stream, other: Worker) -> (Worker, Result<(), Memory>)
+    fn join(self, stream: &StreamedRound, other: Worker) -> (Worker, Result<(), Memory>)
         requires at { IsWorkerAt stream.now.board (queue_id stream.now.queue) self × IsWorkerAt stream.now.board (queue_id stream.now.queue) other }
         requires neighbours { other.pass.view.start ≡ self.pass.view.stop }
         ensures at { IsWorkerAt stream.now.board (queue_id stream.now.queue) result.0 }
@@ -195,7 +205,7 @@ impl Worker {
 fn work_by<R: Threads + Wait + Sync, G: Gate>(
     rt: &R,
     alloc: Global,
-    stream: &Stream,
+    stream: &StreamedRound,
     worker: Worker,
     gate: &G,
 ) -> (Worker, Result<(), Memory>)
@@ -227,7 +237,7 @@ fn work_by<R: Threads + Wait + Sync, G: Gate>(
 // Works with one worker.
 fn work_alone<R: Wait, G: Gate>(
     rt: &R,
-    stream: &Stream,
+    stream: &StreamedRound,
     mut worker: Worker,
     gate: &G,
 ) -> (Worker, Result<(), Memory>)
@@ -245,7 +255,7 @@ fn work_alone<R: Wait, G: Gate>(
 fn work_beside<R: Threads + Wait + Sync, G: Gate>(
     rt: &R,
     alloc: Global,
-    stream: &Stream,
+    stream: &StreamedRound,
     worker: Worker,
     collector: Collector,
     gate: &G,
@@ -282,7 +292,7 @@ fn work_beside<R: Threads + Wait + Sync, G: Gate>(
 // Collects outcomes until the workers have ended.
 fn collect<R: Wait, G: Gate>(
     rt: &R,
-    stream: &Stream,
+    stream: &StreamedRound,
     mut collector: Collector,
     workers: &Workers,
     gate: &G,
@@ -299,7 +309,7 @@ fn collect<R: Wait, G: Gate>(
 fn run_all<R: Threads + Wait + Sync, G: Gate>(
     rt: &R,
     alloc: Global,
-    stream: &Stream,
+    stream: &StreamedRound,
     worker: Worker,
     collector: Collector,
     gate: &G,
@@ -327,7 +337,7 @@ fn run_all<R: Threads + Wait + Sync, G: Gate>(
 fn end<R: Wait, G: Gate>(
     rt: &R,
     alloc: Global,
-    stream: Stream,
+    stream: StreamedRound,
     worker: Worker,
     collector: Collector,
     gate: &G,
@@ -344,7 +354,7 @@ fn end<R: Wait, G: Gate>(
     ensures collected { IfOk result (λ ran. AreCollected (flat_map outcomes_in ran.0.items) ran.1.items) }
 {
     exec_lane::laws::outcomes_stay_as_a_lane_goes_on();
-    let Stream {
+    let StreamedRound {
         board,
         queue,
         quantum: _,
@@ -384,7 +394,7 @@ pub(crate) fn stream_lanes<R: Threads + Wait + Sync, G: Gate>(
     let (board, pass) = Board::open(alloc, lanes, passes)?;
     let (queue, mut hand) = outcome_queue(alloc, CAPACITY)?;
     let sender = Sender::new(alloc, split_pass(&queue, &mut hand));
-    let stream = Stream {
+    let stream = StreamedRound {
         board,
         queue,
         quantum,

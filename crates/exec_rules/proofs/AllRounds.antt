@@ -27,7 +27,7 @@ next_round plan count within =
     (λ i. round plan (from i) (slice_index_or plan.moments (at i) 0) before)
     ∙ sym (one_more plan 1 plan.moments count first within)
     ∙ ap (λ (n : ℕ). rounds plan 1 (take n plan.moments) first) (sym here) in
-    (λ i. record { plan = plan; state = state i; rounds = sym here i; left = 0; failed = false })
+    (λ i. record { plan = plan; state = state i; rounds = sym here i; uncommitted = 0; failed = false })
 
 -- after all rounds its lines, closed, are the plan's
 pub closed_lines : (plan : PlanData) → (after_finish (world_after (length plan.moments) plan)).state.lines ≡ lines_of plan

@@ -15,14 +15,14 @@ use Rattle.exec_script.specs.declared.effects.Effect.{Effect}
 use Rattle.exec_script.specs.declared.effects.Effect.TheVariants as effect
 use Rattle.exec_task.specs.Task.{TaskState}
 use Rattle.exec_rules.proofs.Later.{callback_later}
-use Rattle.exec_rules.specs.Callback.{Outcome}
+use Rattle.exec_rules.specs.Callback.{AfterCallback}
 use Rattle.exec_rules.specs.Close.{close_callback, goal_arrived}
-use Rattle.exec_rules.specs.Give.{publish, call_by, send_goal_by, send_cancel, cancel_all_by, cancel_goal_by, execute_goal, execute, client_of, give_feedback, give, give_all}
+use Rattle.exec_rules.specs.Give.{publish, call_by, send_goal_by, send_cancel, cancel_all_by, cancel_goal_by, execute_goal, execute, sender_at, give_feedback, give, give_all}
 use Rattle.exec_rules.specs.Item.{goal_id}
 use Rattle.exec_rules.specs.Ready.{run_line}
 use Rattle.exec_rules.specs.Run.{work_for, with_polled, variables_for, with_variables_for, brought_home, after_callback, run, apart, effects_of, commit}
 use Rattle.exec_script.specs.Script.{Variables}
-use Rattle.exec_rules.specs.World.{WorldState, TopicEntry, GoalWork, HeldGoal, Queue, ServerEntry, ClientEntry, ActionClientEntry, add_line, add_lines, drop_line, lost_by, queued, push, push_any, subscribers_of, is_server_at, goals_of, change_server, change_goals, is_for, next_arrival, with_task, client_at, with_call, action_client_at, with_goal_sent, with_variables}
+use Rattle.exec_rules.specs.World.{WorldState, TopicEntry, GoalWork, HeldGoal, Queue, ServerEntry, ClientEntry, ActionClientEntry, add_line, add_lines, drop_line, lost_by, queued, push, push_any, subscribers_at, is_server_at, goals_at, change_server, change_goals, is_for, next_arrival, with_task, client_at, with_call, action_client_at, with_goal_sent, with_variables}
 use Rattle.exec_rules.specs.declared.item.Item.{Item}
 use Rattle.exec_rules.specs.declared.item.Item.TheVariants as item
 use Rattle.exec_rules.specs.declared.ready.Cause.{Cause}
@@ -43,8 +43,8 @@ pub record StandsApart (home : WorldState → WorldState) : Type 0 where
   pub queues_same : (world : WorldState) → (home world).queues ≡ world.queues
   pub clients_same : (world : WorldState) → (home world).clients ≡ world.clients
   pub action_clients_same : (world : WorldState) → (home world).action_clients ≡ world.action_clients
-  pub goals_same : (server : EntityNo) (world : WorldState) → goals_of server (home world) ≡ goals_of server world
-  pub senders_same : (server : EntityNo) (id : GoalId) (world : WorldState) → client_of server id (home world) ≡ client_of server id world
+  pub goals_same : (server : EntityNo) (world : WorldState) → goals_at server (home world) ≡ goals_at server world
+  pub senders_same : (server : EntityNo) (id : GoalId) (world : WorldState) → sender_at server id (home world) ≡ sender_at server id world
 
 -- ---- effects
 
@@ -70,8 +70,8 @@ module _ {home : WorldState → WorldState} (a : StandsApart home) where
 
   publish_apart : (topic : EntityNo) (value : ℤ) (world : WorldState) → home (publish topic value world) ≡ publish topic value (home world)
   publish_apart topic value world =
-      pushes_apart (item.Message value) (subscribers_of topic world) world
-      ∙ ap (λ (topics : List TopicEntry). fold (λ before one. push one (item.Message value) before) (home world) (subscribers_of topic (record world { topics = topics }))) (sym (a.topics_same world))
+      pushes_apart (item.Message value) (subscribers_at topic world) world
+      ∙ ap (λ (topics : List TopicEntry). fold (λ before one. push one (item.Message value) before) (home world) (subscribers_at topic (record world { topics = topics }))) (sym (a.topics_same world))
 
   call_apart : (client : Option ClientEntry) (value : ℤ) (world : WorldState) → home (call_by client value world) ≡ call_by client value (home world)
   call_apart None value world = refl
@@ -112,15 +112,15 @@ module _ {home : WorldState → WorldState} (a : StandsApart home) where
 
   execute_apart : (server : EntityNo) (world : WorldState) → home (execute server world) ≡ execute server (home world)
   execute_apart server world =
-      execute_goal_apart server (find (λ goal. is_accepted goal.state) (goals_of server world)) world
+      execute_goal_apart server (find (λ goal. is_accepted goal.state) (goals_at server world)) world
       ∙ ap (λ (goals : List GoalRecord). execute_goal server (find (λ goal. is_accepted goal.state) goals) (home world)) (sym (a.goals_same server world))
 
   feedback_apart : (server : EntityNo) (why : Cause) (value : ℤ) (world : WorldState) → home (give_feedback server why value world) ≡ give_feedback server why value (home world)
   feedback_apart server cause.Due value world = refl
   feedback_apart server (cause.Took taken) value world = refl
   feedback_apart server (cause.Woke id goal canceling) value world =
-      push_any_apart (client_of server id world) (item.Feedback id value) (add_line (line.Feedback server id value) world)
-      ∙ ap (λ (after : WorldState). push_any (client_of server id world) (item.Feedback id value) after) (line_apart (line.Feedback server id value) world)
+      push_any_apart (sender_at server id world) (item.Feedback id value) (add_line (line.Feedback server id value) world)
+      ∙ ap (λ (after : WorldState). push_any (sender_at server id world) (item.Feedback id value) after) (line_apart (line.Feedback server id value) world)
       ∙ ap (λ (sender : Option EntityNo). push_any sender (item.Feedback id value) (add_line (line.Feedback server id value) (home world))) (sym (a.senders_same server id world))
 
   give_apart : (one : Ready) (given : Effect) (world : WorldState) → home (give one given world) ≡ give one given (home world)
@@ -283,14 +283,14 @@ both_apart {first} {next} a b = record {
   senders_same = λ server id world. b.senders_same server id (first world) ∙ a.senders_same server id world;
 }
 
-pub home_apart : {S : Type 0} (one : Ready) (outcome : Outcome S) → StandsApart (λ world. brought_home one outcome world)
+pub home_apart : {S : Type 0} (one : Ready) (outcome : AfterCallback S) → StandsApart (λ world. brought_home one outcome world)
 home_apart one outcome = both_apart (variables_for_apart one outcome.variables) (polled_apart one.entity one.cause outcome.task)
 
 -- a callback may run apart from the world
 pub runs_apart : (one : Ready) (world : WorldState) → run one world ≡ commit one (effects_of (apart one world)) (brought_home one (apart one world) world)
 runs_apart one world =
-    let outcome : Outcome (List Effect) = apart one world in
-    ap (λ (after : Outcome WorldState). after_callback one after)
+    let outcome : AfterCallback (List Effect) = apart one world in
+    ap (λ (after : AfterCallback WorldState). after_callback one after)
     (callback_later (give one) (add_line (run_line one) world) one (work_for one.entity one.cause world) (variables_for one world))
     ∙ ap (λ (after : WorldState). close_callback one outcome.close after)
     (effects_apart (home_apart one outcome) one outcome.given (add_line (run_line one) world)

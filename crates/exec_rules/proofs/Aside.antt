@@ -29,12 +29,12 @@ use Rattle.exec_rules.proofs.Apart.{StandsApart, effects_apart, held_apart, line
 use Rattle.exec_rules.proofs.Keeping.{Kept}
 use Rattle.exec_rules.proofs.Running.{KeptByAcceptance, commit_keeps, given_keeps}
 use Rattle.exec_rules.proofs.Pairs.{any_before}
-use Rattle.exec_rules.specs.Close.{GoalRequest, accept, accept_where, answer_ask, answer_cancel, answer_goal, ask, ask_where, cancel, close_callback, close_cause, close_item, close_poll, decide, decision_in, decisions_in, end, end_in, goal_at, held_goal, moved_lines, pend, reply_in, reply_to, respond, server_accepting, tell, tell_askers, tell_end, with_ended}
+use Rattle.exec_rules.specs.Close.{GoalRequest, accept, accept_where, answer_ask, answer_cancel, answer_goal, ask, ask_where, cancel, close_callback, close_cause, close_item, close_poll, decide, decision_of_close, decisions_of_close, end, end_in, goal_at, held_goal, moved_lines, pend, reply_of_close, reply_to, respond, server_accepting, tell, tell_askers, tell_end, with_ended}
 use Rattle.exec_rules.specs.Give.{give_all}
 use Rattle.exec_rules.specs.Ready.{run_line}
 use Rattle.exec_rules.specs.Run.{commit}
 use Rattle.exec_script.specs.Script.{Variables}
-use Rattle.exec_rules.specs.World.{ActionClientEntry, GoalWork, HeldGoal, ServerEntry, WorldState, action_client_at, add_line, add_lines, change_goals, change_server, goals_of, has_room_for, is_for, is_server_at, next_arrival, push, push_any, with_work, work_at}
+use Rattle.exec_rules.specs.World.{ActionClientEntry, GoalWork, HeldGoal, ServerEntry, WorldState, action_client_at, add_line, add_lines, change_goals, change_server, goals_at, has_room_for, is_for, is_server_at, next_arrival, push, push_any, with_work, work_at}
 use Rattle.exec_rules.specs.declared.item.Item.{Item}
 use Rattle.exec_rules.specs.declared.item.Item.TheVariants as item
 use Rattle.exec_rules.specs.declared.ready.Cause.{Cause}
@@ -79,7 +79,7 @@ module _ {P : WorldState → Type 0} {home : WorldState → WorldState} (s : Sta
 
   end_apart : (server : EntityNo) (id : GoalId) (by : Event) (value : ℤ) (moment : Moment) (world : WorldState) → home (end server id by value moment world) ≡ end server id by value moment (home world)
   end_apart server id by value moment world =
-      end_in_apart (end_state id by (goals_of server world)) server id by value moment world
+      end_in_apart (end_state id by (goals_at server world)) server id by value moment world
       ∙ ap (λ (goals : List GoalRecord). end_in (end_state id by goals) server id by value moment (home world)) (sym (s.aside.goals_same server world))
 
   pend_apart : (under : Order) (server : EntityNo) (id : GoalId) (world : WorldState) → home (pend under server id world) ≡ pend under server id (home world)
@@ -111,7 +111,7 @@ module _ {P : WorldState → Type 0} {home : WorldState → WorldState} (s : Sta
 
   answer_goal_apart : (server : EntityNo) (moment : Moment) (made : Decision) (request : GoalRequest) (world : WorldState) → P world → home (answer_goal server moment made request world) ≡ answer_goal server moment made request (home world)
   answer_goal_apart server moment made request world p =
-      decide_apart server moment (if has_room_for request.id (goals_of server world) then made else decision.Reject) request world p
+      decide_apart server moment (if has_room_for request.id (goals_at server world) then made else decision.Reject) request world p
       ∙ ap (λ (goals : List GoalRecord). decide server moment (if has_room_for request.id goals then made else decision.Reject) request (home world)) (sym (s.aside.goals_same server world))
 
   answer_cancel_apart : (server : EntityNo) (client : Option EntityNo) (returned : ReturnCode) (goals : List GoalRecord) (world : WorldState) → home (answer_cancel server client returned goals world) ≡ answer_cancel server client returned goals (home world)
@@ -122,8 +122,8 @@ module _ {P : WorldState → Type 0} {home : WorldState → WorldState} (s : Sta
 
   cancel_apart : (server : EntityNo) (request : CancelRequest) (client : Option EntityNo) (decisions : List Decided) (world : WorldState) → home (cancel server request client decisions world) ≡ cancel server request client decisions (home world)
   cancel_apart server request client decisions world =
-      answer_cancel_apart server client (code_of request decisions (goals_of server world)) (moved decisions (goals_of server world)) (change_goals server (table_after decisions) world)
-      ∙ ap (λ (after : WorldState). answer_cancel server client (code_of request decisions (goals_of server world)) (moved decisions (goals_of server world)) after) (s.aside.goals_apart server (table_after decisions) world)
+      answer_cancel_apart server client (code_of request decisions (goals_at server world)) (moved decisions (goals_at server world)) (change_goals server (table_after decisions) world)
+      ∙ ap (λ (after : WorldState). answer_cancel server client (code_of request decisions (goals_at server world)) (moved decisions (goals_at server world)) after) (s.aside.goals_apart server (table_after decisions) world)
       ∙ ap (λ (goals : List GoalRecord). answer_cancel server client (code_of request decisions goals) (moved decisions goals) (change_goals server (table_after decisions) (home world))) (sym (s.aside.goals_same server world))
 
   answer_ask_apart : (server : EntityNo) (id : GoalId) (client : EntityNo) (asked : Asked) (world : WorldState) → home (answer_ask server id client asked world) ≡ answer_ask server id client asked (home world)
@@ -133,7 +133,7 @@ module _ {P : WorldState → Type 0} {home : WorldState → WorldState} (s : Sta
 
   ask_apart : (server : EntityNo) (id : GoalId) (client : EntityNo) (world : WorldState) → home (ask server id client world) ≡ ask server id client (home world)
   ask_apart server id client world =
-      answer_ask_apart server id client (asked_for id (goals_of server world)) world
+      answer_ask_apart server id client (asked_for id (goals_at server world)) world
       ∙ ap (λ (goals : List GoalRecord). answer_ask server id client (asked_for id goals) (home world)) (sym (s.aside.goals_same server world))
 
   ask_where_apart : (b : Bool) (client : ActionClientEntry) (id : GoalId) (world : WorldState) → home (ask_where b client id world) ≡ ask_where b client id (home world)
@@ -153,10 +153,10 @@ module _ {P : WorldState → Type 0} {home : WorldState → WorldState} (s : Sta
 
   close_item_apart : (entity : EntityNo) (moment : Moment) (taken : Item) (closing : Close) (world : WorldState) → P world → home (close_item entity moment taken closing world) ≡ close_item entity moment taken closing (home world)
   close_item_apart entity moment (item.Message value) closing world p = refl
-  close_item_apart entity moment (item.Request client number value) closing world p = reply_apart entity client number (reply_in closing) world
+  close_item_apart entity moment (item.Request client number value) closing world p = reply_apart entity client number (reply_of_close closing) world
   close_item_apart entity moment (item.Reply number value) closing world p = refl
-  close_item_apart entity moment (item.Goal id client value) closing world p = answer_goal_apart entity moment (decision_in closing) (record { id = id; client = client; value = value }) world p
-  close_item_apart entity moment (item.Cancel request client) closing world p = cancel_apart entity request client (decisions_in closing) world
+  close_item_apart entity moment (item.Goal id client value) closing world p = answer_goal_apart entity moment (decision_of_close closing) (record { id = id; client = client; value = value }) world p
+  close_item_apart entity moment (item.Cancel request client) closing world p = cancel_apart entity request client (decisions_of_close closing) world
   close_item_apart entity moment (item.Ask id client) closing world p = ask_apart entity id client world
   close_item_apart entity moment (item.Response id accepted) closing world p =
       respond_apart (action_client_at entity world) id accepted world

@@ -25,7 +25,7 @@ use Rattle.exec_rules.specs.Shape.{queue_shape, shape_of}
 use Rattle.exec_rules.specs.Sorting.{sorted_by}
 use Rattle.exec_rules.specs.Item.{taker_of}
 use Rattle.exec_rules.specs.Transcript.{at_snapshot, first_world, new_queue, rounds, takes_from_queue}
-use Rattle.exec_rules.specs.World.{ClientEntry, Queue, WorldState, goals_of}
+use Rattle.exec_rules.specs.World.{ClientEntry, Queue, WorldState, goals_at}
 use Rattle.exec_rules.specs.declared.item.Item.{Item}
 use Rattle.exec_rules.specs.declared.item.Item.TheVariants as item
 use Rattle.exec_rules.specs.declared.ready.Ready.{Ready}
@@ -163,7 +163,7 @@ module _ (moment : Moment) (world : WorldState) (kinds_of : AreOfTheirKinds worl
   queue_rises : (queue : Queue) → Pairs Rise (queue_ready moment world queue)
   queue_rises queue = by queue.items
     where
-      by : (items : List Item) → Pairs Rise (item_ready moment queue.handler (goals_of queue.handler.entity world) items)
+      by : (items : List Item) → Pairs Rise (item_ready moment queue.handler (goals_at queue.handler.entity world) items)
       by [] = tt
       by (first ∷ items) = (tt, tt)
 

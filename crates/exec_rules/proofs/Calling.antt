@@ -18,5 +18,5 @@ module _ (script named : Script) (input handed : CallInput) (variables : Variabl
   pub effects_behind : (after : List Effect) → after ≡ effects ++ (call_of script variables input).given → after ≡ (called listed named variables handed effects).given
   effects_behind after is = is ∙ sym (ap (λ (state : ScriptState (List Effect)). state.given) behind)
 
-  pub answer_behind : {A : Type 0} (closed : Option ℤ → A) (after : A) → after ≡ closed (call_of script variables input).answer → after ≡ closed (called listed named variables handed effects).answer
-  answer_behind closed after is = is ∙ sym (ap (λ (state : ScriptState (List Effect)). closed state.answer) behind)
+  pub answer_behind : {A : Type 0} (closed : Option ℤ → A) (after : A) → after ≡ closed (call_of script variables input).reply_or_decision → after ≡ closed (called listed named variables handed effects).reply_or_decision
+  answer_behind closed after is = is ∙ sym (ap (λ (state : ScriptState (List Effect)). closed state.reply_or_decision) behind)

@@ -9,7 +9,7 @@ use Rattle.exec_task.specs.Task.{TaskState}
 use Rattle.exec_rules.proofs.Apart.{runs_apart, variables_apart}
 use Rattle.exec_rules.proofs.Aside.{anywhere_kept, commit_apart, held_aside, read_kept, variables_left, work_held, work_left}
 use Rattle.exec_rules.specs.Calls.{IsHomeFor}
-use Rattle.exec_rules.specs.Callback.{Outcome}
+use Rattle.exec_rules.specs.Callback.{AfterCallback}
 use Rattle.exec_rules.specs.Run.{all_apart, all_home, apart, apart_with, brought_home, commit, commit_all, effects_of, variables_for, with_polled, with_variables_for, work_for}
 use Rattle.exec_rules.specs.Transcript.{run_all}
 use Rattle.exec_script.specs.Script.{Variables}
@@ -64,7 +64,7 @@ module _ (one : Ready) (effects : Effects) where
       by false = home
 
   -- what it brings home may come home before or behind
-  home_in_turn : (other : Ready) (outcome : Outcome (List Effect)) (world : WorldState) → IsHomeFor other.entity other.cause world → brought_home other outcome (commit one effects world) ≡ commit one effects (brought_home other outcome world)
+  home_in_turn : (other : Ready) (outcome : AfterCallback (List Effect)) (world : WorldState) → IsHomeFor other.entity other.cause world → brought_home other outcome (commit one effects world) ≡ commit one effects (brought_home other outcome world)
   home_in_turn other outcome world home =
       ap (λ (state : WorldState). with_polled other.entity other.cause outcome.task state) (variables_in_turn other outcome.variables world)
       ∙ polled_in_turn other.entity other.cause outcome.task (with_variables_for other outcome.variables world) (home_with_variables other outcome.variables world home)
@@ -141,7 +141,7 @@ home_with_group server (cause.Woke id value canceling) other variables world hom
 abbrev AllAtHome : List Ready → WorldState → Type 0
 AllAtHome list world = AllByRecursion (λ one. IsHomeFor one.entity one.cause world) list
 
-homes_stay : (other : Ready) (outcome : Outcome (List Effect)) (world : WorldState) (list : List Ready) → AllAtHome list world → AllAtHome list (brought_home other outcome world)
+homes_stay : (other : Ready) (outcome : AfterCallback (List Effect)) (world : WorldState) (list : List Ready) → AllAtHome list world → AllAtHome list (brought_home other outcome world)
 homes_stay other outcome world [] homes = tt
 homes_stay other outcome world (one ∷ list) homes =
     (home_with_polled one.entity other.entity one.cause other.cause outcome.task _ (home_with_group one.entity one.cause other outcome.variables world homes.0), homes_stay other outcome world list homes.1)
@@ -158,14 +158,14 @@ module _ (first : Ready) (effects : Effects) where
   dones_same [] world homes = refl
   dones_same (one ∷ list) world homes =
       let after : WorldState = brought_home one (apart one world) world in
-      ap (λ (outcome : Outcome (List Effect)). effects_of outcome ∷ all_apart list (brought_home one outcome (commit first effects world))) (apart_same first effects one world homes.0)
+      ap (λ (outcome : AfterCallback (List Effect)). effects_of outcome ∷ all_apart list (brought_home one outcome (commit first effects world))) (apart_same first effects one world homes.0)
       ∙ ap (λ (state : WorldState). effects_of (apart one world) ∷ all_apart list state) (home_in_turn first effects one (apart one world) world homes.0)
       ∙ ap (λ (done : List Effects). effects_of (apart one world) ∷ done) (dones_same list after (homes_stay one (apart one world) world list homes.1))
 
   homes_in_turn : (list : List Ready) (world : WorldState) → AllAtHome list world → all_home list (commit first effects world) ≡ commit first effects (all_home list world)
   homes_in_turn [] world homes = refl
   homes_in_turn (one ∷ list) world homes =
-      ap (λ (outcome : Outcome (List Effect)). all_home list (brought_home one outcome (commit first effects world))) (apart_same first effects one world homes.0)
+      ap (λ (outcome : AfterCallback (List Effect)). all_home list (brought_home one outcome (commit first effects world))) (apart_same first effects one world homes.0)
       ∙ ap (λ (state : WorldState). all_home list state) (home_in_turn first effects one (apart one world) world homes.0)
       ∙ homes_in_turn list (brought_home one (apart one world) world) (homes_stay one (apart one world) world list homes.1)
 

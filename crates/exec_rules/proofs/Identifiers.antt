@@ -14,7 +14,7 @@ use Rattle.exec_rules.proofs.Keeping.{ids}
 use Rattle.exec_rules.proofs.Running.{KeptByRounds, rounds_keep}
 use Rattle.exec_rules.specs.Close.{GoalRequest, server_accepting, accept}
 use Rattle.exec_rules.specs.Transcript.{server_expired, first_world, new_server, rounds}
-use Rattle.exec_rules.specs.World.{WorldState, GoalWork, ServerEntry, is_server_at, is_for, goals_in, goals_of, has_room_for, next_arrival}
+use Rattle.exec_rules.specs.World.{WorldState, GoalWork, ServerEntry, is_server_at, is_for, goals_in, goals_at, has_room_for, next_arrival}
 
 -- ---- numbers
 
@@ -160,18 +160,18 @@ first_goals graph server (number ∷ numbers) = by (number == server) refl (firs
 
 -- no two goals of one server have one identifier
 abbrev pub HasDistinct : WorldState → Type 0
-HasDistinct world = (server : EntityNo) → Distinct (ids (goals_of server world))
+HasDistinct world = (server : EntityNo) → Distinct (ids (goals_at server world))
 
-distinct_accepted : (server : EntityNo) (moment : Moment) (how : Acceptance) (request : GoalRequest) (world : WorldState) → has_room_for request.id (goals_of server world) ≡ true → HasDistinct world → HasDistinct (accept server moment how request world)
+distinct_accepted : (server : EntityNo) (moment : Moment) (how : Acceptance) (request : GoalRequest) (world : WorldState) → has_room_for request.id (goals_at server world) ≡ true → HasDistinct world → HasDistinct (accept server moment how request world)
 distinct_accepted server moment how request world room p one =
     by (old_or_new (accepting (next_arrival world) moment how request) one server world.servers)
   where
-    by : OldOrNew one server (server_accepting (next_arrival world) moment how request) (λ goals. goals ++ new_goal request.id request.value moment how ∷ []) world.servers → Distinct (ids (goals_of one (accept server moment how request world)))
+    by : OldOrNew one server (server_accepting (next_arrival world) moment how request) (λ goals. goals ++ new_goal request.id request.value moment how ∷ []) world.servers → Distinct (ids (goals_at one (accept server moment how request world)))
     by (inl e) = subst (λ (some : List GoalRecord). Distinct (ids some)) (sym e) (p one)
     by (inr q) =
         subst (λ (some : List GoalRecord). Distinct (ids some)) (sym q.1)
-        (distinct_more (goals_of one world) (new_goal request.id request.value moment how) (p one)
-        (subst (λ (at : EntityNo). holds_id request.id (goals_of at world) ≡ false) q.0 (room_without request.id (goals_of server world) room)))
+        (distinct_more (goals_at one world) (new_goal request.id request.value moment how) (p one)
+        (subst (λ (at : EntityNo). holds_id request.id (goals_at at world) ≡ false) q.0 (room_without request.id (goals_at server world) room)))
 
 pub distinct_kept : KeptByRounds HasDistinct
 distinct_kept = record {
@@ -188,7 +188,7 @@ distinct_kept = record {
   accepts_kept = distinct_accepted;
   expiry_kept = λ moment world p one.
       let left = expired_goals moment one world.servers in
-      subst (λ (some : List GoalRecord). Distinct (ids some)) (sym left.1) (filter_distinct (λ goal. not (is_expired moment left.0 goal)) (goals_of one world) (p one));
+      subst (λ (some : List GoalRecord). Distinct (ids some)) (sym left.1) (filter_distinct (λ goal. not (is_expired moment left.0 goal)) (goals_at one world) (p one));
   snapshot_kept = λ moment world p. p;
 }
 
@@ -196,5 +196,5 @@ pub first_distinct : (plan : PlanData) → HasDistinct (first_world plan)
 unfolding IsDistinct
 first_distinct plan server = subst (λ (some : List GoalRecord). Distinct (ids some)) (sym (first_goals plan.graph server (entities_where is_server plan.graph))) tt
 
-pub distinct_ids : (plan : PlanData) (number : ℕ) (moments : List Moment) (server : EntityNo) → IsDistinct (λ one other. one == other) (map (λ goal. goal.id) (goals_of server (rounds plan number moments (first_world plan))))
+pub distinct_ids : (plan : PlanData) (number : ℕ) (moments : List Moment) (server : EntityNo) → IsDistinct (λ one other. one == other) (map (λ goal. goal.id) (goals_at server (rounds plan number moments (first_world plan))))
 distinct_ids plan number moments = rounds_keep distinct_kept plan number moments (first_world plan) (first_distinct plan)

@@ -17,7 +17,7 @@ use Rattle.exec_msg.specs.declared.kind.Kind.{Kind}
 use Rattle.exec_msg.specs.declared.kind.Kind.TheVariants as kind
 use Rattle.exec_msg.specs.declared.line.Line.{Line}
 use Rattle.exec_msg.specs.declared.line.Line.TheVariants as line
-use Rattle.exec_script.specs.Script.{ScriptState, CallInput, step_of, passed_by, after_step, follow, resumed, Variables}
+use Rattle.exec_script.specs.Script.{ScriptState, CallInput, step_of, skipped_by, after_step, follow, resumed, Variables}
 use Rattle.exec_script.specs.Zeros.{zeros}
 use Rattle.exec_script.specs.declared.effects.Effect.{Effect}
 use Rattle.exec_script.specs.declared.effects.Effect.TheVariants as effect
@@ -29,14 +29,14 @@ use Rattle.exec_script.specs.declared.step.Step.TheVariants as step
 use Rattle.exec_script.specs.declared.step.Stop.TheVariants as stop
 use Rattle.exec_task.specs.Task.{TaskState, polled_where, is_awake, poll_input}
 use Rattle.exec_task.specs.declared.wait.Turn.{Turn}
-use Rattle.exec_rules.specs.Callback.{Handling, handle, call_in, take_item, poll, poll_where, act, callback, instructions_of, candidate_input}
+use Rattle.exec_rules.specs.Callback.{CancelHandling, handle_cancel, call_in, take_item, poll, poll_where, act, callback, instructions_of, candidate_input}
 use Rattle.exec_rules.specs.Close.{tell, tell_end, moved_lines, answer_ask, goal_arrived}
-use Rattle.exec_rules.specs.Give.{publish, call_by, send_goal_by, send_cancel, cancel_all_by, cancel_goal_by, oldest_accepted, execute_goal, client_of, give_feedback, give}
+use Rattle.exec_rules.specs.Give.{publish, call_by, send_goal_by, send_cancel, cancel_all_by, cancel_goal_by, oldest_accepted, execute_goal, sender_at, give_feedback, give}
 use Rattle.exec_rules.specs.Item.{goal_id, taker_of}
 use Rattle.exec_rules.specs.Lines.{statuses_of, is_answer, is_loss}
 use Rattle.exec_rules.specs.Ready.{turn_at, input_of}
 use Rattle.exec_rules.specs.Transcript.{feed_one, feed}
-use Rattle.exec_rules.specs.World.{WorldState, GoalWork, ClientEntry, ActionClientEntry, add_line, add_lines, drop_line, lost_by, queued, push, push_any, subscribers_of, goals_of, change_goals, with_task, client_at, with_call, action_client_at, with_goal_sent, with_variables}
+use Rattle.exec_rules.specs.World.{WorldState, GoalWork, ClientEntry, ActionClientEntry, add_line, add_lines, drop_line, lost_by, queued, push, push_any, subscribers_at, goals_at, change_goals, with_task, client_at, with_call, action_client_at, with_goal_sent, with_variables}
 use Rattle.exec_rules.specs.declared.item.Item.{Item}
 use Rattle.exec_rules.specs.declared.item.Item.TheVariants as item
 use Rattle.exec_rules.specs.declared.ready.Cause.{Cause}
@@ -110,7 +110,7 @@ state_said server (Some goal) world = add_line (line.State server goal.id (statu
 -- the world after a cancel request moved goals by what was decided, with the lines that say so
 abbrev pub canceled : EntityNo → List Decided → ReturnCode → ℕ → WorldState → WorldState
 canceled server decisions returned count world =
-    add_lines (moved_lines server (moved decisions (goals_of server world)) ++ line.Code server returned count ∷ []) (change_goals server (table_after decisions) world)
+    add_lines (moved_lines server (moved decisions (goals_at server world)) ++ line.Code server returned count ∷ []) (change_goals server (table_after decisions) world)
 
 -- each basic change but an acceptance, an end, a result and an answer keeps a property: lines that are quiet, an item that
 -- may be sent there, is no message, request or result and answers nothing, a publication, a call, the execution of a goal,
@@ -143,7 +143,7 @@ fold_keeps P f keeps (one ∷ all) state p = fold_keeps P f keeps all (f state o
 
 step_keeps : {S : Type 0} (P : S → Type 0) (put : Effect → S → S) → ((one : Effect) (given : S) → P given → P (put one given)) → (place : ℕ) (does : Step) (state : ScriptState S) → P state.given → P (after_step put place does state).given
 step_keeps P put keeps place (step.Store destination value) state p = p
-step_keeps P put keeps place (step.Pass count) state p = p
+step_keeps P put keeps place (step.Skip count) state p = p
 step_keeps P put keeps place (step.Give one) state p = keeps one state.given p
 step_keeps P put keeps place (step.Answer value) state p = p
 step_keeps P put keeps place (step.Wait ticks) state p = p
@@ -155,18 +155,18 @@ follow_keeps : {S : Type 0} (P : S → Type 0) (put : Effect → S → S) → ((
 follow_keeps P put keeps input [] place over state p = p
 follow_keeps P put keeps input (instruction ∷ rest) place (suc over) state p = follow_keeps P put keeps input rest (suc place) over state p
 follow_keeps P put keeps input (instruction ∷ rest) place zero state p =
-    follow_keeps P put keeps input rest (suc place) (passed_by (step_of instruction state.registers state.variables input) (length rest))
+    follow_keeps P put keeps input rest (suc place) (skipped_by (step_of instruction state.registers state.variables input) (length rest))
     (after_step put (suc place) (step_of instruction state.registers state.variables input) state)
     (step_keeps P put keeps (suc place) (step_of instruction state.registers state.variables input) state p)
 
 resumed_keeps : {S : Type 0} (P : S → Type 0) (put : Effect → S → S) → ((one : Effect) (given : S) → P given → P (put one given)) → (script : List Instr) (place : ℕ) (registers variables : List ℤ) (answer : Option ℤ) (input : CallInput) (given : S) → P given → P (resumed put script place registers variables answer input given).given
 resumed_keeps P put keeps script place registers variables answer input given p =
-    follow_keeps P put keeps input (drop place script) place 0 (record { registers = registers; variables = variables; answer = answer; given = given; stop = stop.End }) p
+    follow_keeps P put keeps input (drop place script) place 0 (record { registers = registers; variables = variables; reply_or_decision = answer; given = given; stop = stop.End }) p
 
 module _ {S : Type 0} (P : S → Type 0) (put : Effect → S → S) (keeps : (one : Effect) (given : S) → P given → P (put one given)) where
-  handled_keeps : (one : Ready) (candidates : List GoalInfo) (handling : Handling S) → P handling.given → P (fold (handle put one) handling candidates).given
+  handled_keeps : (one : Ready) (candidates : List GoalInfo) (handling : CancelHandling S) → P handling.given → P (fold (handle_cancel put one) handling candidates).given
   handled_keeps one candidates handling p =
-      fold_keeps (λ (state : Handling S). P state.given) (handle put one)
+      fold_keeps (λ (state : CancelHandling S). P state.given) (handle_cancel put one)
       (λ state candidate q. resumed_keeps P put keeps (instructions_of one.script) 0 zeros state.variables None (candidate_input one.moment candidate) state.given q)
       candidates handling p
 
@@ -237,7 +237,7 @@ push_kept k entity new world p = k.lines_kept (map (drop_line entity) (lost_by e
 -- what each message that is sent keeps, messages to a topic keep
 pub publish_kept : {P : WorldState → Type 0} → ((entity : EntityNo) (value : ℤ) (world : WorldState) → P world → P (push entity (item.Message value) world)) → (topic : EntityNo) (value : ℤ) (world : WorldState) → P world → P (publish topic value world)
 publish_kept {P = P} sent topic value world p =
-    fold_keeps P (λ before subscriber. push subscriber (item.Message value) before) (λ before subscriber q. sent subscriber value before q) (subscribers_of topic world) world p
+    fold_keeps P (λ before subscriber. push subscriber (item.Message value) before) (λ before subscriber q. sent subscriber value before q) (subscribers_at topic world) world p
 
 pub moves_kept : {P : WorldState → Type 0} → Kept P → Moves anywhere P
 moves_kept {P} k = record {
@@ -299,7 +299,7 @@ module _ {routes : Routes} {P : WorldState → Type 0} (k : Moves routes P) wher
   feedback_keeps : (server : EntityNo) (why : Cause) (value : ℤ) (world : WorldState) → P world → P (give_feedback server why value world)
   feedback_keeps server cause.Due value world p = p
   feedback_keeps server (cause.Took taken) value world p = p
-  feedback_keeps server (cause.Woke id goal canceling) value world p = feedback_sent (client_of server id world) id value _ (line_kept (line.Feedback server id value) world ((λ at goal. refl), (refl, refl)) p)
+  feedback_keeps server (cause.Woke id goal canceling) value world p = feedback_sent (sender_at server id world) id value _ (line_kept (line.Feedback server id value) world ((λ at goal. refl), (refl, refl)) p)
 
   -- an effect
   pub give_keeps : (one : Ready) (given : Effect) (world : WorldState) → P world → P (give one given world)

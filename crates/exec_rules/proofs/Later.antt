@@ -13,7 +13,7 @@ use Rattle.exec_script.specs.declared.place.Role.TheVariants as role
 use Rattle.exec_task.specs.LawWords.{polled_later}
 use Rattle.exec_task.specs.Task.{TaskState, Polled, ran, polled_where, is_awake, poll_input}
 use Rattle.exec_task.specs.declared.wait.Turn.{Turn}
-use Rattle.exec_rules.specs.Callback.{Outcome, Handling, instructions_of, closed_by, call_in, candidate_input, handled, handle, all_handled, take_item, after_poll, poll, poll_where, act, callback}
+use Rattle.exec_rules.specs.Callback.{AfterCallback, CancelHandling, instructions_of, closed_by, call_in, candidate_input, handled, handle_cancel, all_handled, take_item, after_poll, poll, poll_where, act, callback}
 use Rattle.exec_rules.specs.Ready.{turn_at, input_of}
 use Rattle.exec_rules.specs.World.{GoalWork}
 use Rattle.exec_rules.specs.declared.item.Item.{Item}
@@ -24,23 +24,23 @@ use Rattle.exec_rules.specs.declared.ready.Ready.{Ready}
 
 module _ {S : Type 0} (put : Effect → S → S) (given : S) where
   -- a callback that listed its effects, once these are given
-  abbrev pub outcome_later : Outcome (List Effect) → Outcome S
+  abbrev pub outcome_later : AfterCallback (List Effect) → AfterCallback S
   outcome_later outcome = record { variables = outcome.variables; given = give_each put outcome.given given; close = outcome.close; task = outcome.task }
 
   -- a cancel handler that listed them
-  abbrev handling_later : Handling (List Effect) → Handling S
+  abbrev handling_later : CancelHandling (List Effect) → CancelHandling S
   handling_later handling = record { variables = handling.variables; given = give_each put handling.given given; decisions = handling.decisions }
 
   in_role_later : (role : Role) (one : Ready) (variables : Variables) → call_in role put one variables given ≡ outcome_later (call_in role listed one variables [])
   in_role_later role one variables =
       ap (λ (state : ScriptState S). closed_by role state) (resumed_later put (instructions_of one.script) 0 zeros variables None (input_of one) [] given)
 
-  handled_later : (one : Ready) (candidates : List GoalInfo) (handling : Handling (List Effect)) → fold (handle put one) (handling_later handling) candidates ≡ handling_later (fold (handle listed one) handling candidates)
+  handled_later : (one : Ready) (candidates : List GoalInfo) (handling : CancelHandling (List Effect)) → fold (handle_cancel put one) (handling_later handling) candidates ≡ handling_later (fold (handle_cancel listed one) handling candidates)
   handled_later one [] handling = refl
   handled_later one (candidate ∷ candidates) handling =
-      ap (λ (state : ScriptState S). fold (handle put one) (handled candidate handling.decisions state) candidates)
+      ap (λ (state : ScriptState S). fold (handle_cancel put one) (handled candidate handling.decisions state) candidates)
       (resumed_later put (instructions_of one.script) 0 zeros handling.variables None (candidate_input one.moment candidate) handling.given given)
-      ∙ handled_later one candidates (handle listed one handling candidate)
+      ∙ handled_later one candidates (handle_cancel listed one handling candidate)
 
   take_later : (taken : Item) (one : Ready) (variables : Variables) → take_item taken put one variables given ≡ outcome_later (take_item taken listed one variables [])
   take_later (item.Message value) one variables = in_role_later role.Callback one variables
@@ -48,7 +48,7 @@ module _ {S : Type 0} (put : Effect → S → S) (given : S) where
   take_later (item.Reply number value) one variables = in_role_later role.Callback one variables
   take_later (item.Goal id client value) one variables = in_role_later role.GoalHandler one variables
   take_later (item.Cancel request client) one variables =
-      ap (λ (handling : Handling S). all_handled handling) (handled_later one one.candidates (record { variables = variables; given = []; decisions = [] }))
+      ap (λ (handling : CancelHandling S). all_handled handling) (handled_later one one.candidates (record { variables = variables; given = []; decisions = [] }))
   take_later (item.Ask id client) one variables = in_role_later role.Callback one variables
   take_later (item.Response id accepted) one variables = in_role_later role.Callback one variables
   take_later (item.Code returned moved) one variables = in_role_later role.Callback one variables

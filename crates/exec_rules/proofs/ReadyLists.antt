@@ -22,7 +22,7 @@ use Rattle.exec_rules.specs.Shape.{shape_of}
 use Rattle.exec_rules.specs.Sorting.{sorted_by}
 use Rattle.exec_rules.specs.Ready.{all_ready, kind_of, due_ready, item_ready, queue_ready, poll_ready, placed_from, rank_under, ready_list}
 use Rattle.exec_rules.specs.Transcript.{takes_from_queue, first_world, at_snapshot, rounds}
-use Rattle.exec_rules.specs.World.{WorldState, TimerEntry, Queue, ServerEntry, goals_of}
+use Rattle.exec_rules.specs.World.{WorldState, TimerEntry, Queue, ServerEntry, goals_at}
 use Rattle.exec_rules.specs.declared.item.Item.{Item}
 use Rattle.exec_rules.specs.declared.item.Item.TheVariants as item
 use Rattle.exec_rules.specs.declared.ready.Ready.{Ready}
@@ -48,7 +48,7 @@ module _ (moment : Moment) (world : WorldState) where
   queue_has : (P : Ready → Type 0) (queue : Queue) → ((one : Ready) (taken : Item) → taker_of taken ≡ queue.kind → IsOf queue.handler.entity (taker_of taken) one → P one) → IsOfItsKind queue → AllByRecursion P (queue_ready moment world queue)
   queue_has P queue has p = by queue.items (recursion_from_All (λ one. taker_of one ≡ queue.kind) queue.items p)
     where
-      by : (items : List Item) → AllByRecursion (λ one. taker_of one ≡ queue.kind) items → AllByRecursion P (item_ready moment queue.handler (goals_of queue.handler.entity world) items)
+      by : (items : List Item) → AllByRecursion (λ one. taker_of one ≡ queue.kind) items → AllByRecursion P (item_ready moment queue.handler (goals_at queue.handler.entity world) items)
       by [] q = tt
       by (first ∷ items) q = (has _ first q.0 (refl, refl), tt)
 
@@ -74,7 +74,7 @@ takes_item (item.Result id status value) = ((λ e. cc), (λ e. cc))
 queue_takes : (moment : Moment) (world : WorldState) (queue : Queue) → AllByRecursion TakesItem (queue_ready moment world queue)
 queue_takes moment world queue = by queue.items
   where
-    by : (items : List Item) → AllByRecursion TakesItem (item_ready moment queue.handler (goals_of queue.handler.entity world) items)
+    by : (items : List Item) → AllByRecursion TakesItem (item_ready moment queue.handler (goals_at queue.handler.entity world) items)
     by [] = tt
     by (first ∷ items) = (takes_item first, tt)
 
@@ -113,7 +113,7 @@ module _ (of : Kind) (moment : Moment) (world : WorldState) where
   queue_apart : (queue : Queue) → Pairs (Apart of) (queue_ready moment world queue)
   queue_apart queue = by queue.items
     where
-      by : (items : List Item) → Pairs (Apart of) (item_ready moment queue.handler (goals_of queue.handler.entity world) items)
+      by : (items : List Item) → Pairs (Apart of) (item_ready moment queue.handler (goals_at queue.handler.entity world) items)
       by [] = tt
       by (first ∷ items) = (tt, tt)
 

@@ -27,8 +27,8 @@ use Rattle.exec_script.specs.declared.effects.Effect.{Effect}
 use Rattle.exec_script.specs.declared.effects.Effects.{Effects}
 use Rattle.exec_task.specs.Task.{TaskState}
 use Rattle.exec_rules.proofs.Keeping.{Routes, Kept, Moves, Tells, push_kept, publish_kept, moves_kept, tells_kept, ids_changed, state_said, fold_keeps, callback_keeps, give_keeps, answer_ask_keeps, tell_end_keeps, feed_keeps}
-use Rattle.exec_rules.specs.Callback.{Outcome}
-use Rattle.exec_rules.specs.Close.{GoalRequest, reply_in, decision_in, decisions_in, accept, accept_where, decide, with_ended, goal_at, end_in, ask, close_item, close_cause, close_poll, pend, cancel, ask_where, respond}
+use Rattle.exec_rules.specs.Callback.{AfterCallback}
+use Rattle.exec_rules.specs.Close.{GoalRequest, reply_of_close, decision_of_close, decisions_of_close, accept, accept_where, decide, with_ended, goal_at, end_in, ask, close_item, close_cause, close_poll, pend, cancel, ask_where, respond}
 use Rattle.exec_rules.specs.Give.{give, give_all}
 use Rattle.exec_rules.specs.Item.{taker_of}
 use Rattle.exec_rules.specs.Run.{unclosed}
@@ -36,7 +36,7 @@ use Rattle.exec_rules.specs.Ready.{run_line, ready_list, take_inputs}
 use Rattle.exec_rules.specs.Run.{work_for, with_polled, variables_for, with_variables_for, run, commit, outcome_in}
 use Rattle.exec_rules.specs.Transcript.{expire, at_snapshot, run_all, round, rounds}
 use Rattle.exec_script.specs.Script.{Variables}
-use Rattle.exec_rules.specs.World.{WorldState, GoalWork, add_line, goals_of, has_room_for, with_variables, action_client_at, ActionClientEntry, push, push_any, is_action_client_at}
+use Rattle.exec_rules.specs.World.{WorldState, GoalWork, add_line, goals_at, has_room_for, with_variables, action_client_at, ActionClientEntry, push, push_any, is_action_client_at}
 use Rattle.exec_rules.specs.declared.item.Item.{Item}
 use Rattle.exec_rules.specs.declared.item.Item.TheVariants as item
 use Rattle.exec_rules.specs.declared.ready.Cause.{Cause}
@@ -48,7 +48,7 @@ use Rattle.exec_rules.specs.declared.ready.Ready.{Ready}
 abbrev pub Accepts : Ready → (WorldState → Type 0) → Type 0
 Accepts one P =
     (request : GoalRequest) (how : Acceptance) (world : WorldState) →
-    one.cause ≡ cause.Took (item.Goal request.id request.client request.value) → has_room_for request.id (goals_of one.entity world) ≡ true → P world → P (accept one.entity one.moment how request world)
+    one.cause ≡ cause.Took (item.Goal request.id request.client request.value) → has_room_for request.id (goals_at one.entity world) ≡ true → P world → P (accept one.entity one.moment how request world)
 
 -- the world in which a goal ended by an event, with the line of its state
 abbrev pub ended : EntityNo → GoalId → Event → ℤ → Moment → WorldState → WorldState
@@ -59,13 +59,13 @@ ended server id by value moment world = state_said server (goal_at server id (wi
 abbrev pub Ends : Ready → (WorldState → Type 0) → Type 0
 Ends one P =
     (id : GoalId) (goal : ℤ) (canceling : Bool) (by : Event) (value : ℤ) (reached : State) (world : WorldState) → one.cause ≡ cause.Woke id goal canceling →
-    end_state id by (goals_of one.entity world) ≡ Some reached → P world → P (end_in (Some reached) one.entity id by value one.moment world)
+    end_state id by (goals_at one.entity world) ≡ Some reached → P world → P (end_in (Some reached) one.entity id by value one.moment world)
 
 -- the same before those that asked are told
 abbrev pub Reaches : Ready → (WorldState → Type 0) → Type 0
 Reaches one P =
     (id : GoalId) (goal : ℤ) (canceling : Bool) (by : Event) (value : ℤ) (reached : State) (world : WorldState) → one.cause ≡ cause.Woke id goal canceling →
-    end_state id by (goals_of one.entity world) ≡ Some reached → P world → P (ended one.entity id by value one.moment world)
+    end_state id by (goals_at one.entity world) ≡ Some reached → P world → P (ended one.entity id by value one.moment world)
 
 -- whether a callback takes an ask for a result
 abbrev pub takes_ask : Cause → Bool
@@ -82,7 +82,7 @@ ends_told k t one reaches id goal canceling by value reached world same leads p 
     tell_end_keeps k t one.entity (goal_at one.entity id (with_ended one.entity id by value one.moment world)) _ (reaches id goal canceling by value reached world same leads p)
 
 pub asks_told : {routes : Routes} {P Q : WorldState → Type 0} → Moves routes P → Tells P → (one : Ready) → ((world : WorldState) → P world → Q world) → Asks one P Q
-asks_told k t one weaken id client world same p = weaken _ (answer_ask_keeps k t one.entity id client (asked_for id (goals_of one.entity world)) world p)
+asks_told k t one weaken id client world same p = weaken _ (answer_ask_keeps k t one.entity id client (asked_for id (goals_at one.entity world)) world p)
 
 -- what is found passes the test
 pub found_test : {A : Type 0} (test : A → Bool) (all : List A) (one : A) → find test all ≡ Some one → test one ≡ true
@@ -126,7 +126,7 @@ module _ {routes : Routes} {P : WorldState → Type 0} (k : Moves routes P) (one
   unclosed_keeps world p =
       let work : Option GoalWork = work_for one.entity one.cause world in
       let before : WorldState = add_line (run_line one) world in
-      let outcome : Outcome WorldState = outcome_in one world in
+      let outcome : AfterCallback WorldState = outcome_in one world in
       with_polled_keeps one.entity one.cause outcome.task _
       (with_variables_for_keeps outcome.variables outcome.given
       (callback_keeps P (give one) (λ effect given q. give_keeps k one effect given q) one work (variables_for one world) before p))
@@ -157,7 +157,7 @@ module _ {routes : Routes} {P Q : WorldState → Type 0} (k : Moves routes P) (o
   weaken : (why : Cause) (world : WorldState) → one.cause ≡ why → takes_ask why ≡ false → P world → Q world
   weaken why world same none p = unchanged world (ap (λ (c : Cause). takes_ask c) same ∙ none) p
 
-  accept_keeps : (wanted : Option Acceptance) (request : GoalRequest) (world : WorldState) → one.cause ≡ cause.Took (item.Goal request.id request.client request.value) → (is_some wanted ≡ true → has_room_for request.id (goals_of one.entity world) ≡ true) → P world → P (accept_where wanted one.entity one.moment request world)
+  accept_keeps : (wanted : Option Acceptance) (request : GoalRequest) (world : WorldState) → one.cause ≡ cause.Took (item.Goal request.id request.client request.value) → (is_some wanted ≡ true → has_room_for request.id (goals_at one.entity world) ≡ true) → P world → P (accept_where wanted one.entity one.moment request world)
   accept_keeps None request world same room p = p
   accept_keeps (Some how) request world same room p = accepts request how world same (room refl) p
 
@@ -170,7 +170,7 @@ module _ {routes : Routes} {P Q : WorldState → Type 0} (k : Moves routes P) (o
   response_sent None id value accepted world same p = weaken _ world same refl p
   response_sent (Some client) id value accepted world same p = sends client (item.Response id accepted) world (value, same) refl p
 
-  decide_keeps : (request : GoalRequest) (decision : Decision) (world : WorldState) → one.cause ≡ cause.Took (item.Goal request.id request.client request.value) → (is_accepting decision ≡ true → has_room_for request.id (goals_of one.entity world) ≡ true) → P world → Q (decide one.entity one.moment decision request world)
+  decide_keeps : (request : GoalRequest) (decision : Decision) (world : WorldState) → one.cause ≡ cause.Took (item.Goal request.id request.client request.value) → (is_accepting decision ≡ true → has_room_for request.id (goals_at one.entity world) ≡ true) → P world → Q (decide one.entity one.moment decision request world)
   decide_keeps request decision world same room p =
       response_sent request.client request.id request.value (is_accepting decision) _ same
       (accept_keeps (acceptance_of decision) request _ same room (k.lines_kept (line.Decide one.entity request.id decision ∷ []) _ ((λ at goal. refl), (refl, refl)) p))
@@ -181,8 +181,8 @@ module _ {routes : Routes} {P Q : WorldState → Type 0} (k : Moves routes P) (o
 
   cancel_keeps : (request : CancelRequest) (client : Option EntityNo) (decisions : List Decided) (world : WorldState) → one.cause ≡ cause.Took (item.Cancel request client) → P world → Q (cancel one.entity request client decisions world)
   cancel_keeps request client decisions world same p =
-      code_sent client request (code_of request decisions (goals_of one.entity world)) (length (moved decisions (goals_of one.entity world))) _ same
-      (k.answer_kept one.entity decisions (code_of request decisions (goals_of one.entity world)) (length (moved decisions (goals_of one.entity world))) world p)
+      code_sent client request (code_of request decisions (goals_at one.entity world)) (length (moved decisions (goals_at one.entity world))) _ same
+      (k.answer_kept one.entity decisions (code_of request decisions (goals_at one.entity world)) (length (moved decisions (goals_at one.entity world))) world p)
 
   ask_keeps : (b : Bool) (client : ActionClientEntry) (id : GoalId) (accepted : Bool) (world : WorldState) → one.cause ≡ cause.Took (item.Response id accepted) → action_client_at one.entity world ≡ Some client → P world → Q (ask_where b client id world)
   ask_keeps false client id accepted world same found p = weaken _ world same refl p
@@ -195,19 +195,19 @@ module _ {routes : Routes} {P Q : WorldState → Type 0} (k : Moves routes P) (o
   took_keeps : (taken : Item) (closing : Close) (world : WorldState) → one.cause ≡ cause.Took taken → P world → Q (close_item one.entity one.moment taken closing world)
   took_keeps (item.Message value) closing world same p = weaken _ world same refl p
   took_keeps (item.Request client number value) closing world same p =
-      sends client (item.Reply number (reply_in closing)) _ (value, same) refl (k.lines_kept (line.Reply one.entity (reply_in closing) ∷ []) _ ((λ at goal. refl), (refl, refl)) p)
+      sends client (item.Reply number (reply_of_close closing)) _ (value, same) refl (k.lines_kept (line.Reply one.entity (reply_of_close closing) ∷ []) _ ((λ at goal. refl), (refl, refl)) p)
   took_keeps (item.Reply number value) closing world same p = weaken _ world same refl p
   took_keeps (item.Goal id client value) closing world same p =
-      decide_keeps (record { id = id; client = client; value = value }) (if has_room_for id (goals_of one.entity world) then decision_in closing else decision.Reject) world same
-      (roomy (has_room_for id (goals_of one.entity world)) (decision_in closing)) p
-  took_keeps (item.Cancel request client) closing world same p = cancel_keeps request client (decisions_in closing) world same p
+      decide_keeps (record { id = id; client = client; value = value }) (if has_room_for id (goals_at one.entity world) then decision_of_close closing else decision.Reject) world same
+      (roomy (has_room_for id (goals_at one.entity world)) (decision_of_close closing)) p
+  took_keeps (item.Cancel request client) closing world same p = cancel_keeps request client (decisions_of_close closing) world same p
   took_keeps (item.Ask id client) closing world same p = asks id client world same p
   took_keeps (item.Response id accepted) closing world same p = respond_keeps (action_client_at one.entity world) id accepted world same refl p
   took_keeps (item.Code returned moved) closing world same p = weaken _ world same refl p
   took_keeps (item.Feedback id value) closing world same p = weaken _ world same refl p
   took_keeps (item.Result id status value) closing world same p = weaken _ world same refl p
 
-  end_keeps : (id : GoalId) (goal : ℤ) (canceling : Bool) (by : Event) (value : ℤ) (reached : Option State) (world : WorldState) → one.cause ≡ cause.Woke id goal canceling → end_state id by (goals_of one.entity world) ≡ reached → P world → P (end_in reached one.entity id by value one.moment world)
+  end_keeps : (id : GoalId) (goal : ℤ) (canceling : Bool) (by : Event) (value : ℤ) (reached : Option State) (world : WorldState) → one.cause ≡ cause.Woke id goal canceling → end_state id by (goals_at one.entity world) ≡ reached → P world → P (end_in reached one.entity id by value one.moment world)
   end_keeps id goal canceling by value None world same leads p = p
   end_keeps id goal canceling by value (Some reached) world same leads p = ending id goal canceling by value reached world same leads p
 
@@ -222,7 +222,7 @@ module _ {routes : Routes} {P Q : WorldState → Type 0} (k : Moves routes P) (o
   poll_keeps id goal canceling (close.DecideCancel decision) world same p = p
   poll_keeps id goal canceling (close.Decisions decisions) world same p = p
   poll_keeps id goal canceling close.Pending world same p = pend_keeps world.order id world p
-  poll_keeps id goal canceling (close.Ended by value) world same p = end_keeps id goal canceling by value (end_state id by (goals_of one.entity world)) world same refl p
+  poll_keeps id goal canceling (close.Ended by value) world same p = end_keeps id goal canceling by value (end_state id by (goals_at one.entity world)) world same refl p
 
   pub closing_keeps : (why : Cause) (closing : Close) (world : WorldState) → one.cause ≡ why → P world → Q (close_cause one.entity one.moment why closing world)
   closing_keeps cause.Due closing world same p = weaken _ world same refl p
@@ -249,7 +249,7 @@ end_kept k server id by value moment world p =
 
 -- what an acceptance makes of a property, whichever goal it is that is accepted
 abbrev pub KeptByAcceptance : (WorldState → Type 0) → Type 0
-KeptByAcceptance P = (server : EntityNo) (moment : Moment) (how : Acceptance) (request : GoalRequest) (world : WorldState) → has_room_for request.id (goals_of server world) ≡ true → P world → P (accept server moment how request world)
+KeptByAcceptance P = (server : EntityNo) (moment : Moment) (how : Acceptance) (request : GoalRequest) (world : WorldState) → has_room_for request.id (goals_at server world) ≡ true → P world → P (accept server moment how request world)
 
 module _ {P : WorldState → Type 0} (basic : Kept P) (accepts : KeptByAcceptance P) where
   -- effects, one after another

@@ -29,14 +29,14 @@ slice_front (x ∷ xs) ys (suc i) within = slice_front xs ys i (omega arith)
 pub grown : (handlers : List Handler) (list more : List Ready) (homes : List Home) → AreHomes handlers list homes → AreHomes handlers (list ++ more) homes
 grown handlers list more homes are =
     All-weaker (IsScriptHome handlers list) (IsScriptHome handlers (list ++ more))
-    (λ home is. (omega (arith, is.0, length-append list more), λ one at. is.1 one (sym (slice_front list more home.at is.0) ∙ at))) homes are
+    (λ home is. (omega (arith, is.0, length-append list more), λ one at. is.1 one (sym (slice_front list more home.place_in_list is.0) ∙ at))) homes are
 
 -- a callback that is listed with its home
 pub pushed : (handlers : List Handler) (list : List Ready) (ready : Ready) (homes : List Home) (at place : ℕ) → at ≡ length list → HasScriptOf (slice_get handlers place) ready →
-    AreHomes handlers list homes → AreHomes handlers (listed_behind list (ready ∷ [])) (homes ++ record { at = at; place = place } ∷ [])
+    AreHomes handlers list homes → AreHomes handlers (listed_behind list (ready ∷ [])) (homes ++ record { place_in_list = at; place = place } ∷ [])
 pushed handlers list ready homes at place behind has are =
     let placed : Ready = record ready { position = length list + 1 } in
-    All-push (IsScriptHome handlers (listed_behind list (ready ∷ []))) homes (record { at = at; place = place }) (grown handlers list (placed ∷ []) homes are) (
+    All-push (IsScriptHome handlers (listed_behind list (ready ∷ []))) homes (record { place_in_list = at; place = place }) (grown handlers list (placed ∷ []) homes are) (
       omega (arith, behind, length-append list (placed ∷ [])),
       λ one there. subst (HasScriptOf (slice_get handlers place)) (same_Some placed one (sym (last-there list placed) ∙ ap (slice_get (list ++ placed ∷ [])) (sym behind) ∙ there)) has,
     )
@@ -59,7 +59,7 @@ left found (first ∷ list) (suc at) (suc place) one has there = left found list
 pub taken_out : (handlers : List Handler) (list : List Ready) (at : ℕ) (homes : List Home) → AreHomes handlers list homes → AreHomes handlers (change_at at without_script list) homes
 taken_out handlers list at homes are =
     All-weaker (IsScriptHome handlers list) (IsScriptHome handlers (change_at at without_script list))
-    (λ home is. (omega (arith, is.0, length_changed without_script at list), λ one there. left (slice_get handlers home.place) list at home.at one is.1 there)) homes are
+    (λ home is. (omega (arith, is.0, length_changed without_script at list), λ one there. left (slice_get handlers home.place) list at home.place_in_list one is.1 there)) homes are
 
 -- a callback with the script of a handler that stands at a place
 pub has_script : (found : Option Handler) (ready : Ready) (own : Handler) (taken : Script) → ready.script ≡ Some taken → taken ≡ own.script → found ≡ Some own → HasScriptOf found ready
@@ -68,10 +68,10 @@ has_script found ready own taken given is there =
 
 -- a script that is taken at a home is that of the handler there
 pub script_home : {E : Type 0} (handler_of : E → Handler) (entries : List E) (list : List Ready) (home : Home) (script : Script) (entry : E) →
-    IsScriptHome (map handler_of entries) list home → Some script ≡ option_map_or (λ (one : Ready). one.script) (slice_get list home.at) None → slice_get entries home.place ≡ Some entry → script ≡ (handler_of entry).script
-script_home {E} handler_of entries list home script entry is given there = by (slice_get list home.at) refl
+    IsScriptHome (map handler_of entries) list home → Some script ≡ option_map_or (λ (one : Ready). one.script) (slice_get list home.place_in_list) None → slice_get entries home.place ≡ Some entry → script ≡ (handler_of entry).script
+script_home {E} handler_of entries list home script entry is given there = by (slice_get list home.place_in_list) refl
   where
-    by : (found : Option Ready) → slice_get list home.at ≡ found → script ≡ (handler_of entry).script
+    by : (found : Option Ready) → slice_get list home.place_in_list ≡ found → script ≡ (handler_of entry).script
     by None e = absurd (none-some script (sym (given ∙ ap (λ (one : Option Ready). option_map_or (λ (one : Ready). one.script) one None) e)))
     by (Some one) e =
         is.1 one e script (handler_of entry) (sym (given ∙ ap (λ (one : Option Ready). option_map_or (λ (one : Ready). one.script) one None) e))

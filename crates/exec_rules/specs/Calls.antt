@@ -18,12 +18,12 @@ pub record WorldData : Type 0 where
   pub plan : PlanData
   pub state : WorldState
   pub rounds : ℕ
-  pub left : ℕ
+  pub uncommitted : ℕ
   pub failed : Bool
 
 -- the world of a plan before its first round
 abbrev pub new_world : PlanData → WorldData
-new_world plan = record { plan = plan; state = first_world plan; rounds = 0; left = 0; failed = false }
+new_world plan = record { plan = plan; state = first_world plan; rounds = 0; uncommitted = 0; failed = false }
 
 -- the world of a plan after its first rounds, so many of them
 abbrev pub world_after : ℕ → PlanData → WorldData
@@ -31,7 +31,7 @@ world_after count plan = record {
   plan = plan;
   state = rounds plan 1 (take count plan.moments) (first_world plan);
   rounds = count;
-  left = 0;
+  uncommitted = 0;
   failed = false;
 }
 
@@ -39,15 +39,15 @@ world_after count plan = record {
 pub record IsNext (number : ℕ) (world : WorldData) : Type 0 where
   pub next : number ≡ world.rounds + 1
   pub within : number ≤ length world.plan.moments
-  pub done : world.left ≡ 0
+  pub done : world.uncommitted ≡ 0
 
 -- the moment of a round
 abbrev pub moment_of : ℕ → PlanData → Moment
 moment_of number plan = slice_index_or plan.moments (number - 1) 0
 
 -- a world of which so many callbacks are still to be committed: where there are none, its round is done
-abbrev pub with_left : ℕ → WorldData → WorldData
-with_left left world = record world { left = left; rounds = if left == 0 then suc world.rounds else world.rounds }
+abbrev pub with_uncommitted : ℕ → WorldData → WorldData
+with_uncommitted count world = record world { uncommitted = count; rounds = if count == 0 then suc world.rounds else world.rounds }
 
 -- the state of which the snapshot of a round is taken
 abbrev pub state_at : ℕ → WorldData → WorldState
@@ -88,19 +88,19 @@ HaveVariables list world = AllByRecursion (λ one. one.exclusive ≡ true → on
 -- a world after the snapshot of a round
 abbrev pub after_snapshot : ℕ → WorldData → WorldData
 after_snapshot number world =
-    with_left (length (ready_in number world)) (record world { state = take_inputs (moment_of number world.plan) (state_at number world) })
+    with_uncommitted (length (ready_in number world)) (record world { state = take_inputs (moment_of number world.plan) (state_at number world) })
 
 -- a world after one of the callbacks of the last snapshot is committed
 abbrev pub after_commit : Ready → Effects → WorldData → WorldData
-after_commit one effects world = with_left (world.left - 1) (record world { state = commit one effects world.state })
+after_commit one effects world = with_uncommitted (world.uncommitted - 1) (record world { state = commit one effects world.state })
 
 -- a world after the callbacks of the last snapshot, these, ran one after another where they stand
 abbrev pub after_all : List Ready → WorldData → WorldData
-after_all list world = with_left 0 (record world { state = run_all list world.state })
+after_all list world = with_uncommitted 0 (record world { state = run_all list world.state })
 
 -- a world after a whole round
 abbrev pub after_round : ℕ → WorldData → WorldData
-after_round number world = with_left 0 (record world { state = round world.plan number (moment_of number world.plan) world.state })
+after_round number world = with_uncommitted 0 (record world { state = round world.plan number (moment_of number world.plan) world.state })
 
 -- a world whose transcript is closed
 abbrev pub after_finish : WorldData → WorldData

@@ -25,7 +25,7 @@ use Rattle.exec_script.specs.declared.effects.Close.TheVariants as close
 use Rattle.exec_task.specs.Task.{new_task}
 use Rattle.exec_plan.specs.declared.order.Order.{Order}
 use Rattle.exec_plan.specs.declared.order.Order.TheVariants as order
-use Rattle.exec_rules.specs.World.{WorldState, HeldGoal, ServerEntry, ActionClientEntry, goals_of, has_room_for, is_for, action_client_at}
+use Rattle.exec_rules.specs.World.{WorldState, HeldGoal, ServerEntry, ActionClientEntry, goals_at, has_room_for, is_for, action_client_at}
 use Rattle.exec_rules.specs.World.{add_line, add_lines, push, push_any, change_server, change_goals, arrived, next_arrival, with_arrival}
 use Rattle.exec_rules.specs.declared.item.Item.{Item}
 use Rattle.exec_rules.specs.declared.item.Item.TheVariants as item
@@ -34,19 +34,19 @@ use Rattle.exec_rules.specs.declared.ready.Cause.TheVariants as cause
 use Rattle.exec_rules.specs.declared.ready.Ready.{Ready}
 
 -- the reply that closes a callback; no other closing has one
-abbrev pub reply_in : Close → ℤ
-reply_in (close.Reply value) = value
-reply_in _ = pos 0
+abbrev pub reply_of_close : Close → ℤ
+reply_of_close (close.Reply value) = value
+reply_of_close _ = pos 0
 
 -- the decision that closes it; any other closing rejects
-abbrev pub decision_in : Close → Decision
-decision_in (close.Decide made) = made
-decision_in _ = decision.Reject
+abbrev pub decision_of_close : Close → Decision
+decision_of_close (close.Decide made) = made
+decision_of_close _ = decision.Reject
 
 -- the decisions that close it
-abbrev pub decisions_in : Close → List Decided
-decisions_in (close.Decisions decisions) = decisions
-decisions_in _ = []
+abbrev pub decisions_of_close : Close → List Decided
+decisions_of_close (close.Decisions decisions) = decisions
+decisions_of_close _ = []
 
 -- ---- services
 
@@ -103,7 +103,7 @@ decide server moment made request world =
 -- a server decides on a goal request: it rejects one whose identifier it holds, or for which it has no room
 abbrev pub answer_goal : EntityNo → Moment → Decision → GoalRequest → WorldState → WorldState
 answer_goal server moment made request world =
-    decide server moment (if has_room_for request.id (goals_of server world) then made else decision.Reject) request world
+    decide server moment (if has_room_for request.id (goals_at server world) then made else decision.Reject) request world
 
 -- ---- cancel requests
 
@@ -119,7 +119,7 @@ answer_cancel server client returned goals world =
 -- a server cancels by what was decided of a request's candidates, as its goals are now, and answers the request
 abbrev pub cancel : EntityNo → CancelRequest → Option EntityNo → List Decided → WorldState → WorldState
 cancel server request client decisions world =
-    let goals = goals_of server world in
+    let goals = goals_at server world in
     answer_cancel server client (code_of request decisions goals) (moved decisions goals) (change_goals server (table_after decisions) world)
 
 -- ---- results
@@ -136,7 +136,7 @@ answer_ask server id client later world = change_goals server (change_first (has
 
 -- a server answers a result request, or notes its client
 abbrev pub ask : EntityNo → GoalId → EntityNo → WorldState → WorldState
-ask server id client world = answer_ask server id client (asked_for id (goals_of server world)) world
+ask server id client world = answer_ask server id client (asked_for id (goals_at server world)) world
 
 -- an action client whose goal was accepted asks for its result, where it asks for results
 abbrev pub ask_where : Bool → ActionClientEntry → GoalId → WorldState → WorldState
@@ -166,7 +166,7 @@ with_ended server id by value moment world = change_goals server (change_first (
 
 -- the record of a server's goal of an identifier
 abbrev pub goal_at : EntityNo → GoalId → WorldState → Option GoalRecord
-goal_at server id world = find (has_id id) (goals_of server world)
+goal_at server id world = find (has_id id) (goals_at server world)
 
 -- a goal ends by an event with a value, where that leads to this state; where it leads to none, nothing happens
 abbrev pub end_in : Option State → EntityNo → GoalId → Event → ℤ → Moment → WorldState → WorldState
@@ -177,7 +177,7 @@ end_in (Some reached) server id by value moment world =
 
 -- a goal ends by an event with a value, where that leads to a terminal state
 abbrev pub end : EntityNo → GoalId → Event → ℤ → Moment → WorldState → WorldState
-end server id by value moment world = end_in (end_state id by (goals_of server world)) server id by value moment world
+end server id by value moment world = end_in (end_state id by (goals_at server world)) server id by value moment world
 
 -- a server's goal arrives anew
 abbrev pub goal_arrived : EntityNo → GoalId → WorldState → WorldState
@@ -200,10 +200,10 @@ close_poll server id moment _ world = world
 
 -- what closes a callback of an entity that took an item
 abbrev pub close_item : EntityNo → Moment → Item → Close → WorldState → WorldState
-close_item entity moment (item.Request client number value) closing world = reply_to entity client number (reply_in closing) world
+close_item entity moment (item.Request client number value) closing world = reply_to entity client number (reply_of_close closing) world
 close_item entity moment (item.Goal id client value) closing world =
-    answer_goal entity moment (decision_in closing) (record { id = id; client = client; value = value }) world
-close_item entity moment (item.Cancel request client) closing world = cancel entity request client (decisions_in closing) world
+    answer_goal entity moment (decision_of_close closing) (record { id = id; client = client; value = value }) world
+close_item entity moment (item.Cancel request client) closing world = cancel entity request client (decisions_of_close closing) world
 close_item entity moment (item.Ask id client) closing world = ask entity id client world
 close_item entity moment (item.Response id accepted) closing world =
     respond (action_client_at entity world) id accepted world

@@ -12,7 +12,7 @@ use Rattle.exec_msg.specs.Lists.{change_first}
 use Rattle.exec_script.specs.declared.effects.Effect.{Effect}
 use Rattle.exec_script.specs.declared.effects.Effect.TheVariants as effect
 use Rattle.exec_rules.specs.Item.{goal_id}
-use Rattle.exec_rules.specs.World.{WorldState, ClientEntry, ActionClientEntry, add_line, push, push_any, subscribers_of, goals_of, change_goals, held_for, client_at, with_call, action_client_at, with_goal_sent}
+use Rattle.exec_rules.specs.World.{WorldState, ClientEntry, ActionClientEntry, add_line, push, push_any, subscribers_at, goals_at, change_goals, held_for, client_at, with_call, action_client_at, with_goal_sent}
 use Rattle.exec_rules.specs.declared.item.Item.TheVariants as item
 use Rattle.exec_rules.specs.declared.ready.Cause.{Cause}
 use Rattle.exec_rules.specs.declared.ready.Cause.TheVariants as cause
@@ -20,7 +20,7 @@ use Rattle.exec_rules.specs.declared.ready.Ready.{Ready}
 
 -- a message is sent to each subscription of its topic, in the order of declaration
 abbrev pub publish : EntityNo → ℤ → WorldState → WorldState
-publish topic value world = fold (λ before subscriber. push subscriber (item.Message value) before) world (subscribers_of topic world)
+publish topic value world = fold (λ before subscriber. push subscriber (item.Message value) before) world (subscribers_at topic world)
 
 -- a service client makes its next call, which is pending from now on; a client that isn't there does nothing
 abbrev pub call_by : Option ClientEntry → ℤ → WorldState → WorldState
@@ -53,7 +53,7 @@ cancel_goal_by (Some client) number stamp world = send_cancel client (record { i
 
 -- the oldest goal of a server that is accepted and not executed yet
 abbrev pub oldest_accepted : EntityNo → WorldState → Option GoalRecord
-oldest_accepted server world = find (λ goal. is_accepted goal.state) (goals_of server world)
+oldest_accepted server world = find (λ goal. is_accepted goal.state) (goals_at server world)
 
 -- the goal of an identifier is executed
 abbrev pub execute_goal : EntityNo → Option GoalRecord → WorldState → WorldState
@@ -67,13 +67,13 @@ abbrev pub execute : EntityNo → WorldState → WorldState
 execute server world = execute_goal server (oldest_accepted server world) world
 
 -- the action client that sent a goal, if one did
-abbrev pub client_of : EntityNo → GoalId → WorldState → Option EntityNo
-client_of server id world = option_map_or (λ held. held.client) (held_for server id world) None
+abbrev pub sender_at : EntityNo → GoalId → WorldState → Option EntityNo
+sender_at server id world = option_map_or (λ held. held.client) (held_for server id world) None
 
 -- a goal that is polled gives feedback, to the client that sent it; nothing else gives any
 abbrev pub give_feedback : EntityNo → Cause → ℤ → WorldState → WorldState
 give_feedback server (cause.Woke id goal canceling) value world =
-    push_any (client_of server id world) (item.Feedback id value) (add_line (line.Feedback server id value) world)
+    push_any (sender_at server id world) (item.Feedback id value) (add_line (line.Feedback server id value) world)
 give_feedback server _ value world = world
 
 -- what an effect of a ready callback does

@@ -24,7 +24,7 @@ use Rattle.exec_plan.specs.declared.order.Order.TheVariants as order
 use Rattle.exec_rules.specs.Item.{taker_of, first_of, aux_of, id_of}
 use Rattle.exec_rules.specs.Sorting.{sorted_by}
 use Rattle.exec_rules.specs.World.{WorldState, Handler, TimerEntry, Queue, ServerEntry, ClientEntry, HeldGoal}
-use Rattle.exec_rules.specs.World.{goals_of, has_room_for, held_for, is_client_at, is_for, is_queue}
+use Rattle.exec_rules.specs.World.{goals_at, has_room_for, held_for, is_client_at, is_for, is_queue}
 use Rattle.exec_rules.specs.declared.item.Item.{Item}
 use Rattle.exec_rules.specs.declared.item.Item.TheVariants as item
 use Rattle.exec_rules.specs.declared.ready.Cause.{Cause}
@@ -54,14 +54,14 @@ abbrev pub input_of : Ready → CallInput
 input_of ready = input_at ready.moment ready.cause (length ready.candidates)
 
 -- the identifier on the line of a callback that is ready for this cause
-abbrev pub id_for : Cause → Option GoalId
-id_for cause.Due = None
-id_for (cause.Took taken) = id_of taken
-id_for (cause.Woke id value canceling) = Some id
+abbrev pub id_of_cause : Cause → Option GoalId
+id_of_cause cause.Due = None
+id_of_cause (cause.Took taken) = id_of taken
+id_of_cause (cause.Woke id value canceling) = Some id
 
 -- the line with which a callback begins that is handed this
 abbrev pub line_of : EntityNo → Cause → CallInput → Line
-line_of entity why input = line.Run entity (kind_of why) input.first input.aux (id_for why)
+line_of entity why input = line.Run entity (kind_of why) input.first input.aux (id_of_cause why)
 
 -- the line with which a ready callback begins
 abbrev pub run_line : Ready → Line
@@ -106,7 +106,7 @@ item_ready moment handler goals (first ∷ items) =
 
 -- the callback that takes from a queue where that has an item
 abbrev pub queue_ready : Moment → WorldState → Queue → List Ready
-queue_ready moment world queue = item_ready moment queue.handler (goals_of queue.handler.entity world) queue.items
+queue_ready moment world queue = item_ready moment queue.handler (goals_at queue.handler.entity world) queue.items
 
 -- whether the task of a goal is awake in a turn; one that isn't there or is out never is
 abbrev pub is_task_awake : Turn → Option HeldGoal → Bool

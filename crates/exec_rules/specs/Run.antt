@@ -6,11 +6,11 @@ use Rattle.exec_script.specs.Zeros.{zeros}
 use Rattle.exec_script.specs.declared.effects.Effect.{Effect}
 use Rattle.exec_script.specs.declared.effects.Effects.{Effects}
 use Rattle.exec_task.specs.Task.{TaskState}
-use Rattle.exec_rules.specs.Callback.{Outcome, callback}
+use Rattle.exec_rules.specs.Callback.{AfterCallback, callback}
 use Rattle.exec_rules.specs.Close.{close_callback}
 use Rattle.exec_rules.specs.Give.{give, give_all}
 use Rattle.exec_rules.specs.Ready.{run_line}
-use Rattle.exec_rules.specs.World.{ServerEntry, WorldState, GoalWork, add_line, variables_of, with_variables, work_in, with_task}
+use Rattle.exec_rules.specs.World.{ServerEntry, WorldState, GoalWork, add_line, variables_at, with_variables, work_in, with_task}
 use Rattle.exec_rules.specs.declared.ready.Cause.{Cause}
 use Rattle.exec_rules.specs.declared.ready.Cause.TheVariants as cause
 use Rattle.exec_rules.specs.declared.ready.Ready.{Ready}
@@ -31,22 +31,22 @@ with_polled server _ _ world = world
 
 -- the variables with which a callback begins: those of its group where that is exclusive, and none where it is reentrant
 abbrev pub variables_for : Ready → WorldState → Variables
-variables_for one world = if one.exclusive then variables_of one.group world else zeros
+variables_for one world = if one.exclusive then variables_at one.group world else zeros
 
 -- the world in which it left them so
 abbrev pub with_variables_for : Ready → Variables → WorldState → WorldState
 with_variables_for one variables world = if one.exclusive then with_variables one.group variables world else world
 
 -- the world in which the variables and the task of a callback that came out so are home
-abbrev pub brought_home : {S : Type 0} → Ready → Outcome S → WorldState → WorldState
+abbrev pub brought_home : {S : Type 0} → Ready → AfterCallback S → WorldState → WorldState
 brought_home one outcome world = with_polled one.entity one.cause outcome.task (with_variables_for one outcome.variables world)
 
 -- the world after a callback that came out so: its variables and its task come home, and it is closed
-abbrev pub after_callback : Ready → Outcome WorldState → WorldState
+abbrev pub after_callback : Ready → AfterCallback WorldState → WorldState
 after_callback one outcome = close_callback one outcome.close (brought_home one outcome outcome.given)
 
 -- what a ready callback does in the world, behind its line: each of its effects is given to the world at its instruction
-abbrev pub outcome_in : Ready → WorldState → Outcome WorldState
+abbrev pub outcome_in : Ready → WorldState → AfterCallback WorldState
 outcome_in one world = callback (give one) one (work_for one.entity one.cause world) (variables_for one world) (add_line (run_line one) world)
 
 -- a ready callback runs
@@ -54,7 +54,7 @@ abbrev pub run : Ready → WorldState → WorldState
 run one world = after_callback one (outcome_in one world)
 
 -- what a ready callback does apart from the world, with this work and these variables, its effects listed
-abbrev pub apart_with : Ready → Option GoalWork → Variables → Outcome (List Effect)
+abbrev pub apart_with : Ready → Option GoalWork → Variables → AfterCallback (List Effect)
 apart_with one work variables = callback listed one work variables []
 
 -- a goal's work behind a callback that left its task so, if it polled it
@@ -63,11 +63,11 @@ work_after None work = work
 work_after (Some task) work = record work { task = task }
 
 -- the same with the work and the variables that the world has for it
-abbrev pub apart : Ready → WorldState → Outcome (List Effect)
+abbrev pub apart : Ready → WorldState → AfterCallback (List Effect)
 apart one world = apart_with one (work_for one.entity one.cause world) (variables_for one world)
 
 -- what it then did: its effects, and what closes it
-abbrev pub effects_of : Outcome (List Effect) → Effects
+abbrev pub effects_of : AfterCallback (List Effect) → Effects
 effects_of outcome = record { list = outcome.given; close = outcome.close }
 
 -- what a ready callback did apart from the world is given to it: its line, each of its effects, and what closes it; its

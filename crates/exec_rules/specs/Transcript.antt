@@ -56,15 +56,15 @@ abbrev pub new_topic : GraphData → EntityNo → TopicEntry
 new_topic graph topic = record { entity = topic; subscribers = entities_where (of_entity false (subscribes_to topic)) graph }
 
 -- the period of a timer
-abbrev pub period_in : Resolved → ℕ
-period_in (Timer entity) = entity.period
-period_in _ = 0
+abbrev pub period_of : Resolved → ℕ
+period_of (Timer entity) = entity.period
+period_of _ = 0
 
 -- a timer, made at moment 0: its first call comes after one period
 abbrev pub timer_for : GraphData → EntityNo → GraphEntity → TimerEntry
 timer_for graph number entity = record {
   handler = handler_for graph kind.Timer number entity;
-  timer = record { next = period_in entity.is; period = period_in entity.is };
+  timer = record { next = period_of entity.is; period = period_of entity.is };
 }
 
 -- the timer that a graph has at a number, made at moment 0
@@ -97,49 +97,49 @@ abbrev pub new_queue : Order → GraphData → Waitable → Queue
 new_queue under graph waitable = queue_for under graph waitable.kind waitable.entity (entity_at graph waitable.entity)
 
 -- for how many ticks a server keeps a result, where it doesn't keep it without end
-abbrev pub timeout_in : Resolved → Option ℕ
-timeout_in (Server entity) = entity.result_timeout
-timeout_in _ = None
+abbrev pub timeout_of : Resolved → Option ℕ
+timeout_of (Server entity) = entity.result_timeout
+timeout_of _ = None
 
 -- a server without goals
 abbrev pub server_for : GraphData → EntityNo → GraphEntity → ServerEntry
 server_for graph number entity =
-    record { handler = handler_for graph kind.Poll number entity; timeout = timeout_in entity.is; goals = []; held = [] }
+    record { handler = handler_for graph kind.Poll number entity; timeout = timeout_of entity.is; goals = []; held = [] }
 
 -- the action server that a graph has at a number, before it accepts a goal
 abbrev pub new_server : GraphData → EntityNo → ServerEntry
 new_server graph number = server_for graph number (entity_at graph number)
 
 -- the service of a client
-abbrev pub service_in : Resolved → EntityNo
-service_in (Client entity) = entity.service
-service_in _ = 0
+abbrev pub service_of : Resolved → EntityNo
+service_of (Client entity) = entity.service
+service_of _ = 0
 
 -- a service client that hasn't called yet
 abbrev pub client_for : EntityNo → GraphEntity → ClientEntry
-client_for number entity = record { entity = number; service = service_in entity.is; calls = 0; pending = [] }
+client_for number entity = record { entity = number; service = service_of entity.is; calls = 0; pending = [] }
 
 -- the service client that a graph has at a number, before its first call
 abbrev pub new_client : GraphData → EntityNo → ClientEntry
 new_client graph number = client_for number (entity_at graph number)
 
 -- the server of an action client
-abbrev pub server_in : Resolved → EntityNo
-server_in (ActionClient entity) = entity.server
-server_in _ = 0
+abbrev pub server_of : Resolved → EntityNo
+server_of (ActionClient entity) = entity.server
+server_of _ = 0
 
 -- whether it asks for the results of its goals
-abbrev pub asks_in : Resolved → Bool
-asks_in (ActionClient entity) = is_some entity.on_result
-asks_in _ = false
+abbrev pub is_asking : Resolved → Bool
+is_asking (ActionClient entity) = is_some entity.on_result
+is_asking _ = false
 
 -- an action client that hasn't sent a goal yet, at its place among them
 abbrev pub action_client_for : ℕ → EntityNo → GraphEntity → ActionClientEntry
 action_client_for place number entity = record {
   entity = number;
   place = place;
-  server = server_in entity.is;
-  asks = asks_in entity.is;
+  server = server_of entity.is;
+  asks = is_asking entity.is;
   goals = 0;
 }
 

@@ -118,8 +118,8 @@ add_lines lines world = record world { lines = world.lines ++ lines }
 -- ---- variables of callback groups
 
 -- the variables of a group
-abbrev pub variables_of : GroupNo → WorldState → Variables
-variables_of group world = slice_index_or world.variables group zeros
+abbrev pub variables_at : GroupNo → WorldState → Variables
+variables_at group world = slice_index_or world.variables group zeros
 
 -- the world with other variables of a group
 abbrev pub with_variables : GroupNo → Variables → WorldState → WorldState
@@ -183,8 +183,8 @@ push_any (Some entity) new world = push entity new world
 -- ---- topics
 
 -- the subscriptions of a topic
-abbrev pub subscribers_of : EntityNo → WorldState → List EntityNo
-subscribers_of topic world = option_map_or (λ entry. entry.subscribers) (find (λ entry. entry.entity == topic) world.topics) []
+abbrev pub subscribers_at : EntityNo → WorldState → List EntityNo
+subscribers_at topic world = option_map_or (λ entry. entry.subscribers) (find (λ entry. entry.entity == topic) world.topics) []
 
 -- ---- servers and their goals
 
@@ -197,8 +197,8 @@ abbrev pub goals_in : EntityNo → List ServerEntry → List GoalRecord
 goals_in server servers = option_map_or (λ entry. entry.goals) (find (is_server_at server) servers) []
 
 -- the records of a server's goals
-abbrev pub goals_of : EntityNo → WorldState → List GoalRecord
-goals_of server world = goals_in server world.servers
+abbrev pub goals_at : EntityNo → WorldState → List GoalRecord
+goals_at server world = goals_in server world.servers
 
 -- whether a server with these goals can hold one more of an identifier: it holds none of it, and isn't full
 abbrev pub has_room_for : GoalId → List GoalRecord → Bool
@@ -209,8 +209,8 @@ abbrev pub held_in : EntityNo → List ServerEntry → List HeldGoal
 held_in server servers = option_map_or (λ entry. entry.held) (find (is_server_at server) servers) []
 
 -- what a server keeps beside them
-abbrev pub held_by : EntityNo → WorldState → List HeldGoal
-held_by server world = held_in server world.servers
+abbrev pub held_at : EntityNo → WorldState → List HeldGoal
+held_at server world = held_in server world.servers
 
 -- the world in which a server is changed
 abbrev pub change_server : EntityNo → (ServerEntry → ServerEntry) → WorldState → WorldState
@@ -226,7 +226,7 @@ is_for id held = held.id == id
 
 -- what a server keeps beside the goal of an identifier
 abbrev pub held_for : EntityNo → GoalId → WorldState → Option HeldGoal
-held_for server id world = find (is_for id) (held_by server world)
+held_for server id world = find (is_for id) (held_at server world)
 
 -- the work of the goal of an identifier of the server of a number, if it holds the goal and its task isn't out
 abbrev pub work_in : EntityNo → GoalId → List ServerEntry → Option GoalWork

@@ -3,7 +3,7 @@ ghost use Rattle.std.specs.Prelude.{◌≡◌, IfOk, OnErr, OnOk};
 ghost use Rattle.std.specs.Option.{option_map};
 ghost use Rattle.exec_script.specs.Script.{called, cancel_decided, listed};
 ghost use Rattle.exec_rules.specs.Callback.{call_in, candidate_input, handle_all, instructions_of, take_item};
-ghost use Rattle.exec_rules.specs.Close.{decision_in};
+ghost use Rattle.exec_rules.specs.Close.{decision_of_close};
 ghost use Rattle.exec_rules.specs.inner.Handling.{cancel_decision_in};
 ghost use Rattle.exec_rules.specs.Ready.{input_of, turn_at};
 ghost use Rattle.exec_rules.specs.Run.{apart_with, effects_of, work_after};
@@ -14,7 +14,7 @@ use crate::item::Item;
 use crate::polling::poll_any;
 use crate::ready::{Cause, Ready};
 use exec_goal::GoalInfo;
-use exec_msg::{CancelDecision, Decision, Items, Memory, Moment};
+use exec_msg::{CancelDecision, Decision, Elements, Memory, Moment};
 use exec_script::{
     Bank, Close, EffectList, Effects, Input, Instr, Role, run_call_closing, run_call_into,
 };
@@ -178,16 +178,16 @@ fn handle_all(
     ensures effects { OnOk result (effects.new ≡ (handle_all listed one.now bank.old effects.old).given) }
     ensures close { IfOk result (λ close. close ≡ (handle_all listed one.now bank.old effects.old).close) }
 {
-    let mut decisions = Items::new(alloc);
+    let mut decisions = Elements::new(alloc);
     for candidate in one.candidates.as_slice() {
-        let decision = handle(one, candidate, bank, effects)?;
+        let decision = handle_cancel(one, candidate, bank, effects)?;
         decisions.push((candidate.id, decision))?;
     }
     Ok(Close::Decisions(decisions))
 }
 
 // Runs a cancel handler for a candidate, and answers its decision.
-fn handle(
+fn handle_cancel(
     one: &Ready,
     candidate: &GoalInfo,
     bank: &mut Bank,
@@ -195,7 +195,7 @@ fn handle(
 ) -> Result<CancelDecision, Memory>
     ensures variables { OnOk result (bank.new ≡ (called listed (instructions_of one.now.script) bank.old (candidate_input one.now.moment candidate.now) effects.old).variables) }
     ensures effects { OnOk result (effects.new ≡ (called listed (instructions_of one.now.script) bank.old (candidate_input one.now.moment candidate.now) effects.old).given) }
-    ensures decision { IfOk result (λ decision. decision ≡ cancel_decided (called listed (instructions_of one.now.script) bank.old (candidate_input one.now.moment candidate.now) effects.old).answer) }
+    ensures decision { IfOk result (λ decision. decision ≡ cancel_decided (called listed (instructions_of one.now.script) bank.old (candidate_input one.now.moment candidate.now) effects.old).reply_or_decision) }
 {
     let input = candidate_input(one.moment, candidate);
     let close = run_call_into(
@@ -219,8 +219,8 @@ fn candidate_input(moment: Moment, candidate: &GoalInfo) -> Input
 }
 
 /// The decision that closes a callback. If something else closes it, the decision is to reject.
-pub fn decision_in(closing: &Close) -> Decision
-    ensures { result ≡ decision_in closing.now }
+pub fn decision_of_close(closing: &Close) -> Decision
+    ensures { result ≡ decision_of_close closing.now }
 {
     match closing {
         Close::Decide(decision) => *decision,

@@ -1,7 +1,7 @@
 use crate::ready::{Cause, Ready};
 use crate::shared::share;
 use exec_goal::GoalInfo;
-use exec_msg::{EntityNo, Items, Memory, Moment};
+use exec_msg::{Elements, EntityNo, Memory, Moment};
 use exec_plan::{GroupNo, Script};
 use std::marker::Model;
 
@@ -89,7 +89,7 @@ impl Handler {
         &self,
         moment: Moment,
         cause: Cause,
-        candidates: Items<GoalInfo>,
+        candidates: Elements<GoalInfo>,
         script: Option<Script>,
     ) -> Ready
         ensures { result ≡ ready_for moment self.now cause candidates script }

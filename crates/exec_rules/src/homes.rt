@@ -8,7 +8,7 @@ use std::alloc::Global;
 #[derive(Clone, Copy)]
 pub struct Home {
     /// The callback's place in the ready list, from 0.
-    pub at: usize,
+    pub place_in_list: usize,
     /// Its handler's place among the timers or the queues, from 0.
     pub place: usize,
 }

@@ -12,7 +12,7 @@ mod ready;
 mod ready_list;
 mod shared;
 
-pub use callback::{call_in, decision_in, take_item};
+pub use callback::{call_in, decision_of_close, take_item};
 pub use handler::Handler;
 pub use homes::{Home, Homes};
 pub use item::Item;

@@ -1,10 +1,10 @@
 ghost use Rattle.std.specs.Prelude.{◌≡◌};
-ghost use Rattle.exec_rules.specs.Ready.{kind_of, id_for, input_at, input_of, line_of};
+ghost use Rattle.exec_rules.specs.Ready.{kind_of, id_of_cause, input_at, input_of, line_of};
 ghost use Rattle.exec_rules.specs.inner.Awake.{poll_at};
 
 use crate::item::Item;
 use exec_goal::GoalInfo;
-use exec_msg::{EntityNo, GoalId, Items, Kind, Line, Moment};
+use exec_msg::{Elements, EntityNo, GoalId, Kind, Line, Moment};
 use exec_plan::{GroupNo, Script};
 use exec_script::Input;
 use std::alloc::Global;
@@ -57,7 +57,7 @@ pub struct Ready {
     /// Why it is ready.
     pub cause: Cause,
     /// The goals that a cancel request may cancel, as they were at the snapshot, in the order of acceptance.
-    pub candidates: Items<GoalInfo>,
+    pub candidates: Elements<GoalInfo>,
     /// What runs. For a cancel request it runs once for each candidate. An ask has none. A goal request has none if its
     /// identifier is held at the snapshot, or if there is no room for one more goal.
     pub script: Option<Script>,
@@ -79,7 +79,7 @@ impl Cause {
     /// The identifier on the callback's line.
     #[inline(always)]
     pub fn id(&self) -> Option<GoalId>
-        ensures { result ≡ id_for self.now }
+        ensures { result ≡ id_of_cause self.now }
     {
         match self {
             Cause::Due => None,
@@ -107,7 +107,7 @@ impl AwakeGoal {
                 value: self.value,
                 canceling: self.canceling,
             },
-            candidates: Items::new(alloc),
+            candidates: Elements::new(alloc),
             script: None,
         }
     }
@@ -131,7 +131,7 @@ impl Ready {
 
     /// The identifier on the callback's line.
     pub fn id(&self) -> Option<GoalId>
-        ensures { result ≡ id_for self.now.cause }
+        ensures { result ≡ id_of_cause self.now.cause }
     {
         self.cause.id()
     }

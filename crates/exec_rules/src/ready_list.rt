@@ -77,7 +77,10 @@ impl ReadyList {
         ensures unchanged { OnErr result (self.new ≡ self.old) }
     {
         let at = self.as_slice().len();
-        homes.push(Home { at, place })?;
+        homes.push(Home {
+            place_in_list: at,
+            place,
+        })?;
         self.push(ready)
     }
 

@@ -3,11 +3,11 @@ use Rattle.std.proofs.Common.{◌≡◌, ℕ, zero, suc, ◌+◌, ◌-◌, ◌^�
 use Rattle.std.proofs.lemmas.List.{drop-drop, drop_all}
 use Rattle.std.proofs.lemmas.Bool.{cases_lt}
 use Rattle.std.proofs.Math.Seq.{drop-cons}
-use Rattle.exec_script.specs.Script.{ScriptState, CallInput, follow, step_of, passed_by, after_step}
+use Rattle.exec_script.specs.Script.{ScriptState, CallInput, follow, step_of, skipped_by, after_step}
 use Rattle.exec_script.specs.declared.effects.Effect.{Effect}
 use Rattle.exec_script.specs.declared.instr.Instr.{Instr}
 use Rattle.exec_script.specs.declared.step.Step.{Step}
-use Rattle.exec_script.specs.declared.step.Step.TheVariants.{Pass}
+use Rattle.exec_script.specs.declared.step.Step.TheVariants.{Skip}
 
 -- behind the end nothing more comes
 pub follow_none : {S : Type 0} (give : Effect → S → S) (input : CallInput) (script : List Instr) (pc place over : ℕ) (state : ScriptState S) → length script ≤ pc → follow give input (drop pc script) place over state ≡ state
@@ -28,15 +28,15 @@ follow_over give input (instruction ∷ rest) place (suc over) next state h =
     let e : suc place + over ≡ next = omega arith in follow_over give input rest (suc place) over next state e
 
 -- one instruction is followed, by what it does
-pub follow_one : {S : Type 0} (give : Effect → S → S) (input : CallInput) (script : List Instr) (pc : ℕ) (instruction : Instr) (does : Step) (state : ScriptState S) → pc < length script → instruction ≡ get_or script pc instruction → does ≡ step_of instruction state.registers state.variables input → follow give input (drop pc script) pc 0 state ≡ follow give input (drop (pc + 1) script) (pc + 1) (passed_by does (length (drop (pc + 1) script))) (after_step give (pc + 1) does state)
+pub follow_one : {S : Type 0} (give : Effect → S → S) (input : CallInput) (script : List Instr) (pc : ℕ) (instruction : Instr) (does : Step) (state : ScriptState S) → pc < length script → instruction ≡ get_or script pc instruction → does ≡ step_of instruction state.registers state.variables input → follow give input (drop pc script) pc 0 state ≡ follow give input (drop (pc + 1) script) (pc + 1) (skipped_by does (length (drop (pc + 1) script))) (after_step give (pc + 1) does state)
 follow_one give input script pc instruction does state within there h =
     let first : drop pc script ≡ instruction ∷ drop (suc pc) script = drop-cons script pc instruction within ∙ ap (λ (x : Instr). x ∷ drop (suc pc) script) (sym there) in
     ap (λ (xs : List Instr). follow give input xs pc 0 state) first
-    ∙ ap (λ (s : Step). follow give input (drop (suc pc) script) (suc pc) (passed_by s (length (drop (suc pc) script))) (after_step give (suc pc) s state)) (sym h)
-    ∙ ap (λ (n : ℕ). follow give input (drop n script) n (passed_by does (length (drop n script))) (after_step give n does state)) (sym (add-one pc))
+    ∙ ap (λ (s : Step). follow give input (drop (suc pc) script) (suc pc) (skipped_by s (length (drop (suc pc) script))) (after_step give (suc pc) s state)) (sym h)
+    ∙ ap (λ (n : ℕ). follow give input (drop n script) n (skipped_by does (length (drop n script))) (after_step give n does state)) (sym (add-one pc))
 
 -- a step that stops the script is its last
-pub follow_stop : {S : Type 0} (give : Effect → S → S) (input : CallInput) (script : List Instr) (pc : ℕ) (instruction : Instr) (does : Step) (state : ScriptState S) → pc < length script → instruction ≡ get_or script pc instruction → does ≡ step_of instruction state.registers state.variables input → ((left : ℕ) → passed_by does left ≡ left) → follow give input (drop pc script) pc 0 state ≡ after_step give (pc + 1) does state
+pub follow_stop : {S : Type 0} (give : Effect → S → S) (input : CallInput) (script : List Instr) (pc : ℕ) (instruction : Instr) (does : Step) (state : ScriptState S) → pc < length script → instruction ≡ get_or script pc instruction → does ≡ step_of instruction state.registers state.variables input → ((left : ℕ) → skipped_by does left ≡ left) → follow give input (drop pc script) pc 0 state ≡ after_step give (pc + 1) does state
 follow_stop give input script pc instruction does state within there h stops =
     follow_one give input script pc instruction does state within there h
     ∙ ap (λ (n : ℕ). follow give input (drop (pc + 1) script) (pc + 1) n (after_step give (pc + 1) does state)) (stops (length (drop (pc + 1) script)))
@@ -50,9 +50,9 @@ same_rest give input script pc count next state small moved =
     (cases_lt (pc + 1 + count) (2 ^ 64))
 
 -- a skip to a place, or to the greatest number where the place is beyond it, passes its instructions over
-pub follow_pass : {S : Type 0} (give : Effect → S → S) (input : CallInput) (script : List Instr) (pc count next : ℕ) (instruction : Instr) (state : ScriptState S) → pc < length script → length script < 2 ^ 64 → instruction ≡ get_or script pc instruction → Pass count ≡ step_of instruction state.registers state.variables input → next ≡ min (pc + 1 + count) (2 ^ 64 - 1) → follow give input (drop pc script) pc 0 state ≡ follow give input (drop next script) next 0 state
-follow_pass give input script pc count next instruction state within small there passes moved =
-    follow_one give input script pc instruction (Pass count) state within there passes
+pub follow_skip : {S : Type 0} (give : Effect → S → S) (input : CallInput) (script : List Instr) (pc count next : ℕ) (instruction : Instr) (state : ScriptState S) → pc < length script → length script < 2 ^ 64 → instruction ≡ get_or script pc instruction → Skip count ≡ step_of instruction state.registers state.variables input → next ≡ min (pc + 1 + count) (2 ^ 64 - 1) → follow give input (drop pc script) pc 0 state ≡ follow give input (drop next script) next 0 state
+follow_skip give input script pc count next instruction state within small there passes moved =
+    follow_one give input script pc instruction (Skip count) state within there passes
     ∙ follow_over give input (drop (pc + 1) script) (pc + 1) count (pc + 1 + count) state refl
     ∙ ap (λ (xs : List Instr). follow give input xs (pc + 1 + count) 0 state) (drop-drop count (pc + 1) script)
     ∙ same_rest give input script pc count next state small moved

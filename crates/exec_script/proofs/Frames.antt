@@ -10,7 +10,7 @@ use borrow.Rule.Slice.PartMut.{put_mid}
 use mir.Val.{Fits, SFits}
 use Rattle.exec_script.specs.Script.{CallInput, value_of, at_least_0, registers_after, variables_after}
 use Rattle.exec_script.specs.declared.instr.Destination.TheVariants as destination
-use Rattle.exec_script.specs.inner.Cells.{Cell, Register, Variable, cell_at, cell_behind, target_at, cell_operand, constant_of}
+use Rattle.exec_script.specs.inner.Cells.{OperandCell, Register, Variable, cell_at, cell_behind, target_at, cell_operand, constant_of}
 use Rattle.exec_script.specs.inner.Frame.{FrameState, IsFrame, frame_of, input_in}
 
 -- the sum of two signed numbers that wraps, by their bits
@@ -30,7 +30,7 @@ plus_constant : (x : ℤ) → SFits w64 x → sum_of (pos 0) x ≡ x
 plus_constant x h = ap (to_z w64) (from_0 (of_z w64 x) (Fits-of_z {w = w64} {z = x} h)) ∙ to_z-of_z w64 x h
 
 -- what an operand reads: what stands there and its constant, one of which is 0
-abbrev Reads : List ℤ → ℕ → ℤ → Cell → Type 0
+abbrev Reads : List ℤ → ℕ → ℤ → OperandCell → Type 0
 Reads values place constant cell = constant_of (cell_operand cell constant) ≡ constant → sum_of (get_or values place (pos 0)) constant ≡ value_of (cell_operand cell constant) (take 8 values) (take 8 (drop 8 values)) (input_in values)
 
 read_behind : (values : List ℤ) (n : ℕ) (constant : ℤ) → n < 4 → IsFrame values → SFits w64 (get_or values (n + 16) (pos 0)) → SFits w64 constant → Reads values (n + 16) constant (cell_behind n)
@@ -59,13 +59,13 @@ read_by false false values place constant p q h kept held fits zero_is =
     subst (λ (n : ℕ). Reads values n constant (cell_behind (place - 16))) there (read_behind values (place - 16) constant few kept same fits) zero_is
 
 -- an operand's value is what its cell holds and its constant together
-pub read_is : (values : List ℤ) (place : ℕ) (cell : Cell) (constant held : ℤ) (frame : FrameState) → place < 20 → IsFrame values → frame_of values ≡ frame → cell_at place ≡ cell → held ≡ get_or values place (pos 0) → SFits w64 held → SFits w64 constant → constant_of (cell_operand cell constant) ≡ constant → sum_of held constant ≡ value_of (cell_operand cell constant) frame.registers frame.variables frame.input
+pub read_is : (values : List ℤ) (place : ℕ) (cell : OperandCell) (constant held : ℤ) (frame : FrameState) → place < 20 → IsFrame values → frame_of values ≡ frame → cell_at place ≡ cell → held ≡ get_or values place (pos 0) → SFits w64 held → SFits w64 constant → constant_of (cell_operand cell constant) ≡ constant → sum_of held constant ≡ value_of (cell_operand cell constant) frame.registers frame.variables frame.input
 read_is values place cell constant held frame h kept frame_is cell_is held_is held_fits fits zero_is =
     let same : SFits w64 (get_or values place (pos 0)) = rw (← held_is) held_fits in
     let wanted : constant_of (cell_operand (cell_at place) constant) ≡ constant = rw cell_is zero_is in
     ap (λ (x : ℤ). sum_of x constant) held_is
     ∙ read_by (nat_lt place 8) (nat_lt place 16) values place constant refl refl h kept same fits wanted
-    ∙ ap (λ (c : Cell). value_of (cell_operand c constant) (take 8 values) (take 8 (drop 8 values)) (input_in values)) cell_is
+    ∙ ap (λ (c : OperandCell). value_of (cell_operand c constant) (take 8 values) (take 8 (drop 8 values)) (input_in values)) cell_is
     ∙ ap (λ (f : FrameState). value_of (cell_operand cell constant) f.registers f.variables f.input) frame_is
 
 -- a list of eight, element by element

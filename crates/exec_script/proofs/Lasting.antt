@@ -6,7 +6,7 @@ use Rattle.std.proofs.lemmas.List.Elements.{All-nil, All-push, All-drop, recursi
 use Rattle.std.proofs.lemmas.Bool.{and_parts, or_parts}
 use Rattle.exec_script.specs.LawWords.{goes_on_at, ended_by, IsEnding, MayGive, state_with_variables, give_each, given_later}
 use Rattle.exec_script.specs.Legality.{skips_end_within, is_variable, goes_to_variable, names_variable, replies, decides, works, is_allowed, legality_of}
-use Rattle.exec_script.specs.Script.{ScriptState, CallInput, value_of, step_of, passed_by, after_step, follow, resumed, called, call_of, listed}
+use Rattle.exec_script.specs.Script.{ScriptState, CallInput, value_of, step_of, skipped_by, after_step, follow, resumed, called, call_of, listed}
 use Rattle.exec_script.specs.Zeros.{zeros}
 use Rattle.exec_script.specs.inner.Frame.{FrameState}
 use Rattle.exec_script.specs.declared.effects.Effect.{Effect}
@@ -27,7 +27,7 @@ use Rattle.exec_script.specs.declared.step.Stop.TheVariants as stop
 -- where a step leads to goes on behind it, or where it went on before
 step_goes_on : {S : Type 0} (P : ℕ → Type 0) (give : Effect → S → S) (place : ℕ) (does : Step) (state : ScriptState S) → P place → IfSome (goes_on_at state.stop) P → IfSome (goes_on_at (after_step give place does state).stop) P
 step_goes_on P give place (step.Store destination value) state here before = before
-step_goes_on P give place (step.Pass count) state here before = before
+step_goes_on P give place (step.Skip count) state here before = before
 step_goes_on P give place (step.Give effect) state here before = before
 step_goes_on P give place (step.Answer value) state here before = before
 step_goes_on P give place (step.Wait ticks) state here before = here
@@ -41,7 +41,7 @@ follow_goes_on P give input (instruction ∷ rest) place (suc over) state all be
     follow_goes_on P give input rest (suc place) over state (λ k above below. all k (omega arith) (omega arith)) before
 follow_goes_on P give input (instruction ∷ rest) place zero state all before =
     let does = step_of instruction state.registers state.variables input in
-    follow_goes_on P give input rest (suc place) (passed_by does (length rest)) (after_step give (suc place) does state)
+    follow_goes_on P give input rest (suc place) (skipped_by does (length rest)) (after_step give (suc place) does state)
     (λ k above below. all k (omega arith) (omega arith))
     (step_goes_on P give (suc place) does state (all (suc place) (omega arith) (omega arith)) before)
 
@@ -79,7 +79,7 @@ follow_ends give input [] place over state before = before
 follow_ends give input (instruction ∷ rest) place (suc over) state before = follow_ends give input rest (suc place) over state before
 follow_ends give input (instruction ∷ rest) place zero state before =
     let does = step_of instruction state.registers state.variables input in
-    follow_ends give input rest (suc place) (passed_by does (length rest)) (after_step give (suc place) does state) (step_ends give input instruction (suc place) state before)
+    follow_ends give input rest (suc place) (skipped_by does (length rest)) (after_step give (suc place) does state) (step_ends give input instruction (suc place) state before)
 
 pub resumed_ending : {S : Type 0} (give : Effect → S → S) (script : List Instr) (place : ℕ) (registers variables : List ℤ) (answer : Option ℤ) (input : CallInput) (given : S) → IfSome (ended_by (resumed give script place registers variables answer input given).stop) IsEnding
 resumed_ending give script place registers variables answer input given = follow_ends give input (drop place script) place 0 _ tt
@@ -87,7 +87,7 @@ resumed_ending give script place registers variables answer input given = follow
 -- a step gives at most one effect
 step_counts : (place : ℕ) (does : Step) (state : ScriptState (List Effect)) → length (after_step listed place does state).given ≤ suc (length state.given)
 step_counts place (step.Store destination value) state = omega arith
-step_counts place (step.Pass count) state = omega arith
+step_counts place (step.Skip count) state = omega arith
 step_counts place (step.Give effect) state = omega (arith, length-append state.given (effect ∷ []))
 step_counts place (step.Answer value) state = omega arith
 step_counts place (step.Wait ticks) state = omega arith
@@ -100,18 +100,18 @@ follow_counts input (instruction ∷ rest) place (suc over) state =
     let h = follow_counts input rest (suc place) over state in omega arith
 follow_counts input (instruction ∷ rest) place zero state =
     let does = step_of instruction state.registers state.variables input in
-    let h = follow_counts input rest (suc place) (passed_by does (length rest)) (after_step listed (suc place) does state) in
+    let h = follow_counts input rest (suc place) (skipped_by does (length rest)) (after_step listed (suc place) does state) in
     let k = step_counts (suc place) does state in omega arith
 
 pub resumed_counts : (script : List Instr) (place : ℕ) (registers variables : List ℤ) (answer : Option ℤ) (input : CallInput) (effects : List Effect) → length (resumed listed script place registers variables answer input effects).given ≤ length effects + length script
 resumed_counts script place registers variables answer input effects =
-    let h = follow_counts input (drop place script) place 0 (record { registers = registers; variables = variables; answer = answer; given = effects; stop = stop.End }) in
+    let h = follow_counts input (drop place script) place 0 (record { registers = registers; variables = variables; reply_or_decision = answer; given = effects; stop = stop.End }) in
     let e = length-drop place script in omega arith
 
 -- what holds of each effect that an instruction may give holds of each effect that is given
 step_gives : (Q : Effect → Type 0) (place : ℕ) (does : Step) (state : ScriptState (List Effect)) → ((effect : Effect) → does ≡ step.Give effect → Q effect) → All Q state.given → All Q (after_step listed place does state).given
 step_gives Q place (step.Store destination value) state each before = before
-step_gives Q place (step.Pass count) state each before = before
+step_gives Q place (step.Skip count) state each before = before
 step_gives Q place (step.Give effect) state each before = All-push Q state.given effect before (each effect refl)
 step_gives Q place (step.Answer value) state each before = before
 step_gives Q place (step.Wait ticks) state each before = before
@@ -126,7 +126,7 @@ follow_gives Q input [] place over state each before = before
 follow_gives Q input (instruction ∷ rest) place (suc over) state each before = follow_gives Q input rest (suc place) over state each.1 before
 follow_gives Q input (instruction ∷ rest) place zero state each before =
     let does = step_of instruction state.registers state.variables input in
-    follow_gives Q input rest (suc place) (passed_by does (length rest)) (after_step listed (suc place) does state) each.1
+    follow_gives Q input rest (suc place) (skipped_by does (length rest)) (after_step listed (suc place) does state) each.1
     (step_gives Q (suc place) does state (λ effect is. each.0 effect (state.registers, state.variables, is)) before)
 
 pub resumed_gives : (script : List Instr) (place : ℕ) (registers variables : List ℤ) (answer : Option ℤ) (input : CallInput) → All (λ effect. Any (MayGive input effect) script) (resumed listed script place registers variables answer input []).given
@@ -145,7 +145,7 @@ follow_keeps part test give input keeps (instruction ∷ rest) place (suc over) 
 follow_keeps part test give input keeps (instruction ∷ rest) place zero state passes =
     let both = and_parts (test instruction) (list_all test rest) passes in
     let does = step_of instruction state.registers state.variables input in
-    follow_keeps part test give input keeps rest (suc place) (passed_by does (length rest)) (after_step give (suc place) does state) both.1
+    follow_keeps part test give input keeps rest (suc place) (skipped_by does (length rest)) (after_step give (suc place) does state) both.1
     ∙ keeps instruction (suc place) state both.0
 
 -- so what is left of a list passes
@@ -180,7 +180,7 @@ stops_only_goals r give input h (instr.Abort value) place state allowed = absurd
 stops_only_goals r give input h (instr.Canceled value) place state allowed = absurd cc
 
 -- only a service and a handler answer
-answers_only_asked : {S : Type 0} (role : Role) (give : Effect → S → S) (input : CallInput) → replies role ≡ false → decides role ≡ false → (instruction : Instr) (place : ℕ) (state : ScriptState S) → is_allowed role instruction ≡ true → (after_step give place (step_of instruction state.registers state.variables input) state).answer ≡ state.answer
+answers_only_asked : {S : Type 0} (role : Role) (give : Effect → S → S) (input : CallInput) → replies role ≡ false → decides role ≡ false → (instruction : Instr) (place : ℕ) (state : ScriptState S) → is_allowed role instruction ≡ true → (after_step give place (step_of instruction state.registers state.variables input) state).reply_or_decision ≡ state.reply_or_decision
 answers_only_asked r give input h k (instr.Set destination operation left right) place state allowed = refl
 answers_only_asked r give input h k (instr.Skip condition count) place state allowed = refl
 answers_only_asked r give input h k (instr.Pub topic value) place state allowed = refl
@@ -236,7 +236,7 @@ step_alone (instr.Canceled value) registers variables others input h = rw (value
 -- a step that stores into a group variable
 abbrev touches : Step → Bool
 touches (step.Store d value) = goes_to_variable d
-touches (step.Pass count) = false
+touches (step.Skip count) = false
 touches (step.Give effect) = false
 touches (step.Answer value) = false
 touches (step.Wait ticks) = false
@@ -266,7 +266,7 @@ step_untouched (instr.Canceled value) registers variables input h = refl
 after_untouched : {S : Type 0} (give : Effect → S → S) (place : ℕ) (does : Step) (variables : List ℤ) (state : ScriptState S) → touches does ≡ false → after_step give place does (state_with_variables variables state) ≡ state_with_variables variables (after_step give place does state)
 after_untouched give place (step.Store (destination.Register slot) value) variables state h = refl
 after_untouched give place (step.Store (destination.Variable slot) value) variables state h = absurd cc
-after_untouched give place (step.Pass count) variables state h = refl
+after_untouched give place (step.Skip count) variables state h = refl
 after_untouched give place (step.Give effect) variables state h = refl
 after_untouched give place (step.Answer value) variables state h = refl
 after_untouched give place (step.Wait ticks) variables state h = refl
@@ -281,9 +281,9 @@ follow_alone give input (instruction ∷ rest) place (suc over) variables state 
 follow_alone {S} give input (instruction ∷ rest) place zero variables state none =
     let parts = or_parts (names_variable instruction) (list_any names_variable rest) none in
     let does = step_of instruction state.registers state.variables input in
-    ap (λ (s : Step). follow give input rest (suc place) (passed_by s (length rest)) (after_step give (suc place) s (state_with_variables variables state))) (step_alone instruction state.registers variables state.variables input parts.0)
-    ∙ ap (λ (after : ScriptState S). follow give input rest (suc place) (passed_by does (length rest)) after) (after_untouched give (suc place) does variables state (step_untouched instruction state.registers state.variables input parts.0))
-    ∙ follow_alone give input rest (suc place) (passed_by does (length rest)) variables (after_step give (suc place) does state) parts.1
+    ap (λ (s : Step). follow give input rest (suc place) (skipped_by s (length rest)) (after_step give (suc place) s (state_with_variables variables state))) (step_alone instruction state.registers variables state.variables input parts.0)
+    ∙ ap (λ (after : ScriptState S). follow give input rest (suc place) (skipped_by does (length rest)) after) (after_untouched give (suc place) does variables state (step_untouched instruction state.registers state.variables input parts.0))
+    ∙ follow_alone give input rest (suc place) (skipped_by does (length rest)) variables (after_step give (suc place) does state) parts.1
 
 -- what the legality of a script says
 abbrev legality_by : Bool → Bool → Bool → Result (Unit {0}) ScriptFault
@@ -315,15 +315,15 @@ resumed_ends give script kept place registers variables answer input given other
     follow_keeps (λ state. state.stop) (is_allowed kept.role) give input (stops_only_goals kept.role give input (only_goals_work kept.role other))
     (drop place script) place 0 _ (all_left (is_allowed kept.role) place script (legal_allowed script kept legal))
 
-pub resumed_silent : {S : Type 0} (give : Effect → S → S) (script : List Instr) (kept : Place) (place : ℕ) (registers variables : List ℤ) (answer : Option ℤ) (input : CallInput) (given : S) → replies kept.role ≡ false → decides kept.role ≡ false → legality_of script kept ≡ Ok tt → (resumed give script place registers variables answer input given).answer ≡ answer
+pub resumed_silent : {S : Type 0} (give : Effect → S → S) (script : List Instr) (kept : Place) (place : ℕ) (registers variables : List ℤ) (answer : Option ℤ) (input : CallInput) (given : S) → replies kept.role ≡ false → decides kept.role ≡ false → legality_of script kept ≡ Ok tt → (resumed give script place registers variables answer input given).reply_or_decision ≡ answer
 resumed_silent give script kept place registers variables answer input given p q legal =
-    follow_keeps (λ state. state.answer) (is_allowed kept.role) give input (answers_only_asked kept.role give input p q)
+    follow_keeps (λ state. state.reply_or_decision) (is_allowed kept.role) give input (answers_only_asked kept.role give input p q)
     (drop place script) place 0 _ (all_left (is_allowed kept.role) place script (legal_allowed script kept legal))
 
 pub resumed_alone : {S : Type 0} (give : Effect → S → S) (script : List Instr) (kept : Place) (place : ℕ) (registers variables others : List ℤ) (answer : Option ℤ) (input : CallInput) (given : S) → kept.reentrant ≡ true → legality_of script kept ≡ Ok tt → resumed give script place registers variables answer input given ≡ state_with_variables variables (resumed give script place registers others answer input given)
 resumed_alone give script kept place registers variables others answer input given reentrant legal =
     follow_alone give input (drop place script) place 0 variables
-    (record { registers = registers; variables = others; answer = answer; given = given; stop = stop.End })
+    (record { registers = registers; variables = others; reply_or_decision = answer; given = given; stop = stop.End })
     (none_left names_variable place script (legal_alone script kept reentrant legal))
 
 -- one more effect is given last
@@ -334,9 +334,9 @@ give_all_more give given (first ∷ effects) effect = give_all_more give (give f
 -- a step whose effect is given at once
 step_later : {S : Type 0} (give : Effect → S → S) (given : S) (place : ℕ) (does : Step) (state : ScriptState (List Effect)) → after_step give place does (given_later give given state) ≡ given_later give given (after_step listed place does state)
 step_later give given place (step.Store destination value) state = refl
-step_later give given place (step.Pass count) state = refl
+step_later give given place (step.Skip count) state = refl
 step_later {S} give given place (step.Give effect) state =
-    ap (λ (after : S). record { registers = state.registers; variables = state.variables; answer = state.answer; given = after; stop = state.stop }) (give_all_more give given state.given effect)
+    ap (λ (after : S). record { registers = state.registers; variables = state.variables; reply_or_decision = state.reply_or_decision; given = after; stop = state.stop }) (give_all_more give given state.given effect)
 step_later give given place (step.Answer value) state = refl
 step_later give given place (step.Wait ticks) state = refl
 step_later give given place step.Yield state = refl
@@ -348,13 +348,13 @@ follow_later give given input [] place over state = refl
 follow_later give given input (instruction ∷ rest) place (suc over) state = follow_later give given input rest (suc place) over state
 follow_later {S} give given input (instruction ∷ rest) place zero state =
     let does = step_of instruction state.registers state.variables input in
-    ap (λ (after : ScriptState S). follow give input rest (suc place) (passed_by does (length rest)) after) (step_later give given (suc place) does state)
-    ∙ follow_later give given input rest (suc place) (passed_by does (length rest)) (after_step listed (suc place) does state)
+    ap (λ (after : ScriptState S). follow give input rest (suc place) (skipped_by does (length rest)) after) (step_later give given (suc place) does state)
+    ∙ follow_later give given input rest (suc place) (skipped_by does (length rest)) (after_step listed (suc place) does state)
 
 pub resumed_later : {S : Type 0} (give : Effect → S → S) (script : List Instr) (place : ℕ) (registers variables : List ℤ) (answer : Option ℤ) (input : CallInput) (effects : List Effect) (given : S) → resumed give script place registers variables answer input (give_each give effects given) ≡ given_later give given (resumed listed script place registers variables answer input effects)
 resumed_later give script place registers variables answer input effects given =
     follow_later give given input (drop place script) place 0
-    (record { registers = registers; variables = variables; answer = answer; given = effects; stop = stop.End })
+    (record { registers = registers; variables = variables; reply_or_decision = answer; given = effects; stop = stop.End })
 
 -- ---- effects behind others
 

@@ -9,7 +9,7 @@ use Rattle.std.proofs.lemmas.Slice.Eq.{bytes_eq-Decides}
 use Rattle.std.specs.Prelude.{option_and_then}
 use Rattle.std.specs.Result.{result_ok}
 use Rattle.exec_script.specs.Instruction.{Instruction, Set}
-use Rattle.exec_script.specs.Spelling.{ScopeNames, cell_in, cell_named, inputs, instruction_of, operand_at, operand_named, operand_of, operations, or_wrong_operand, set_of, ◌>>=◌}
+use Rattle.exec_script.specs.Spelling.{ScopeNames, cell_by, cell_named, inputs, instruction_of, operand_at, operand_named, operand_of, operations, or_wrong_operand, set_of, ◌>>=◌}
 use Rattle.exec_script.specs.declared.fault.ScriptFault.TheVariants as fault
 use Rattle.exec_script.specs.declared.instr.Destination.{Destination}
 use Rattle.exec_script.specs.declared.instr.Destination.TheVariants as destination
@@ -47,7 +47,7 @@ cell_is (letter ∷ digit ∷ []) cell h = by (nat_le 48 digit) (nat_le digit 55
         ap cell_text (sym (same_Some (destination.Variable (digit - 48)) cell found)) ∙ ap (λ (n : ℕ). 103 ∷ n ∷ []) place ∙ ap (λ (n : ℕ). n ∷ digit ∷ []) (sym same)
     of_letter false false least other another found = absurd (none-some cell found)
 
-    by : (low high : Bool) → nat_le 48 digit ≡ low → option_and_then (cell_in letter) (if low && high then Some (digit - 48) else None) ≡ Some cell → cell_text cell ≡ letter ∷ digit ∷ []
+    by : (low high : Bool) → nat_le 48 digit ≡ low → option_and_then (cell_by letter) (if low && high then Some (digit - 48) else None) ≡ Some cell → cell_text cell ≡ letter ∷ digit ∷ []
     by true true low found = of_letter (letter == 114) (letter == 103) (leb-true 48 digit low) refl refl found
     by true false low found = absurd (none-some cell found)
     by false high low found = absurd (none-some cell found)

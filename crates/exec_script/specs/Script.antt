@@ -49,7 +49,7 @@ pub record CallInput : Type 0 where
 pub record ScriptState (S : Type 0) : Type 0 where
   pub registers : Registers
   pub variables : Variables
-  pub answer : Option ℤ
+  pub reply_or_decision : Option ℤ
   pub given : S
   pub stop : Stop
 
@@ -80,7 +80,7 @@ at_least_0 (negsuc n) = 0
 -- what one instruction does
 abbrev pub step_of : Instruction → Registers → Variables → CallInput → Step
 step_of (instr.Set destination operation left right) registers variables input = step.Store destination (result_of operation (value_of left registers variables input) (value_of right registers variables input))
-step_of (instr.Skip condition count) registers variables input = step.Pass (if int_eq (value_of condition registers variables input) (pos 0) then 0 else count)
+step_of (instr.Skip condition count) registers variables input = step.Skip (if int_eq (value_of condition registers variables input) (pos 0) then 0 else count)
 step_of (instr.Pub topic value) registers variables input = step.Give (effect.Publish topic (value_of value registers variables input))
 step_of (instr.Call client value) registers variables input = step.Give (effect.Call client (value_of value registers variables input))
 step_of (instr.Goal client value) registers variables input = step.Give (effect.SendGoal client (value_of value registers variables input))
@@ -103,12 +103,12 @@ WaitsWithin bound (stop.Wait ticks place) = ticks < bound
 WaitsWithin bound _ = ⊤
 
 -- how many of the next instructions a step passes over, where so many are left: one that stops the script passes over all
-abbrev pub passed_by : Step → ℕ → ℕ
-passed_by (step.Pass count) left = count
-passed_by (step.Wait ticks) left = left
-passed_by step.Yield left = left
-passed_by (step.Ended event value) left = left
-passed_by _ left = 0
+abbrev pub skipped_by : Step → ℕ → ℕ
+skipped_by (step.Skip count) left = count
+skipped_by (step.Wait ticks) left = left
+skipped_by step.Yield left = left
+skipped_by (step.Ended event value) left = left
+skipped_by _ left = 0
 
 -- the registers after a value went to its destination
 abbrev pub registers_after : Destination → ℤ → Registers → Registers
@@ -123,9 +123,9 @@ variables_after (destination.Variable slot) value variables = slice_set variable
 -- where a script stands after a step, behind which comes this place; an effect goes where `give` puts it
 abbrev pub after_step : {S : Type 0} → (Effect → S → S) → ℕ → Step → ScriptState S → ScriptState S
 after_step give place (step.Store destination value) state = record state { registers = registers_after destination value state.registers; variables = variables_after destination value state.variables }
-after_step give place (step.Pass count) state = state
+after_step give place (step.Skip count) state = state
 after_step give place (step.Give effect) state = record state { given = give effect state.given }
-after_step give place (step.Answer value) state = record state { answer = Some value }
+after_step give place (step.Answer value) state = record state { reply_or_decision = Some value }
 after_step give place (step.Wait ticks) state = record state { stop = stop.Wait ticks place }
 after_step give place step.Yield state = record state { stop = stop.Yield place }
 after_step give place (step.Ended event value) state = record state { stop = stop.Ended event value }
@@ -137,13 +137,14 @@ follow give input [] place over state = state
 follow give input (instruction ∷ rest) place (suc over) state = follow give input rest (suc place) over state
 follow give input (instruction ∷ rest) place zero state =
     let step = step_of instruction state.registers state.variables input in
-    follow give input rest (suc place) (passed_by step (length rest)) (after_step give (suc place) step state)
+    follow give input rest (suc place) (skipped_by step (length rest)) (after_step give (suc place) step state)
 
 -- a script goes on at a place, from registers, its group's variables, a reply or decision, and what its effects made of
 -- where they went; where nothing stops it, it falls off its end
 abbrev pub resumed : {S : Type 0} → (Effect → S → S) → Script → ℕ → Registers → Variables → Option ℤ → CallInput → S → ScriptState S
 resumed give script place registers variables answer input given =
-    follow give input (drop place script) place 0 (record { registers = registers; variables = variables; answer = answer; given = given; stop = stop.End })
+    follow give input (drop place script) place 0
+    (record { registers = registers; variables = variables; reply_or_decision = answer; given = given; stop = stop.End })
 
 -- a call of a script: from its top, with registers of 0, and no reply or decision
 abbrev pub called : {S : Type 0} → (Effect → S → S) → Script → Variables → CallInput → S → ScriptState S
@@ -183,4 +184,4 @@ close_of role.Goal answer = close.Nothing
 pub record HasCalled (script : Script) (role : Role) (input : CallInput) (before after : Variables) (front given : List Effect) (closes : Close) : Type 0 where
   pub variables : after ≡ (call_of script before input).variables
   pub effects : given ≡ front ++ (call_of script before input).given
-  pub close : closes ≡ close_of role (call_of script before input).answer
+  pub close : closes ≡ close_of role (call_of script before input).reply_or_decision

@@ -48,12 +48,12 @@ abbrev pub slot_named : ℕ → Option ℕ
 slot_named digit = if nat_le 48 digit && nat_le digit 55 then Some (digit - 48) else None
 
 -- r is for registers, and g for group variables
-abbrev pub cell_in : ℕ → ℕ → Option Destination
-cell_in letter slot = if letter == 114 then Some (destination.Register slot) else (if letter == 103 then Some (destination.Variable slot) else None)
+abbrev pub cell_by : ℕ → ℕ → Option Destination
+cell_by letter slot = if letter == 114 then Some (destination.Register slot) else (if letter == 103 then Some (destination.Variable slot) else None)
 
 -- r0 to r7 and g0 to g7
 abbrev pub cell_named : List ℕ → Option Destination
-cell_named (letter ∷ digit ∷ []) = option_and_then (cell_in letter) (slot_named digit)
+cell_named (letter ∷ digit ∷ []) = option_and_then (cell_by letter) (slot_named digit)
 cell_named _ = None
 
 -- what stands in a register or a group variable

@@ -1,7 +1,7 @@
 pub mod Cells
 pub mod Flat
 pub mod Frame
-pub mod Held
+pub mod TextBytes
 pub mod Places
 pub mod SetWords
 pub mod Steps

@@ -1,4 +1,4 @@
-use exec_msg::{CancelDecision, Decision, EntityNo, Event, GoalId, Items, Memory};
+use exec_msg::{CancelDecision, Decision, Elements, EntityNo, Event, GoalId, Memory};
 use std::alloc::Global;
 use std::marker::Model;
 
@@ -54,7 +54,7 @@ pub enum Close {
     /// A cancel handler's decision of one candidate.
     DecideCancel(CancelDecision),
     /// A cancel handler's decisions, in the order of its candidates, each with the candidate's identifier.
-    Decisions(Items<(GoalId, CancelDecision)>),
+    Decisions(Elements<(GoalId, CancelDecision)>),
     /// The goal pends.
     Pending,
     /// The goal ended by this event with a value.
@@ -77,7 +77,7 @@ impl Close {
             Close::Decide(decision) => Close::Decide(*decision),
             Close::DecideCancel(decision) => Close::DecideCancel(*decision),
             Close::Decisions(decisions) => {
-                Close::Decisions(Items::of(Vec::from_slice(alloc, decisions.as_slice())?))
+                Close::Decisions(Elements::of(Vec::from_slice(alloc, decisions.as_slice())?))
             }
             Close::Pending => Close::Pending,
             Close::Ended(event, value) => Close::Ended(*event, *value),

@@ -6,15 +6,15 @@ use std::marker::Model;
 
 // What an operand reads of a frame.
 #[derive(Clone, Copy, PartialEq, Eq)]
-pub(crate) struct Source(u8);
+pub(crate) struct OperandPlace(u8);
 
-impl Model for Source {
+impl Model for OperandPlace {
     ghost use Rattle.std.specs.Prelude.{◌<◌};
     ghost use Rattle.std.proofs.Common.{ap};
-    ghost use Rattle.exec_script.specs.inner.Cells.{Cell, cell_at, place_of};
+    ghost use Rattle.exec_script.specs.inner.Cells.{OperandCell, cell_at, place_of};
     ghost use Rattle.exec_script.specs.inner.Places.{place_is};
 
-    ghost Value = { Cell };
+    ghost Value = { OperandCell };
 
     ghost view = { λ source. cell_at source.0 };
 
@@ -25,20 +25,20 @@ impl Model for Source {
     ghost inverse_ok = { λ source h. ap (λ place. record { 0 = place }) (place_is source.0 h) };
 }
 
-impl Source {
+impl OperandPlace {
     ghost use Rattle.std.specs.Prelude.{◌≡◌};
     ghost use Rattle.exec_script.specs.inner.Cells.{cell_of, reads_variable};
 
-    pub(crate) fn of(operand: &Operand) -> Source
+    pub(crate) fn of(operand: &Operand) -> OperandPlace
         ensures { result ≡ cell_of operand.now }
     {
         match *operand {
-            Operand::Register(slot) => Source(slot.index() as u8),
-            Operand::Variable(slot) => Source(slot.index() as u8 + 8),
-            Operand::In => Source(16),
-            Operand::Aux => Source(17),
-            Operand::Now => Source(18),
-            Operand::Value(_) => Source(19),
+            Operand::Register(slot) => OperandPlace(slot.index() as u8),
+            Operand::Variable(slot) => OperandPlace(slot.index() as u8 + 8),
+            Operand::In => OperandPlace(16),
+            Operand::Aux => OperandPlace(17),
+            Operand::Now => OperandPlace(18),
+            Operand::Value(_) => OperandPlace(19),
         }
     }
 
@@ -196,13 +196,13 @@ impl Frame {
         bank.0.copy_from(&self.values[8..16]);
     }
 
-    // The value of the operand that a source and a constant are.
+    // The value of the operand that a place and a constant are.
     #[inline(always)]
-    pub(crate) fn read(&self, source: Source, constant: i64) -> i64
-        requires { constant_of (cell_operand source constant) ≡ constant }
-        ensures { result ≡ value_of (cell_operand source constant) self.now.registers self.now.variables self.now.input }
+    pub(crate) fn read(&self, place: OperandPlace, constant: i64) -> i64
+        requires { constant_of (cell_operand place constant) ≡ constant }
+        ensures { result ≡ value_of (cell_operand place constant) self.now.registers self.now.variables self.now.input }
     {
-        let held = self.values[source.0 as usize];
+        let held = self.values[place.0 as usize];
         held.wrapping_add(constant)
     }
 

@@ -2,7 +2,7 @@
 mod forms;
 
 use crate::cells::Slot;
-use crate::frame::{Source, Target};
+use crate::frame::{OperandPlace, Target};
 use crate::place::Role;
 use exec_msg::EntityNo;
 use std::fmt;
@@ -90,7 +90,7 @@ pub(crate) enum Opcode {
     Canceled,
 }
 
-// The parts of an instruction. An operand is what its source reads plus its constant, and one of the two is 0. What an
+// The parts of an instruction. An operand is what its place has plus its constant, and one of the two is 0. What an
 // instruction doesn't use is 0. A skip's count is its second constant.
 #[derive(Clone, Copy, PartialEq, Eq)]
 pub(crate) struct Flat {
@@ -98,8 +98,8 @@ pub(crate) struct Flat {
     pub(crate) right: i64,
     pub(crate) entity: EntityNo,
     pub(crate) target: Target,
-    pub(crate) left_source: Source,
-    pub(crate) right_source: Source,
+    pub(crate) left_place: OperandPlace,
+    pub(crate) right_place: OperandPlace,
     pub(crate) operation: Operation,
     pub(crate) opcode: Opcode,
 }
@@ -150,8 +150,8 @@ impl Instr {
         ensures { result ≡ names_variable self.now }
     {
         self.flat.target.is_variable()
-            || self.flat.left_source.is_variable()
-            || self.flat.right_source.is_variable()
+            || self.flat.left_place.is_variable()
+            || self.flat.right_place.is_variable()
     }
 
     // Whether it is allowed in a script of this role.
@@ -188,21 +188,21 @@ impl fmt::Debug for Instr {
         match flat.opcode {
             Opcode::Set => {
                 write!(f, " {:?} {:?}", flat.target, flat.operation)?;
-                flat.left_source.show(flat.left, f)?;
-                flat.right_source.show(flat.right, f)
+                flat.left_place.show(flat.left, f)?;
+                flat.right_place.show(flat.right, f)
             }
             Opcode::Skip => {
-                flat.left_source.show(flat.left, f)?;
-                flat.right_source.show(flat.right, f)
+                flat.left_place.show(flat.left, f)?;
+                flat.right_place.show(flat.right, f)
             }
             Opcode::Pub | Opcode::Call | Opcode::Goal | Opcode::CancelAll => {
                 write!(f, " {}", flat.entity.0)?;
-                flat.left_source.show(flat.left, f)
+                flat.left_place.show(flat.left, f)
             }
             Opcode::CancelGoal => {
                 write!(f, " {}", flat.entity.0)?;
-                flat.left_source.show(flat.left, f)?;
-                flat.right_source.show(flat.right, f)
+                flat.left_place.show(flat.left, f)?;
+                flat.right_place.show(flat.right, f)
             }
             Opcode::Execute => write!(f, " {}", flat.entity.0),
             Opcode::Yield => Ok(()),
@@ -213,7 +213,7 @@ impl fmt::Debug for Instr {
             | Opcode::Wait
             | Opcode::Succeed
             | Opcode::Abort
-            | Opcode::Canceled => flat.left_source.show(flat.left, f),
+            | Opcode::Canceled => flat.left_place.show(flat.left, f),
         }
     }
 }

@@ -52,10 +52,10 @@ pub fn reentrant_scripts_share_nothing<S>()
 pub fn callbacks_and_goals_give_no_answer<S>()
     ensures callback { (give : Effect → S → S) (script : List Instr) (allowed : Place) (place : ℕ) (registers variables : List ℤ) (input : CallInput) (given : S) →
         allowed.role ≡ role.Callback → legality_of script allowed ≡ Ok tt →
-        (resumed give script place registers variables None input given).answer ≡ None }
+        (resumed give script place registers variables None input given).reply_or_decision ≡ None }
     ensures goal { (give : Effect → S → S) (script : List Instr) (allowed : Place) (place : ℕ) (registers variables : List ℤ) (input : CallInput) (given : S) →
         allowed.role ≡ role.Goal → legality_of script allowed ≡ Ok tt →
-        (resumed give script place registers variables None input given).answer ≡ None }
+        (resumed give script place registers variables None input given).reply_or_decision ≡ None }
 {}
 
 /// Effects that are listed may be given later, one after another. They do the same as effects that are given at once.

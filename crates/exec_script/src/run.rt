@@ -177,7 +177,7 @@ fn follow<R: Results>(
     ensures ends { record {
       registers = frame.new.registers;
       variables = frame.new.variables;
-      answer = answer.new;
+      reply_or_decision = answer.new;
       given = effects.new.items;
       stop = result;
     } ≡ resumed listed script.now place frame.old.registers frame.old.variables answer.old frame.old.input effects.old.items }
@@ -193,7 +193,7 @@ fn follow<R: Results>(
         pc += 1;
         match step {
             Step::Store(target, value) => frame.write(target, value),
-            Step::Pass(count) => pc = pc.saturating_add(count as usize),
+            Step::Skip(count) => pc = pc.saturating_add(count as usize),
             Step::Give(effect) => effects.push_reserved(effect),
             Step::Answer(value) => *answer = Some(value),
             Step::Wait(ticks) => return Stop::Wait(ticks, pc),
@@ -259,12 +259,12 @@ fn step_of<R: Results>(instr: &Instr, frame: &Frame) -> Step
     ensures ticks { PausesWithin (2 ^ 63) result }
 {
     let flat = &instr.flat;
-    let left = frame.read(flat.left_source, flat.left);
-    let right = frame.read(flat.right_source, flat.right);
+    let left = frame.read(flat.left_place, flat.left);
+    let right = frame.read(flat.right_place, flat.right);
     let entity = flat.entity;
     match flat.opcode {
         Opcode::Set => Step::Store(flat.target, R::of(flat.operation, left, right)),
-        Opcode::Skip => Step::Pass(if left == 0 { 0 } else { at_least_0(right) }),
+        Opcode::Skip => Step::Skip(if left == 0 { 0 } else { at_least_0(right) }),
         Opcode::Pub => Step::Give(Effect::Publish {
             topic: entity,
             value: left,

@@ -7,12 +7,12 @@ use std::marker::Model;
 
 /// An instruction as a document spells it, in 32 bytes. Contracts see it as its words. A `set` takes no other memory.
 #[derive(Debug, Drop)]
-pub struct SpelledInstr(Kept);
+pub struct SpelledInstr(SpelledAs);
 
 // A `set` is decoded when it is read, because it names nothing that a scope has. Some others name nothing either, but most
 // instructions of long scripts are `set`s, and the words of a `set` take 240 bytes.
 #[derive(Debug, Drop)]
-enum Kept {
+enum SpelledAs {
     Set(Instr),
     Words(Vec<Word>),
 }
@@ -40,7 +40,7 @@ impl SpelledInstr {
     pub fn of(words: Vec<Word>) -> SpelledInstr
         ensures { result ≡ words.items }
     {
-        SpelledInstr(Kept::Words(words))
+        SpelledInstr(SpelledAs::Words(words))
     }
 
     /// The `set` with these items, or `None` if they are misspelt.
@@ -55,7 +55,7 @@ impl SpelledInstr {
         ensures misspelt { IfNone result (IsErr (set_of (Text destination.now ∷ Text operation.now ∷ word_of left.entry ∷ word_of right.entry ∷ []))) }
     {
         let set = set_with(destination, operation, left, right)?;
-        Some(SpelledInstr(Kept::Set(set)))
+        Some(SpelledInstr(SpelledAs::Set(set)))
     }
 }
 
@@ -64,8 +64,8 @@ impl Spelling for SpelledInstr {
 
     fn instruction<S: Scope>(&self, scope: &S) -> Result<Instr, ScriptFault> {
         match &self.0 {
-            Kept::Set(instr) => Ok(*instr),
-            Kept::Words(words) => instruction_of(words.as_slice(), scope),
+            SpelledAs::Set(instr) => Ok(*instr),
+            SpelledAs::Words(words) => instruction_of(words.as_slice(), scope),
         }
     }
 }

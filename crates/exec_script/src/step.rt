@@ -8,7 +8,7 @@ pub enum Step {
     /// A value is stored.
     Store(Target, i64),
     /// This many of the next instructions are passed over.
-    Pass(u64),
+    Skip(u64),
     /// An effect is given.
     Give(Effect),
     /// The reply or the decision becomes this value.

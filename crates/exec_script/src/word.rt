@@ -5,18 +5,18 @@ use std::marker::Model;
 
 /// A text. Contracts see it as its bytes.
 #[derive(Debug, Drop)]
-pub struct WordText(Held);
+pub struct WordText(TextBytes);
 
 // A text in its place, or one with memory of its own.
 #[derive(Debug, Drop)]
-enum Held {
+enum TextBytes {
     Short(ArrayString<24>),
     Long(String),
 }
 
 impl Model for WordText {
     ghost use Rattle.std.specs.Prelude.{ℕ, List};
-    ghost use Rattle.exec_script.specs.inner.Held.{bytes_held};
+    ghost use Rattle.exec_script.specs.inner.TextBytes.{bytes_held};
 
     ghost Value = { List ℕ };
 
@@ -30,7 +30,7 @@ impl WordText {
     pub fn of(text: String) -> WordText
         ensures { result ≡ string_bytes text }
     {
-        WordText(Held::Long(text))
+        WordText(TextBytes::Long(text))
     }
 
     /// A word of a copy of this text. One of at most 24 bytes takes no memory.
@@ -42,8 +42,8 @@ impl WordText {
         ensures short { length text.now ≤ 24 → IsOk result }
     {
         match ArrayString::from(text) {
-            Ok(short) => Ok(WordText(Held::Short(short))),
-            Err(_) => Ok(WordText(Held::Long(String::from_str(alloc, text)?))),
+            Ok(short) => Ok(WordText(TextBytes::Short(short))),
+            Err(_) => Ok(WordText(TextBytes::Long(String::from_str(alloc, text)?))),
         }
     }
 
@@ -52,8 +52,8 @@ impl WordText {
         ensures { result.now ≡ self.now }
     {
         match &self.0 {
-            Held::Short(text) => text.as_str(),
-            Held::Long(text) => text.as_str(),
+            TextBytes::Short(text) => text.as_str(),
+            TextBytes::Long(text) => text.as_str(),
         }
     }
 }

@@ -36,7 +36,7 @@ left_later before between after wake kept (inr (lacking, until_then, since, lack
     inr (lacking, (λ fact holds. until_then fact (kept fact holds)), since, lacks)
 
 -- a task that waits for a time, and wasn't told of its cancellation, waits for the clock and then for its cancellation
-pub both_left : (before between after : Context) (goal : GoalTaskState) (time : ℕ) → goal.task.waits ≡ wait.Until time → goal.task.told ≡ false → Keeps before between → Keeps between after → LeftWaker before between goal.clock → LeftWaker between after goal.cancellation → LeftWakers before after goal
+pub both_left : (before between after : Context) (goal : GoalTaskState) (time : ℕ) → goal.task.waits ≡ wait.Until time → goal.task.knows_canceling ≡ false → Keeps before between → Keeps between after → LeftWaker before between goal.clock → LeftWaker between after goal.cancellation → LeftWakers before after goal
 both_left before between after goal time waits told kept kept_on clock cancellation = record {
   clock = rw waits (left_still before between after goal.clock kept_on clock);
   cancellation = rw (waits, told) (left_later before between after goal.cancellation kept cancellation);

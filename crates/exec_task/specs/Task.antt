@@ -18,18 +18,18 @@ use Rattle.exec_task.specs.declared.wait.Turn.{Turn}
 use Rattle.exec_task.specs.declared.wait.Wait.{Wait}
 use Rattle.exec_task.specs.declared.wait.Wait.TheVariants as wait
 
--- a goal's task: the place at which its script goes on, its registers, what it waits for, whether it was told that it is
--- being canceled (polled as such), and how it ended, if it has
+-- a goal's task: the place at which its script goes on, its registers, what it waits for, whether it knows that it is
+-- being canceled (was polled as such), and how it ended, if it has
 pub record TaskState : Type 0 where
   pub place : ℕ
   pub registers : Registers
   pub waits : Wait
-  pub told : Bool
+  pub knows_canceling : Bool
   pub ending : Option Ending
 
 -- a task before its first poll
 abbrev pub new_task : TaskState
-new_task = record { place = 0; registers = zeros; waits = wait.NextRound; told = false; ending = None }
+new_task = record { place = 0; registers = zeros; waits = wait.NextRound; knows_canceling = false; ending = None }
 
 -- whether a wait is over at a moment
 abbrev pub is_reached : Wait → Moment → Bool
@@ -40,9 +40,9 @@ is_reached (wait.Until time) moment = nat_le time moment
 abbrev pub has_ended : TaskState → Bool
 has_ended task = is_some task.ending
 
--- a task that has ended is never awake; another one is where its wait is over, or where it is canceling and wasn't told so yet
+-- a task that has ended is never awake; another one is where its wait is over, or where it is canceling and doesn't know so yet
 abbrev pub is_awake : TaskState → Turn → Bool
-is_awake task turn = not (has_ended task) && (is_reached task.waits turn.moment || (turn.canceling && not task.told))
+is_awake task turn = not (has_ended task) && (is_reached task.waits turn.moment || (turn.canceling && not task.knows_canceling))
 
 -- the input of a poll: `in` is the goal's value, and `aux` is 1 where it is canceling
 abbrev pub poll_input : ℤ → Turn → CallInput
@@ -65,12 +65,13 @@ after_stop turn (stop.Ended event value) task = record task { ending = Some (rec
 after_stop turn stop.End task = record task { place = 0; waits = wait.NextRound }
 
 -- a task after its script ran in a turn to where the script stands
-abbrev pub after_run : {S : Type 0} → Turn → ScriptState S → TaskState → TaskState
-after_run turn state task = after_stop turn state.stop (record task { registers = state.registers; told = task.told || turn.canceling })
+abbrev pub after_resuming : {S : Type 0} → Turn → ScriptState S → TaskState → TaskState
+after_resuming turn state task =
+    after_stop turn state.stop (record task { registers = state.registers; knows_canceling = task.knows_canceling || turn.canceling })
 
 -- the script of a task goes on from its place, in a turn
-abbrev pub run_of : {S : Type 0} → (Effect → S → S) → Script → ℤ → Turn → TaskState → Variables → S → ScriptState S
-run_of give script value turn task variables given = resumed give script task.place task.registers variables None (poll_input value turn) given
+abbrev pub resumption_of : {S : Type 0} → (Effect → S → S) → Script → ℤ → Turn → TaskState → Variables → S → ScriptState S
+resumption_of give script value turn task variables given = resumed give script task.place task.registers variables None (poll_input value turn) given
 
 -- what a task answers that has ended so, or that waits for this
 abbrev pub answer_by : Option Ending → Wait → Answer
@@ -89,22 +90,22 @@ pub record Polled (S : Type 0) : Type 0 where
 
 -- a poll in which the script came to stand so
 abbrev pub ran : {S : Type 0} → Turn → TaskState → ScriptState S → Polled S
-ran turn task state = record { task = after_run turn state task; variables = state.variables; given = state.given }
+ran turn task state = record { task = after_resuming turn state task; variables = state.variables; given = state.given }
 
 -- a poll of a task that is awake runs it; of another one it changes nothing
 abbrev pub polled_where : {S : Type 0} → Bool → (Effect → S → S) → Script → ℤ → Turn → TaskState → Variables → S → Polled S
-polled_where true give script value turn task variables given = ran turn task (run_of give script value turn task variables given)
+polled_where true give script value turn task variables given = ran turn task (resumption_of give script value turn task variables given)
 polled_where false give script value turn task variables given = record { task = task; variables = variables; given = given }
 
 -- a poll of a task with a goal's script and value, in a turn; it answers `task_answer` of the task after it
 abbrev pub polled : {S : Type 0} → (Effect → S → S) → Script → ℤ → Turn → TaskState → Variables → S → Polled S
 polled give script value turn task variables given = polled_where (is_awake task turn) give script value turn task variables given
 
--- what wakes a pending task: the clock where it waits for a time, and then its cancellation too, unless it was told
+-- what wakes a pending task: the clock where it waits for a time, and then its cancellation too, unless it knows of that
 abbrev pub sources_by : Wait → Bool → List Source
-sources_by wait.NextRound told = []
-sources_by (wait.Until time) told = source.Clock time ∷ (if told then [] else source.Cancellation ∷ [])
+sources_by wait.NextRound knows = []
+sources_by (wait.Until time) knows = source.Clock time ∷ (if knows then [] else source.Cancellation ∷ [])
 
 -- what wakes a task that hasn't ended; one that waits for nothing yields
 abbrev pub sources_of : TaskState → List Source
-sources_of task = sources_by task.waits task.told
+sources_of task = sources_by task.waits task.knows_canceling

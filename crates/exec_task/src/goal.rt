@@ -2,7 +2,7 @@ ghost use Rattle.std.specs.Prelude.{◌≡◌, [], true, false, None, IsOk, IsEr
 ghost use Rattle.std.specs.Arc.{arc_value};
 ghost use Rattle.futures.specs.Task.{Covers, Keeps};
 ghost use Rattle.exec_task.specs.Goal.{poll_of, IsSameGoal, IsPolled, IsRefused, GoalNeeds, LeftWakers, HasYielded, HoldsNoWaker};
-ghost use Rattle.exec_task.specs.Task.{new_task, has_ended, is_awake, ran, run_of};
+ghost use Rattle.exec_task.specs.Task.{new_task, has_ended, is_awake, ran, resumption_of};
 ghost use Rattle.exec_task.specs.Waking.{wake_of};
 ghost use Rattle.exec_script.specs.Script.{listed};
 
@@ -60,7 +60,7 @@ impl GoalTask {
     // Goes on with the script of an awake task in a turn. A task that ends waits for nothing any more.
     fn run(&mut self, bank: &mut Bank, turn: &Turn, effects: &mut EffectList) -> Result<(), Memory>
         ensures ok { OnOk result (record { task = self.new.task; variables = bank.new; given = effects.new }
-            ≡ ran turn.now self.old.task (run_of listed self.old.script self.old.value turn.now self.old.task bank.old effects.old)) }
+            ≡ ran turn.now self.old.task (resumption_of listed self.old.script self.old.value turn.now self.old.task bank.old effects.old)) }
         ensures same { IsSameGoal self.old self.new }
         ensures failed { OnOk result (self.new.failed ≡ self.old.failed) }
         ensures ended { OnOk result (has_ended self.new.task ≡ true → HoldsNoWaker self.new) }
@@ -102,7 +102,7 @@ impl GoalTask {
             }
             Wait::Until(_) => {
                 let _: Poll<()> = self.clock.register(cx);
-                if self.progress.is_told() {
+                if self.progress.is_aware() {
                     self.cancellation.clear();
                 } else {
                     let _: Poll<()> = self.cancellation.register(cx);

@@ -37,13 +37,13 @@ pub fn next_rounds_wake()
 /// A task that waits until a time is awake exactly from that time on, or if it is being canceled and wasn't polled so.
 pub fn times_and_cancellation_wake()
     ensures { (task : TaskState) (turn : Turn) (time : ℕ) → has_ended task ≡ false → task.waits ≡ wait.Until time →
-        (is_awake task turn ≡ true) ↔ ((time ≤ turn.moment) ⊎ ((turn.canceling ≡ true) × (task.told ≡ false))) }
+        (is_awake task turn ≡ true) ↔ ((time ≤ turn.moment) ⊎ ((turn.canceling ≡ true) × (task.knows_canceling ≡ false))) }
 {}
 
 /// The wait that the last poll of a pending task answered decides whether the task is awake.
 pub fn the_last_answer_wakes()
     ensures { (task : TaskState) (turn : Turn) (waits : Wait) → task_answer task ≡ answer.Pending waits →
-        is_awake task turn ≡ (is_reached waits turn.moment || (turn.canceling && not task.told)) }
+        is_awake task turn ≡ (is_reached waits turn.moment || (turn.canceling && not task.knows_canceling)) }
 {}
 
 /// A task that isn't being canceled is awake from one moment on, and not before.
@@ -66,10 +66,10 @@ pub fn sleeping_tasks_stay<S>()
 pub fn polls_tell_of_cancellation<S>()
     ensures told { (give : Effect → S → S) (script : List Instr) (value : ℤ) (turn : Turn) (task : TaskState) (variables : List ℤ) (given : S) →
         has_ended task ≡ false → turn.canceling ≡ true →
-        (polled give script value turn task variables given).task.told ≡ true }
+        (polled give script value turn task variables given).task.knows_canceling ≡ true }
     ensures kept { (give : Effect → S → S) (script : List Instr) (value : ℤ) (turn : Turn) (task : TaskState) (variables : List ℤ) (given : S) →
         turn.canceling ≡ false →
-        (polled give script value turn task variables given).task.told ≡ task.told }
+        (polled give script value turn task variables given).task.knows_canceling ≡ task.knows_canceling }
 {}
 
 /// A poll of a task that has ended answers its ending, and has no effect.

@@ -1,7 +1,7 @@
 ghost use Rattle.std.specs.Prelude.{◌≡◌, ◌||◌, ◌^◌, None, OnOk, OnErr};
 ghost use Rattle.exec_script.specs.Script.{WaitsWithin};
 ghost use Rattle.exec_script.specs.Script.{listed};
-ghost use Rattle.exec_task.specs.Task.{new_task, has_ended, is_reached, is_awake, after_stop, ran, run_of, task_answer, ending_event};
+ghost use Rattle.exec_task.specs.Task.{new_task, has_ended, is_reached, is_awake, after_stop, ran, resumption_of, task_answer, ending_event};
 ghost use Rattle.exec_task.specs.Waking.{wake_by, wake_of};
 
 use crate::wait::{Answer, Ending, Turn, Wait};
@@ -14,7 +14,7 @@ use std::marker::Model;
 pub(crate) struct Progress {
     waits: Wait,
     // Whether the goal was polled as one that is being canceled.
-    told: bool,
+    knows_canceling: bool,
     ending: Option<Ending>,
     // The number of the instruction at which the script goes on, from 0.
     place: usize,
@@ -26,9 +26,21 @@ impl Model for Progress {
 
     ghost Value = { TaskState };
 
-    ghost view = { λ progress. record { place = progress.place; registers = progress.registers; waits = progress.waits; told = progress.told; ending = progress.ending } };
+    ghost view = { λ progress. record {
+      place = progress.place;
+      registers = progress.registers;
+      waits = progress.waits;
+      knows_canceling = progress.knows_canceling;
+      ending = progress.ending;
+    } };
 
-    ghost inverse = { λ task. record { place = task.place; registers = task.registers; waits = task.waits; told = task.told; ending = task.ending } };
+    ghost inverse = { λ task. record {
+      place = task.place;
+      registers = task.registers;
+      waits = task.waits;
+      knows_canceling = task.knows_canceling;
+      ending = task.ending;
+    } };
 }
 
 impl Progress {
@@ -40,7 +52,7 @@ impl Progress {
             place: 0,
             registers: Regs::new(),
             waits: Wait::NextRound,
-            told: false,
+            knows_canceling: false,
             ending: None,
         }
     }
@@ -51,10 +63,10 @@ impl Progress {
         self.waits
     }
 
-    pub(crate) fn is_told(&self) -> bool
-        ensures { result ≡ self.now.told }
+    pub(crate) fn is_aware(&self) -> bool
+        ensures { result ≡ self.now.knows_canceling }
     {
-        self.told
+        self.knows_canceling
     }
 
     pub(crate) fn has_ended(&self) -> bool
@@ -66,7 +78,8 @@ impl Progress {
     pub(crate) fn is_awake(&self, moment: Moment, canceling: bool) -> bool
         ensures { result ≡ is_awake self.now (record { moment = moment; canceling = canceling }) }
     {
-        !self.has_ended() && (is_reached(self.waits, moment) || (canceling && !self.told))
+        !self.has_ended()
+            && (is_reached(self.waits, moment) || (canceling && !self.knows_canceling))
     }
 
     // The moment from which on it is awake, if it isn't being canceled.
@@ -99,7 +112,7 @@ impl Progress {
         effects: &mut EffectList,
     ) -> Result<(), Memory>
         ensures ok { OnOk result (record { task = self.new; variables = bank.new; given = effects.new }
-            ≡ ran turn.now self.old (run_of listed script.now value turn.now self.old bank.old effects.old)) }
+            ≡ ran turn.now self.old (resumption_of listed script.now value turn.now self.old bank.old effects.old)) }
         ensures unchanged { OnErr result (self.new ≡ self.old) }
         ensures unchanged_variables { OnErr result (bank.new ≡ bank.old) }
         ensures unchanged_effects { OnErr result (effects.new ≡ effects.old) }
@@ -117,7 +130,7 @@ impl Progress {
             &input,
             effects,
         )?;
-        self.told = self.told || turn.canceling;
+        self.knows_canceling = self.knows_canceling || turn.canceling;
         self.stop(turn, stop);
         Ok(())
     }

@@ -7,7 +7,7 @@ use Rattle.std.specs.Io.KnownBytes.{IsAtEnd}
 use Rattle.exec_doc.specs.Upgrade.{upgraded_text}
 use Rattle.exec_doc.specs.declared.refused.Refused.{Refused}
 use Rattle.exec_msg.specs.declared.limits.TheConstants.{DOCUMENT}
-use Rattle.exec_upgrade.specs.Program.{AreGoodWords, Gave, HasUpgraded, IsRefusalOf, Left, StreamRun, Took}
+use Rattle.exec_upgrade.specs.Program.{Appended, AreGoodWords, Consumed, HasUpgraded, IsRefusalOf, StreamRun, Unchanged}
 use Rattle.exec_upgrade.specs.inner.Writing.{HasWritten}
 use Rattle.exec_upgrade.specs.declared.program.Failure.{Failure}
 use Rattle.exec_upgrade.specs.declared.program.Failure.TheVariants as failure
@@ -18,7 +18,7 @@ use Rattle.exec_io.specs.declared.words.WordsFault.TheVariants as words_fault
 pub record HasRead (words : Result (Vec (String Global)) WordsFault) (input : StreamRun) (document : List ℕ) : Type 0 where
   pub good : AreGoodWords words
   pub sound : words ≢ Err words_fault.Memory
-  pub taken : (bytes : List ℕ) × Took input bytes × (length bytes ≤ DOCUMENT + 1)
+  pub taken : (bytes : List ℕ) × Consumed input bytes × (length bytes ≤ DOCUMENT + 1)
   pub whole : IfSome input.before (λ bytes. document ≡ bytes)
   pub fits : length document ≤ DOCUMENT
   pub end : IsAtEnd input.after
@@ -44,7 +44,7 @@ fits_so P (Some bytes) document whole fits = λ over. absurd (omega (arith, over
 
 -- a run whose document was refused
 pub after_refusal : (words : Result (Vec (String Global)) WordsFault) (input output : StreamRun) (flushed : Bool) (outcome : Result (Unit {0}) Failure) (document : List ℕ) (code : Refused)
-    → outcome ≡ Err (failure.Refused code) → HasRead words input document → Left output → IsRefusalOf document code → HasUpgraded words input output flushed outcome
+    → outcome ≡ Err (failure.Refused code) → HasRead words input document → Unchanged output → IsRefusalOf document code → HasUpgraded words input output flushed outcome
 after_refusal words input output flushed outcome document code is read left refusal =
     let good = read.good in
     let sound = read.sound in
@@ -70,7 +70,7 @@ after_refusal words input output flushed outcome document code is read left refu
 
 -- a run whose output failed behind a front of the text
 pub after_cut_off : (words : Result (Vec (String Global)) WordsFault) (input output : StreamRun) (flushed : Bool) (outcome : Result (Unit {0}) Failure) (document text : List ℕ) (count : ℕ)
-    → outcome ≡ Err failure.WriteFailed → HasRead words input document → upgraded_text document ≡ Some text → Gave output (take count text) → output.failed ≡ true → HasUpgraded words input output flushed outcome
+    → outcome ≡ Err failure.WriteFailed → HasRead words input document → upgraded_text document ≡ Some text → Appended output (take count text) → output.failed ≡ true → HasUpgraded words input output flushed outcome
 after_cut_off words input output flushed outcome document text count is read says gave failed =
     let good = read.good in
     let sound = read.sound in
@@ -85,14 +85,14 @@ after_cut_off words input output flushed outcome document text count is read say
       whole_document = tt;
       written = tt;
       flushed_then = tt;
-      cut_off = λ _. known_front input.before document (λ one some. Gave output (take some one)) read.whole text count says gave;
+      cut_off = λ _. known_front input.before document (λ one some. Appended output (take some one)) read.whole text count says gave;
       write_failed = λ _. failed;
       unwritten = λ other. absurd (other refl);
     })
 
 -- a run that wrote the whole text
 pub after_all : (words : Result (Vec (String Global)) WordsFault) (input output : StreamRun) (flushed : Bool) (document text : List ℕ) (unit : Unit {0})
-    → HasRead words input document → upgraded_text document ≡ Some text → Gave output text → flushed ≡ true → HasUpgraded words input output flushed (Ok unit)
+    → HasRead words input document → upgraded_text document ≡ Some text → Appended output text → flushed ≡ true → HasUpgraded words input output flushed (Ok unit)
 after_all words input output flushed document text unit read says gave is_flushed =
     let good = read.good in
     let sound = read.sound in
@@ -105,7 +105,7 @@ after_all words input output flushed document text unit read says gave is_flushe
       read_failed = search rules;
       refused = search rules;
       whole_document = read.end;
-      written = known_text input.before document (λ one. Gave output one) read.whole text says gave;
+      written = known_text input.before document (λ one. Appended output one) read.whole text says gave;
       flushed_then = is_flushed;
       cut_off = search rules;
       write_failed = search rules;

@@ -2,7 +2,7 @@
 ghost use Rattle.std.specs.Prelude.{◌≡◌, false, Result};
 ghost use Rattle.exec_upgrade.specs.declared.program.Failure.{Failure};
 ghost use Rattle.exec_upgrade.specs.inner.Writing.{HasWritten};
-ghost use Rattle.exec_upgrade.specs.Program.{HasUpgraded, IsTold, outcome_status, failure_line, failure_status, exit_number, failure_of_words, failure_of_read, refused_line};
+ghost use Rattle.exec_upgrade.specs.Program.{HasUpgraded, IsReported, status_by, failure_line, failure_status, exit_number, failure_of_words, failure_of_read, refused_line};
 ghost use Rattle.exec_upgrade.specs.declared.program.Failure.TheVariants.{Refused as RefusedWith, WriteFailed};
 
 use exec_doc::{Refused, upgrade};
@@ -126,8 +126,8 @@ pub fn execute<R: Read, O: Write, E: Write>(
         (record { before = input.old.remaining; after = input.new.remaining; failed = input.new.failed })
         (record { before = output.old.sink.contents; after = output.new.sink.contents; failed = output.new.sink.failed })
         output.new.flushed outcome
-        × (result ≡ outcome_status outcome)
-        × IsTold outcome
+        × (result ≡ status_by outcome)
+        × IsReported outcome
         (record { before = errors.old.sink.contents; after = errors.new.sink.contents; failed = errors.new.sink.failed })
         errors.new.flushed }
 {

@@ -32,12 +32,12 @@ rounds_done number rounds left next = by (left == 0)
     by false = omega (arith, next)
 
 pub snapshot_kept : (world : WorldData) (number : ℕ) (list : List Ready) (state : WorldState) → number ≡ world.rounds + 1 → list ≡ ready_in number world → state ≡ take_inputs (moment_of number world.plan) (state_at number world)
-    → record { plan = world.plan; state = state; rounds = rounds_in number (length list); left = length list; failed = world.failed } ≡ after_snapshot number world
+    → record { plan = world.plan; state = state; rounds = rounds_in number (length list); uncommitted = length list; failed = world.failed } ≡ after_snapshot number world
 snapshot_kept world number list state next listed taken =
-    (λ i. record { plan = world.plan; state = taken i; rounds = rounds_done number world.rounds (length list) next i; left = length list; failed = world.failed })
-    ∙ (λ i. record { plan = world.plan; state = take_inputs (moment_of number world.plan) (state_at number world); rounds = cond (length (listed i) == 0) (suc world.rounds) world.rounds; left = length (listed i); failed = world.failed })
+    (λ i. record { plan = world.plan; state = taken i; rounds = rounds_done number world.rounds (length list) next i; uncommitted = length list; failed = world.failed })
+    ∙ (λ i. record { plan = world.plan; state = take_inputs (moment_of number world.plan) (state_at number world); rounds = cond (length (listed i) == 0) (suc world.rounds) world.rounds; uncommitted = length (listed i); failed = world.failed })
 
 pub round_kept : (world : WorldData) (number : ℕ) (state : WorldState) → number ≡ world.rounds + 1 → state ≡ snapshot_and_run (moment_of number world.plan) (state_at number world)
-    → record { plan = world.plan; state = state; rounds = rounds_in number 0; left = 0; failed = world.failed } ≡ after_round number world
+    → record { plan = world.plan; state = state; rounds = rounds_in number 0; uncommitted = 0; failed = world.failed } ≡ after_round number world
 round_kept world number state next ran =
-    (λ i. record { plan = world.plan; state = ran i; rounds = rounds_done number world.rounds 0 next i; left = 0; failed = world.failed })
+    (λ i. record { plan = world.plan; state = ran i; rounds = rounds_done number world.rounds 0 next i; uncommitted = 0; failed = world.failed })

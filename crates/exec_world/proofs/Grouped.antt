@@ -18,7 +18,7 @@ use Rattle.exec_rules.specs.Calls.{HaveVariables}
 use Rattle.exec_rules.specs.Shape.{queue_shape, server_shape, shape_of, timer_shape}
 use Rattle.exec_rules.specs.Ready.{due_ready, is_goal_awake, item_ready, poll_ready, queue_ready, ready_list, take_inputs}
 use Rattle.exec_rules.specs.Transcript.{entity_at, first_world, handler_for, new_queue, new_server, new_timer, takes_from_queue}
-use Rattle.exec_rules.specs.World.{Handler, Queue, ServerEntry, TimerEntry, WorldState, goals_of}
+use Rattle.exec_rules.specs.World.{Handler, Queue, ServerEntry, TimerEntry, WorldState, goals_at}
 use Rattle.exec_rules.specs.declared.item.Item.{Item}
 use Rattle.exec_rules.specs.declared.ready.Ready.{Ready}
 
@@ -86,7 +86,7 @@ due_below groups moment entry below = by (is_due entry.timer moment) refl
 taken_below : (groups : ℕ) (moment : Moment) (world : WorldState) (queue : Queue) → IsBelow groups queue.handler → AllByRecursion (IsReadyBelow groups) (queue_ready moment world queue)
 taken_below groups moment world queue below = by queue.items
   where
-    by : (items : List Item) → AllByRecursion (IsReadyBelow groups) (item_ready moment queue.handler (goals_of queue.handler.entity world) items)
+    by : (items : List Item) → AllByRecursion (IsReadyBelow groups) (item_ready moment queue.handler (goals_at queue.handler.entity world) items)
     by [] = tt
     by (first ∷ items) = (below, tt)
 

@@ -6,7 +6,7 @@ use Rattle.exec_script.specs.declared.effects.Effect.{Effect}
 use Rattle.exec_script.specs.Zeros.{zeros}
 use Rattle.exec_task.specs.Task.{TaskState}
 use Rattle.exec_entity.proofs.Awake.{unchanged_first}
-use Rattle.exec_rules.specs.Callback.{Outcome, act, callback, poll_listed}
+use Rattle.exec_rules.specs.Callback.{AfterCallback, act, callback, poll_listed}
 use Rattle.exec_rules.specs.Ready.{turn_at}
 use Rattle.exec_rules.specs.Run.{apart, brought_home, variables_for, with_polled, work_for, work_by}
 use Rattle.exec_rules.specs.World.{GoalWork, ServerEntry, WorldState, is_server_at, with_variables, work_in}
@@ -30,7 +30,7 @@ polled_home server (cause.Woke id value canceling) None world = ap (λ (servers 
 polled_home server (cause.Woke id value canceling) (Some task) world = refl
 
 -- a callback with this work and these variables, its effects listed
-abbrev did : Ready → Option GoalWork → Variables → Outcome (List Effect)
+abbrev did : Ready → Option GoalWork → Variables → AfterCallback (List Effect)
 did one work variables = callback listed one work variables []
 
 -- the variables with which a callback begins, where groups keep these
@@ -63,7 +63,7 @@ poll_home one id value canceling before world servers start left same polls star
     let polled : poll_listed (turn_at one.moment canceling) (work_in one.entity id before.servers) start ≡ did one (work_by one.entity one.cause before.servers) (begun one before.variables) =
     ap (poll_listed (turn_at one.moment canceling) (work_in one.entity id before.servers)) starts ∙ sym (ap (λ (why : Cause). act why listed one (work_by one.entity why before.servers) (begun one before.variables) []) polls) in
     callback_home one before world servers (left_by one.exclusive one.group left before.variables) same
-    (ap (λ (some : Variables). left_by one.exclusive one.group some before.variables) (left_is ∙ ap (λ (outcome : Outcome (List Effect)). outcome.variables) polled))
+    (ap (λ (some : Variables). left_by one.exclusive one.group some before.variables) (left_is ∙ ap (λ (outcome : AfterCallback (List Effect)). outcome.variables) polled))
     (servers_are ∙ (λ i. polled_by one.entity (sym polls i) (polled i).task before.servers))
 
 -- what two clauses say of the same `Ok`

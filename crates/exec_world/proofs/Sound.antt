@@ -29,7 +29,7 @@ use Rattle.exec_rules.specs.Shape.{server_shape, shape_of}
 use Rattle.exec_rules.specs.Ready.{all_ready, due_ready, is_goal_awake, is_task_awake, item_ready, poll_ready, placed_from, queue_ready, rank_under, ready_for, ready_list, take_inputs, turn_at, woken}
 use Rattle.exec_rules.specs.Sorting.{sorted_by}
 use Rattle.exec_rules.specs.Transcript.{expire, feed, first_world, run_all, snapshot_and_run, takes_from_queue}
-use Rattle.exec_rules.specs.World.{GoalWork, HeldGoal, Queue, ServerEntry, TimerEntry, WorldState, add_line, goals_of, is_for, is_server_at, with_work}
+use Rattle.exec_rules.specs.World.{GoalWork, HeldGoal, Queue, ServerEntry, TimerEntry, WorldState, add_line, goals_at, is_for, is_server_at, with_work}
 use Rattle.exec_rules.specs.declared.item.Item.{Item}
 use Rattle.exec_rules.specs.declared.item.Item.TheVariants as item
 use Rattle.exec_rules.specs.declared.ready.Cause.{Cause}
@@ -195,7 +195,7 @@ due_none moment entry = by (is_due entry.timer moment) refl
 taken_none : (moment : Moment) (world : WorldState) (queue : Queue) → AllByRecursion PollsNone (queue_ready moment world queue)
 taken_none moment world queue = by queue.items
   where
-    by : (items : List Item) → AllByRecursion PollsNone (item_ready moment queue.handler (goals_of queue.handler.entity world) items)
+    by : (items : List Item) → AllByRecursion PollsNone (item_ready moment queue.handler (goals_at queue.handler.entity world) items)
     by [] = tt
     by (first ∷ items) = ((λ id. refl), tt)
 

@@ -325,7 +325,7 @@ fn declare_topic(
 {
     match declared {
         Declared::Topic => {
-            let subscribers = subscribers_of(alloc, graph, entity)?;
+            let subscribers = subscribers_at(alloc, graph, entity)?;
             topics.declare(Topic {
                 entity,
                 subscribers,
@@ -336,7 +336,7 @@ fn declare_topic(
 }
 
 // The subscriptions of a topic, in the order of declaration.
-fn subscribers_of(alloc: Global, graph: &Graph, topic: EntityNo) -> Result<Vec<EntityNo>, Memory>
+fn subscribers_at(alloc: Global, graph: &Graph, topic: EntityNo) -> Result<Vec<EntityNo>, Memory>
     ensures { IfOk result (λ subscribers. subscribers.items ≡ entities_where (of_entity false (subscribes_to topic)) graph.now) }
 {
     let mut subscribers = Vec::new(alloc);

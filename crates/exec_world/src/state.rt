@@ -25,7 +25,7 @@ use std::marker::Model;
 // The world of a plan: the order in which ready callbacks run, the number of the last arrival, topics, timers, queues, servers
 // and clients, the variables of its callback groups, and the lines so far.
 #[derive(Drop)]
-pub(crate) struct State<L: Lines> {
+pub(crate) struct WorldBody<L: Lines> {
     alloc: Global,
     topics: Topics,
     timers: Vec<EntityTimer>,
@@ -36,7 +36,7 @@ pub(crate) struct State<L: Lines> {
     mail: Mail<L>,
 }
 
-impl<L: Lines> Model for State<L> {
+impl<L: Lines> Model for WorldBody<L> {
     ghost use Rattle.exec_rules.specs.World.{WorldState};
 
     ghost Value = { WorldState };
@@ -55,19 +55,19 @@ impl<L: Lines> Model for State<L> {
     } };
 }
 
-impl<L: Lines> State<L> {
+impl<L: Lines> WorldBody<L> {
     ghost use Rattle.std.specs.Prelude.{◌≡◌, [], IfOk, OnOk};
     ghost use Rattle.exec_rules.specs.Transcript.{first_world};
-    ghost use Rattle.exec_rules.specs.World.{add_line, variables_of, with_variables};
+    ghost use Rattle.exec_rules.specs.World.{add_line, variables_at, with_variables};
 
     // The world of a plan before its first round. It has no lines yet.
-    pub(crate) fn new(alloc: Global, plan: &Plan, lines: L) -> Result<State<L>, Memory>
+    pub(crate) fn new(alloc: Global, plan: &Plan, lines: L) -> Result<WorldBody<L>, Memory>
         requires { L.lines lines ≡ [] }
         ensures { IfOk result (λ state. state ≡ first_world plan.now) }
     {
         let graph = plan.graph();
         let order = plan.order();
-        Ok(State {
+        Ok(WorldBody {
             alloc,
             topics: new_topics(alloc, graph)?,
             timers: new_timers(alloc, graph)?,
@@ -102,7 +102,7 @@ impl<L: Lines> State<L> {
 
     // The variables of a group. Only groups of the graph have any.
     pub(crate) fn bank(&self, group: GroupNo) -> Bank
-        ensures { result ≡ variables_of group self.now }
+        ensures { result ≡ variables_at group self.now }
     {
         self.banks.get(group)
     }

@@ -8,7 +8,7 @@ ghost use Rattle.exec_rules.specs.declared.ready.Cause.TheVariants as cause;
 
 use exec_entity::Server;
 use exec_goal::GoalInfo;
-use exec_msg::{GoalId, Items, Memory, Moment};
+use exec_msg::{Elements, GoalId, Memory, Moment};
 use exec_plan::Script;
 use exec_rules::{Cause, Handler, Item, Ready};
 use std::alloc::Global;
@@ -35,12 +35,12 @@ fn candidates_for(
     alloc: Global,
     item: &Item,
     server: Option<&Server>,
-) -> Result<Items<GoalInfo>, Memory>
+) -> Result<Elements<GoalInfo>, Memory>
     ensures { IfOk result (λ infos. infos ≡ candidates_for item.now (option_map_or (λ entry. entry.goals) (option_copied server.entry) [])) }
 {
     match (item, server) {
         (Item::Cancel { request, .. }, Some(server)) => server.candidates(request),
-        _ => Ok(Items::new(alloc)),
+        _ => Ok(Elements::new(alloc)),
     }
 }
 

@@ -4,7 +4,7 @@ ghost use Rattle.exec_rules.specs.Transcript.{lines_of};
 
 use crate::fault::WorldFault;
 use crate::scratch::Scratch;
-use crate::state::State;
+use crate::state::WorldBody;
 use exec_msg::{EntityNo, GoalId, Line, LineList, Lines, Memory};
 use exec_plan::{FeedByRound, GroupNo, Plan};
 use exec_rules::Ready;
@@ -22,10 +22,10 @@ pub struct World<L: Lines = LineList> {
     plan: Arc<Plan>,
     feed: FeedByRound,
     poller: Poller,
-    state: State<L>,
+    state: WorldBody<L>,
     // The last round that began, and how many of its callbacks aren't committed yet.
     round: usize,
-    left: usize,
+    uncommitted: usize,
     failed: bool,
     scratch: Scratch,
 }
@@ -43,14 +43,14 @@ impl<L: Lines> Model for World<L> {
     ghost view = { λ world. record {
       plan = arc_value world.plan;
       state = world.state;
-      rounds = rounds_in world.round world.left;
-      left = world.left;
+      rounds = rounds_in world.round world.uncommitted;
+      uncommitted = world.uncommitted;
       failed = world.failed;
     } };
 
     ghost invariant = { λ world. (world.feed ≡ feeds_by_round (arc_value world.plan))
         × (length world.feed ≡ length (arc_value world.plan).moments)
-        × HasBegun world.round world.left
+        × HasBegun world.round world.uncommitted
         × (world.failed ≡ false → IsSound (arc_value world.plan) world.state) };
 }
 
@@ -85,7 +85,7 @@ impl<L: Lines> World<L> {
     ghost use Rattle.exec_rules.specs.Calls.{AreHome, HaveVariables, IsNext, ready_in};
     ghost use Rattle.exec_rules.specs.Calls.{after_all, after_commit, after_finish, after_round, after_snapshot, new_world, world_after};
     ghost use Rattle.exec_world.specs.declared.fault.WorldFault.TheVariants as fault;
-    ghost use Rattle.exec_rules.specs.World.{GoalWork, variables_of, with_variables, with_work, work_at, work_of};
+    ghost use Rattle.exec_rules.specs.World.{GoalWork, variables_at, with_variables, with_work, work_at, work_of};
     ghost use Rattle.exec_rules.specs.Transcript.{lines_of};
 
     /// The world of a plan before its first round. The lines go to `lines`, which has none yet.
@@ -98,7 +98,7 @@ impl<L: Lines> World<L> {
     {
         let feed = FeedByRound::of(alloc, &plan)?;
         let poller = Poller::new(alloc)?;
-        let state = State::new(alloc, &plan, lines)?;
+        let state = WorldBody::new(alloc, &plan, lines)?;
         Ok(World {
             alloc,
             plan,
@@ -106,7 +106,7 @@ impl<L: Lines> World<L> {
             poller,
             state,
             round: 0,
-            left: 0,
+            uncommitted: 0,
             failed: false,
             scratch: Scratch::new(alloc),
         })
@@ -123,7 +123,7 @@ impl<L: Lines> World<L> {
     pub fn rounds_done(&self) -> usize
         ensures { result ≡ self.now.rounds }
     {
-        if self.left == 0 {
+        if self.uncommitted == 0 {
             self.round
         } else {
             self.round - 1
@@ -131,17 +131,17 @@ impl<L: Lines> World<L> {
     }
 
     /// How many callbacks of the last snapshot aren't committed yet.
-    pub fn count_left(&self) -> usize
-        ensures { result ≡ self.now.left }
+    pub fn count_uncommitted(&self) -> usize
+        ensures { result ≡ self.now.uncommitted }
     {
-        self.left
+        self.uncommitted
     }
 
     /// Whether this is the next round. It must be one of the plan, and the round before it must be done.
     pub fn is_next(&self, round: usize) -> bool
         ensures { (result ≡ true) ↔ IsNext round self.now }
     {
-        self.left == 0
+        self.uncommitted == 0
             && self.round < round
             && round - self.round == 1
             && round <= self.plan.moments().len()
@@ -193,7 +193,7 @@ impl<L: Lines> World<L> {
         }
         self.round = round;
         let list = self.scratch.take_list(self.alloc);
-        self.left = list.len();
+        self.uncommitted = list.len();
         Ok(list)
     }
 
@@ -202,7 +202,7 @@ impl<L: Lines> World<L> {
     /// # Errors
     /// [`WorldFault::Memory`] if a growth was refused, [`WorldFault::Failed`] if the world had failed before.
     pub fn commit(&mut self, one: &Ready, effects: Effects) -> Result<(), WorldFault>
-        requires { self.old.failed ≡ false → 0 < self.old.left }
+        requires { self.old.failed ≡ false → 0 < self.old.uncommitted }
         ensures committed { OnOk result (self.new ≡ after_commit one.now effects self.old) }
         ensures unfailed { OnOk result (self.old.failed ≡ false) }
         ensures fault { IfErr result (λ why. HasFailed why self.old self.new) }
@@ -215,7 +215,7 @@ impl<L: Lines> World<L> {
             self.failed = true;
             return Err(WorldFault::Memory);
         }
-        self.left -= 1;
+        self.uncommitted -= 1;
         Ok(())
     }
 
@@ -225,7 +225,7 @@ impl<L: Lines> World<L> {
     /// # Errors
     /// [`WorldFault::Memory`] if a growth or a clone was refused, [`WorldFault::Failed`] if the world had failed before.
     pub fn run_ready(&mut self, list: &[Ready]) -> Result<(), WorldFault>
-        requires { self.old.failed ≡ false → (length list.now ≡ self.old.left) × (0 < self.old.left) }
+        requires { self.old.failed ≡ false → (length list.now ≡ self.old.uncommitted) × (0 < self.old.uncommitted) }
         ensures ran { OnOk result (self.new ≡ after_all list.now self.old) }
         ensures unfailed { OnOk result (self.old.failed ≡ false) }
         ensures fault { IfErr result (λ why. HasFailed why self.old self.new) }
@@ -240,13 +240,13 @@ impl<L: Lines> World<L> {
             self.failed = true;
             return Err(WorldFault::Memory);
         }
-        self.left = 0;
+        self.uncommitted = 0;
         Ok(())
     }
 
     /// The variables of a callback group. [`put_bank`](World::put_bank) brings them home.
     pub fn take_bank(&mut self, group: GroupNo) -> Bank
-        ensures bank { result ≡ variables_of group self.old.state }
+        ensures bank { result ≡ variables_at group self.old.state }
         ensures same { self.new ≡ self.old }
     {
         self.state.bank(group)
@@ -312,7 +312,7 @@ impl<L: Lines> World<L> {
             return Err(Memory);
         }
         self.round = round;
-        self.left = 0;
+        self.uncommitted = 0;
         Ok(())
     }
 

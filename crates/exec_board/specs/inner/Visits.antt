@@ -1,4 +1,4 @@
--- One visit to a lane, and one turn over the lanes.
+-- One visit to a lane, and one to each lane.
 use Rattle.std.specs.Prelude.{◌≡◌, ℕ, ◌+◌, ◌-◌, ◌<◌, ◌≤◌, Bool, true, false, List, [], ◌∷◌, ◌++◌, length, map, slice_index, slice_set, IsErr}
 use Rattle.std.specs.declared.result.Result.{Result}
 use Rattle.std.specs.declared.result.Result.TheVariants.{Ok, Err}
@@ -66,7 +66,7 @@ left_in (lane ∷ lanes) (count ∷ counts) = (length lane.entries - count) + le
 abbrev pub left_for : SeatView → ℕ
 left_for view = left_in view.opening view.seen
 
--- a turn has come to a lane, and has claimed one of those before it or not
+-- a visit to each lane has come to this one, and has claimed one of those before it or not
 pub record Turning (lane quantum : ℕ) (claimed : Bool) (before after : SeatView) : Type 0 where
   pub swept : IsSwept quantum before after
   pub less : left_for after ≤ left_for before

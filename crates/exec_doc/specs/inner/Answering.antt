@@ -7,7 +7,7 @@ use Rattle.exec_doc.specs.declared.refused.Refused.TheVariants as refused
 use Rattle.exec_graph.specs.declared.draft.GraphDraft.{GraphDraft}
 use Rattle.exec_plan.specs.Graph.{GraphData}
 use Rattle.exec_graph.specs.Refusals.{fault_in}
-use Rattle.exec_graph.specs.Resolved.{graph_in}
+use Rattle.exec_graph.specs.Resolved.{resolved_graph}
 use Rattle.exec_graph.specs.declared.fault.GraphFault.{GraphFault}
 use Rattle.exec_graph.specs.declared.fault.GraphFault.TheVariants as graph_fault
 use Rattle.exec_plan.specs.declared.fault.PlanFault.{PlanFault}
@@ -34,7 +34,7 @@ graph_refusal graph within = find (has_graph_fault graph within) codes_in_order
 pub record IsReady (document : DocumentDraft) (graph : GraphData) (moments : List ℕ) (feed : List EntryDraft) : Type 0 where
   pub version : is_version document.version ≡ true
   pub faultless : fault_in document.graph ≡ None
-  pub made : graph_in document.graph ≡ Some graph
+  pub made : resolved_graph document.graph ≡ Some graph
   pub ticks : document.moments ≡ moments
   pub entries : document.feed ≡ feed
 

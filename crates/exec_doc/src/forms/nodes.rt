@@ -6,7 +6,7 @@ use crate::forms::entities::append_entities;
 use crate::forms::fields::{Form, list, required_field};
 use crate::refused::Refused;
 use exec_graph::{EntityKind, GroupDraft, NodeDraft};
-use exec_msg::Items;
+use exec_msg::Elements;
 use serde_json::Value;
 use std::alloc::Global;
 
@@ -37,8 +37,8 @@ impl Form for NodeDraft {
         )?;
         Ok(NodeDraft {
             name,
-            groups: Items::of(groups),
-            entities: Items::of(entities),
+            groups: Elements::of(groups),
+            entities: Elements::of(entities),
         })
     }
 }

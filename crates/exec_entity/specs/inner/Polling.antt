@@ -7,7 +7,7 @@ use Rattle.exec_msg.specs.Lists.{change_first}
 use Rattle.exec_script.specs.declared.effects.Effect.{Effect}
 use Rattle.exec_task.specs.Task.{TaskState}
 use Rattle.exec_task.specs.declared.wait.Turn.{Turn}
-use Rattle.exec_rules.specs.Callback.{Outcome, poll_listed}
+use Rattle.exec_rules.specs.Callback.{AfterCallback, poll_listed}
 use Rattle.exec_rules.specs.Ready.{ready_for}
 use Rattle.exec_script.specs.Script.{Variables}
 use Rattle.exec_rules.specs.World.{GoalWork, Handler, HeldGoal, ServerEntry, is_for, is_server_at, arrived}
@@ -39,7 +39,7 @@ polled_by server (cause.Woke id value canceling) task servers = change_first (is
 polled_by server _ task servers = servers
 
 -- a poll of a server's goal
-abbrev pub goal_polled : Turn → GoalId → ServerEntry → Variables → Outcome (List Effect)
+abbrev pub goal_polled : Turn → GoalId → ServerEntry → Variables → AfterCallback (List Effect)
 goal_polled turn id entry variables = poll_listed turn (option_and_then (λ held. held.work) (find (is_for id) entry.held)) variables
 
 -- the poll of a server's goal that is awake at a moment, alone

@@ -2,10 +2,10 @@
 use Rattle.std.specs.Prelude.{ℕ, List, map}
 use Rattle.std.specs.Option.{option_map}
 use Rattle.exec_rules.specs.World.{HeldGoal, work_of}
-use Rattle.exec_entity.specs.declared.server.Held.{Held}
+use Rattle.exec_entity.specs.declared.server.KeptWithGoal.{KeptWithGoal}
 
 -- what an entry of the map stands for: its key is the goal's identifier
-abbrev pub held_goal_of : ℕ × Held → HeldGoal
+abbrev pub held_goal_of : ℕ × KeptWithGoal → HeldGoal
 held_goal_of entry = record {
   id = entry.0;
   client = entry.1.client;
@@ -14,5 +14,5 @@ held_goal_of entry = record {
 }
 
 -- what the entries of a map stand for
-abbrev pub held_goals_of : List (ℕ × Held) → List HeldGoal
+abbrev pub held_goals_of : List (ℕ × KeptWithGoal) → List HeldGoal
 held_goals_of entries = map held_goal_of entries

@@ -7,7 +7,7 @@ ghost use Rattle.exec_entity.specs.inner.Server.{held_goals_of};
 ghost use Rattle.exec_entity.specs.inner.Waking.{wakes_of};
 
 use super::polling::wake_in;
-use super::{Held, Server, remove};
+use super::{KeptWithGoal, Server, remove};
 use crate::by_number::ByNumber;
 use exec_goal::Goals;
 use exec_msg::{GoalId, Line, Lines, Memory, Moment};
@@ -74,18 +74,18 @@ impl Server {
 }
 
 // Drops what is kept of goals that a server no longer holds.
-fn keep_held(held: &mut IndexMap<GoalId, Held>, goals: &Goals)
+fn keep_held(held: &mut IndexMap<GoalId, KeptWithGoal>, goals: &Goals)
     ensures { held_goals_of held.new.entries ≡ filter (λ one. holds_id one.id goals.now) (held_goals_of held.old.entries) }
 {
     held.retain(
-        |id: &GoalId, kept: &mut Held| -> bool
+        |id: &GoalId, kept: &mut KeptWithGoal| -> bool
             ensures { (result ≡ holds_id id.now goals.entry.now) × (kept.new ≡ kept.old) }
         { goals.holds(*id) },
     );
 }
 
 // Writes from when on each task is awake if its goal isn't being canceled, over the moments of more tasks.
-fn note_wakes(held: &IndexMap<GoalId, Held>, wakes: &mut Vec<u64>)
+fn note_wakes(held: &IndexMap<GoalId, KeptWithGoal>, wakes: &mut Vec<u64>)
     requires { length held.now.entries ≤ length wakes.old.items }
     ensures { wakes.new.items ≡ wakes_of (held_goals_of held.now.entries) }
 {

@@ -48,10 +48,10 @@ impl ByNumber<Server> {
     }
 
     /// The action client that sent a goal, if one did.
-    pub fn client_of(&self, server: EntityNo, id: GoalId) -> Option<EntityNo>
+    pub fn sender_at(&self, server: EntityNo, id: GoalId) -> Option<EntityNo>
         ensures { result ≡ option_map_or (λ held. held.client) (find (is_for id) (held_in server self.now)) None }
     {
-        self.find(server)?.client_of(id)
+        self.find(server)?.sender_at(id)
     }
 
     /// The number of a goal's last arrival, and 0 if no such goal is held.

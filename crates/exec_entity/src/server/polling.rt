@@ -7,9 +7,9 @@ ghost use Rattle.exec_rules.specs.Ready.{turn_at};
 ghost use Rattle.exec_rules.specs.World.{work_of};
 ghost use Rattle.exec_entity.specs.inner.Waking.{wake_in};
 
-use super::{Held, Server};
+use super::{KeptWithGoal, Server};
 use exec_goal::GoalInfo;
-use exec_msg::{GoalId, Items, Memory, Moment};
+use exec_msg::{Elements, GoalId, Memory, Moment};
 use exec_rules::{AwakeGoal, Cause, Ready, ReadyList, poll_any};
 use exec_script::{Bank, Close, EffectList};
 use exec_task::{GoalTask, Turn, is_awake, wakes_at};
@@ -173,7 +173,7 @@ impl Server {
         };
         Ok(
             self.handler
-                .ready(moment, cause, Items::new(alloc), Some(script)),
+                .ready(moment, cause, Elements::new(alloc), Some(script)),
         )
     }
 
@@ -274,14 +274,14 @@ impl Server {
     }
 }
 
-fn note_arrival(held: &mut Held, number: u64)
+fn note_arrival(held: &mut KeptWithGoal, number: u64)
     ensures { held.new ≡ record held.old { arrival = number } }
 {
     held.arrival = number;
 }
 
 // Puts a task, or none, in the place of a goal's task, and answers that.
-fn replace_task(held: &mut Held, task: Option<GoalTask>) -> Option<GoalTask>
+fn replace_task(held: &mut KeptWithGoal, task: Option<GoalTask>) -> Option<GoalTask>
     ensures taken { result ≡ held.old.task }
     ensures put { held.new ≡ record held.old { task = task } }
 {

@@ -2,7 +2,7 @@
 use super::Goals;
 use crate::cancel::{AcceptedIds, CancelAnswer, CancelRequest, is_refused};
 use crate::info::GoalInfo;
-use exec_msg::{CancelDecision, GoalId, Items, Memory, ReturnCode};
+use exec_msg::{CancelDecision, Elements, GoalId, Memory, ReturnCode};
 
 impl Goals {
     ghost use Rattle.std.specs.Prelude.{◌≡◌, ◌<◌, length, map, slice_index_or, slice_set, OnOk, OnErr, IfOk};
@@ -17,10 +17,10 @@ impl Goals {
     ///
     /// # Errors
     /// [`Memory`] if a growth was refused.
-    pub fn candidates(&self, request: &CancelRequest) -> Result<Items<GoalInfo>, Memory>
+    pub fn candidates(&self, request: &CancelRequest) -> Result<Elements<GoalInfo>, Memory>
         ensures { IfOk result (λ infos. infos ≡ map info_of (candidates request.now self.now)) }
     {
-        let mut infos = Items::new(self.alloc);
+        let mut infos = Elements::new(self.alloc);
         for index in 0..self.len() {
             let info = self.at(index);
             if request.is_candidate(&info) {
@@ -56,10 +56,10 @@ impl Goals {
         Ok(CancelAnswer { code, moved })
     }
 
-    fn moving_ids(&self, accepted: &AcceptedIds) -> Result<Items<GoalId>, Memory>
+    fn moving_ids(&self, accepted: &AcceptedIds) -> Result<Elements<GoalId>, Memory>
         ensures { IfOk result (λ ids. ids ≡ map (λ goal. goal.id) (filter (moves_by (is_among accepted.now)) self.now)) }
     {
-        let mut ids = Items::new(self.alloc);
+        let mut ids = Elements::new(self.alloc);
         for index in 0..self.len() {
             let info = self.at(index);
             if accepted.moves(&info) {

@@ -19,9 +19,9 @@ use Rattle.exec_plan.specs.Graph.{EntityData, GroupNo, in_group}
 use Rattle.exec_graph.specs.declared.draft.NodeDraft.{NodeDraft}
 use Rattle.exec_graph.specs.Faults.{drafted_names}
 use Rattle.exec_plan.specs.Names.{is_name}
-use Rattle.exec_graph.specs.Numbers.{Placed, entities_of}
+use Rattle.exec_graph.specs.Numbers.{NodeEntity, entities_of}
 use Rattle.exec_msg.specs.Options.{◌>>=◌}
-use Rattle.exec_graph.specs.Resolved.{script_in}
+use Rattle.exec_graph.specs.Resolved.{resolved_script}
 use Rattle.exec_script.specs.Legality.{legality_of}
 use Rattle.exec_script.specs.Spelling.{ScopeNames}
 
@@ -52,7 +52,7 @@ pub record DirectoryData : Type 0 where
   pub topics : ℕ
   pub names : List (List ℕ)
   pub groups : List NodeGroupsData
-  pub entities : List Placed
+  pub entities : List NodeEntity
 
 -- the directory of a draft
 abbrev pub directory_of : GraphDraft → DirectoryData
@@ -72,16 +72,16 @@ abbrev pub topic_number : DirectoryData → List ℕ → Option ℕ
 topic_number directory name = option_and_then (λ number. then_some (nat_lt number directory.topics) number) (position_of directory name)
 
 -- the entity at a number, with the number
-abbrev pub placed_at : DirectoryData → ℕ → Option (ℕ × Placed)
+abbrev pub placed_at : DirectoryData → ℕ → Option (ℕ × NodeEntity)
 placed_at directory number =
     if nat_lt number directory.topics then None else option_map (λ placed. (number, placed)) (slice_get directory.entities (number - directory.topics))
 
 -- the entity of a name, with its number
-abbrev pub placed_named : DirectoryData → List ℕ → Option (ℕ × Placed)
+abbrev pub placed_named : DirectoryData → List ℕ → Option (ℕ × NodeEntity)
 placed_named directory name = option_and_then (placed_at directory) (position_of directory name)
 
 -- the number of the entity of a name that passes a test
-abbrev pub entity_number : DirectoryData → (Placed → Bool) → List ℕ → Option ℕ
+abbrev pub entity_number : DirectoryData → (NodeEntity → Bool) → List ℕ → Option ℕ
 entity_number directory test name = option_and_then (λ found. then_some (test found.1) found.0) (placed_named directory name)
 
 -- the number of a node's group of a name, or of its default group, which has none
@@ -106,12 +106,12 @@ reference_number directory entity = if_there (λ reference. number_in directory 
 
 -- an entity with the numbers of its group and of what it refers to
 pub record Linked : Type 0 where
-  pub placed : Placed
+  pub placed : NodeEntity
   pub group : ℕ
   pub reference : Option ℕ
 
 -- an entity with these numbers, where its group and what it refers to are declared
-abbrev pub linked_in : DirectoryData → Placed → Option Linked
+abbrev pub linked_in : DirectoryData → NodeEntity → Option Linked
 linked_in directory placed = do
   group ← group_in directory placed.node placed.entity.group
   reference ← reference_number directory placed.entity.is
@@ -141,7 +141,7 @@ pub record NodeData : Type 0 where
 
 -- what an entity of a node is that refers to this number, its scripts read by the directory
 abbrev pub resolved_by : NodeData → Option ℕ → Drafted → Option Resolved
-resolved_by scope reference = read_by (λ to name. reference) (script_in (scope_in scope.directory scope.node))
+resolved_by scope reference = read_by (λ to name. reference) (resolved_script (scope_in scope.directory scope.node))
 
 -- what the name of a linked entity is declared as, its scripts read by the directory
 abbrev pub declaration_in : DirectoryData → Linked → Option Declared
@@ -149,7 +149,7 @@ declaration_in directory linked =
     option_map (in_group linked.group) (resolved_by (record { directory = directory; node = linked.placed.node }) linked.reference linked.placed.entity.is)
 
 -- what is declared as this, with the name of a placed entity
-abbrev pub titled : Placed → Declared → EntityData
+abbrev pub titled : NodeEntity → Declared → EntityData
 titled placed is = record { name = placed.entity.name; is = is }
 
 -- whether the callback group of a number is reentrant

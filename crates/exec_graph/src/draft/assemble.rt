@@ -11,7 +11,7 @@ ghost use Rattle.exec_plan.specs.Names.{are_distinct};
 ghost use Rattle.exec_graph.specs.Numbers.{entities_of};
 ghost use Rattle.exec_msg.specs.Options.{each};
 ghost use Rattle.exec_graph.specs.Refusals.{fault_in};
-ghost use Rattle.exec_graph.specs.Resolved.{entity_in, graph_in, topic_in};
+ghost use Rattle.exec_graph.specs.Resolved.{resolved_entity, resolved_graph, resolved_topic};
 ghost use Rattle.exec_graph.specs.declared.fault.GraphFault.TheVariants as graph_fault;
 
 use crate::draft::GraphDraft;
@@ -39,7 +39,7 @@ pub(crate) fn graph_of(
     requires named { Some directory.now ≡ then_some (is_well_named draft.now) (directory_of draft.now) }
     requires linked { each (linked_in directory.now) directory.now.entities ≡ Some linked.now }
     ensures graph { IfOk result (λ graph. (fault_in draft.now ≡ None)
-        × (graph_in draft.now ≡ Some graph)) }
+        × (resolved_graph draft.now ≡ Some graph)) }
     ensures fault { IfErr result (λ fault. (fault ≡ graph_fault.Memory) ⊎ (fault_in draft.now ≡ Some fault)) }
 {
     if !is_small(draft, directory.entities()) {
@@ -97,7 +97,7 @@ fn declarations_of(
     requires names { length directory.now.names ≤ 65536 }
     requires links { All (IsLinked directory.now) links.now }
     requires entities { map (λ linked. linked.placed) links.now ≡ entities_of draft.now }
-    ensures { IfOk result (λ found. option_map (λ others. map topic_in draft.now.topics ++ others) (each (entity_in draft.now) (entities_of draft.now)) ≡ option_map (λ entities. entries_of entities.entries) found) }
+    ensures { IfOk result (λ found. option_map (λ others. map resolved_topic draft.now.topics ++ others) (each (resolved_entity draft.now) (entities_of draft.now)) ≡ option_map (λ entities. entries_of entities.entries) found) }
 {
     let mut entities = topics_of(alloc, draft)?;
     for linked in links {
@@ -112,7 +112,7 @@ fn declarations_of(
 // The topics at their numbers.
 fn topics_of(alloc: Global, draft: &GraphDraft) -> Result<IndexMap<String, Declared>, Memory>
     requires { are_distinct draft.now.topics ≡ true }
-    ensures { IfOk result (λ entities. entries_of entities.entries ≡ map topic_in draft.now.topics) }
+    ensures { IfOk result (λ entities. entries_of entities.entries ≡ map resolved_topic draft.now.topics) }
 {
     let topics = draft.topics.as_slice();
     let mut entities = IndexMap::new(alloc);

@@ -9,7 +9,7 @@ use crate::draft::assemble::named_graph_of;
 use crate::draft::named::NamedGraph;
 use crate::draft::{GraphDraft, NodeDraft};
 use crate::fault::GraphFault;
-use exec_msg::{Items, Memory};
+use exec_msg::{Elements, Memory};
 use exec_plan::{EntityKind, Graph};
 use exec_script::WordText;
 use std::alloc::Global;
@@ -35,7 +35,7 @@ impl GraphBuilder {
     ghost use Rattle.exec_graph.specs.Faults.{is_well_named};
     ghost use Rattle.exec_graph.specs.Numbers.{topic_named, server_named};
     ghost use Rattle.exec_graph.specs.Refusals.{fault_in};
-    ghost use Rattle.exec_graph.specs.Resolved.{graph_in};
+    ghost use Rattle.exec_graph.specs.Resolved.{resolved_graph};
 
     /// A graph in which nothing is declared yet. It takes no memory.
     pub fn new(alloc: Global) -> GraphBuilder
@@ -44,8 +44,8 @@ impl GraphBuilder {
         GraphBuilder {
             alloc,
             draft: GraphDraft {
-                topics: Items::new(alloc),
-                nodes: Items::new(alloc),
+                topics: Elements::new(alloc),
+                nodes: Elements::new(alloc),
             },
         }
     }
@@ -105,7 +105,7 @@ impl GraphBuilder {
     /// # Errors
     /// The least fault of what was declared, or [`GraphFault::Memory`] if a growth was refused.
     pub fn finish(self) -> Result<Graph, GraphFault>
-        ensures graph { IfOk result (λ graph. (fault_in self ≡ None) × (graph_in self ≡ Some graph)) }
+        ensures graph { IfOk result (λ graph. (fault_in self ≡ None) × (resolved_graph self ≡ Some graph)) }
         ensures fault { IfErr result (λ fault. (fault ≡ GraphFault.Memory) ⊎ (fault_in self ≡ Some fault)) }
     {
         let named = self.named_graph()?;

@@ -38,7 +38,7 @@ impl<'a> NamedGraph<'a> {
     ghost use Rattle.std.specs.Prelude.{◌≡◌, ◌⊎◌, None, Some, is_some, IfOk, IfErr};
     ghost use Rattle.exec_graph.specs.Numbers.{topic_named, server_named};
     ghost use Rattle.exec_graph.specs.Refusals.{fault_in};
-    ghost use Rattle.exec_graph.specs.Resolved.{graph_in};
+    ghost use Rattle.exec_graph.specs.Resolved.{resolved_graph};
 
     /// Whether a topic of this name is declared.
     pub fn topic_named(&self, name: &str) -> bool
@@ -62,7 +62,7 @@ impl<'a> NamedGraph<'a> {
     /// The least fault of what is declared, or [`GraphFault::Memory`] if a growth was refused. It is no fault of names, because
     /// all are right.
     pub fn graph(&self) -> Result<Graph, GraphFault>
-        ensures graph { IfOk result (λ graph. (fault_in self.now ≡ None) × (graph_in self.now ≡ Some graph)) }
+        ensures graph { IfOk result (λ graph. (fault_in self.now ≡ None) × (resolved_graph self.now ≡ Some graph)) }
         ensures fault { IfErr result (λ fault. (fault ≡ GraphFault.Memory) ⊎ (fault_in self.now ≡ Some fault)) }
     {
         graph_of(self.alloc, self.draft, &self.directory, &self.linked)

@@ -2,7 +2,7 @@
 ghost use Rattle.std.specs.Prelude.{◌≡◌, ◌++◌, map, IfOk, OnOk};
 ghost use Rattle.std.specs.List.{filter};
 ghost use Rattle.exec_plan.specs.Entity.{is_of};
-ghost use Rattle.exec_graph.specs.Numbers.{placed_in, entities_from, entities_of};
+ghost use Rattle.exec_graph.specs.Numbers.{node_entity, entities_from, entities_of};
 
 use crate::draft::{EntityDraft, GraphDraft};
 use exec_msg::Memory;
@@ -18,9 +18,9 @@ pub(crate) struct PlacedEntity<'a> {
 }
 
 impl<'a> Model for PlacedEntity<'a> {
-    ghost use Rattle.exec_graph.specs.Numbers.{Placed};
+    ghost use Rattle.exec_graph.specs.Numbers.{NodeEntity};
 
-    ghost Value = { Placed };
+    ghost Value = { NodeEntity };
 
     ghost view = { λ placed. record { node = placed.node; entity = placed.entity.now } };
 }
@@ -96,7 +96,7 @@ fn append_node<'a>(
     drafts: &'a [EntityDraft],
     entities: &mut Vec<PlacedEntity<'a>>,
 ) -> Result<(), Memory>
-    ensures { OnOk result (entities.new.items ≡ entities.old.items ++ map (placed_in node) drafts.now) }
+    ensures { OnOk result (entities.new.items ≡ entities.old.items ++ map (node_entity node) drafts.now) }
 {
     for entity in drafts {
         entities.push(PlacedEntity { node, entity })?;

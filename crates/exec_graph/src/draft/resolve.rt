@@ -3,7 +3,7 @@ ghost use Rattle.std.specs.Prelude.{◌≡◌};
 ghost use Rattle.exec_graph.specs.inner.Directory.{scope_in, resolved_by};
 ghost use Rattle.exec_plan.specs.Entity.{if_there};
 ghost use Rattle.exec_graph.specs.inner.Gives.{Gives};
-ghost use Rattle.exec_graph.specs.Resolved.{script_in};
+ghost use Rattle.exec_graph.specs.Resolved.{resolved_script};
 ghost use Rattle.exec_graph.specs.declared.draft.resolve.Unread.TheVariants as unread;
 
 use crate::draft::Drafted;
@@ -49,35 +49,35 @@ pub(crate) fn resolve(
     Ok(match entity {
         EntityOf::Timer(entity) => EntityOf::Timer(TimerEntity {
             period: entity.period,
-            script: script_in(alloc, scope, &entity.script)?,
+            script: resolved_script(alloc, scope, &entity.script)?,
         }),
         EntityOf::Subscription(entity) => EntityOf::Subscription(SubscriptionEntity {
             topic: reference.ok_or(Unread::Wrong)?,
             depth: entity.depth,
-            script: script_in(alloc, scope, &entity.script)?,
+            script: resolved_script(alloc, scope, &entity.script)?,
         }),
         EntityOf::Service(entity) => EntityOf::Service(ServiceEntity {
             depth: entity.depth,
-            script: script_in(alloc, scope, &entity.script)?,
+            script: resolved_script(alloc, scope, &entity.script)?,
         }),
         EntityOf::Client(entity) => EntityOf::Client(ClientEntity {
             service: reference.ok_or(Unread::Wrong)?,
             depth: entity.depth,
-            script: script_in(alloc, scope, &entity.script)?,
+            script: resolved_script(alloc, scope, &entity.script)?,
         }),
         EntityOf::Server(entity) => EntityOf::Server(ServerEntity {
             depth: entity.depth,
             result_timeout: entity.result_timeout,
-            on_goal: script_in(alloc, scope, &entity.on_goal)?,
-            on_cancel: script_in(alloc, scope, &entity.on_cancel)?,
-            script: script_in(alloc, scope, &entity.script)?,
+            on_goal: resolved_script(alloc, scope, &entity.on_goal)?,
+            on_cancel: resolved_script(alloc, scope, &entity.on_cancel)?,
+            script: resolved_script(alloc, scope, &entity.script)?,
         }),
         EntityOf::ActionClient(entity) => EntityOf::ActionClient(ActionClientEntity {
             server: reference.ok_or(Unread::Wrong)?,
             depth: entity.depth,
-            on_response: script_in(alloc, scope, &entity.on_response)?,
-            on_code: script_in(alloc, scope, &entity.on_code)?,
-            on_feedback: script_in(alloc, scope, &entity.on_feedback)?,
+            on_response: resolved_script(alloc, scope, &entity.on_response)?,
+            on_code: resolved_script(alloc, scope, &entity.on_code)?,
+            on_feedback: resolved_script(alloc, scope, &entity.on_feedback)?,
             on_result: result_script_in(alloc, scope, &entity.on_result)?,
         }),
     })
@@ -89,17 +89,21 @@ fn result_script_in(
     scope: &NodeScope<'_, '_>,
     words: &Option<Spelled>,
 ) -> Result<Option<Script>, Unread>
-    ensures { Gives result (if_there (script_in (scope_in scope.now.directory scope.now.node)) words.now) }
+    ensures { Gives result (if_there (resolved_script (scope_in scope.now.directory scope.now.node)) words.now) }
 {
     let Some(words) = words else {
         return Ok(None);
     };
-    let script = script_in(alloc, scope, words)?;
+    let script = resolved_script(alloc, scope, words)?;
     Ok(Some(script))
 }
 
-fn script_in(alloc: Global, scope: &NodeScope<'_, '_>, words: &Spelled) -> Result<Script, Unread>
-    ensures { Gives result (script_in (scope_in scope.now.directory scope.now.node) words.now) }
+fn resolved_script(
+    alloc: Global,
+    scope: &NodeScope<'_, '_>,
+    words: &Spelled,
+) -> Result<Script, Unread>
+    ensures { Gives result (resolved_script (scope_in scope.now.directory scope.now.node) words.now) }
 {
     match decode(alloc, words.as_slice(), scope) {
         Ok(script) => Ok(Script::of(Arc::new(alloc, script)?)),

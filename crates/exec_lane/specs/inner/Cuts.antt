@@ -2,7 +2,7 @@
 use Rattle.std.specs.Prelude.{◌≡◌, ℕ, List, [], ◌∷◌, ◌++◌, map, Bool, false, ◌&&◌, ◌==◌, if◌then◌else◌, Option, None}
 use Rattle.std.specs.List.{list_any}
 use Rattle.exec_plan.specs.Graph.{GroupNo}
-use Rattle.exec_lane.specs.Lane.{Lane, goes_into, variables_at, without_task}
+use Rattle.exec_lane.specs.Lane.{Lane, goes_into, variables_for_lane, without_task}
 use Rattle.exec_lane.specs.inner.Slots.{SlotState, entries_of}
 use Rattle.exec_msg.specs.Lists.{change_first}
 use Rattle.exec_rules.specs.Run.{work_for}
@@ -50,4 +50,4 @@ cut_from lanes (one ∷ list) world = cut_from (with_slot lanes (slot_in world o
 
 -- a lane of slots, opened with its group's variables as the world has them
 abbrev pub opened_slots : WorldState → List SlotState → Lane
-opened_slots world slots = record { variables = variables_at world (callbacks_of slots); entries = entries_of slots; done = 0; failed = false }
+opened_slots world slots = record { variables = variables_for_lane world (callbacks_of slots); entries = entries_of slots; done = 0; failed = false }

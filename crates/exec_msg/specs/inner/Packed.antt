@@ -4,8 +4,8 @@ use Rattle.std.specs.Bool.{⊤}
 use Rattle.std.specs.Int.{w64, cast_signed}
 use Rattle.exec_msg.specs.declared.line.Line.{Line}
 use Rattle.exec_msg.specs.declared.line.Line.TheVariants as line
-use Rattle.exec_msg.specs.declared.packed.Cell.{Cell}
-use Rattle.exec_msg.specs.declared.packed.Cell.TheVariants as cell
+use Rattle.exec_msg.specs.declared.packed.PackedCell.{PackedCell}
+use Rattle.exec_msg.specs.declared.packed.PackedCell.TheVariants as cell
 
 -- the number of an upper half and a lower one, of 32 bits each
 abbrev pub joined_halves : ℕ → ℕ → ℕ
@@ -26,13 +26,13 @@ pub data Said : Type 0 where
   an_id : ℕ → Said
   a_whole_line : Said
 
--- the identifier that is told where another was: that one with another upper half, or one of a maker
-abbrev pub id_told : Bool → ℕ → ℕ → ℕ → ℕ
-id_told true maker half id = half * 2 ^ 64 + id % 2 ^ 64
-id_told false maker half id = maker * 2 ^ 64 + half
+-- the identifier after another one: that one with another upper half, or one of a maker
+abbrev pub id_after : Bool → ℕ → ℕ → ℕ → ℕ
+id_after true maker half id = half * 2 ^ 64 + id % 2 ^ 64
+id_after false maker half id = maker * 2 ^ 64 + half
 
 -- what a cell says where an identifier was told
-abbrev pub said_by : Cell → ℕ → Said
+abbrev pub said_by : PackedCell → ℕ → Said
 said_by (cell.Round upper number lower) id = a_line (line.Round number (joined_halves upper lower)) id
 said_by (cell.Run kind entity high low) id = a_line (line.Run entity kind (value_by high low) (pos 0) None) id
 said_by (cell.RunCounted kind entity high low) id = a_line (line.Run entity kind (value_by high low) (aux_by id) None) id
@@ -54,7 +54,7 @@ said_by (cell.Decide decision server) id = a_line (line.Decide server id decisio
 said_by (cell.State status server) id = a_line (line.State server id status) id
 said_by (cell.Ask client) id = a_line (line.Ask client id) id
 said_by (cell.Result status server high low) id = a_line (line.Result server id status (value_by high low)) id
-said_by (cell.Id is_upper maker high low) id = an_id (id_told is_upper maker (joined_halves high low) id)
+said_by (cell.Id is_upper maker high low) id = an_id (id_after is_upper maker (joined_halves high low) id)
 said_by cell.Whole id = a_whole_line
 
 -- the line, if it is one, and the identifier that is told behind it
@@ -70,7 +70,7 @@ lines_by a_whole_line id [] rest = []
 lines_by a_whole_line id (whole ∷ wholes) rest = whole ∷ rest id wholes
 
 -- the lines of cells and of whole lines, where an identifier was told
-abbrev pub lines_in : List Cell → ℕ → List Line → List Line
+abbrev pub lines_in : List PackedCell → ℕ → List Line → List Line
 lines_in [] id wholes = []
 lines_in (cell ∷ cells) id wholes = lines_by (said_by cell id) id wholes (lines_in cells)
 
@@ -80,28 +80,28 @@ id_by (an_id other) id rest = rest other
 id_by a_whole_line id rest = rest id
 
 -- the identifier that was told last behind cells
-abbrev pub id_behind : List Cell → ℕ → ℕ
+abbrev pub id_behind : List PackedCell → ℕ → ℕ
 id_behind [] id = id
 id_behind (cell ∷ cells) id = id_by (said_by cell id) id (id_behind cells)
 
-abbrev pub told_by : Said → ℕ → List Line → (ℕ → List Line → Type 0) → Type 0
-told_by (a_line line on) id wholes rest = rest on wholes
-told_by (an_id other) id wholes rest = rest other wholes
-told_by a_whole_line id [] rest = ⊥
-told_by a_whole_line id (whole ∷ wholes) rest = rest id wholes
+abbrev pub HaveWholesBy : Said → ℕ → List Line → (ℕ → List Line → Type 0) → Type 0
+HaveWholesBy (a_line line on) id wholes rest = rest on wholes
+HaveWholesBy (an_id other) id wholes rest = rest other wholes
+HaveWholesBy a_whole_line id [] rest = ⊥
+HaveWholesBy a_whole_line id (whole ∷ wholes) rest = rest id wholes
 
--- the cells tell of each whole line
-abbrev pub AreTold : List Cell → ℕ → List Line → Type 0
-AreTold [] id [] = ⊤
-AreTold [] id (whole ∷ wholes) = ⊥
-AreTold (cell ∷ cells) id wholes = told_by (said_by cell id) id wholes (AreTold cells)
+-- the cells have a place for each whole line
+abbrev pub HaveWholes : List PackedCell → ℕ → List Line → Type 0
+HaveWholes [] id [] = ⊤
+HaveWholes [] id (whole ∷ wholes) = ⊥
+HaveWholes (cell ∷ cells) id wholes = HaveWholesBy (said_by cell id) id wholes (HaveWholes cells)
 
 -- cells behind these say lines, where one identifier was told before and one is behind
-abbrev pub HasLines : List Cell → List Cell → ℕ → ℕ → List Line → Type 0
-HasLines cells new before behind lines = (more : List Cell) × (new ≡ cells ++ more) × (lines_in more before [] ≡ lines) × (id_behind more before ≡ behind) × AreTold more before []
+abbrev pub HasLines : List PackedCell → List PackedCell → ℕ → ℕ → List Line → Type 0
+HasLines cells new before behind lines = (more : List PackedCell) × (new ≡ cells ++ more) × (lines_in more before [] ≡ lines) × (id_behind more before ≡ behind) × HaveWholes more before []
 
 -- cells don't begin with one that tells an identifier alone
-abbrev pub tells_no_id : List Cell → Type 0
+abbrev pub tells_no_id : List PackedCell → Type 0
 tells_no_id [] = ⊤
 tells_no_id (cell.Id is_upper maker high low ∷ cells) = ⊥
 tells_no_id (_ ∷ cells) = ⊤

@@ -4,7 +4,7 @@ ghost use Rattle.std.specs.Int.{w64, cast_signed};
 ghost use Rattle.exec_msg.specs.declared.line.Line.TheVariants as line;
 ghost use Rattle.exec_msg.specs.inner.Packed.{a_line, an_id, said_by};
 
-use super::Cell;
+use super::PackedCell;
 use super::halves::{halves, value_halves};
 use crate::kind::Kind;
 use crate::line::Line;
@@ -12,13 +12,13 @@ use crate::numbers::{EntityNo, GoalId};
 
 // The cell of a line, and the identifier that must be given before it. If none must be, that is `told`.
 #[inline(always)]
-pub(super) fn form_of(line: &Line, told: GoalId) -> Option<(Cell, GoalId)>
+pub(super) fn form_of(line: &Line, told: GoalId) -> Option<(PackedCell, GoalId)>
     ensures { IfSome result (λ form. said_by form.0 form.1 ≡ a_line line.now form.1) }
 {
     match *line {
         Line::Round { number, moment } => {
             let (high, lower) = halves(moment.ticks());
-            let cell = Cell::Round {
+            let cell = PackedCell::Round {
                 upper: u16::try_from(high).ok()?,
                 number: u32::try_from(number).ok()?,
                 lower,
@@ -48,7 +48,7 @@ pub(super) fn form_of(line: &Line, told: GoalId) -> Option<(Cell, GoalId)>
             input,
         } => {
             let (high, low) = value_halves(input);
-            let cell = Cell::Drop {
+            let cell = PackedCell::Drop {
                 kind,
                 entity,
                 high,
@@ -58,7 +58,7 @@ pub(super) fn form_of(line: &Line, told: GoalId) -> Option<(Cell, GoalId)>
         }
         Line::Pub { topic, value } => {
             let (high, low) = value_halves(value);
-            Some((Cell::Pub { topic, high, low }, told))
+            Some((PackedCell::Pub { topic, high, low }, told))
         }
         Line::Call {
             client,
@@ -67,32 +67,32 @@ pub(super) fn form_of(line: &Line, told: GoalId) -> Option<(Cell, GoalId)>
         } => Some(call_form(client, number, value, told)),
         Line::Reply { service, value } => {
             let (high, low) = value_halves(value);
-            Some((Cell::Reply { service, high, low }, told))
+            Some((PackedCell::Reply { service, high, low }, told))
         }
         Line::Log { entity, value } => {
             let (high, low) = value_halves(value);
-            Some((Cell::Log { entity, high, low }, told))
+            Some((PackedCell::Log { entity, high, low }, told))
         }
-        Line::Expire { server, id } => Some((Cell::Expire { server }, id)),
+        Line::Expire { server, id } => Some((PackedCell::Expire { server }, id)),
         Line::Goal { client, id, value } => {
             let (high, low) = value_halves(value);
-            Some((Cell::Goal { client, high, low }, id))
+            Some((PackedCell::Goal { client, high, low }, id))
         }
         Line::Cancel { client, id, stamp } => {
             let (high, low) = halves(stamp);
-            Some((Cell::Cancel { client, high, low }, id))
+            Some((PackedCell::Cancel { client, high, low }, id))
         }
         Line::Feedback { server, id, value } => {
             let (high, low) = value_halves(value);
-            Some((Cell::Feedback { server, high, low }, id))
+            Some((PackedCell::Feedback { server, high, low }, id))
         }
         Line::Decide {
             server,
             id,
             decision,
-        } => Some((Cell::Decide { decision, server }, id)),
-        Line::State { server, id, status } => Some((Cell::State { status, server }, id)),
-        Line::Ask { client, id } => Some((Cell::Ask { client }, id)),
+        } => Some((PackedCell::Decide { decision, server }, id)),
+        Line::State { server, id, status } => Some((PackedCell::State { status, server }, id)),
+        Line::Ask { client, id } => Some((PackedCell::Ask { client }, id)),
         Line::Result {
             server,
             id,
@@ -100,7 +100,7 @@ pub(super) fn form_of(line: &Line, told: GoalId) -> Option<(Cell, GoalId)>
             value,
         } => {
             let (high, low) = value_halves(value);
-            let cell = Cell::Result {
+            let cell = PackedCell::Result {
                 status,
                 server,
                 high,
@@ -113,12 +113,18 @@ pub(super) fn form_of(line: &Line, told: GoalId) -> Option<(Cell, GoalId)>
 }
 
 #[inline(always)]
-fn run_form(entity: EntityNo, kind: Kind, input: i64, aux: i64, told: GoalId) -> (Cell, GoalId)
+fn run_form(
+    entity: EntityNo,
+    kind: Kind,
+    input: i64,
+    aux: i64,
+    told: GoalId,
+) -> (PackedCell, GoalId)
     ensures { said_by result.0 result.1 ≡ a_line (line.Run entity kind input aux None) result.1 }
 {
     let (high, low) = value_halves(input);
     if aux == 0 {
-        let cell = Cell::Run {
+        let cell = PackedCell::Run {
             kind,
             entity,
             high,
@@ -126,7 +132,7 @@ fn run_form(entity: EntityNo, kind: Kind, input: i64, aux: i64, told: GoalId) ->
         };
         return (cell, told);
     }
-    let cell = Cell::RunCounted {
+    let cell = PackedCell::RunCounted {
         kind,
         entity,
         high,
@@ -136,21 +142,30 @@ fn run_form(entity: EntityNo, kind: Kind, input: i64, aux: i64, told: GoalId) ->
 }
 
 #[inline(always)]
-fn call_form(client: EntityNo, number: u64, value: i64, told: GoalId) -> (Cell, GoalId)
+fn call_form(client: EntityNo, number: u64, value: i64, told: GoalId) -> (PackedCell, GoalId)
     ensures { said_by result.0 result.1 ≡ a_line (line.Call client number value) result.1 }
 {
     let (high, low) = value_halves(value);
-    (Cell::Call { client, high, low }, with_count(told, number))
+    (
+        PackedCell::Call { client, high, low },
+        with_count(told, number),
+    )
 }
 
 // The cell of a run line on a goal, if that goal's identifier is given before.
 #[inline(always)]
-fn goal_run_cell(entity: EntityNo, kind: Kind, input: i64, aux: i64, id: GoalId) -> Option<Cell>
+fn goal_run_cell(
+    entity: EntityNo,
+    kind: Kind,
+    input: i64,
+    aux: i64,
+    id: GoalId,
+) -> Option<PackedCell>
     ensures { IfSome result (λ cell. said_by cell id ≡ a_line (line.Run entity kind input aux (Some id)) id) }
 {
     let (high, low) = value_halves(input);
     if aux == 0 {
-        return Some(Cell::RunOnGoal {
+        return Some(PackedCell::RunOnGoal {
             kind,
             entity,
             high,
@@ -158,7 +173,7 @@ fn goal_run_cell(entity: EntityNo, kind: Kind, input: i64, aux: i64, id: GoalId)
         });
     }
     if id.count().cast_signed() == aux {
-        return Some(Cell::RunOnGoalCounted {
+        return Some(PackedCell::RunOnGoalCounted {
             kind,
             entity,
             high,
@@ -166,7 +181,7 @@ fn goal_run_cell(entity: EntityNo, kind: Kind, input: i64, aux: i64, id: GoalId)
         });
     }
     let (aux, low) = short_pair(aux, input)?;
-    Some(Cell::RunOnGoalBeside {
+    Some(PackedCell::RunOnGoalBeside {
         kind,
         entity,
         aux,
@@ -176,7 +191,7 @@ fn goal_run_cell(entity: EntityNo, kind: Kind, input: i64, aux: i64, id: GoalId)
 
 // The cell of a run line on a near goal, and that goal. The cell gives its identifier.
 #[inline(always)]
-pub(super) fn near_form(line: &Line) -> Option<(Cell, GoalId)>
+pub(super) fn near_form(line: &Line) -> Option<(PackedCell, GoalId)>
     ensures { IfSome result (λ form. (told : _) → said_by form.0 told ≡ a_line line.now form.1) }
 {
     let Line::Run {
@@ -192,7 +207,7 @@ pub(super) fn near_form(line: &Line) -> Option<(Cell, GoalId)>
     let (maker, count) = short_halves(id)?;
     let low = u32::try_from(input).ok()?;
     if aux == 0 {
-        let cell = Cell::RunOnNear {
+        let cell = PackedCell::RunOnNear {
             kind,
             entity,
             maker,
@@ -202,7 +217,7 @@ pub(super) fn near_form(line: &Line) -> Option<(Cell, GoalId)>
         return Some((cell, id));
     }
     if aux == i64::from(count) {
-        let cell = Cell::RunOnNearCounted {
+        let cell = PackedCell::RunOnNearCounted {
             kind,
             entity,
             maker,
@@ -216,11 +231,11 @@ pub(super) fn near_form(line: &Line) -> Option<(Cell, GoalId)>
 
 // The cell that gives an identifier with a short upper half.
 #[inline(always)]
-pub(super) fn near_cell(maker: u16, count: u64) -> Cell
+pub(super) fn near_cell(maker: u16, count: u64) -> PackedCell
     ensures { (told : _) → said_by result told ≡ an_id (maker * 2 ^ 64 + count) }
 {
     let (high, low) = halves(count);
-    Cell::Id {
+    PackedCell::Id {
         is_upper: false,
         maker,
         high,
@@ -230,11 +245,11 @@ pub(super) fn near_cell(maker: u16, count: u64) -> Cell
 
 // The cell that gives an identifier's upper half.
 #[inline(always)]
-pub(super) fn upper_cell(upper: u64) -> Cell
+pub(super) fn upper_cell(upper: u64) -> PackedCell
     ensures { (told : _) → said_by result told ≡ an_id (upper * 2 ^ 64 + told % 2 ^ 64) }
 {
     let (high, low) = halves(upper);
-    Cell::Id {
+    PackedCell::Id {
         is_upper: true,
         maker: 0,
         high,

@@ -4,12 +4,12 @@ ghost use Rattle.exec_msg.specs.inner.Packed.{HasLines};
 
 use crate::line::Line;
 use crate::numbers::GoalId;
-use crate::packed::Cell;
+use crate::packed::PackedCell;
 use crate::packed::form::{form_of, near_cell, near_form, upper_cell};
 
 /// Adds cells for an identifier, if it isn't the one that was given last. The cells have room for three more.
 #[inline(always)]
-fn tell(cells: &mut Vec<Cell>, told: &mut GoalId, id: GoalId)
+fn tell(cells: &mut Vec<PackedCell>, told: &mut GoalId, id: GoalId)
     requires { vec_len cells.old + 3 ≤ vec_capacity cells.old }
     ensures told { HasLines cells.old.items cells.new.items told.old told.new [] }
     ensures id { told.new ≡ id }
@@ -31,7 +31,7 @@ fn tell(cells: &mut Vec<Cell>, told: &mut GoalId, id: GoalId)
 
 /// Adds a line to cells that have room for three more. Answers whether the line has a form in cells.
 #[inline(always)]
-pub(crate) fn push_line(cells: &mut Vec<Cell>, told: &mut GoalId, line: &Line) -> bool
+pub(crate) fn push_line(cells: &mut Vec<PackedCell>, told: &mut GoalId, line: &Line) -> bool
     requires { vec_len cells.old + 3 ≤ vec_capacity cells.old }
     ensures pushed { result ≡ true → HasLines cells.old.items cells.new.items told.old told.new (line.now ∷ []) }
     ensures left { result ≡ false → (cells.new.items ≡ cells.old.items) × (told.new ≡ told.old) × (vec_len cells.new + 1 ≤ vec_capacity cells.new) }

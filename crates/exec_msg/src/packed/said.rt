@@ -1,26 +1,26 @@
 //! What cells say: lines, and the identifiers that the lines are on.
 ghost use Rattle.std.specs.Prelude.{◌≡◌, ◌+◌, ◌*◌, ◌^◌, List};
 ghost use Rattle.exec_msg.specs.declared.line.Line.TheVariants as line;
-ghost use Rattle.exec_msg.specs.inner.Packed.{joined_halves, id_told, said_by, said_line, lines_in, tells_no_id};
+ghost use Rattle.exec_msg.specs.inner.Packed.{joined_halves, id_after, said_by, said_line, lines_in, tells_no_id};
 
-use super::Cell;
+use super::PackedCell;
 use super::halves::{join, join_value};
 use crate::line::Line;
 use crate::numbers::{GoalId, Moment};
 
-impl Cell {
+impl PackedCell {
     // The line that the cell is after an identifier was given, if it is one, and the identifier that is the last one after it.
     #[inline(always)]
     pub(crate) fn line(&self, told: GoalId) -> Option<(Line, GoalId)>
         ensures { result ≡ said_line (said_by self.now told) }
     {
         match *self {
-            Cell::Round {
+            PackedCell::Round {
                 upper,
                 number,
                 lower,
             } => Some((round_line(upper, number, lower), told)),
-            Cell::Run {
+            PackedCell::Run {
                 entity,
                 kind,
                 high,
@@ -35,7 +35,7 @@ impl Cell {
                 };
                 Some((line, told))
             }
-            Cell::RunCounted {
+            PackedCell::RunCounted {
                 entity,
                 kind,
                 high,
@@ -50,7 +50,7 @@ impl Cell {
                 };
                 Some((line, told))
             }
-            Cell::Drop {
+            PackedCell::Drop {
                 entity,
                 kind,
                 high,
@@ -63,11 +63,11 @@ impl Cell {
                 };
                 Some((line, told))
             }
-            Cell::Pub { topic, high, low } => {
+            PackedCell::Pub { topic, high, low } => {
                 let value = join_value(high, low);
                 Some((Line::Pub { topic, value }, told))
             }
-            Cell::Call { client, high, low } => {
+            PackedCell::Call { client, high, low } => {
                 let line = Line::Call {
                     client,
                     number: told.count(),
@@ -75,15 +75,15 @@ impl Cell {
                 };
                 Some((line, told))
             }
-            Cell::Reply { service, high, low } => {
+            PackedCell::Reply { service, high, low } => {
                 let value = join_value(high, low);
                 Some((Line::Reply { service, value }, told))
             }
-            Cell::Log { entity, high, low } => {
+            PackedCell::Log { entity, high, low } => {
                 let value = join_value(high, low);
                 Some((Line::Log { entity, value }, told))
             }
-            Cell::RunOnGoal {
+            PackedCell::RunOnGoal {
                 entity,
                 kind,
                 high,
@@ -98,7 +98,7 @@ impl Cell {
                 };
                 Some((line, told))
             }
-            Cell::RunOnGoalBeside {
+            PackedCell::RunOnGoalBeside {
                 entity,
                 kind,
                 aux,
@@ -113,7 +113,7 @@ impl Cell {
                 };
                 Some((line, told))
             }
-            Cell::RunOnGoalCounted {
+            PackedCell::RunOnGoalCounted {
                 entity,
                 kind,
                 high,
@@ -128,7 +128,7 @@ impl Cell {
                 };
                 Some((line, told))
             }
-            Cell::RunOnNear {
+            PackedCell::RunOnNear {
                 entity,
                 kind,
                 maker,
@@ -145,7 +145,7 @@ impl Cell {
                 };
                 Some((line, id))
             }
-            Cell::RunOnNearCounted {
+            PackedCell::RunOnNearCounted {
                 entity,
                 kind,
                 maker,
@@ -162,8 +162,8 @@ impl Cell {
                 };
                 Some((line, id))
             }
-            Cell::Expire { server } => Some((Line::Expire { server, id: told }, told)),
-            Cell::Goal { client, high, low } => {
+            PackedCell::Expire { server } => Some((Line::Expire { server, id: told }, told)),
+            PackedCell::Goal { client, high, low } => {
                 let line = Line::Goal {
                     client,
                     id: told,
@@ -171,7 +171,7 @@ impl Cell {
                 };
                 Some((line, told))
             }
-            Cell::Cancel { client, high, low } => {
+            PackedCell::Cancel { client, high, low } => {
                 let line = Line::Cancel {
                     client,
                     id: told,
@@ -179,7 +179,7 @@ impl Cell {
                 };
                 Some((line, told))
             }
-            Cell::Feedback { server, high, low } => {
+            PackedCell::Feedback { server, high, low } => {
                 let line = Line::Feedback {
                     server,
                     id: told,
@@ -187,7 +187,7 @@ impl Cell {
                 };
                 Some((line, told))
             }
-            Cell::Decide { server, decision } => {
+            PackedCell::Decide { server, decision } => {
                 let line = Line::Decide {
                     server,
                     id: told,
@@ -195,7 +195,7 @@ impl Cell {
                 };
                 Some((line, told))
             }
-            Cell::State { server, status } => {
+            PackedCell::State { server, status } => {
                 let line = Line::State {
                     server,
                     id: told,
@@ -203,8 +203,8 @@ impl Cell {
                 };
                 Some((line, told))
             }
-            Cell::Ask { client } => Some((Line::Ask { client, id: told }, told)),
-            Cell::Result {
+            PackedCell::Ask { client } => Some((Line::Ask { client, id: told }, told)),
+            PackedCell::Result {
                 server,
                 status,
                 high,
@@ -218,7 +218,7 @@ impl Cell {
                 };
                 Some((line, told))
             }
-            Cell::Id { .. } | Cell::Whole => None,
+            PackedCell::Id { .. } | PackedCell::Whole => None,
         }
     }
 }
@@ -238,8 +238,8 @@ fn round_line(upper: u16, number: u32, lower: u32) -> Line
 
 // The identifier that a cell gives after another was given: that one with another upper half, or one of a maker.
 #[inline(always)]
-fn id_told(is_upper: bool, maker: u16, half: u64, told: GoalId) -> GoalId
-    ensures { result ≡ id_told is_upper maker half told }
+fn id_after(is_upper: bool, maker: u16, half: u64, told: GoalId) -> GoalId
+    ensures { result ≡ id_after is_upper maker half told }
 {
     if is_upper {
         GoalId::of_halves(half, told.count())
@@ -257,14 +257,14 @@ fn near_id(maker: u16, count: u16) -> GoalId
 
 /// The cells after the first ones that only give identifiers, and the identifier that these gave last.
 #[inline(always)]
-pub(crate) fn skip_ids(cells: &[Cell], told: GoalId) -> (&[Cell], GoalId)
+pub(crate) fn skip_ids(cells: &[PackedCell], told: GoalId) -> (&[PackedCell], GoalId)
     ensures lines { (wholes : List _) → lines_in result.0.now result.1 wholes ≡ lines_in cells.now told wholes }
     ensures line { tells_no_id result.0.now }
 {
     let mut left = cells;
     let mut on = told;
     while let [
-        Cell::Id {
+        PackedCell::Id {
             is_upper,
             maker,
             high,
@@ -273,7 +273,7 @@ pub(crate) fn skip_ids(cells: &[Cell], told: GoalId) -> (&[Cell], GoalId)
         behind @ ..,
     ] = left
     {
-        on = id_told(*is_upper, *maker, join(*high, *low), on);
+        on = id_after(*is_upper, *maker, join(*high, *low), on);
         left = behind;
     }
     (left, on)

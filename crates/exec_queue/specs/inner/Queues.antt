@@ -11,8 +11,8 @@ use Rattle.exec_rules.specs.World.{Queue, is_queue}
 use Rattle.exec_msg.specs.Places.{first_place, place_under}
 
 -- the number of a kind's queue of an entity
-abbrev pub slot_of : EntityNo → Kind → ℕ
-slot_of entity kind = entity * suc (length kinds) + ready_number kind
+abbrev pub queue_number : EntityNo → Kind → ℕ
+queue_number entity kind = entity * suc (length kinds) + ready_number kind
 
 -- whether a queue has an item
 abbrev pub has_item : Queue → Bool
@@ -40,7 +40,7 @@ AreBeforePolls queues = (place : ℕ) → is_in_part_at false queues place ≡ f
 
 -- a look-up by the number gives the place of the first queue of that entity and kind
 abbrev pub FindsQueues : List (Option ℕ) → List Queue → Type 0
-FindsQueues places queues = (entity : EntityNo) (kind : Kind) → place_under (slot_of entity kind) places ≡ first_place (is_queue entity kind) queues
+FindsQueues places queues = (entity : EntityNo) (kind : Kind) → place_under (queue_number entity kind) places ≡ first_place (is_queue entity kind) queues
 
 -- each queue with an item stands among these places
 abbrev pub CoversFilled : List ℕ → List Queue → Type 0

@@ -11,7 +11,7 @@ ghost use Rattle.exec_queue.specs.inner.Queues.{has_item};
 ghost use Rattle.exec_queue.specs.inner.Numbers.{items_of};
 
 use super::is_before_polls;
-use exec_msg::{Items, Kind, LazyQueue, Memory, Moment};
+use exec_msg::{Elements, Kind, LazyQueue, Memory, Moment};
 use exec_plan::Script;
 use exec_rules::{Cause, Handler, Home, Item, ReadyList};
 use std::alloc::Global;
@@ -140,7 +140,12 @@ impl EntityQueue {
             return Ok(false);
         }
         let script = self.handler.take_script()?;
-        let ready = self.handler.ready(moment, Cause::Took(*item), Items::new(alloc), Some(script));
+        let ready = self.handler.ready(
+            moment,
+            Cause::Took(*item),
+            Elements::new(alloc),
+            Some(script),
+        );
         list.push_from(ready, place, homes)?;
         Ok(true)
     }

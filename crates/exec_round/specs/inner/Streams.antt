@@ -11,7 +11,7 @@ use Rattle.exec_lane.specs.Opening.{IsLaneOf, opened_lane}
 use Rattle.exec_lane.specs.declared.outcome.Outcome.{Outcome}
 use Rattle.exec_round.specs.declared.streaming.Worker.{Worker}
 use Rattle.exec_round.specs.inner.Sending.{MaySend, sent_by}
-use Rattle.exec_round.specs.inner.Sharing.{IsSweptPass}
+use Rattle.exec_round.specs.inner.Division.{IsSweptPass}
 
 -- what a list has at places, so many from this one on
 abbrev pub items_from : {A : Type 0} → List A → ℕ → ℕ → List A

@@ -94,7 +94,7 @@ fn commit(all: Gathered, world: &mut World) -> Result<(), Memory> {
 
 fn commit_one(one: Ran, world: &mut World) -> Result<(), Memory> {
     let Ran { ready, effects } = one;
-    if world.count_left() == 0 || world.commit(&ready, effects).is_err() {
+    if world.count_uncommitted() == 0 || world.commit(&ready, effects).is_err() {
         return Err(Memory);
     }
     Ok(())

@@ -12,7 +12,7 @@ HasScriptOf found ready = (script : Script) (handler : Handler) → ready.script
 
 -- the callback at a home's place in the ready list has the script of the handler at its other place
 abbrev pub IsScriptHome : List Handler → List Ready → Home → Type 0
-IsScriptHome handlers list home = (home.at < length list) × ((one : Ready) → slice_get list home.at ≡ Some one → HasScriptOf (slice_get handlers home.place) one)
+IsScriptHome handlers list home = (home.place_in_list < length list) × ((one : Ready) → slice_get list home.place_in_list ≡ Some one → HasScriptOf (slice_get handlers home.place) one)
 
 -- so it is at each of these
 abbrev pub AreHomes : List Handler → List Ready → List Home → Type 0

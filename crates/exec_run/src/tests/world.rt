@@ -39,7 +39,7 @@ fn run_one(alloc: Global, world: &mut World, one: &Ready) -> Result<(), WorldFau
         return Err(WorldFault::Memory);
     };
     world.put_bank(one.group, bank);
-    if world.count_left() == 0 {
+    if world.count_uncommitted() == 0 {
         return Err(WorldFault::Memory);
     }
     world.commit(one, did)
@@ -81,11 +81,11 @@ fn commit_last(rt: &impl Abort, alloc: Global, world: &mut World) -> Result<(), 
     run_round(alloc, world, 1)?;
     assert!(rt; world.is_next(2));
     let list = world.snapshot(2)?;
-    assert!(rt; world.rounds_done() == 1 && world.count_left() == 1 && !world.is_next(3));
+    assert!(rt; world.rounds_done() == 1 && world.count_uncommitted() == 1 && !world.is_next(3));
     for one in list.as_slice() {
         run_one(alloc, world, one)?;
     }
-    assert!(rt; world.rounds_done() == 2 && world.count_left() == 0 && world.is_next(3));
+    assert!(rt; world.rounds_done() == 2 && world.count_uncommitted() == 0 && world.is_next(3));
     Ok(())
 }
 

@@ -7,27 +7,27 @@ use Rattle.exec_script.specs.declared.instr.Operand.{Operand}
 use Rattle.exec_script.specs.declared.instr.Operand.TheVariants as operand
 
 -- what an operand reads of a frame; one that is written in the script reads the 0, to which its value is added
-pub data Cell : Type 0 where
-  Register : ℕ → Cell
-  Variable : ℕ → Cell
-  In : Cell
-  Aux : Cell
-  Now : Cell
-  Zero : Cell
+pub data OperandCell : Type 0 where
+  Register : ℕ → OperandCell
+  Variable : ℕ → OperandCell
+  In : OperandCell
+  Aux : OperandCell
+  Now : OperandCell
+  Zero : OperandCell
 
 -- what stands behind the registers and the variables
-abbrev pub cell_behind : ℕ → Cell
+abbrev pub cell_behind : ℕ → OperandCell
 cell_behind zero = In
 cell_behind (suc zero) = Aux
 cell_behind (suc (suc zero)) = Now
 cell_behind (suc (suc (suc n))) = Zero
 
 -- what stands at a place
-abbrev pub cell_at : ℕ → Cell
+abbrev pub cell_at : ℕ → OperandCell
 cell_at place = if nat_lt place 8 then Register place else (if nat_lt place 16 then Variable (place - 8) else cell_behind (place - 16))
 
 -- the place of a cell
-abbrev pub place_of : Cell → ℕ
+abbrev pub place_of : OperandCell → ℕ
 place_of (Register slot) = slot
 place_of (Variable slot) = slot + 8
 place_of In = 16
@@ -45,7 +45,7 @@ place_of_target (destination.Register slot) = slot
 place_of_target (destination.Variable slot) = slot + 8
 
 -- the operand that a cell is with a constant that is added to it
-abbrev pub cell_operand : Cell → ℤ → Operand
+abbrev pub cell_operand : OperandCell → ℤ → Operand
 cell_operand (Register slot) constant = operand.Register slot
 cell_operand (Variable slot) constant = operand.Variable slot
 cell_operand In constant = operand.In
@@ -54,7 +54,7 @@ cell_operand Now constant = operand.Now
 cell_operand Zero constant = operand.Value constant
 
 -- the cell of an operand
-abbrev pub cell_of : Operand → Cell
+abbrev pub cell_of : Operand → OperandCell
 cell_of (operand.Value value) = Zero
 cell_of (operand.Register slot) = Register slot
 cell_of (operand.Variable slot) = Variable slot
@@ -72,7 +72,7 @@ constant_of operand.Aux = pos 0
 constant_of operand.Now = pos 0
 
 -- a group variable is read
-abbrev pub reads_variable : Cell → Bool
+abbrev pub reads_variable : OperandCell → Bool
 reads_variable (Register slot) = false
 reads_variable (Variable slot) = true
 reads_variable In = false

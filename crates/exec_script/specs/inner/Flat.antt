@@ -14,10 +14,10 @@ use Rattle.exec_script.specs.declared.instr.Opcode.TheVariants as opcode
 
 -- the two operands of a flat instruction
 abbrev pub left_of : Flat → Operand
-left_of flat = cell_operand flat.left_source flat.left
+left_of flat = cell_operand flat.left_place flat.left
 
 abbrev pub right_of : Flat → Operand
-right_of flat = cell_operand flat.right_source flat.right
+right_of flat = cell_operand flat.right_place flat.right
 
 -- the instruction of this kind that a flat one is
 abbrev pub made : Opcode → Flat → Instruction
@@ -50,8 +50,8 @@ parts_of kind entity left right = record {
   right = constant_of right;
   entity = entity;
   target = destination.Register 0;
-  left_source = cell_of left;
-  right_source = cell_of right;
+  left_place = cell_of left;
+  right_place = cell_of right;
   operation = operation.Add;
   opcode = kind;
 }

@@ -8,8 +8,8 @@ use Rattle.exec_script.specs.declared.instr.Operand.{Operand}
 use Rattle.exec_script.specs.declared.instr.Operand.TheVariants as operand
 use Rattle.exec_script.specs.declared.instr.Operation.{Operation}
 use Rattle.exec_script.specs.declared.instr.Operation.TheVariants as operation
-use Rattle.exec_script.specs.declared.spelled.Kept.{Kept}
-use Rattle.exec_script.specs.declared.spelled.Kept.TheVariants as kept
+use Rattle.exec_script.specs.declared.spelled.SpelledAs.{SpelledAs}
+use Rattle.exec_script.specs.declared.spelled.SpelledAs.TheVariants as kept
 use Rattle.exec_script.specs.declared.word.Word.{Word}
 use Rattle.exec_script.specs.declared.word.Word.TheVariants.{Text, Number}
 
@@ -43,11 +43,11 @@ set_words (Set target does left right) = Text (codes "set") ∷ Text (cell_text 
 set_words _ = []
 
 -- the words of what is kept: a decoded instruction, or its words
-abbrev pub words_kept : Kept → List Word
+abbrev pub words_kept : SpelledAs → List Word
 words_kept (kept.Set instruction) = set_words instruction
 words_kept (kept.Words words) = words.items
 
 -- what is decoded is what its words spell, whatever names there are
-abbrev pub IsDecoded : Kept → Type 0
+abbrev pub IsDecoded : SpelledAs → Type 0
 IsDecoded (kept.Set instruction) = (scope : ScopeNames) → instruction_of scope (set_words instruction) ≡ Ok instruction
 IsDecoded (kept.Words words) = ⊤

@@ -3,7 +3,7 @@ ghost use Rattle.std.specs.Prelude.{◌≡◌};
 ghost use Rattle.exec_script.specs.inner.Flat.{parts_of};
 
 use super::{Destination, Flat, Instr, Opcode, Operand, Operation};
-use crate::frame::{Source, Target};
+use crate::frame::{OperandPlace, Target};
 use exec_msg::EntityNo;
 
 const NO_ENTITY: EntityNo = EntityNo(0);
@@ -13,15 +13,15 @@ const NO_OPERAND: Operand = Operand::Value(0);
 fn parts_of(opcode: Opcode, entity: EntityNo, left: Operand, right: Operand) -> Flat
     ensures { result ≡ parts_of opcode entity left right }
 {
-    let left_source = Source::of(&left);
-    let right_source = Source::of(&right);
+    let left_place = OperandPlace::of(&left);
+    let right_place = OperandPlace::of(&right);
     Flat {
         left: left.constant(),
         right: right.constant(),
         entity,
         target: Target::first(),
-        left_source,
-        right_source,
+        left_place,
+        right_place,
         operation: Operation::Add,
         opcode,
     }

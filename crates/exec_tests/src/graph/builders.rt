@@ -4,7 +4,7 @@ use crate::shared::same;
 use exec_graph::{
     EntityDraft, EntityOf, GraphBuilder, GraphFault, GroupDraft, NodeDraft, ServerEntity, Spelled,
 };
-use exec_msg::{Items, Memory};
+use exec_msg::{Elements, Memory};
 use exec_script::WordText;
 use std::alloc::Global;
 use std::process::Abort;
@@ -38,9 +38,9 @@ fn server(alloc: Global, name: &str) -> Result<EntityDraft, Memory> {
 
 // Declares a node with a server of the same name.
 fn declare_node(alloc: Global, builder: &mut GraphBuilder, name: &str) -> Result<(), Memory> {
-    let mut entities = Items::new(alloc);
+    let mut entities = Elements::new(alloc);
     entities.push(server(alloc, name)?)?;
-    let groups: Items<GroupDraft> = Items::new(alloc);
+    let groups: Elements<GroupDraft> = Elements::new(alloc);
     builder.node(NodeDraft {
         name: WordText::copy_of(alloc, name)?,
         groups,

@@ -8,7 +8,7 @@ use Rattle.exec_plan.specs.declared.order.Order.{Order}
 use Rattle.exec_plan.specs.declared.order.Order.TheVariants as order
 use Rattle.exec_script.specs.declared.effects.Close.{Close}
 use Rattle.exec_script.specs.declared.effects.Close.TheVariants as close
-use Rattle.exec_rules.specs.World.{WorldState, ActionClientEntry, goals_of, action_client_at}
+use Rattle.exec_rules.specs.World.{WorldState, ActionClientEntry, goals_at, action_client_at}
 use Rattle.exec_rules.specs.declared.item.Item.{Item}
 use Rattle.exec_rules.specs.declared.item.Item.TheVariants as item
 use Rattle.exec_rules.specs.declared.ready.Cause.{Cause}
@@ -36,7 +36,7 @@ pend_adds order.Arrival = true
 
 -- a goal ends, or arrives anew
 abbrev pub poll_adds : EntityNo → GoalId → Close → WorldState → Bool
-poll_adds server id (close.Ended by value) world = is_some (end_state id by (goals_of server world))
+poll_adds server id (close.Ended by value) world = is_some (end_state id by (goals_at server world))
 poll_adds server id close.Pending world = pend_adds world.order
 poll_adds server id _ world = false
 

@@ -2,7 +2,7 @@
 ghost use Rattle.std.specs.Prelude.{◌≡◌, ◌++◌, length, map, slice_get, OnOk};
 ghost use Rattle.std.specs.Option.{option_map_or};
 
-use super::State;
+use super::WorldBody;
 use crate::arrived::{Arrived, note_arrival, sort_arrivals};
 use crate::scratch::Scratch;
 use exec_msg::{Lines, Memory, Moment};
@@ -30,7 +30,7 @@ impl<'a> Model for Parts<'a> {
     ghost view = { λ parts. parts.list.now ++ map (poll_at parts.moment) parts.goals.now };
 }
 
-impl<L: Lines> State<L> {
+impl<L: Lines> WorldBody<L> {
     ghost use Rattle.std.specs.Prelude.{◌≡◌, ◌++◌, map, slice_get, OnOk};
     ghost use Rattle.std.specs.List.{fold};
     ghost use Rattle.std.specs.Option.{option_map_or};

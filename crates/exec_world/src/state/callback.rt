@@ -6,7 +6,7 @@ ghost use Rattle.exec_rules.specs.Ready.{run_line};
 ghost use Rattle.exec_rules.specs.Run.{apart, brought_home};
 ghost use Rattle.exec_rules.specs.declared.ready.Ready.{Ready};
 
-use super::State;
+use super::WorldBody;
 use super::plain::Plain;
 use exec_msg::{Kind, Line, Lines, Memory};
 use exec_rules::{Cause, Item, Ready, call_in, take_item};
@@ -24,7 +24,7 @@ pub(super) trait Callback<L: Lines> {
     // closes it. The list then has its effects alone.
     fn run_apart(
         &self,
-        state: &mut State<L>,
+        state: &mut WorldBody<L>,
         effects: &mut EffectList,
         cx: &mut Context<'_>,
     ) -> Result<Close, Memory>
@@ -39,14 +39,14 @@ pub(super) trait Callback<L: Lines> {
     // Gives its effects to the world, and then closes it there.
     fn give_and_close(
         &self,
-        state: &mut State<L>,
+        state: &mut WorldBody<L>,
         effects: &[Effect],
         closing: &Close,
     ) -> Result<(), Memory>
         ensures { OnOk result (state.new ≡ close_callback (ready self.now) closing.now (give_all (ready self.now) effects.now state.old)) };
 }
 
-impl<L: Lines> State<L> {
+impl<L: Lines> WorldBody<L> {
     ghost use Rattle.std.specs.Prelude.{◌≡◌, OnOk};
     ghost use Rattle.exec_rules.specs.Run.{commit, run};
     ghost use Rattle.exec_rules.specs.Transcript.{run_all};
@@ -173,7 +173,7 @@ impl<'a, L: Lines> Callback<L> for Handed<'a> {
     #[inline(always)]
     fn run_apart(
         &self,
-        state: &mut State<L>,
+        state: &mut WorldBody<L>,
         effects: &mut EffectList,
         cx: &mut Context<'_>,
     ) -> Result<Close, Memory> {
@@ -219,7 +219,7 @@ impl<'a, L: Lines> Callback<L> for Handed<'a> {
     #[inline(always)]
     fn give_and_close(
         &self,
-        state: &mut State<L>,
+        state: &mut WorldBody<L>,
         effects: &[Effect],
         closing: &Close,
     ) -> Result<(), Memory> {

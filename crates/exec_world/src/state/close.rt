@@ -1,8 +1,8 @@
 //! What closes a callback in the world, after its effects.
 ghost use Rattle.std.specs.Prelude.{◌≡◌};
-ghost use Rattle.exec_rules.specs.Close.{reply_in};
+ghost use Rattle.exec_rules.specs.Close.{reply_of_close};
 
-use super::State;
+use super::WorldBody;
 use exec_entity::GoalRequest;
 use exec_goal::{Asked, CancelRequest};
 use exec_msg::{
@@ -10,10 +10,10 @@ use exec_msg::{
     Moment,
 };
 use exec_plan::Order;
-use exec_rules::{Cause, Item, Ready, decision_in};
+use exec_rules::{Cause, Item, Ready, decision_of_close};
 use exec_script::Close;
 
-impl<L: Lines> State<L> {
+impl<L: Lines> WorldBody<L> {
     ghost use Rattle.std.specs.Prelude.{◌≡◌, ℕ, true, map, OnErr, OnOk};
     ghost use Rattle.std.specs.List.{fold};
     ghost use Rattle.std.specs.Option.{is_some};
@@ -23,9 +23,9 @@ impl<L: Lines> State<L> {
     ghost use Rattle.exec_msg.specs.declared.line.Line.TheVariants as line;
     ghost use Rattle.exec_rules.specs.declared.item.Item.TheVariants as item;
     ghost use Rattle.exec_goal.specs.Table.{is_accepting};
-    ghost use Rattle.exec_rules.specs.Close.{accept, answer_goal, ask, cancel, decide, decisions_in, end, goal_arrived, pend, reply_to, respond, tell};
+    ghost use Rattle.exec_rules.specs.Close.{accept, answer_goal, ask, cancel, decide, decisions_of_close, end, goal_arrived, pend, reply_to, respond, tell};
     ghost use Rattle.exec_rules.specs.Close.{close_callback, close_item, close_poll};
-    ghost use Rattle.exec_rules.specs.World.{action_client_at, add_line, add_lines, goals_of, has_room_for};
+    ghost use Rattle.exec_rules.specs.World.{action_client_at, add_line, add_lines, goals_at, has_room_for};
 
     // Closes a ready callback. Memory can be refused only if that adds something to the world.
     #[inline(always)]
@@ -54,7 +54,7 @@ impl<L: Lines> State<L> {
     {
         match item {
             Item::Request { client, number, .. } => {
-                self.reply_to(entity, *client, *number, reply_in(closing))
+                self.reply_to(entity, *client, *number, reply_of_close(closing))
             }
             Item::Goal { id, client, value } => {
                 let request = GoalRequest {
@@ -62,7 +62,7 @@ impl<L: Lines> State<L> {
                     client: *client,
                     value: *value,
                 };
-                self.answer_goal(entity, moment, decision_in(closing), &request)
+                self.answer_goal(entity, moment, decision_of_close(closing), &request)
             }
             Item::Cancel { request, client } => self.close_cancel(
                 entity, request, *client, closing,
@@ -116,7 +116,7 @@ impl<L: Lines> State<L> {
         decision: Decision,
         request: &GoalRequest,
     ) -> Result<(), Memory>
-        requires { is_accepting decision ≡ true → has_room_for request.now.id (goals_of server self.old) ≡ true }
+        requires { is_accepting decision ≡ true → has_room_for request.now.id (goals_at server self.old) ≡ true }
         ensures { OnOk result (self.new ≡ decide server moment decision request.now self.old) }
     {
         self.add_line(Line::Decide {
@@ -144,7 +144,7 @@ impl<L: Lines> State<L> {
         how: Acceptance,
         request: &GoalRequest,
     ) -> Result<(), Memory>
-        requires { has_room_for request.now.id (goals_of server self.old) ≡ true }
+        requires { has_room_for request.now.id (goals_at server self.old) ≡ true }
         ensures { OnOk result (self.new ≡ accept server moment how request.now self.old) }
     {
         let number = self.mail.arrive()?;
@@ -169,7 +169,7 @@ impl<L: Lines> State<L> {
         client: Option<EntityNo>,
         closing: &Close,
     ) -> Result<(), Memory>
-        ensures { OnOk result (self.new ≡ cancel server request.now client (decisions_in closing.now) self.old) }
+        ensures { OnOk result (self.new ≡ cancel server request.now client (decisions_of_close closing.now) self.old) }
     {
         match closing {
             Close::Decisions(decisions) => {
@@ -311,7 +311,7 @@ impl<L: Lines> State<L> {
         moment: Moment,
     ) -> Result<(), Memory>
         ensures ended { OnOk result (self.new ≡ end server id event value moment self.old) }
-        ensures memory { OnErr result (is_some (end_state id event (goals_of server self.old)) ≡ true) }
+        ensures memory { OnErr result (is_some (end_state id event (goals_at server self.old)) ≡ true) }
     {
         match self.servers.end(server, id, event, value, moment) {
             None => Ok(()),
@@ -328,7 +328,7 @@ impl<L: Lines> State<L> {
         value: i64,
     ) -> Result<(), Memory>
         ensures { OnOk result (self.new ≡ fold (λ before client. tell server id status value client before)
-            (add_line (line.State server id status) self.old) (askers_in id (goals_of server self.old))) }
+            (add_line (line.State server id status) self.old) (askers_in id (goals_at server self.old))) }
     {
         self.add_state(server, id, status)?;
         self.tell_askers(server, id, status, value)
@@ -343,7 +343,7 @@ impl<L: Lines> State<L> {
         value: i64,
     ) -> Result<(), Memory>
         ensures { OnOk result (self.new
-            ≡ fold (λ before client. tell server id status value client before) self.old (askers_in id (goals_of server self.old))) }
+            ≡ fold (λ before client. tell server id status value client before) self.old (askers_in id (goals_at server self.old))) }
     {
         let mut index: usize = 0;
         while let Some(client) = self.servers.asker(server, id, index) {
@@ -354,8 +354,8 @@ impl<L: Lines> State<L> {
     }
 }
 
-fn reply_in(closing: &Close) -> i64
-    ensures { result ≡ reply_in closing.now }
+fn reply_of_close(closing: &Close) -> i64
+    ensures { result ≡ reply_of_close closing.now }
 {
     match closing {
         Close::Reply(value) => *value,

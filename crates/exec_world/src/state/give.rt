@@ -1,15 +1,15 @@
 //! What the effects of a callback do to the world.
-use super::State;
+use super::WorldBody;
 use exec_goal::CancelRequest;
 use exec_msg::{EntityNo, GoalId, GoalStatus, Line, Lines, Memory};
 use exec_rules::{Cause, Item, Ready};
 use exec_script::Effect;
 
-impl<L: Lines> State<L> {
+impl<L: Lines> WorldBody<L> {
     ghost use Rattle.std.specs.Prelude.{◌≡◌, Some, OnOk};
     ghost use Rattle.exec_msg.specs.declared.line.Line.TheVariants as line;
     ghost use Rattle.exec_rules.specs.declared.item.Item.TheVariants as item;
-    ghost use Rattle.exec_rules.specs.Give.{call_by, cancel_all_by, cancel_goal_by, client_of, execute, give, give_all, give_feedback, publish, send_goal_by};
+    ghost use Rattle.exec_rules.specs.Give.{call_by, cancel_all_by, cancel_goal_by, execute, give, give_all, give_feedback, publish, send_goal_by, sender_at};
     ghost use Rattle.exec_rules.specs.World.{action_client_at, add_line, client_at, push, push_any};
 
     // Gives effects of a ready callback, one after another.
@@ -191,7 +191,7 @@ impl<L: Lines> State<L> {
         let Cause::Woke { id, .. } = *why else {
             return Ok(());
         };
-        let client = self.servers.client_of(server, id);
+        let client = self.servers.sender_at(server, id);
         self.add_line(Line::Feedback { server, id, value })?;
         self.push_any(client, Item::Feedback { id, value })
     }

@@ -1,9 +1,9 @@
 //! Tasks of goals that are out of the world for a while.
-use super::State;
+use super::WorldBody;
 use exec_msg::{EntityNo, GoalId, Lines};
 use exec_task::GoalTask;
 
-impl<L: Lines> State<L> {
+impl<L: Lines> WorldBody<L> {
     ghost use Rattle.std.specs.Prelude.{◌≡◌, None, Some};
     ghost use Rattle.std.specs.Option.{option_map};
     ghost use Rattle.exec_rules.specs.World.{with_work, work_at, work_of};

@@ -1,5 +1,5 @@
 //! Callbacks that run their script once, that nothing closes, and whose line has no identifier. Most callbacks are such.
-use super::State;
+use super::WorldBody;
 use super::callback::Callback;
 use exec_msg::{Kind, Line, Lines, Memory};
 use exec_rules::{Ready, call_in};
@@ -58,7 +58,7 @@ impl<'a, L: Lines> Callback<L> for Plain<'a> {
     #[inline(always)]
     fn run_apart(
         &self,
-        state: &mut State<L>,
+        state: &mut WorldBody<L>,
         effects: &mut EffectList,
         _cx: &mut Context<'_>,
     ) -> Result<Close, Memory> {
@@ -90,7 +90,7 @@ impl<'a, L: Lines> Callback<L> for Plain<'a> {
     #[inline(always)]
     fn give_and_close(
         &self,
-        state: &mut State<L>,
+        state: &mut WorldBody<L>,
         effects: &[Effect],
         _closing: &Close,
     ) -> Result<(), Memory> {

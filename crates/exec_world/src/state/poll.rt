@@ -1,5 +1,5 @@
 //! Polls of goals that are awake.
-use super::State;
+use super::WorldBody;
 use super::callback::Callback;
 use exec_msg::{Kind, Line, Lines, Memory, Moment};
 use exec_rules::AwakeGoal;
@@ -22,7 +22,7 @@ impl<'a, L: Lines> Callback<L> for Poll<'a> {
     #[inline(always)]
     fn run_apart(
         &self,
-        state: &mut State<L>,
+        state: &mut WorldBody<L>,
         effects: &mut EffectList,
         cx: &mut Context<'_>,
     ) -> Result<Close, Memory> {
@@ -51,7 +51,7 @@ impl<'a, L: Lines> Callback<L> for Poll<'a> {
     #[inline(always)]
     fn give_and_close(
         &self,
-        state: &mut State<L>,
+        state: &mut WorldBody<L>,
         effects: &[Effect],
         closing: &Close,
     ) -> Result<(), Memory> {
@@ -64,7 +64,7 @@ impl<'a, L: Lines> Callback<L> for Poll<'a> {
     }
 }
 
-impl<L: Lines> State<L> {
+impl<L: Lines> WorldBody<L> {
     ghost use Rattle.std.specs.Prelude.{◌≡◌, map, OnOk};
     ghost use Rattle.exec_rules.specs.Transcript.{run_all};
     ghost use Rattle.exec_rules.specs.inner.Awake.{poll_at};

@@ -3,7 +3,7 @@ ghost use Rattle.std.specs.Prelude.{◌≡◌, ◌++◌, length, OnOk};
 ghost use Rattle.std.specs.List.{flat_map};
 ghost use Rattle.exec_rules.specs.Transcript.{pending_by};
 
-use super::State;
+use super::WorldBody;
 use crate::mail::Mail;
 use crate::scratch::Scratch;
 use exec_entity::{Client, Numbered};
@@ -14,7 +14,7 @@ use exec_queue::bring_home_to_timers;
 use exec_rules::Item;
 use futures::task::Context;
 
-impl<L: Lines> State<L> {
+impl<L: Lines> WorldBody<L> {
     ghost use Rattle.std.specs.Prelude.{◌≡◌, ◌≤◌, length, map, take, drop, OnOk};
     ghost use Rattle.exec_msg.specs.declared.line.Line.TheVariants as line;
     ghost use Rattle.exec_rules.specs.Transcript.{expire, feed, feed_one, finish, run_all};

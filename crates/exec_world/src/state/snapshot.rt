@@ -3,7 +3,7 @@ ghost use Rattle.std.specs.Prelude.{◌≡◌, [], ◌∷◌};
 ghost use Rattle.exec_rules.specs.Ready.{answered_by_first};
 ghost use Rattle.exec_world.specs.inner.Snapshots.{replies_at, with_reply_at};
 
-use super::State;
+use super::WorldBody;
 use crate::fronts::Fronts;
 use crate::scratch::Scratch;
 use exec_entity::Clients;
@@ -12,7 +12,7 @@ use exec_plan::Order;
 use exec_queue::{Queues, take_due_into};
 use exec_rules::Item;
 
-impl<L: Lines> State<L> {
+impl<L: Lines> WorldBody<L> {
     ghost use Rattle.std.specs.Prelude.{◌≡◌, ◌+◌, ◌≤◌, length, map, take, drop, IfOk, OnOk};
     ghost use Rattle.std.specs.List.{flat_map, fold};
     ghost use Rattle.exec_plan.specs.declared.order.Order.TheVariants as order;

@@ -7,7 +7,7 @@ use Rattle.exec_queue.proofs.timer.bring_home_to_timers.Goals as goal
 pub bring_script_home-requires : goal.bring_script_home-requires
 bring_script_home-requires c =
     let are = c.loop-home.invariant.1 (map (λ (entry : TimerEntry). entry.handler) c.args.timers.now.items) c.args.homes.now c.requires in
-    All-get_or (IsScriptHome (map (λ (entry : TimerEntry). entry.handler) c.loop-home.timers.items) c.loop-home.list) c.args.homes.now c.loop-home.home-index (record { at = 0; place = 0 }) c.loop-home-test.true
+    All-get_or (IsScriptHome (map (λ (entry : TimerEntry). entry.handler) c.loop-home.timers.items) c.loop-home.list) c.args.homes.now c.loop-home.home-index (record { place_in_list = 0; place = 0 }) c.loop-home-test.true
     (subst (λ (entries : List TimerEntry). AreHomes (map (λ (entry : TimerEntry). entry.handler) entries) c.loop-home.list c.args.homes.now) (sym c.loop-home.invariant.0) are)
 
 pub loop-home-preserved : goal.loop-home-preserved

@@ -11,8 +11,8 @@ bring_home_at-requires c entry there =
 
 pub returns-in-Some-clause-others : goal.returns-in-Some-clause-others
 returns-in-Some-clause-others c handlers others are =
-    subst (λ (list : List Ready). AreHomes handlers list others) (sym c.take_script.ensures.left) (taken_out handlers c.args.list.now c.args.home.now.at others are)
+    subst (λ (list : List Ready). AreHomes handlers list others) (sym c.take_script.ensures.left) (taken_out handlers c.args.list.now c.args.home.now.place_in_list others are)
 
 pub returns-in_default-clause-others : goal.returns-in_default-clause-others
 returns-in_default-clause-others c handlers others are =
-    subst (λ (list : List Ready). AreHomes handlers list others) (sym c.take_script.ensures.left) (taken_out handlers c.args.list.now c.args.home.now.at others are)
+    subst (λ (list : List Ready). AreHomes handlers list others) (sym c.take_script.ensures.left) (taken_out handlers c.args.list.now c.args.home.now.place_in_list others are)

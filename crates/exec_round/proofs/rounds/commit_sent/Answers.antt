@@ -14,7 +14,7 @@ loop-one-preserved g c =
     let fewer = c.in-Some-pop.ensures.len in
     let within = so.1 in
     let same = so.2 in
-    let left = ap (λ (after : WorldData). after.left) c.in_ok-commit.ensures in (
+    let left = ap (λ (after : WorldData). after.uncommitted) c.in_ok-commit.ensures in (
       ap (after_commits (with_effects_of (reverse c.pop.new.self.items) (reverse c.pop-in-Some.new.self.items))) (c.in_ok-commit.ensures ∙ ap (λ (one : Ran). after_commit one.ready one.effects world) c.with_effects.ensures)
           ∙ ap (λ (all : List Ran). after_commits all world) (sym next)
           ∙ so.0,

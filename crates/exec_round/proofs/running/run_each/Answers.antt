@@ -12,7 +12,7 @@ run_round-requires-clause-next g c =
     let next : IsNext (c.loop-done.done + 1) c.loop-done.world = record {
       next = ap (λ (world : WorldData). world.rounds + 1) (sym here);
       within = omega (arith, c.loop-done-test.true, moments);
-      done = ap (λ (world : WorldData). world.left) here;
+      done = ap (λ (world : WorldData). world.uncommitted) here;
     } in
     search rules
 

@@ -3,12 +3,12 @@ use denote.Param.Send.{sendable}
 use Rattle.std.proofs.Crossing.{crosses}
 use Rattle.std.specs.Result.{result_and}
 use Rattle.exec_board.specs.Seats.{SeatView}
-use Rattle.exec_round.proofs.Crossing.{Stream-sync, Worker-send}
+use Rattle.exec_round.proofs.Crossing.{StreamedRound-sync, Worker-send}
 use Rattle.exec_round.proofs.GoingOn.{both_sent}
 use Rattle.exec_round.proofs.streaming.+fn-work_by-join+arg2+fn-work_by-join+arg3+work_by.Goals as goal
 
 pub join-front-requires-send-F : goal.join-front-requires-send-F
-join-front-requires-send-F g t c κs within = search (sendable, crosses, Worker-send, Stream-sync) depth 24
+join-front-requires-send-F g t c κs within = search (sendable, crosses, Worker-send, StreamedRound-sync) depth 24
 
 pub join-front-requires-send-A : goal.join-front-requires-send-A
 join-front-requires-send-A g t c κs within = search (sendable, crosses, Worker-send) depth 24

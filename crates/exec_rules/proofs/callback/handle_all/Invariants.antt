@@ -1,7 +1,7 @@
 use Rattle.std.proofs.Common.{◌≡◌, [], take}
 use Rattle.std.specs.List.{fold}
 use Rattle.exec_script.specs.Script.{listed}
-use Rattle.exec_rules.specs.Callback.{handle}
+use Rattle.exec_rules.specs.Callback.{handle_cancel}
 use Rattle.exec_rules.proofs.callback.handle_all.Given as goal
 
 -- the handler ran for the candidates so far
@@ -10,4 +10,4 @@ invariant-loop-candidate l = record {
   variables = l.bank;
   given = l.effects;
   decisions = l.decisions;
-} ≡ fold (handle listed l.one) (record { variables = l.initial.bank; given = l.initial.effects; decisions = [] }) (take l.candidate-index l.candidate-items)
+} ≡ fold (handle_cancel listed l.one) (record { variables = l.initial.bank; given = l.initial.effects; decisions = [] }) (take l.candidate-index l.candidate-items)

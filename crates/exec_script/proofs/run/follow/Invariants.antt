@@ -8,7 +8,7 @@ use Rattle.exec_script.proofs.run.follow.Given as goal
 abbrev pub invariant-loop-instr : goal.invariant-loop-instr
 invariant-loop-instr g l = record {
   same_end :
-      follow listed l.frame.input (drop l.pc l.script) l.pc 0 (record { registers = l.frame.registers; variables = l.frame.variables; answer = l.answer; given = l.effects.items; stop = stop.End })
+      follow listed l.frame.input (drop l.pc l.script) l.pc 0 (record { registers = l.frame.registers; variables = l.frame.variables; reply_or_decision = l.answer; given = l.effects.items; stop = stop.End })
       ≡ resumed listed l.script l.place l.initial.frame.registers l.initial.frame.variables l.initial.answer l.initial.frame.input l.initial.effects.items;
   input : l.frame.input ≡ l.initial.frame.input;
   room : vec_len l.effects + (length l.script - l.pc) ≤ vec_capacity l.effects;

@@ -12,7 +12,7 @@ returns g c =
       called = record {
         variables = c.put_bank.ensures ∙ ap (λ (state : ScriptState (List Effect)). state.variables) ends;
         effects = ap (λ (state : ScriptState (List Effect)). state.given) ends;
-        close = c.close_of-2.ensures ∙ ap (λ (state : ScriptState (List Effect)). close_of c.args.role state.answer) ends;
+        close = c.close_of-2.ensures ∙ ap (λ (state : ScriptState (List Effect)). close_of c.args.role state.reply_or_decision) ends;
       };
       memory = search rules;
       unchanged_variables = search rules;

@@ -13,7 +13,7 @@ use Rattle.exec_rules.specs.World.{GoalWork, HeldGoal, ServerEntry, is_for, work
 use Rattle.exec_entity.specs.inner.Polling.{doing}
 use Rattle.exec_entity.specs.inner.Server.{held_goal_of, held_goals_of}
 use Rattle.exec_entity.specs.inner.Waking.{wake_in}
-use Rattle.exec_entity.specs.declared.server.Held.{Held}
+use Rattle.exec_entity.specs.declared.server.KeptWithGoal.{KeptWithGoal}
 use Rattle.exec_entity.proofs.server.Server.exchange_task.Goals as goal
 
 pub returns-in_err-place-clause-taken : goal.returns-in_err-place-clause-taken
@@ -30,9 +30,9 @@ invariant_of-self c =
     let kept : Some c.unwrap-held.result.now ≡ slice_get (values_of c.self.inside.held.entries) c.in_ok-place.place = search rules in
     let at = kept-at c.args.id c.unwrap-held.result.now c.self.inside.goals c.self.inside.held.entries c.args.self.now.held c.in_ok-place.place is c.self.invariant.0 c.in_ok-place.ensures.at kept in
     let work : Option GoalWork = option_map work_of c.args.task in
-    let changes : held_goal_of (c.args.id, c.replace_task.new.held) ≡ doing work (held_goal_of (c.args.id, c.unwrap-held.result.now)) = ap (λ (held : Held). held_goal_of (c.args.id, held)) c.replace_task.ensures.put in
+    let changes : held_goal_of (c.args.id, c.replace_task.new.held) ≡ doing work (held_goal_of (c.args.id, c.unwrap-held.result.now)) = ap (λ (held : KeptWithGoal). held_goal_of (c.args.id, held)) c.replace_task.ensures.put in
     let moved : held_goals_of (set_value_at c.self.inside.held.entries c.in_ok-place.place c.replace_task.new.held) ≡ change_first (is_for c.args.id) (doing work) (held_goals_of c.self.inside.held.entries) = changed-at at c.replace_task.new.held (doing work) changes in
-    let wake : wake_in (held_goal_of (0, c.replace_task.new.held)).work ≡ wake_in work = ap (λ (held : Held). wake_in (held_goal_of (0, held)).work) c.replace_task.ensures.put in (
+    let wake : wake_in (held_goal_of (0, c.replace_task.new.held)).work ≡ wake_in work = ap (λ (held : KeptWithGoal). wake_in (held_goal_of (0, held)).work) c.replace_task.ensures.put in (
       kept-same c.self.inside.goals c.self.inside.goals (held_goals_of c.self.inside.held.entries) (held_goals_of (set_value_at c.self.inside.held.entries c.in_ok-place.place c.replace_task.new.held)) refl
           (ap held_ids moved ∙ changed-ids (λ (one : HeldGoal). one.id) (is_for c.args.id) (doing work) (λ one. refl) (held_goals_of c.self.inside.held.entries)) c.self.invariant.0,
       ap (λ (wake : ℕ). slice_set c.self.inside.wakes.items c.in_ok-place.place wake) (c.wake_in.ensures ∙ sym wake)
@@ -54,6 +54,6 @@ returns-clause-put c =
     let kept : Some c.unwrap-held.result.now ≡ slice_get (values_of c.self.inside.held.entries) c.in_ok-place.place = search rules in
     let at = kept-at c.args.id c.unwrap-held.result.now c.self.inside.goals c.self.inside.held.entries c.args.self.now.held c.in_ok-place.place is c.self.invariant.0 c.in_ok-place.ensures.at kept in
     let work : Option GoalWork = option_map work_of c.args.task in
-    let changes : held_goal_of (c.args.id, c.replace_task.new.held) ≡ doing work (held_goal_of (c.args.id, c.unwrap-held.result.now)) = ap (λ (held : Held). held_goal_of (c.args.id, held)) c.replace_task.ensures.put in
+    let changes : held_goal_of (c.args.id, c.replace_task.new.held) ≡ doing work (held_goal_of (c.args.id, c.unwrap-held.result.now)) = ap (λ (held : KeptWithGoal). held_goal_of (c.args.id, held)) c.replace_task.ensures.put in
     let moved = changed-at at c.replace_task.new.held (doing work) changes in
     (λ i. record (c.self.view_is i) { held = (moved ∙ ap (change_first (is_for c.args.id) (doing work)) is) i })

@@ -11,14 +11,14 @@ use Rattle.exec_entity.proofs.Awake.{polled-in, unchanged_first, after_poll_of, 
 use Rattle.exec_entity.proofs.Placed.{kept-at, found-at, changed-at}
 use Rattle.exec_entity.proofs.Serving.{kept-same, changed-ids, held_ids}
 use Rattle.exec_entity.proofs.Wakes.{wake-set}
-use Rattle.exec_rules.specs.Callback.{Outcome}
+use Rattle.exec_rules.specs.Callback.{AfterCallback}
 use Rattle.exec_rules.specs.World.{GoalWork, HeldGoal, ServerEntry, is_for, work_of}
 use Rattle.exec_entity.specs.inner.Keeping.{AreKept}
 use Rattle.exec_rules.specs.Callback.{poll_listed}
 use Rattle.exec_entity.specs.inner.Polling.{server_polled}
 use Rattle.exec_entity.specs.inner.Server.{held_goal_of, held_goals_of}
 use Rattle.exec_entity.specs.inner.Waking.{wake_in, wakes_of}
-use Rattle.exec_entity.specs.declared.server.Held.{Held}
+use Rattle.exec_entity.specs.declared.server.KeptWithGoal.{KeptWithGoal}
 use Rattle.exec_entity.proofs.server.Server.poll.Goals as goal
 
 pub invariant_of-self : goal.invariant_of-self
@@ -26,7 +26,7 @@ invariant_of-self c =
     let is : held_goals_of c.self.inside.held.entries ≡ c.args.self.now.held = ap (λ (server : ServerEntry). server.held) c.self.view_is in
     let kept : Some c.unwrap-held.result.now ≡ slice_get (values_of c.self.inside.held.entries) c.in-Some.place = search rules in
     let at = kept-at c.args.id c.unwrap-held.result.now c.self.inside.goals c.self.inside.held.entries c.args.self.now.held c.in-Some.place is c.self.invariant.0 c.in-Some.ensures.at kept in
-    let after : Held = record { task = c.poll_any.new.task; client = c.unwrap-held.result.now.client; arrival = c.unwrap-held.result.now.arrival } in
+    let after : KeptWithGoal = record { task = c.poll_any.new.task; client = c.unwrap-held.result.now.client; arrival = c.unwrap-held.result.now.arrival } in
     let changes : held_goal_of (c.args.id, after) ≡ held_goal_of (c.args.id, c.unwrap-held.result.now) = ap (λ (work : Option GoalWork). record (held_goal_of (c.args.id, c.unwrap-held.result.now)) { work = work }) c.in_err-close.ensures.unchanged in
     let stays : held_goals_of (set_value_at c.self.inside.held.entries c.in-Some.place after) ≡ held_goals_of c.self.inside.held.entries =
     changed-at at after (λ (one : HeldGoal). one) changes ∙ unchanged_first (is_for c.args.id) (held_goals_of c.self.inside.held.entries) in
@@ -37,7 +37,7 @@ returns-in_err-close-clause-unchanged c =
     let is : held_goals_of c.self.inside.held.entries ≡ c.args.self.now.held = ap (λ (server : ServerEntry). server.held) c.self.view_is in
     let kept : Some c.unwrap-held.result.now ≡ slice_get (values_of c.self.inside.held.entries) c.in-Some.place = search rules in
     let at = kept-at c.args.id c.unwrap-held.result.now c.self.inside.goals c.self.inside.held.entries c.args.self.now.held c.in-Some.place is c.self.invariant.0 c.in-Some.ensures.at kept in
-    let after : Held = record { task = c.poll_any.new.task; client = c.unwrap-held.result.now.client; arrival = c.unwrap-held.result.now.arrival } in
+    let after : KeptWithGoal = record { task = c.poll_any.new.task; client = c.unwrap-held.result.now.client; arrival = c.unwrap-held.result.now.arrival } in
     let changes : held_goal_of (c.args.id, after) ≡ held_goal_of (c.args.id, c.unwrap-held.result.now) = ap (λ (work : Option GoalWork). record (held_goal_of (c.args.id, c.unwrap-held.result.now)) { work = work }) c.in_err-close.ensures.unchanged in
     let stays : held_goals_of (set_value_at c.self.inside.held.entries c.in-Some.place after) ≡ held_goals_of c.self.inside.held.entries =
     changed-at at after (λ (one : HeldGoal). one) changes ∙ unchanged_first (is_for c.args.id) (held_goals_of c.self.inside.held.entries) in
@@ -49,7 +49,7 @@ invariant_of-self-2 c =
     let is : held_goals_of c.self.inside.held.entries ≡ c.args.self.now.held = ap (λ (server : ServerEntry). server.held) c.self.view_is in
     let kept : Some c.unwrap-held.result.now ≡ slice_get (values_of c.self.inside.held.entries) c.in-Some.place = search rules in
     let at = kept-at c.args.id c.unwrap-held.result.now c.self.inside.goals c.self.inside.held.entries c.args.self.now.held c.in-Some.place is c.self.invariant.0 c.in-Some.ensures.at kept in
-    let after : Held = record { task = c.poll_any.new.task; client = c.unwrap-held.result.now.client; arrival = c.unwrap-held.result.now.arrival } in
+    let after : KeptWithGoal = record { task = c.poll_any.new.task; client = c.unwrap-held.result.now.client; arrival = c.unwrap-held.result.now.arrival } in
     let task : Option TaskState = (poll_listed c.args.turn.now (option_map work_of c.unwrap-held.result.now.task) c.args.bank.now).task in
     let changes : held_goal_of (c.args.id, after) ≡ after_poll_of task (held_goal_of (c.args.id, c.unwrap-held.result.now)) = ap (λ (work : Option GoalWork). record (held_goal_of (c.args.id, c.unwrap-held.result.now)) { work = work }) c.in_ok-close.ensures.task in
     let moved : held_goals_of (set_value_at c.self.inside.held.entries c.in-Some.place after) ≡ change_first (is_for c.args.id) (after_poll_of task) (held_goals_of c.self.inside.held.entries) = changed-at at after (after_poll_of task) changes in
@@ -66,7 +66,7 @@ returns-clause-effects c =
     let at = kept-at c.args.id c.unwrap-held.result.now c.self.inside.goals c.self.inside.held.entries c.args.self.now.held c.in-Some.place is c.self.invariant.0 c.in-Some.ensures.at kept in
     let found : find (is_for c.args.id) c.args.self.now.held ≡ Some (held_goal_of (c.args.id, c.unwrap-held.result.now)) = subst (λ (helds : List HeldGoal). find (is_for c.args.id) helds ≡ Some (held_goal_of (c.args.id, c.unwrap-held.result.now))) is (found-at c.args.id c.unwrap-held.result.now c.self.inside.held.entries c.in-Some.place at) in
     let polled = polled-in c.args.turn.now c.args.id c.args.self.now c.args.bank.now (Some (held_goal_of (c.args.id, c.unwrap-held.result.now))) found in
-    c.in_ok-close.ensures.effects ∙ sym (ap (λ (done : Outcome (List Effect)). done.given) polled)
+    c.in_ok-close.ensures.effects ∙ sym (ap (λ (done : AfterCallback (List Effect)). done.given) polled)
 
 pub returns-clause-close : goal.returns-clause-close
 returns-clause-close c =
@@ -75,7 +75,7 @@ returns-clause-close c =
     let at = kept-at c.args.id c.unwrap-held.result.now c.self.inside.goals c.self.inside.held.entries c.args.self.now.held c.in-Some.place is c.self.invariant.0 c.in-Some.ensures.at kept in
     let found : find (is_for c.args.id) c.args.self.now.held ≡ Some (held_goal_of (c.args.id, c.unwrap-held.result.now)) = subst (λ (helds : List HeldGoal). find (is_for c.args.id) helds ≡ Some (held_goal_of (c.args.id, c.unwrap-held.result.now))) is (found-at c.args.id c.unwrap-held.result.now c.self.inside.held.entries c.in-Some.place at) in
     let polled = polled-in c.args.turn.now c.args.id c.args.self.now c.args.bank.now (Some (held_goal_of (c.args.id, c.unwrap-held.result.now))) found in
-    c.in_ok-close.ensures.close ∙ sym (ap (λ (done : Outcome (List Effect)). done.close) polled)
+    c.in_ok-close.ensures.close ∙ sym (ap (λ (done : AfterCallback (List Effect)). done.close) polled)
 
 pub returns-clause-variables : goal.returns-clause-variables
 returns-clause-variables c =
@@ -84,7 +84,7 @@ returns-clause-variables c =
     let at = kept-at c.args.id c.unwrap-held.result.now c.self.inside.goals c.self.inside.held.entries c.args.self.now.held c.in-Some.place is c.self.invariant.0 c.in-Some.ensures.at kept in
     let found : find (is_for c.args.id) c.args.self.now.held ≡ Some (held_goal_of (c.args.id, c.unwrap-held.result.now)) = subst (λ (helds : List HeldGoal). find (is_for c.args.id) helds ≡ Some (held_goal_of (c.args.id, c.unwrap-held.result.now))) is (found-at c.args.id c.unwrap-held.result.now c.self.inside.held.entries c.in-Some.place at) in
     let polled = polled-in c.args.turn.now c.args.id c.args.self.now c.args.bank.now (Some (held_goal_of (c.args.id, c.unwrap-held.result.now))) found in
-    c.in_ok-close.ensures.variables ∙ sym (ap (λ (done : Outcome (List Effect)). done.variables) polled)
+    c.in_ok-close.ensures.variables ∙ sym (ap (λ (done : AfterCallback (List Effect)). done.variables) polled)
 
 pub returns-clause-task : goal.returns-clause-task
 returns-clause-task c =
@@ -93,12 +93,12 @@ returns-clause-task c =
     let at = kept-at c.args.id c.unwrap-held.result.now c.self.inside.goals c.self.inside.held.entries c.args.self.now.held c.in-Some.place is c.self.invariant.0 c.in-Some.ensures.at kept in
     let found : find (is_for c.args.id) c.args.self.now.held ≡ Some (held_goal_of (c.args.id, c.unwrap-held.result.now)) = subst (λ (helds : List HeldGoal). find (is_for c.args.id) helds ≡ Some (held_goal_of (c.args.id, c.unwrap-held.result.now))) is (found-at c.args.id c.unwrap-held.result.now c.self.inside.held.entries c.in-Some.place at) in
     let polled = polled-in c.args.turn.now c.args.id c.args.self.now c.args.bank.now (Some (held_goal_of (c.args.id, c.unwrap-held.result.now))) found in
-    let after : Held = record { task = c.poll_any.new.task; client = c.unwrap-held.result.now.client; arrival = c.unwrap-held.result.now.arrival } in
+    let after : KeptWithGoal = record { task = c.poll_any.new.task; client = c.unwrap-held.result.now.client; arrival = c.unwrap-held.result.now.arrival } in
     let task : Option TaskState = (poll_listed c.args.turn.now (option_map work_of c.unwrap-held.result.now.task) c.args.bank.now).task in
     let changes : held_goal_of (c.args.id, after) ≡ after_poll_of task (held_goal_of (c.args.id, c.unwrap-held.result.now)) = ap (λ (work : Option GoalWork). record (held_goal_of (c.args.id, c.unwrap-held.result.now)) { work = work }) c.in_ok-close.ensures.task in
     let moved : held_goals_of (set_value_at c.self.inside.held.entries c.in-Some.place after) ≡ change_first (is_for c.args.id) (after_poll_of task) (held_goals_of c.self.inside.held.entries) = changed-at at after (after_poll_of task) changes in
     (λ i. record (c.self.view_is i) { held = (moved ∙ ap (change_first (is_for c.args.id) (after_poll_of task)) is) i }) ∙ server-polled c.args.id task c.args.self.now
-    ∙ sym (ap (λ (done : Outcome (List Effect)). server_polled c.args.id done.task c.args.self.now) polled)
+    ∙ sym (ap (λ (done : AfterCallback (List Effect)). server_polled c.args.id done.task c.args.self.now) polled)
 
 pub returns-in_err-close-clause-memory : goal.returns-in_err-close-clause-memory
 returns-in_err-close-clause-memory c =

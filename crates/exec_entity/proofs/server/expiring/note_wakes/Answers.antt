@@ -2,7 +2,7 @@ use Rattle.std.proofs.Common.{ℕ, ◌∙◌, ap, sym, arith, rules}
 use Rattle.std.specs.Option.{option_map}
 use Rattle.exec_goal.proofs.Looping.{written-next, written-all}
 use Rattle.exec_entity.proofs.Wakes.{wake-at, length-wakes}
-use Rattle.exec_entity.specs.declared.server.Held.{Held}
+use Rattle.exec_entity.specs.declared.server.KeptWithGoal.{KeptWithGoal}
 use Rattle.exec_entity.specs.inner.Server.{held_goals_of}
 use Rattle.exec_entity.specs.inner.Waking.{wakes_of}
 use Rattle.exec_entity.proofs.server.expiring.note_wakes.Goals as goal
@@ -10,7 +10,7 @@ use Rattle.exec_entity.proofs.server.expiring.note_wakes.Goals as goal
 pub loop-place-preserved : goal.loop-place-preserved
 loop-place-preserved c =
     let entries = c.args.held.now.entries in
-    let entry : ℕ × Held = (c.unwrap.result.0.now, c.unwrap.result.1.now) in
+    let entry : ℕ × KeptWithGoal = (c.unwrap.result.0.now, c.unwrap.result.1.now) in
     let there = sym c.get_index.ensures.entry ∙ ap (option_map (λ p. (p.0.now, p.1.now))) c.unwrap.ensures in
     record {
       written = written-next (wakes_of (held_goals_of entries)) c.loop-place.wakes.items c.loop-place.place c.wake_in.result (wake-at entries c.loop-place.place c.wake_in.result entry there c.wake_in.ensures)

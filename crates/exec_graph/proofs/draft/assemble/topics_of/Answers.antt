@@ -3,12 +3,12 @@ use Rattle.std.proofs.Math.ListN.{drop_of_length-le}
 use Rattle.exec_plan.specs.inner.Entries.{entities_in as entries_of}
 use Rattle.exec_plan.specs.Graph.{EntityData}
 use Rattle.exec_plan.specs.Names.{are_distinct}
-use Rattle.exec_graph.specs.Resolved.{topic_in}
+use Rattle.exec_graph.specs.Resolved.{resolved_topic}
 use Rattle.exec_graph.proofs.Appended.{next_topic}
 use Rattle.exec_graph.proofs.draft.assemble.topics_of.Goals as goal
 
 pub loop-topic-init : goal.loop-topic-init
-loop-topic-init c = ap (λ (es : List EntityData). es ++ map topic_in c.as_slice-topics.result.now) (ap entries_of c.new-entities.ensures.empty)
+loop-topic-init c = ap (λ (es : List EntityData). es ++ map resolved_topic c.as_slice-topics.result.now) (ap entries_of c.new-entities.ensures.empty)
 
 pub loop-topic-preserved : goal.loop-topic-preserved
 loop-topic-preserved c =
@@ -17,6 +17,6 @@ loop-topic-preserved c =
 pub returns : goal.returns
 returns c =
     sym (append-nil (entries_of c.loop-topic.entities.entries))
-    ∙ ap (λ (ts : List (List ℕ)). entries_of c.loop-topic.entities.entries ++ map topic_in ts) (sym (drop_of_length-le c.as_slice-topics.result.now c.loop-topic-test.false))
+    ∙ ap (λ (ts : List (List ℕ)). entries_of c.loop-topic.entities.entries ++ map resolved_topic ts) (sym (drop_of_length-le c.as_slice-topics.result.now c.loop-topic-test.false))
     ∙ c.loop-topic.invariant
-    ∙ ap (map topic_in) c.as_slice-topics.ensures
+    ∙ ap (map resolved_topic) c.as_slice-topics.ensures

@@ -1,6 +1,6 @@
 use Rattle.std.proofs.Common.{◌≤◌, ◌∙◌, sym, ap, subst}
 use Rattle.exec_lane.specs.Lane.{Lane}
-use Rattle.exec_round.proofs.HeldLanes.{given_back, kept, let_go_of, may_release, one, passed_over}
+use Rattle.exec_round.proofs.HeldLanes.{given_back, kept, may_release, one, passed_over, released_lane_of}
 use Rattle.exec_round.proofs.tests.holding.hold_all.Goals as goal
 use Rattle.exec_round.proofs.tests.holding.hold_all.Goals.{in-Ok+in-Ok-push_front, in-Ok+in-Err-push_front, in-Err}
 
@@ -37,7 +37,7 @@ pub loop-claim-preserved : goal.loop-claim-preserved
 loop-claim-preserved c = (
   (
     c.loop-claim.invariant.0.0,
-    let_go_of c.args.pass.now c.loop-claim.pass.view c.loop-claim.invariant.0.0 c.loop-claim.claims.items c.take.new.claims.items c.in-Some.claim c.loop-claim.invariant.0.1 c.in-Some.ensures.taken
+    released_lane_of c.args.pass.now c.loop-claim.pass.view c.loop-claim.invariant.0.0 c.loop-claim.claims.items c.take.new.claims.items c.in-Some.claim c.loop-claim.invariant.0.1 c.in-Some.ensures.taken
         c.run_some.new.lane (record { variables = c.run_some.ensures.lane.0 ∙ ap (λ (lane : Lane). lane.variables) c.work.ensures.value; entries = c.run_some.ensures.lane.1 ∙ ap (λ (lane : Lane). lane.entries) c.work.ensures.value })
         (subst (λ (lane : Lane). lane.done ≤ c.run_some.new.lane.done) c.work.ensures.value c.run_some.ensures.on) c.release-in-Some.new.pass.view c.release-in-Some.ensures.released,
   ),

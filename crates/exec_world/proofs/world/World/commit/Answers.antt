@@ -10,7 +10,7 @@ pub invariant_of-self-2 : goal.invariant_of-self-2
 invariant_of-self-2 g c =
     let plan = arc_value c.self.inside.plan in
     let given = not_refused _ _ (sym c.is_err.ensures.value ∙ c.if-is_err.false) c.commit-given.ensures in
-    let begun : (c.self.inside.left - 1) == 0 ≡ false → 1 ≤ c.self.inside.round = search rules in (
+    let begun : (c.self.inside.uncommitted - 1) == 0 ≡ false → 1 ≤ c.self.inside.round = search rules in (
       c.self.invariant.0,
       c.self.invariant.1,
       begun,

@@ -34,5 +34,5 @@ returns g c =
     (c.moments.ensures ∙ ap (λ (one : PlanData). one.moments) c.deref.ensures) c.index-moments-round.is (c.fed_in.ensures plan c.self.invariant.0) in
     let ran : c.run_round-ran.new.self ≡ snapshot_and_run (moment_of number c.args.self.now.plan) (state_at number c.args.self.now) =
     not_refused _ _ (sym c.is_err.ensures.value ∙ c.if-is_err.false) c.run_round-ran.ensures ∙ sym (sound_rounded plan moment before fed) ∙ (λ i. snapshot_and_run (at.0 i) (at.1 i)) in
-    (λ i. record { plan = (c.self.view_is i).plan; state = c.run_round-ran.new.self; rounds = rounds_in number 0; left = 0; failed = (c.self.view_is i).failed })
+    (λ i. record { plan = (c.self.view_is i).plan; state = c.run_round-ran.new.self; rounds = rounds_in number 0; uncommitted = 0; failed = (c.self.view_is i).failed })
     ∙ round_kept c.args.self.now number c.run_round-ran.new.self c.requires.next.next ran

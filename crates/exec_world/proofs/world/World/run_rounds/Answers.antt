@@ -17,7 +17,7 @@ run_round-requires g c =
       next = record {
         next = ap (λ (world : WorldData). world.rounds + 1) (sym here);
         within = omega (arith, c.loop-done-test.true, moments);
-        done = ap (λ (world : WorldData). world.left) here;
+        done = ap (λ (world : WorldData). world.uncommitted) here;
       };
     }
 

@@ -83,5 +83,5 @@ returns-clause-taken g c =
     not_refused _ _ told c.begin_round-begun.ensures.taken ∙ sym (sound_taken plan moment before fed) ∙ (λ i. take_inputs (at.0 i) (at.1 i)) in
     let sized : c.len-self-inside.result ≡ length c.take_list-list.result.items = search rules in
     let count = sized ∙ ap length c.take_list-list.ensures in
-    (λ i. record { plan = (c.self.view_is i).plan; state = c.begin_round-begun.new.self; rounds = rounds_in number (count i); left = count i; failed = (c.self.view_is i).failed })
+    (λ i. record { plan = (c.self.view_is i).plan; state = c.begin_round-begun.new.self; rounds = rounds_in number (count i); uncommitted = count i; failed = (c.self.view_is i).failed })
     ∙ snapshot_kept c.args.self.now number c.begin_round-begun.new.scratch.list c.begin_round-begun.new.self next.next listed taken

@@ -1,0 +1,10 @@
+use Rattle.std.proofs.Common.{◌≡◌, Some, ap, sym, ◌∙◌}
+use Rattle.std.proofs.lemmas.Result.{on_ok_weaker}
+use Rattle.exec_world.proofs.Giving.{canceled_all}
+use Rattle.exec_rules.specs.World.{WorldState, action_client_at}
+use Rattle.exec_world.proofs.state.WorldBody.cancel_all.Goals as goal
+
+pub returns : goal.returns
+returns g c =
+    let there : action_client_at c.args.client c.args.self.now ≡ Some c.in-Some.found.now = ap (λ (world : WorldState). action_client_at c.args.client world) (sym c.self.view_is) ∙ sym c.in-Some.ensures in
+    on_ok_weaker c.send_cancel.result (λ sent. sent ∙ canceled_all c.args.client c.args.self.now c.in-Some.found.now there c.server-server.result c.new.result c.args.stamp c.server-server.ensures c.new.ensures) c.send_cancel.ensures
