@@ -33,10 +33,10 @@ impl Results for Picked {
 }
 
 /// Only the one result is made, after a jump. This is for a script that runs many times in turn, so that a processor foresees
-/// its operations.
-pub(crate) struct Foreseen;
+/// its operations. Each caller has a number, and so an instance of its own, which is written into it.
+pub(crate) struct Foreseen<const CALLER: usize>;
 
-impl Results for Foreseen {
+impl<const CALLER: usize> Results for Foreseen<CALLER> {
     #[inline(always)]
     fn of(operation: Operation, left: i64, right: i64) -> i64 {
         match operation {

@@ -73,7 +73,7 @@ pub fn run_call_into(
     ensures unchanged_effects { OnErr result (effects.new ≡ effects.old) }
 {
     let mut close = Close::Nothing;
-    run_with::<Foreseen>(script, role, bank, input, effects, &mut close)?;
+    run_with::<Foreseen<0>>(script, role, bank, input, effects, &mut close)?;
     Ok(close)
 }
 
@@ -158,7 +158,7 @@ pub fn run_from(
     let mut frame = Frame::new();
     frame.fill(regs, bank, input);
     let mut answer = None;
-    let stop = follow::<Foreseen>(script, place, &mut frame, &mut answer, &mut effects.items);
+    let stop = follow::<Foreseen<1>>(script, place, &mut frame, &mut answer, &mut effects.items);
     frame.put_regs(regs);
     frame.put_bank(bank);
     Ok(stop)
