@@ -118,6 +118,14 @@ callback_script kind.Feedback (ActionClient entity) = Some entity.on_feedback
 callback_script kind.Result (ActionClient entity) = Some (unwrap_or entity.on_result [])
 callback_script _ _ = None
 
+-- the script that callbacks of a kind run of what is declared so; it is empty where there are no such callbacks
+abbrev pub script_for : Kind → Declared → Script
+script_for kind = of_entity [] (λ is. unwrap_or (callback_script kind is) [])
+
+-- the same of what is declared at a number
+abbrev pub script_at : GraphData → EntityNo → Kind → Script
+script_at graph number kind = script_for kind (declared_at graph number)
+
 -- the kinds of callbacks in the order in which ready callbacks run
 abbrev pub kinds : List Kind
 kinds = IN_ORDER

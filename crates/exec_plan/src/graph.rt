@@ -1,5 +1,6 @@
 use crate::entity::{CallbackGroup, Declared, EntityKind, GroupNo};
-use exec_msg::{EntityNo, Names};
+use crate::script::Script;
+use exec_msg::{EntityNo, Kind, Names};
 use indexmap::IndexMap;
 use std::marker::Model;
 
@@ -31,8 +32,9 @@ impl Model for Graph {
 }
 
 impl Graph {
-    ghost use Rattle.std.specs.Prelude.{◌≡◌, ◌<◌, ◌≤◌, length, not, IsTrue, Some};
-    ghost use Rattle.exec_plan.specs.Graph.{names_of, declared_at, group_of, is_exclusive, is_topic, topic_at, server_at};
+    ghost use Rattle.std.specs.Prelude.{◌≡◌, ◌<◌, ◌≤◌, [], length, not, IsTrue, Some};
+    ghost use Rattle.std.specs.Option.{option_copied, unwrap_or};
+    ghost use Rattle.exec_plan.specs.Graph.{names_of, declared_at, group_of, is_exclusive, is_topic, script_at, topic_at, server_at};
     ghost use Rattle.exec_plan.specs.Lawful.{IsLawful, is_at};
     ghost use Rattle.exec_plan.specs.inner.Entries.{entities_in};
 
@@ -103,6 +105,18 @@ impl Graph {
         // This makes the type's invariant known here.
         let _ = &self.nodes;
         self.declaration(no).entity().unwrap().group
+    }
+
+    /// The script of an entity's callbacks of a kind. There is none if the entity has no such callbacks, or if their script is
+    /// empty because nothing says what they do.
+    #[inline(always)]
+    pub fn script(&self, no: EntityNo, kind: Kind) -> Option<&Script>
+        ensures { unwrap_or (option_copied result) [] ≡ script_at self.now no kind }
+    {
+        if no.0 as usize >= self.len() {
+            return None;
+        }
+        self.declaration(no).script(kind)
     }
 
     /// Whether a callback group is mutually exclusive. A reentrant group isn't, and neither is a group that the graph

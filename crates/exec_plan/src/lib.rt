@@ -1,6 +1,7 @@
 //! Lawful graphs of topics, entities and callback groups, and plans of what is run on them.
 #![tactic(auto)]
 
+mod callback_script;
 mod entity;
 mod fault;
 mod graph;

@@ -4,5 +4,5 @@
 mod queue;
 mod timer;
 
-pub use queue::{EntityQueue, Queues, bring_home_to_queues};
-pub use timer::{EntityTimer, bring_home_to_timers, take_due_into};
+pub use queue::{EntityQueue, Queues};
+pub use timer::{EntityTimer, take_due_into};

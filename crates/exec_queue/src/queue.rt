@@ -11,8 +11,6 @@ ghost use Rattle.exec_rules.specs.Ready.{first_number, item_ready, queue_taken};
 ghost use Rattle.exec_rules.specs.Transcript.{no_arrivals};
 ghost use Rattle.exec_rules.specs.inner.ByKind.{is_before_polls};
 ghost use Rattle.exec_rules.specs.World.{Handler, Queue, is_queue, queue_after, lost_from};
-ghost use Rattle.exec_rules.specs.declared.homes.Home.{Home as HomeAt};
-ghost use Rattle.exec_rules.specs.inner.Homes.{AreHomes, IsScriptHome, handlers_of};
 ghost use Rattle.exec_rules.specs.inner.Listing.{listed_behind};
 ghost use Rattle.exec_msg.specs.Places.{change_at};
 ghost use Rattle.exec_rules.specs.inner.Places.{change_each, places_where};
@@ -23,10 +21,9 @@ mod entry;
 mod filled;
 
 pub use entry::EntityQueue;
-use entry::list_plain_at;
 use exec_msg::{EntityNo, Kind, LazyQueue, Memory, Moment, PlaceTable};
-use exec_plan::{Order, Script};
-use exec_rules::{Handler, Home, Item, ReadyList};
+use exec_plan::Order;
+use exec_rules::{Handler, Item, ReadyList};
 use filled::{keep_filled, leave_part, note_filled, settle};
 use std::alloc::Global;
 use std::marker::Model;
@@ -166,22 +163,22 @@ impl Queues {
     /// are copied with one look-up.
     ///
     /// # Errors
-    /// [`Memory`] if a growth was refused. The queues don't change.
+    /// [`Memory`] if a growth was refused.
     #[inline(always)]
     pub fn list_plain(
-        &mut self,
+        &self,
         alloc: Global,
         moment: Moment,
         place: usize,
         list: &mut ReadyList,
-        homes: &mut Vec<Home>,
     ) -> Result<bool, Memory>
-        ensures same { self.new ≡ self.old }
-        ensures listed { IfOk result (λ done. done ≡ true → (goals : Handler → List _) → list.new ≡ listed_behind list.old (option_map_or (λ queue. item_ready moment queue.handler (goals queue.handler) queue.items) (slice_get self.old place) [])) }
+        ensures listed { IfOk result (λ done. done ≡ true → (goals : Handler → List _) → list.new ≡ listed_behind list.old (option_map_or (λ queue. item_ready moment queue.handler (goals queue.handler) queue.items) (slice_get self.now place) [])) }
         ensures left { IfOk result (λ done. done ≡ false → list.new ≡ list.old) }
-        ensures homes { OnOk result (AreHomes (handlers_of self.old) list.old homes.old.items → AreHomes (handlers_of self.old) list.new homes.new.items) }
     {
-        list_plain_at(&mut self.entries, alloc, moment, place, list, homes)
+        match self.at(place) {
+            None => Ok(true),
+            Some(queue) => queue.list_plain(alloc, moment, list),
+        }
     }
 
     /// The queue at a place.
@@ -189,25 +186,6 @@ impl Queues {
         ensures { option_copied result ≡ slice_get self.now place }
     {
         self.entries.get(place)
-    }
-
-    /// The script of the callback that takes from the queue at a place. It may be brought home.
-    ///
-    /// # Errors
-    /// [`Memory`] if one more share can't be counted. The queues don't change.
-    pub fn take_script(&mut self, place: usize) -> Result<Option<Script>, Memory>
-        ensures script { IfOk result (λ script. script ≡ option_map (λ queue. queue.handler.script) (slice_get self.old place)) }
-        ensures same { self.new ≡ self.old }
-    {
-        take_script_at(&mut self.entries, place)
-    }
-
-    // Brings the script of the callback that takes from the queue at a place home.
-    fn bring_home(&mut self, place: usize, script: Script)
-        requires { (queue : Queue) → slice_get self.old place ≡ Some queue → script ≡ queue.handler.script }
-        ensures { self.new ≡ self.old }
-    {
-        bring_home_at(&mut self.entries, place, script);
     }
 
     /// The number of the first arrival of an entity's queue of a kind. It is 0 if there is none.
@@ -218,50 +196,6 @@ impl Queues {
             None => 0,
             Some(place) => first_number_at(&self.entries, place),
         }
-    }
-}
-
-/// Brings home the scripts that come from queues.
-pub fn bring_home_to_queues(queues: &mut Queues, list: &mut ReadyList, homes: &[Home])
-    requires { AreHomes (handlers_of queues.old) list.old homes.now }
-    ensures queues { queues.new ≡ queues.old }
-    ensures others { (handlers : List Handler) (others : List HomeAt) → AreHomes handlers list.old others → AreHomes handlers list.new others }
-{
-    for home in homes {
-        bring_script_home(queues, list, home);
-    }
-}
-
-#[inline(always)]
-fn bring_script_home(queues: &mut Queues, list: &mut ReadyList, home: &Home)
-    requires { IsScriptHome (handlers_of queues.old) list.old home.now }
-    ensures queues { queues.new ≡ queues.old }
-    ensures others { (handlers : List Handler) (others : List HomeAt) → AreHomes handlers list.old others → AreHomes handlers list.new others }
-{
-    if let Some(script) = list.take_script(home.place_in_list) {
-        queues.bring_home(home.place, script);
-    }
-}
-
-fn take_script_at(entries: &mut Vec<EntityQueue>, place: usize) -> Result<Option<Script>, Memory>
-    ensures script { IfOk result (λ script. script ≡ option_map (λ queue. queue.handler.script) (slice_get entries.old.items place)) }
-    ensures same { entries.new.items ≡ entries.old.items }
-{
-    match entries.get_mut(place) {
-        None => Ok(None),
-        Some(entry) => {
-            let script = entry.take_script()?;
-            Ok(Some(script))
-        }
-    }
-}
-
-fn bring_home_at(entries: &mut Vec<EntityQueue>, place: usize, script: Script)
-    requires { (queue : Queue) → slice_get entries.old.items place ≡ Some queue → script ≡ queue.handler.script }
-    ensures { entries.new.items ≡ entries.old.items }
-{
-    if let Some(entry) = entries.get_mut(place) {
-        entry.bring_home(script);
     }
 }
 

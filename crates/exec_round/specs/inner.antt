@@ -1,3 +1,4 @@
+pub mod Begun
 pub mod Commits
 pub mod Running
 pub mod Sending

@@ -2,16 +2,18 @@
 ghost use Rattle.std.specs.Prelude.{◌≡◌, ◌<◌, ◌≤◌, false, vec_len, IfOk, OnOk};
 ghost use Rattle.exec_lane.specs.Lane.{AreFinished};
 ghost use Rattle.exec_round.specs.inner.Commits.{after_commits, with_effects, with_effects_of};
+ghost use Rattle.exec_round.specs.inner.Begun.{HasBegun};
 ghost use Rattle.exec_round.specs.inner.Division.{TakesSome};
 ghost use Rattle.exec_rules.specs.Calls.{IsNext, after_commit, after_round};
+ghost use Rattle.exec_world.specs.Heavy.{IsBegun};
 
 use crate::claiming::claim_lanes;
 use crate::streaming::stream_lanes;
-use crate::weighing::workers_for;
+use crate::weighing::{LIGHT, workers_for};
 use crate::workers::run_lanes;
 use exec_lane::{Gate, Gathered, LaneBox, Outcome, Ran, gather, laws, split};
 use exec_msg::{Lines, Memory};
-use exec_world::World;
+use exec_world::{Heavy, Ready, World};
 use std::alloc::Global;
 use std::sync::Wait;
 use std::thread::Threads;
@@ -129,15 +131,12 @@ pub(crate) fn run_round<L: Lines, R: Threads + Sync, G: Gate>(
 {
     laws::lanes_come_home_as_one_thread_leaves_them();
     exec_rules::laws::callbacks_may_be_committed_behind();
-    let list = world.snapshot(round)?;
-    if list.as_slice().is_empty() {
+    let Some(begun) = begin(rt, world, round, workers, gate)? else {
         return Ok(());
-    }
-    let Some(count) = workers_for(rt, list.as_slice(), workers, gate) else {
-        return Ok(world.run_ready(list.as_slice())?);
     };
+    let Begun { list, workers } = begun;
     let lanes = split(alloc, list, world)?;
-    let ran = run_shared(rt, alloc, lanes, count, division, gate)?;
+    let ran = run_shared(rt, alloc, lanes, workers, division, gate)?;
     let all = gather(alloc, ran, world)?;
     commit_each(all, world)?;
     Ok(())
@@ -161,17 +160,67 @@ pub(crate) fn stream_round<L: Lines, R: Threads + Wait + Sync, G: Gate>(
 {
     laws::lanes_come_home_as_one_thread_leaves_them();
     exec_rules::laws::callbacks_may_be_committed_behind();
-    let list = world.snapshot(round)?;
-    if list.as_slice().is_empty() {
+    let Some(begun) = begin(rt, world, round, workers, gate)? else {
         return Ok(());
-    }
-    let Some(count) = workers_for(rt, list.as_slice(), workers, gate) else {
-        return Ok(world.run_ready(list.as_slice())?);
     };
+    let Begun { list, workers } = begun;
     let lanes = split(alloc, list, world)?;
-    let (ran, sent) = stream_lanes(rt, alloc, lanes, count, quantum, gate)?;
+    let (ran, sent) = stream_lanes(rt, alloc, lanes, workers, quantum, gate)?;
     let all = gather(alloc, ran, world)?;
     commit_sent(all, sent, world)
+}
+
+// The callbacks of a round, and how many workers are to run them.
+#[derive(Drop)]
+struct Begun {
+    list: Vec<Ready>,
+    workers: usize,
+}
+
+// Begins a round. Answers its callbacks, or nothing if the calling thread has run them. It does if there are none. If nobody
+// watches, it does too if workers would save no time.
+fn begin<L: Lines, R: Threads, G: Gate>(
+    rt: &R,
+    world: &mut World<L>,
+    round: usize,
+    workers: usize,
+    gate: &G,
+) -> Result<Option<Begun>, Memory>
+    requires next { IsNext round world.old }
+    requires workers { 0 < workers }
+    ensures { IfOk result (λ begun. HasBegun round begun world.old world.new) }
+{
+    let Some(heavy) = list_callbacks(world, round, gate)? else {
+        return Ok(None);
+    };
+    let Heavy { list, instructions } = heavy;
+    if list.is_empty() {
+        return Ok(None);
+    }
+    let Some(workers) = workers_for(rt, instructions, list.len(), workers, gate) else {
+        world.run_ready(list.as_slice())?;
+        return Ok(None);
+    };
+    Ok(Some(Begun { list, workers }))
+}
+
+// Begins a round. If nobody watches and its work is light, the calling thread runs it.
+fn list_callbacks<L: Lines, G: Gate>(
+    world: &mut World<L>,
+    round: usize,
+    gate: &G,
+) -> Result<Option<Heavy>, Memory>
+    requires { IsNext round world.old }
+    ensures { IfOk result (λ heavy. IsBegun round heavy world.old world.new) }
+{
+    if gate.is_open() {
+        return Ok(world.run_if_light(round, &LIGHT)?);
+    }
+    let list = world.snapshot(round)?;
+    Ok(Some(Heavy {
+        list,
+        instructions: u64::MAX,
+    }))
 }
 
 // Runs all callbacks of lanes.

@@ -2,8 +2,7 @@
 ghost use Rattle.std.specs.Prelude.{◌≡◌, ◌<◌, true, IfSome};
 
 use exec_lane::Gate;
-use exec_msg::Kind;
-use exec_world::Ready;
+use exec_world::Light;
 use std::thread::{Threads, available_parallelism};
 
 // Nanoseconds: what an instruction takes, what it costs to cut a callback off and to bring it home, and what it costs to start
@@ -14,11 +13,19 @@ const CUT: u64 = 3_000;
 
 const START: u64 = 50_000;
 
-// How many workers run callbacks, at most `workers`. None if the calling thread runs them. It does if nobody watches, and if
-// workers would save no time, as far as the lengths of the scripts show. More workers than processors gain nothing.
+// What no number of workers saves time with.
+pub(crate) const LIGHT: Light = Light {
+    least: START / INSTRUCTION,
+    each: CUT / INSTRUCTION,
+};
+
+// How many workers run so many callbacks with so many instructions in all, at most `workers`. None if the calling thread runs
+// them. It does if nobody watches, and if workers would save no time, as far as the lengths of the scripts show. More workers
+// than processors gain nothing.
 pub(crate) fn workers_for<R: Threads, G: Gate>(
     rt: &R,
-    list: &[Ready],
+    instructions: u64,
+    callbacks: usize,
     workers: usize,
     gate: &G,
 ) -> Option<usize>
@@ -28,8 +35,7 @@ pub(crate) fn workers_for<R: Threads, G: Gate>(
     if !gate.is_open() {
         return Some(workers);
     }
-    let work = instructions(list).saturating_mul(INSTRUCTION);
-    let callbacks = list.len();
+    let work = instructions.saturating_mul(INSTRUCTION);
     let most = fastest(work, workers.min(callbacks));
     if !pays(work, callbacks, most) {
         return None;
@@ -76,24 +82,4 @@ fn pays(work: u64, callbacks: usize, workers: usize) -> bool
         .saturating_mul(CUT)
         .saturating_add((workers - 1).saturating_mul(START));
     work - work / workers > cost
-}
-
-// How many instructions callbacks have. A cancel request has them once for each goal that it may cancel.
-fn instructions(list: &[Ready]) -> u64 {
-    let mut all = 0u64;
-    for one in list {
-        all = all.saturating_add(instructions_of(one));
-    }
-    all
-}
-
-fn instructions_of(one: &Ready) -> u64 {
-    let Some(script) = &one.script else {
-        return 0;
-    };
-    let length = script.as_slice().len() as u64;
-    if one.kind() == Kind::Cancel {
-        return length.saturating_mul(one.candidates.as_slice().len() as u64);
-    }
-    length
 }

@@ -17,7 +17,6 @@ pub mod PolledAlike
 pub mod Ranking
 pub mod ReadyLists
 pub mod Running
-pub mod ScriptsHome
 pub mod Shapes
 pub mod Sorting
 pub mod Stable

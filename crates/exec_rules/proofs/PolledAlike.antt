@@ -17,7 +17,6 @@ use Rattle.exec_script.specs.Script.{Variables}
 use Rattle.exec_rules.specs.World.{GoalWork, ServerEntry, WorldState, add_line}
 use Rattle.exec_rules.specs.declared.item.Item.{Item}
 use Rattle.exec_rules.specs.declared.item.Item.TheVariants as item
-use Rattle.exec_rules.specs.declared.ready.AwakeGoal.{AwakeGoal}
 use Rattle.exec_rules.specs.declared.ready.Cause.{Cause}
 use Rattle.exec_rules.specs.declared.ready.Cause.TheVariants as cause
 use Rattle.exec_rules.specs.declared.ready.Ready.{Ready}
@@ -113,14 +112,14 @@ module _ (moment : Moment) where
       ∙ sym (run_both (map (poll_at moment) (awake_goals moment entry)) (map (poll_at moment) (flat_map (awake_goals moment) servers)) world)
       ∙ ap (λ (list : List Ready). run_all list world) (sym (map-append (poll_at moment) (awake_goals moment entry) (flat_map (awake_goals moment) servers)))
 
--- one poll more
-pub polls_more : (moment : Moment) (goals : List AwakeGoal) (i : ℕ) (goal : AwakeGoal) (world : WorldState) → i < length goals → goal ≡ get_or goals i goal
-    → run (poll_at moment goal) (run_all (map (poll_at moment) (take i goals)) world) ≡ run_all (map (poll_at moment) (take (i + 1) goals)) world
-polls_more moment goals i goal world within reads =
-    let so_far : List Ready = map (poll_at moment) (take i goals) in
-    ap (λ (one : AwakeGoal). run (poll_at moment one) (run_all so_far world)) reads
-    ∙ sym (run_both so_far (poll_at moment (get_or goals i goal) ∷ []) world)
-    ∙ ap (λ (list : List Ready). run_all list world) (sym (map_more (poll_at moment) goals i goal within))
+-- one callback more of those that are made of a list
+pub run_more : {A : Type 0} (f : A → Ready) (all : List A) (i : ℕ) (one : A) (world : WorldState) → i < length all → one ≡ get_or all i one
+    → run (f one) (run_all (map f (take i all)) world) ≡ run_all (map f (take (i + 1) all)) world
+run_more f all i one world within reads =
+    let so_far : List Ready = map f (take i all) in
+    ap (λ (next : _). run (f next) (run_all so_far world)) reads
+    ∙ sym (run_both so_far (f (get_or all i one) ∷ []) world)
+    ∙ ap (λ (list : List Ready). run_all list world) (sym (map_more f all i one within))
 
 -- ---- the whole list
 

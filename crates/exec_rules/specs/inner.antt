@@ -1,7 +1,6 @@
 pub mod Awake
 pub mod ByKind
 pub mod Handling
-pub mod Homes
 pub mod Listing
 pub mod Numbering
 pub mod Places

@@ -2,22 +2,20 @@
 ghost use Rattle.std.specs.Prelude.{◌≡◌, IfOk, OnErr, OnOk};
 ghost use Rattle.std.specs.Option.{option_map};
 ghost use Rattle.exec_script.specs.Script.{called, cancel_decided, listed};
-ghost use Rattle.exec_rules.specs.Callback.{call_in, candidate_input, handle_all, instructions_of, take_item};
+ghost use Rattle.exec_rules.specs.Callback.{candidate_input, handle_all, instructions_of};
 ghost use Rattle.exec_rules.specs.Close.{decision_of_close};
 ghost use Rattle.exec_rules.specs.inner.Handling.{cancel_decision_in};
-ghost use Rattle.exec_rules.specs.Ready.{input_of, turn_at};
+ghost use Rattle.exec_rules.specs.Ready.{turn_at};
 ghost use Rattle.exec_rules.specs.Run.{apart_with, effects_of, work_after};
 ghost use Rattle.exec_rules.specs.World.{work_of};
 ghost use Rattle.exec_rules.specs.Callback.{poll_listed};
 
-use crate::item::Item;
 use crate::polling::poll_any;
 use crate::ready::{Cause, Ready};
+use crate::runnable::Runnable;
 use exec_goal::GoalInfo;
 use exec_msg::{CancelDecision, Decision, Elements, Memory, Moment};
-use exec_script::{
-    Bank, Close, EffectList, Effects, Input, Instr, Role, run_call_closing, run_call_into,
-};
+use exec_script::{Bank, Close, EffectList, Effects, Input, Role, run_call_into};
 use exec_task::{GoalTask, Poller, Turn};
 use std::alloc::Global;
 
@@ -42,26 +40,13 @@ impl Ready {
     {
         let mut effects = EffectList::new(alloc);
         let mut after = *bank;
-        let input = self.input();
+        let runnable = Runnable::of(self);
         let mut close = Close::Nothing;
         match &self.cause {
-            Cause::Due => call_in(
-                Role::Callback,
-                self,
-                &input,
-                &mut after,
-                &mut effects,
-                &mut close,
-            )?,
-            Cause::Took(item) => take_item(
-                alloc,
-                item,
-                self,
-                &input,
-                &mut after,
-                &mut effects,
-                &mut close,
-            )?,
+            Cause::Due => runnable.call_in(Role::Callback, &mut after, &mut effects, &mut close)?,
+            Cause::Took(item) => {
+                runnable.take_item(alloc, item, &mut after, &mut effects, &mut close)?;
+            }
             Cause::Woke { canceling, .. } => {
                 close = self.poll_apart(*canceling, task, &mut after, poller, &mut effects)?;
             }
@@ -100,87 +85,21 @@ impl Ready {
     }
 }
 
-/// Runs a callback that took an item, if this is the callback's input. The effects are added after those that the list has.
-/// What closes the callback is left in `close`.
-///
-/// # Errors
-/// [`Memory`] if a growth was refused. The variables and the effects may have changed.
-#[inline(always)]
-pub fn take_item(
+// Runs a cancel handler for each of its candidates, and answers what closes it. The effects are added after those that the list
+// has.
+pub(crate) fn handle_all(
     alloc: Global,
-    item: &Item,
-    one: &Ready,
-    input: &Input,
-    bank: &mut Bank,
-    effects: &mut EffectList,
-    close: &mut Close,
-) -> Result<(), Memory>
-    ensures variables { OnOk result (input.now ≡ input_of one.now → bank.new ≡ (take_item item.now listed one.now bank.old effects.old).variables) }
-    ensures effects { OnOk result (input.now ≡ input_of one.now → effects.new ≡ (take_item item.now listed one.now bank.old effects.old).given) }
-    ensures close { OnOk result (input.now ≡ input_of one.now → close.new ≡ (take_item item.now listed one.now bank.old effects.old).close) }
-{
-    match item {
-        Item::Cancel { .. } => {
-            *close = handle_all(alloc, one, bank, effects)?;
-            Ok(())
-        }
-        Item::Request { .. } => call_in(Role::Service, one, input, bank, effects, close),
-        Item::Goal { .. } => call_in(Role::GoalHandler, one, input, bank, effects, close),
-        Item::Message { .. }
-        | Item::Reply { .. }
-        | Item::Ask { .. }
-        | Item::Response { .. }
-        | Item::Code { .. }
-        | Item::Feedback { .. }
-        | Item::Result { .. } => call_in(Role::Callback, one, input, bank, effects, close),
-    }
-}
-
-/// Runs a callback's script once in a role, if this is the callback's input. The effects are added after those that the list
-/// has. What closes the callback is left in `close`.
-///
-/// # Errors
-/// [`Memory`] if a growth was refused. The variables and the effects may have changed.
-#[inline(always)]
-pub fn call_in(
-    role: Role,
-    one: &Ready,
-    input: &Input,
-    bank: &mut Bank,
-    effects: &mut EffectList,
-    close: &mut Close,
-) -> Result<(), Memory>
-    ensures variables { OnOk result (input.now ≡ input_of one.now → bank.new ≡ (call_in role listed one.now bank.old effects.old).variables) }
-    ensures effects { OnOk result (input.now ≡ input_of one.now → effects.new ≡ (call_in role listed one.now bank.old effects.old).given) }
-    ensures close { OnOk result (input.now ≡ input_of one.now → close.new ≡ (call_in role listed one.now bank.old effects.old).close) }
-{
-    run_call_closing(instructions_of(one), role, bank, input, effects, close)
-}
-
-// The instructions of a callback's script. There are none if there is no script.
-#[inline(always)]
-fn instructions_of(one: &Ready) -> &[Instr]
-    ensures { result.now ≡ instructions_of one.now.script }
-{
-    match &one.script {
-        Some(script) => script.as_slice(),
-        None => &[],
-    }
-}
-
-fn handle_all(
-    alloc: Global,
-    one: &Ready,
+    runnable: &Runnable<'_>,
     bank: &mut Bank,
     effects: &mut EffectList,
 ) -> Result<Close, Memory>
-    ensures variables { OnOk result (bank.new ≡ (handle_all listed one.now bank.old effects.old).variables) }
-    ensures effects { OnOk result (effects.new ≡ (handle_all listed one.now bank.old effects.old).given) }
-    ensures close { IfOk result (λ close. close ≡ (handle_all listed one.now bank.old effects.old).close) }
+    ensures variables { OnOk result (bank.new ≡ (handle_all listed runnable.now bank.old effects.old).variables) }
+    ensures effects { OnOk result (effects.new ≡ (handle_all listed runnable.now bank.old effects.old).given) }
+    ensures close { IfOk result (λ close. close ≡ (handle_all listed runnable.now bank.old effects.old).close) }
 {
     let mut decisions = Elements::new(alloc);
-    for candidate in one.candidates.as_slice() {
-        let decision = handle_cancel(one, candidate, bank, effects)?;
+    for candidate in runnable.one.candidates.as_slice() {
+        let decision = handle_cancel(runnable, candidate, bank, effects)?;
         decisions.push((candidate.id, decision))?;
     }
     Ok(Close::Decisions(decisions))
@@ -188,18 +107,18 @@ fn handle_all(
 
 // Runs a cancel handler for a candidate, and answers its decision.
 fn handle_cancel(
-    one: &Ready,
+    runnable: &Runnable<'_>,
     candidate: &GoalInfo,
     bank: &mut Bank,
     effects: &mut EffectList,
 ) -> Result<CancelDecision, Memory>
-    ensures variables { OnOk result (bank.new ≡ (called listed (instructions_of one.now.script) bank.old (candidate_input one.now.moment candidate.now) effects.old).variables) }
-    ensures effects { OnOk result (effects.new ≡ (called listed (instructions_of one.now.script) bank.old (candidate_input one.now.moment candidate.now) effects.old).given) }
-    ensures decision { IfOk result (λ decision. decision ≡ cancel_decided (called listed (instructions_of one.now.script) bank.old (candidate_input one.now.moment candidate.now) effects.old).reply_or_decision) }
+    ensures variables { OnOk result (bank.new ≡ (called listed (instructions_of runnable.now.script) bank.old (candidate_input runnable.now.moment candidate.now) effects.old).variables) }
+    ensures effects { OnOk result (effects.new ≡ (called listed (instructions_of runnable.now.script) bank.old (candidate_input runnable.now.moment candidate.now) effects.old).given) }
+    ensures decision { IfOk result (λ decision. decision ≡ cancel_decided (called listed (instructions_of runnable.now.script) bank.old (candidate_input runnable.now.moment candidate.now) effects.old).reply_or_decision) }
 {
-    let input = candidate_input(one.moment, candidate);
+    let input = candidate_input(runnable.one.moment, candidate);
     let close = run_call_into(
-        instructions_of(one),
+        runnable.instructions(),
         Role::CancelHandler,
         bank,
         &input,

@@ -2,21 +2,23 @@
 //! and the transcript of a plan. The rules are definitions, in specs/. The code here is what all crates that follow them share.
 #![tactic(auto)]
 
+mod arranging;
 mod callback;
 mod handler;
-mod homes;
 mod item;
 pub mod laws;
+mod listed;
 mod polling;
 mod ready;
-mod ready_list;
+mod runnable;
 mod shared;
 
-pub use callback::{call_in, decision_of_close, take_item};
+pub use arranging::{arrange, set_position};
+pub use callback::decision_of_close;
 pub use handler::Handler;
-pub use homes::{Home, Homes};
 pub use item::Item;
+pub use listed::{Listed, ReadyList};
 pub use polling::poll_any;
 pub use ready::{AwakeGoal, Cause, Ready};
-pub use ready_list::ReadyList;
+pub use runnable::Runnable;
 pub use shared::share;

@@ -1,4 +1,5 @@
 ghost use Rattle.std.specs.Prelude.{◌≡◌};
+ghost use Rattle.std.specs.Option.{option_copied};
 ghost use Rattle.exec_rules.specs.Ready.{kind_of, id_of_cause, input_at, input_of, line_of};
 ghost use Rattle.exec_rules.specs.inner.Awake.{poll_at};
 
@@ -6,7 +7,7 @@ use crate::item::Item;
 use exec_goal::GoalInfo;
 use exec_msg::{Elements, EntityNo, GoalId, Kind, Line, Moment};
 use exec_plan::{GroupNo, Script};
-use exec_script::Input;
+use exec_script::{Input, Instr};
 use std::alloc::Global;
 
 /// Why a callback is ready.
@@ -119,6 +120,17 @@ impl Ready {
         ensures { result ≡ kind_of self.now.cause }
     {
         self.cause.kind()
+    }
+
+    /// The instructions of its script, if it runs one.
+    #[inline(always)]
+    pub fn instructions(&self) -> Option<&[Instr]>
+        ensures { option_copied result ≡ self.now.script }
+    {
+        match &self.script {
+            Some(script) => Some(script.as_slice()),
+            None => None,
+        }
     }
 
     /// What the callback is handed. A cancel handler is handed something else for each candidate.

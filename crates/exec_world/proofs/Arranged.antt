@@ -1,23 +1,27 @@
--- Callbacks that have the numbers of their arrivals for positions, arranged by them, are the ready list under the order of arrival.
+-- Callbacks that have their ranks for positions, arranged by them, are the ready list.
 use Rattle.std.proofs.Common.{◌≡◌, ℕ, zero, suc, List, [], ◌∷◌, ◌++◌, map, slice_get, Some, refl, sym, ap, ◌∙◌}
 use Rattle.std.proofs.lemmas.Option.{same_Some}
 use Rattle.std.specs.List.{flat_map}
 use Rattle.exec_goal.proofs.Looping.{mapped_upto}
 use Rattle.exec_msg.specs.Numbers.{EntityNo, Moment}
 use Rattle.exec_msg.specs.Places.{change_at}
+use Rattle.exec_plan.specs.Graph.{GraphData}
+use Rattle.exec_plan.specs.declared.order.Order.{Order}
 use Rattle.exec_plan.specs.declared.order.Order.TheVariants as order
 use Rattle.exec_rules.proofs.Listing.{listed_more}
 use Rattle.exec_rules.proofs.Ranking.{arranged, ranked, ranked_placed}
-use Rattle.exec_rules.specs.Ready.{arrival_for, placed_from, poll_ready, queue_ready, rank_under}
+use Rattle.exec_rules.specs.Ready.{arrival_for, placed_from, poll_ready, rank_under}
 use Rattle.exec_rules.specs.Sorting.{sorted_by}
-use Rattle.exec_rules.specs.World.{ClientEntry, ServerEntry, TimerEntry, WorldState}
+use Rattle.exec_rules.specs.World.{ClientEntry, TimerEntry, WorldState}
 use Rattle.exec_rules.specs.declared.ready.Cause.{Cause}
 use Rattle.exec_rules.specs.declared.ready.Cause.TheVariants as cause
 use Rattle.exec_rules.specs.declared.ready.Ready.{Ready}
-use Rattle.exec_rules.specs.inner.ByKind as by_kind
-use Rattle.exec_rules.specs.inner.ByKind.{queues_behind_polls}
-use Rattle.exec_rules.specs.inner.Listing.{listed_behind, positioned}
-use Rattle.exec_world.specs.inner.Snapshots.{listed_under, numbered_in, ready_in_parts}
+use Rattle.exec_rules.specs.declared.ready.AwakeGoal.{AwakeGoal}
+use Rattle.exec_rules.specs.inner.ByKind.{ready_before, ready_behind}
+use Rattle.exec_rules.specs.declared.listed.Listed.{Listed}
+use Rattle.exec_rules.specs.inner.Listing.{as_listed, listed_behind, positioned, with_script_of}
+use Rattle.exec_world.proofs.PlanScripts.{scripts_in_parts}
+use Rattle.exec_world.specs.inner.Snapshots.{HaveScriptsOf, IsListed, arranged_in, ranked_in, ready_in_parts}
 
 -- ---- numbers that are given one after another
 
@@ -41,26 +45,28 @@ arrival_same entity cause.Due world timers clients = refl
 arrival_same entity (cause.Took taken) world timers clients = refl
 arrival_same entity (cause.Woke id value canceling) world timers clients = refl
 
-pub arranged_in : (held : WorldState) {second : WorldState} (timers : List TimerEntry) (clients : List ClientEntry) (servers : List ServerEntry) (moment : Moment) (first both all numbered whole : List Ready)
-    → second ≡ record held { timers = timers; clients = clients } → servers ≡ second.servers → first ≡ placed_from 1 (by_kind.ready_before moment held)
-    → both ≡ listed_behind first (flat_map (queue_ready moment second) (queues_behind_polls second))
-    → all ≡ listed_behind both (flat_map (poll_ready moment) servers)
-    → numbered ≡ map (numbered_in second) all → whole ≡ placed_from 1 (sorted_by (λ one. one.position) numbered) → whole ≡ listed_under order.Arrival moment held
-arranged_in held {second} timers clients servers moment first both all numbered whole later there is_first is_both is_all is_numbered is_whole =
-    let before : List Ready = by_kind.ready_before moment held in
-    let behind : List Ready = by_kind.ready_behind moment held in
-    let polls : List Ready = flat_map (poll_ready moment) held.servers in
-    let parts : List Ready = ready_in_parts moment held in
-    let rank : Ready → ℕ = rank_under order.Arrival second in
-    let same : rank ≡ rank_under order.Arrival held = (λ i one. (ap (λ (world : WorldState). arrival_for one.entity one.cause world) later ∙ arrival_same one.entity one.cause held timers clients) i) in
-    let listed : all ≡ placed_from 1 parts =
+rank_same : (under : Order) (world : WorldState) (timers : List TimerEntry) (clients : List ClientEntry) (one : Ready) → rank_under under (record world { timers = timers; clients = clients }) one ≡ rank_under under world one
+rank_same order.Kind world timers clients one = refl
+rank_same order.Arrival world timers clients one = arrival_same one.entity one.cause world timers clients
+
+-- nor do places
+rank_placed : (under : Order) (world : WorldState) (position : ℕ) (one : Ready) → rank_under under world (record one { position = position }) ≡ rank_under under world one
+rank_placed order.Kind world position one = refl
+rank_placed order.Arrival world position one = refl
+
+pub handed_out : (graph : GraphData) (moment : Moment) (world : WorldState) (before : ℕ) (now : WorldState) (list : List Listed) (goals : List AwakeGoal) (all : List Listed) (whole ranked_list arranged_list : List Ready)
+    → HaveScriptsOf graph world → IsListed moment world before now list goals → all ≡ listed_behind list (flat_map (poll_ready moment) now.servers) → whole ≡ map (with_script_of graph) all
+    → ranked_list ≡ map (ranked_in now) whole → arranged_list ≡ placed_from 1 (sorted_by (λ one. one.position) ranked_list) → arranged_list ≡ arranged_in moment world
+handed_out graph moment world before now list goals all whole ranked_list arranged_list have p is_all is_whole is_ranked is_arranged =
+    let parts : List Ready = ready_in_parts moment world in
+    let rank : Ready → ℕ = rank_under now.order now in
+    let same : rank ≡ rank_under world.order world = (λ i one. (ap (λ (held : WorldState). rank_under held.order held one) p.taken ∙ rank_same world.order world _ _ one) i) in
+    let listed : all ≡ map as_listed (placed_from 1 parts) =
     is_all
-    ∙ (λ i. listed_behind
-    ((is_both ∙ (λ j. listed_behind (is_first j) (flat_map (queue_ready moment (later j)) (queues_behind_polls (later j))))) i)
-    (flat_map (poll_ready moment) ((there ∙ ap (λ (world : WorldState). world.servers) later) i)))
-    ∙ ap (λ (list : List Ready). listed_behind list polls) (listed_more [] before behind)
-    ∙ listed_more [] (before ++ behind) polls in
-    is_whole
-    ∙ ap (λ (list : List Ready). placed_from 1 (sorted_by (λ one. one.position) list)) (is_numbered ∙ ap (map (ranked rank)) listed ∙ ranked_placed rank (λ position one. refl) 1 parts)
+    ∙ (λ i. listed_behind (p.whole i) (flat_map (poll_ready moment) (ap (λ (held : WorldState). held.servers) p.taken i)))
+    ∙ listed_more [] (ready_before moment world ++ ready_behind moment world) (flat_map (poll_ready moment) world.servers) in
+    let scripted : whole ≡ placed_from 1 parts = is_whole ∙ ap (map (with_script_of graph)) listed ∙ scripts_in_parts graph moment world have in
+    is_arranged
+    ∙ ap (λ (list : List Ready). placed_from 1 (sorted_by (λ one. one.position) list)) (is_ranked ∙ ap (map (ranked rank)) scripted ∙ ranked_placed rank (rank_placed now.order now) 1 parts)
     ∙ arranged rank 1 parts
     ∙ ap (λ (by : Ready → ℕ). placed_from 1 (sorted_by by parts)) same

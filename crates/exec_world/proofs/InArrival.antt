@@ -5,13 +5,14 @@ use Rattle.std.specs.Option.{option_map_or}
 use Rattle.std.proofs.lemmas.List.Sums.{fold_more}
 use Rattle.std.proofs.lemmas.Option.{slice_get_past}
 use Rattle.exec_plan.proofs.Positions.{slice_get-behind}
-use Rattle.std.proofs.lemmas.List.{append-nil, length-map, map-append, take-append-drop}
+use Rattle.std.proofs.lemmas.List.{append-nil, drop-map, length-map, map-append, take-append-drop, take-map}
 use Rattle.exec_goal.specs.Table.{GoalRecord}
 use Rattle.exec_msg.specs.Numbers.{Moment}
+use Rattle.exec_plan.specs.Graph.{GraphData}
 use Rattle.exec_plan.specs.declared.order.Order.{Order}
 use Rattle.exec_plan.specs.declared.order.Order.TheVariants as order
 use Rattle.exec_rules.proofs.PolledAlike.{parts_alike, placed_alike, poll_alike, runs_alike}
-use Rattle.exec_rules.specs.Ready.{is_goal_awake, placed_from, poll_ready, rank_under, ready_for, woken}
+use Rattle.exec_rules.specs.Ready.{arrival_for, goal_arrival, is_goal_awake, placed_from, poll_ready, queue_taken, rank_under, ready_for, woken}
 use Rattle.exec_rules.specs.Run.{run}
 use Rattle.exec_rules.specs.Sorting.{inserted_by, sorted_by}
 use Rattle.exec_rules.specs.Transcript.{run_all}
@@ -19,11 +20,14 @@ use Rattle.exec_rules.specs.World.{ClientEntry, ServerEntry, TimerEntry, WorldSt
 use Rattle.exec_rules.specs.declared.ready.AwakeGoal.{AwakeGoal}
 use Rattle.exec_rules.specs.declared.ready.Ready.{Ready}
 use Rattle.exec_rules.specs.inner.Awake.{awake_goals, goal_awake, poll_at}
+use Rattle.exec_rules.specs.declared.listed.Listed.{Listed}
 use Rattle.exec_rules.specs.inner.ByKind.{ready_before, ready_behind, taken_in_parts}
+use Rattle.exec_rules.specs.inner.Listing.{with_script_of}
 use Rattle.exec_world.proofs.Arranged.{arrival_same}
+use Rattle.exec_world.proofs.PlanScripts.{scripts_before, scripts_behind}
 use Rattle.exec_world.specs.declared.arrived.Arrived.{Arrived}
 use Rattle.exec_world.specs.inner.Arrivals.{AreListed, arrived_in, run_arrived, run_at, run_listed, with_arrived}
-use Rattle.exec_world.specs.inner.Snapshots.{listed_in, listed_under, ready_in_parts}
+use Rattle.exec_world.specs.inner.Snapshots.{HaveScriptsOf, IsListed, listed_in, listed_under, ready_in_parts, round_in}
 
 -- ---- two lists of one length, by each two of one place
 
@@ -62,12 +66,19 @@ module _ (world : WorldState) where
   alone (one ∷ list) more zero within = refl
   alone (one ∷ list) more (suc place) within = alone list more place (omega (arith, within))
 
-  pub runs_listed : (list more all : List Ready) (place : ℕ) → list ++ more ≡ all → place < length list → run_all (take ((place + 1) - place) (drop place list)) world ≡ run_at all world place
+  runs_listed : (list more all : List Ready) (place : ℕ) → list ++ more ≡ all → place < length list → run_all (take ((place + 1) - place) (drop place list)) world ≡ run_at all world place
   runs_listed list more all place are within =
       let single : (place + 1) - place ≡ 1 = omega arith in
       ap (λ (n : ℕ). run_all (take n (drop place list)) world) single
       ∙ alone list more place within
       ∙ ap (λ (some : List Ready). run_at some world place) are
+
+  -- the same of what makes callbacks
+  pub runs_scripted : {A : Type 0} (f : A → Ready) (list : List A) (more all : List Ready) (place : ℕ) → map f list ++ more ≡ all → place < length list → run_all (map f (take ((place + 1) - place) (drop place list))) world ≡ run_at all world place
+  runs_scripted f list more all place are within =
+      let count : length (map f list) ≡ length list = length-map list f in
+      ap (λ (some : List Ready). run_all some world) (sym (take-map f ((place + 1) - place) (drop place list)) ∙ ap (take ((place + 1) - place)) (sym (drop-map f place list)))
+      ∙ runs_listed (map f list) more all place are (omega (arith, count, within))
 
   -- the poll of a goal after it
   polled : (moment : Moment) (goals : List AwakeGoal) (at : ℕ) → at < length goals → run_all (map (poll_at moment) (take 1 (drop at goals))) world ≡ run_at (map (poll_at moment) goals) world at
@@ -230,3 +241,60 @@ ran_listed moment world counted now after timers clients list some goals others 
     ∙ (λ i. run_listed (taken i).order before (some_is i) (map (poll_at moment) (others_is i)) arrivals now)
     ∙ ran_in_order moment world world.order timers clients now list goals before arrivals first last awake later
     (subst (λ (under : Order). AreListed under counted (list ++ map (poll_at moment) goals) arrivals) (ap (λ (held : WorldState). held.order) later) listed)
+
+-- ---- callbacks whose scripts are a graph's
+
+module _ (graph : GraphData) (moment : Moment) where
+  abbrev scripted_list : List Listed → List Ready
+  scripted_list list = map (with_script_of graph) list
+
+  -- what ran part by part
+  pub ran_parts : (before : ℕ) (list : List Listed) (goals : List AwakeGoal) (arrivals : List Arrived) (now after : WorldState) → now.order ≡ order.Kind
+      → after ≡ run_all (scripted_list (drop before list)) (run_all (map (poll_at moment) goals) (run_all (scripted_list (take before list)) now))
+      → after ≡ run_listed now.order before (scripted_list list) (map (poll_at moment) goals) arrivals now
+  ran_parts before list goals arrivals now after is_kind ran =
+      ran
+      ∙ (λ i. run_all (sym (drop-map (with_script_of graph) before list) i) (run_all (map (poll_at moment) goals) (run_all (sym (take-map (with_script_of graph) before list) i) now)))
+      ∙ ap (λ (under : Order). run_listed under before (scripted_list list) (map (poll_at moment) goals) arrivals now) (sym is_kind)
+
+  -- what ran by the numbers of arrivals
+  pub ran_sorted : (before : ℕ) (list : List Listed) (goals : List AwakeGoal) (arrivals : List Arrived) (now after : WorldState) → now.order ≡ order.Arrival
+      → after ≡ run_arrived (scripted_list list ++ map (poll_at moment) goals) now arrivals
+      → after ≡ run_listed now.order before (scripted_list list) (map (poll_at moment) goals) arrivals now
+  ran_sorted before list goals arrivals now after is_arrival ran =
+      ran ∙ ap (λ (under : Order). run_listed under before (scripted_list list) (map (poll_at moment) goals) arrivals now) (sym is_arrival)
+
+  -- what a snapshot listed runs as the ready list does
+  pub ran_scripted : (world counted now after : WorldState) (list some : List Listed) (goals others : List AwakeGoal) (before : ℕ) (arrivals : List Arrived)
+      → HaveScriptsOf graph world → IsListed moment world before counted list goals → now ≡ record counted { queues = map queue_taken counted.queues }
+      → ((of : GraphData) → AreListed counted.order counted (map (with_script_of of) list ++ map (poll_at moment) goals) arrivals) → some ≡ list → others ≡ goals
+      → after ≡ run_listed now.order before (scripted_list some) (map (poll_at moment) others) arrivals now → after ≡ round_in moment world
+  ran_scripted world counted now after list some goals others before arrivals have p taken listed some_is others_is is =
+      let inputs : now ≡ taken_in_parts moment world = taken ∙ ap (λ (held : WorldState). record held { queues = map queue_taken held.queues }) p.taken in
+      ran_listed moment world counted now after _ _ (scripted_list list) (scripted_list some) goals others before arrivals
+      (take-map (with_script_of graph) before list ∙ ap scripted_list p.first ∙ scripts_before graph moment world have)
+      (drop-map (with_script_of graph) before list ∙ ap scripted_list p.last ∙ scripts_behind graph moment world have (before + 1))
+      p.awake p.taken inputs (listed graph) (ap scripted_list some_is) others_is is
+      ∙ ap (run_all (listed_in moment world)) inputs
+
+-- ---- arrivals of what is listed
+
+fold_mapped : {A B S : Type 0} (step : S → B → S) (f : A → B) (so_far : S) (xs : List A) → fold step so_far (map f xs) ≡ fold (λ before x. step before (f x)) so_far xs
+fold_mapped step f so_far [] = refl
+fold_mapped step f so_far (x ∷ xs) = fold_mapped step f (step so_far (f x)) xs
+
+fold_both : {A S : Type 0} (step : S → A → S) (so_far : S) (xs ys : List A) → fold step so_far (xs ++ ys) ≡ fold step (fold step so_far xs) ys
+fold_both step so_far [] ys = refl
+fold_both step so_far (x ∷ xs) ys = fold_both step (step so_far x) xs ys
+
+-- the arrivals of the callbacks of a list, and of polls after them
+pub arrivals_noted : (graph : GraphData) (moment : Moment) (world : WorldState) (list : List Listed) (goals : List AwakeGoal) (first noted : List Arrived)
+    → first ≡ fold (λ so_far one. with_arrived so_far (arrival_for one.ready.entity one.ready.cause world)) [] list
+    → noted ≡ fold (λ so_far goal. with_arrived so_far (goal_arrival goal.server goal.id world)) first goals
+    → noted ≡ arrived_in world (map (with_script_of graph) list ++ map (poll_at moment) goals)
+arrivals_noted graph moment world list goals first noted is_first is_noted =
+    let step = λ (so_far : List Arrived) (one : Ready). with_arrived so_far (arrival_for one.entity one.cause world) in
+    is_noted
+    ∙ ap (λ (arrivals : List Arrived). fold (λ so_far (goal : AwakeGoal). with_arrived so_far (goal_arrival goal.server goal.id world)) arrivals goals) (is_first ∙ sym (fold_mapped step (with_script_of graph) [] list))
+    ∙ sym (fold_mapped step (poll_at moment) (fold step [] (map (with_script_of graph) list)) goals)
+    ∙ sym (fold_both step [] (map (with_script_of graph) list) (map (poll_at moment) goals))

@@ -1,23 +1,26 @@
 -- What a snapshot makes of the queues that have an item is what it makes of all.
-use Rattle.std.proofs.Common.{◌≡◌, ℕ, suc, ◌+◌, ◌&&◌, ◌==◌, Bool, true, false, not, cond, if◌then◌else◌, length, filter, List, [], ◌∷◌, ◌++◌, slice_get, Option, None, Some, refl, sym, ap, ◌∙◌, arith}
+use Rattle.std.proofs.Common.{◌≡◌, ℕ, suc, ◌+◌, ◌&&◌, ◌==◌, Bool, true, false, not, cond, if◌then◌else◌, length, length-append, map, take, drop, filter, List, [], ◌∷◌, slice_get, Option, None, Some, refl, sym, ap, ◌∙◌, arith}
 use Rattle.std.specs.List.{flat_map, fold}
 use Rattle.std.specs.Option.{option_map_or}
+use Rattle.std.proofs.Math.Seq.{drop-append_seam, take-append_seam}
 use Rattle.std.proofs.lemmas.Bool.{eqb-true}
 use Rattle.exec_goal.specs.Table.{GoalRecord}
 use Rattle.exec_msg.specs.Numbers.{EntityNo, Moment}
 use Rattle.exec_queue.proofs.Filled.{given_each}
 use Rattle.exec_rules.proofs.Listing.{listed_more}
-use Rattle.exec_rules.specs.Ready.{answered_by_first, due_ready, item_ready, placed_from, poll_ready, queue_ready, reply_taken}
+use Rattle.exec_rules.specs.Ready.{answered_by_first, due_ready, item_ready, placed_from, queue_ready, reply_taken, timer_taken}
 use Rattle.exec_rules.specs.inner.ByKind as by_kind
-use Rattle.exec_rules.specs.inner.ByKind.{listed_by_kind, queues_before_polls, queues_behind_polls}
-use Rattle.exec_rules.specs.World.{ClientEntry, Handler, Queue, ServerEntry, TimerEntry, WorldState}
+use Rattle.exec_rules.specs.inner.ByKind.{queues_before_polls, queues_behind_polls}
+use Rattle.exec_rules.specs.World.{ClientEntry, Handler, Queue, TimerEntry, WorldState}
 use Rattle.exec_rules.specs.declared.item.Item.{Item}
 use Rattle.exec_rules.specs.declared.item.Item.TheVariants as item
-use Rattle.exec_rules.specs.declared.ready.Ready.{Ready}
-use Rattle.exec_rules.specs.inner.Listing.{listed_behind}
+use Rattle.exec_rules.specs.declared.ready.AwakeGoal.{AwakeGoal}
+use Rattle.exec_rules.specs.inner.Awake.{awake_goals}
+use Rattle.exec_rules.specs.declared.listed.Listed.{Listed}
+use Rattle.exec_rules.specs.inner.Listing.{as_listed, listed_behind}
 use Rattle.exec_rules.specs.inner.Places.{places_from, places_where}
 use Rattle.exec_queue.specs.inner.Queues.{has_item, is_in_part}
-use Rattle.exec_world.specs.inner.Snapshots.{filled_places, fronts_at, queues_in_part, replies_at, with_reply_at}
+use Rattle.exec_world.specs.inner.Snapshots.{IsListed, filled_places, fronts_at, queues_in_part, replies_at, with_reply_at}
 
 has_one : (item : Item) (items : List Item) → not (length (item ∷ items) == 0) ≡ false → ⊥
 has_one item items is = let none = eqb-true (length (item ∷ items)) 0 (no (length (item ∷ items) == 0) is) in omega arith
@@ -99,7 +102,7 @@ none_to_answer queues clients list places is none =
 -- ---- what a world's snapshot makes of them
 
 -- the callbacks that take from the queues of a part
-pub listed_in_part : {inner held : WorldState} (before_polls : Bool) (read : List Queue) (places : List ℕ) (moment : Moment) (before after : List Ready)
+pub listed_in_part : {inner held : WorldState} (before_polls : Bool) (read : List Queue) (places : List ℕ) (moment : Moment) (before after : List Listed)
     → inner ≡ held → read ≡ inner.queues → places ≡ filled_places before_polls inner.queues
     → after ≡ listed_behind before (fronts_at moment inner.servers read places)
     → after ≡ listed_behind before (flat_map (queue_ready moment held) (queues_in_part before_polls held))
@@ -119,29 +122,29 @@ answered {inner} held timers read places clients same reads at is =
 
 -- ---- the whole
 
+-- the callbacks that come before polls, and behind them the others, in a world that has other timers and clients
+pub listed_parts : (moment : Moment) (held later now : WorldState) (first whole : List Listed) (goals : List AwakeGoal) (count : ℕ) → first ≡ map as_listed (placed_from 1 (by_kind.ready_before moment held))
+    → later ≡ record held { timers = map (timer_taken moment) held.timers; clients = fold reply_taken held.clients (queues_before_polls held) }
+    → whole ≡ listed_behind first (flat_map (queue_ready moment later) (queues_behind_polls later)) → now ≡ later → count ≡ length first → goals ≡ flat_map (awake_goals moment) held.servers → IsListed moment held count now whole goals
+listed_parts moment held later now first whole goals count is_first is_later is_whole same counted awake =
+    let more : List Listed = map as_listed (placed_from (length first + 1) (flat_map (queue_ready moment later) (queues_behind_polls later))) in
+    let lengths : length whole ≡ length first + length more = ap length is_whole ∙ length-append first more in
+    record {
+      within = omega (arith, counted, lengths);
+      first = (λ i. take (counted i) (is_whole i)) ∙ take-append_seam first more ∙ is_first;
+      last = (λ i. drop (counted i) (is_whole i)) ∙ drop-append_seam first more ∙ (λ i. map as_listed (placed_from (sym counted i + 1) (flat_map (queue_ready moment (is_later i)) (queues_behind_polls (is_later i)))));
+      whole = is_whole ∙ (λ i. listed_behind (is_first i) (flat_map (queue_ready moment (is_later i)) (queues_behind_polls (is_later i)))) ∙ listed_more [] (by_kind.ready_before moment held) (by_kind.ready_behind moment held);
+      awake = awake;
+      taken = same ∙ is_later;
+    }
+
 -- what is ready before polls, listed part by part
-pub first_listed : {inner held : WorldState} (due : List TimerEntry) (moment : Moment) (list with_due with_before : List Ready)
+pub first_listed : {inner held : WorldState} (due : List TimerEntry) (moment : Moment) (list with_due with_before : List Listed)
     → inner ≡ held → due ≡ inner.timers → list ≡ [] → with_due ≡ listed_behind list (flat_map (due_ready moment) due)
-    → with_before ≡ listed_behind with_due (flat_map (queue_ready moment inner) (queues_before_polls inner)) → with_before ≡ placed_from 1 (by_kind.ready_before moment held)
+    → with_before ≡ listed_behind with_due (flat_map (queue_ready moment inner) (queues_before_polls inner)) → with_before ≡ map as_listed (placed_from 1 (by_kind.ready_before moment held))
 first_listed {inner} {held} due moment list with_due with_before same reads clear is_due is_before =
     is_before
-    ∙ ap (λ (so_far : List Ready). listed_behind so_far (flat_map (queue_ready moment inner) (queues_before_polls inner)))
+    ∙ ap (λ (so_far : List Listed). listed_behind so_far (flat_map (queue_ready moment inner) (queues_before_polls inner)))
     (is_due ∙ (λ k. listed_behind (clear k) (flat_map (due_ready moment) (reads k))))
     ∙ listed_more [] (flat_map (due_ready moment) inner.timers) (flat_map (queue_ready moment inner) (queues_before_polls inner))
-    ∙ ap (λ (world : WorldState). placed_from 1 (by_kind.ready_before moment world)) same
-
--- the whole list, the part behind polls in a world that has other timers and clients
-pub all_listed : (held : WorldState) {second : WorldState} (timers : List TimerEntry) (clients : List ClientEntry) (servers : List ServerEntry) (moment : Moment) (with_before with_polls whole : List Ready)
-    → second ≡ record held { timers = timers; clients = clients } → servers ≡ second.servers → with_before ≡ placed_from 1 (by_kind.ready_before moment held)
-    → with_polls ≡ listed_behind with_before (flat_map (poll_ready moment) servers)
-    → whole ≡ listed_behind with_polls (flat_map (queue_ready moment second) (queues_behind_polls second)) → whole ≡ listed_by_kind moment held
-all_listed held timers clients servers moment with_before with_polls whole later there is_before is_polls is_whole =
-    let before : List Ready = by_kind.ready_before moment held in
-    let polls : List Ready = flat_map (poll_ready moment) held.servers in
-    let behind : List Ready = by_kind.ready_behind moment held in
-    is_whole
-    ∙ (λ i. listed_behind
-    ((is_polls ∙ (λ j. listed_behind (is_before j) (flat_map (poll_ready moment) ((there ∙ ap (λ (world : WorldState). world.servers) later) j)))) i)
-    (flat_map (queue_ready moment (later i)) (queues_behind_polls (later i))))
-    ∙ ap (λ (list : List Ready). listed_behind list behind) (listed_more [] before polls)
-    ∙ listed_more [] (before ++ polls) behind
+    ∙ ap (λ (world : WorldState). map as_listed (placed_from 1 (by_kind.ready_before moment world))) same

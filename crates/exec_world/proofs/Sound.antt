@@ -10,7 +10,7 @@ use Rattle.exec_goal.specs.State.{is_canceling, is_worked_on}
 use Rattle.exec_goal.specs.Table.{GoalRecord}
 use Rattle.exec_msg.specs.Numbers.{EntityNo, GoalId, Moment}
 use Rattle.exec_plan.specs.Graph.{is_server, wait_set}
-use Rattle.exec_plan.specs.Plan.{Feed, PlanData}
+use Rattle.exec_plan.specs.Plan.{PlanData}
 use Rattle.exec_msg.specs.Lists.{change_first}
 use Rattle.exec_msg.specs.Timer.{is_due}
 use Rattle.exec_msg.specs.declared.line.Line.TheVariants as line
@@ -21,25 +21,26 @@ use Rattle.exec_rules.proofs.Pairs.{Pairs, across, all_append, all_flat, all_map
 use Rattle.exec_rules.proofs.OfKinds.{kinds_first, kinds_kept}
 use Rattle.exec_rules.proofs.ReadyLists.{all_listed}
 use Rattle.exec_rules.proofs.Sorting.{pairs_sorted}
-use Rattle.exec_rules.proofs.Running.{KeptByRounds, run_all_keeps}
+use Rattle.exec_rules.proofs.Running.{KeptByRounds}
 use Rattle.exec_rules.proofs.Shapes.{part_changed, shape_kept}
 use Rattle.exec_rules.proofs.Wiring.{NumbersApart, numbers_apart, wired}
 use Rattle.exec_rules.specs.Calls.{AreHome, IsHomeFor, polls_same, polls_same_of, wakes}
 use Rattle.exec_rules.specs.Shape.{server_shape, shape_of}
 use Rattle.exec_rules.specs.Ready.{all_ready, due_ready, is_goal_awake, is_task_awake, item_ready, poll_ready, placed_from, queue_ready, rank_under, ready_for, ready_list, take_inputs, turn_at, woken}
 use Rattle.exec_rules.specs.Sorting.{sorted_by}
-use Rattle.exec_rules.specs.Transcript.{expire, feed, first_world, run_all, snapshot_and_run, takes_from_queue}
-use Rattle.exec_rules.specs.World.{GoalWork, HeldGoal, Queue, ServerEntry, TimerEntry, WorldState, add_line, goals_at, is_for, is_server_at, with_work}
+use Rattle.exec_rules.specs.Transcript.{first_world, run_all, snapshot_and_run, takes_from_queue}
+use Rattle.exec_rules.specs.World.{GoalWork, HeldGoal, Queue, ServerEntry, TimerEntry, WorldState, goals_at, is_for, is_server_at, with_work}
 use Rattle.exec_rules.specs.declared.item.Item.{Item}
 use Rattle.exec_rules.specs.declared.item.Item.TheVariants as item
 use Rattle.exec_rules.specs.declared.ready.Cause.{Cause}
 use Rattle.exec_rules.specs.declared.ready.Cause.TheVariants as cause
 use Rattle.exec_rules.specs.declared.ready.Ready.{Ready}
 use Rattle.exec_rules.specs.inner.ByKind.{queues_before_polls, queues_behind_polls, ready_behind, taken_in_parts}
-use Rattle.exec_world.specs.inner.Snapshots.{listed_in, listed_under, ready_in_parts, round_in}
+use Rattle.exec_world.specs.inner.Snapshots.{arranged_in, begun_by, listed_in, listed_under, ready_in_parts, round_in}
 use Rattle.exec_plan.specs.declared.order.Order.{Order}
 use Rattle.exec_plan.specs.declared.order.Order.TheVariants as order
 use Rattle.std.proofs.lemmas.Grind.{flat_map-append}
+use Rattle.exec_world.specs.declared.state.round.Round.{Round}
 use Rattle.exec_world.specs.inner.Sound.{IsSound}
 
 -- ---- what is kept
@@ -85,16 +86,8 @@ module _ (plan : PlanData) where
   }
 
   -- a round that begins keeps it
-  pub fed_sound : (number : ℕ) (moment : Moment) (fed : List Feed) (world : WorldState) → IsSound plan world → IsSound plan (feed fed (expire moment (add_line (line.Round number moment) world)))
-  fed_sound number moment fed world p = feed_keeps (moves_kept sound.basic) (publish_kept {P = IsSound plan} (λ entity value before q. push_kept sound.basic entity (item.Message value) before q)) fed _ (sound.expiry_kept moment _ (sound.basic.lines_kept (line.Round number moment ∷ []) world p))
-
-  pub begun_sound : (number : ℕ) (moment : Moment) (fed : List Feed) (world : WorldState) → IsSound plan world → IsSound plan (take_inputs moment (feed fed (expire moment (add_line (line.Round number moment) world))))
-  begun_sound number moment fed world p = sound.snapshot_kept moment _ (fed_sound number moment fed world p)
-
-  pub round_sound : (number : ℕ) (moment : Moment) (fed : List Feed) (world : WorldState) → IsSound plan world → IsSound plan (snapshot_and_run moment (feed fed (expire moment (add_line (line.Round number moment) world))))
-  round_sound number moment fed world p =
-      let before : WorldState = feed fed (expire moment (add_line (line.Round number moment) world)) in
-      run_all_keeps sound (ready_list moment before) (take_inputs moment before) (begun_sound number moment fed world p)
+  pub begun_sound : (round : Round) (world : WorldState) → IsSound plan world → IsSound plan (begun_by round world)
+  begun_sound round world p = feed_keeps (moves_kept sound.basic) (publish_kept {P = IsSound plan} (λ entity value before q. push_kept sound.basic entity (item.Message value) before q)) round.fed.now _ (sound.expiry_kept round.moment _ (sound.basic.lines_kept (line.Round round.number round.moment ∷ []) world p))
 
 -- what is ready is what is ready in its parts
 parts_ready : (moment : Moment) (world : WorldState) → QueuesRise world.queues → all_ready moment world ≡ ready_in_parts moment world
@@ -113,6 +106,9 @@ module _ (plan : PlanData) (moment : Moment) (world : WorldState) (p : IsSound p
 
   pub sound_listed : ready_list moment world ≡ listed_in moment world
   sound_listed = listed_by world.order refl
+
+  pub sound_arranged : ready_list moment world ≡ arranged_in moment world
+  sound_arranged = ap (λ (list : List Ready). placed_from 1 (sorted_by (rank_under world.order world) list)) (parts_ready moment world (queues_rise plan world p.shape))
 
   pub sound_taken : take_inputs moment world ≡ taken_in_parts moment world
   sound_taken = taken moment world p.kinds

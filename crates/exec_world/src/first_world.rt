@@ -1,14 +1,15 @@
 //! The parts of the first world of a plan.
-ghost use Rattle.std.specs.Prelude.{◌≡◌, ◌<◌, ◌^◌, ◌++◌, [], false, true, length, map, IsTrue, OnOk, IfOk};
+ghost use Rattle.std.specs.Prelude.{◌≡◌, ◌<◌, ◌≤◌, ◌^◌, ◌++◌, [], false, true, is_some, length, map, IsTrue, OnOk, IfOk};
 ghost use Rattle.std.specs.List.{filter};
-ghost use Rattle.exec_plan.specs.Entity.{is_within};
+ghost use Rattle.exec_msg.specs.declared.limits.TheConstants.{DEPTH};
+ghost use Rattle.exec_plan.specs.Entity.{is_within, queue_depth};
 ghost use Rattle.exec_plan.specs.Graph.{callback_script, cons_if, entities_where, has_kind, in_group};
 ghost use Rattle.exec_plan.specs.Graph.{is_action_client, is_client, is_exclusive, is_server, is_timer, is_topic, of_entity, wait_set};
 ghost use Rattle.exec_rules.specs.Transcript.{as_entity, new_action_clients, new_client, new_queue, new_server, new_timer, new_topic};
 ghost use Rattle.exec_rules.specs.Transcript.{action_client_for, client_for, queue_for, server_for, timer_for, subscribes_to, takes_from_queue};
 ghost use Rattle.exec_world.specs.inner.Parts.{new_queue_of, queues_of};
 
-use crate::callback_script::callback_script;
+use crate::scripts::shared;
 use exec_entity::{ActionClient, ActionClients, Client, Clients, Server, Servers, Topic, Topics};
 use exec_msg::{EntityNo, Kind, Memory};
 use exec_plan::{Declared, EntityOf, Graph, GraphEntity, Order, Script};
@@ -137,34 +138,26 @@ fn declare_queue(
     ensures { OnOk result (queues.new
         ≡ queues.old ++ cons_if (has_kind kind declared.now) (queue_for order graph.now kind entity (as_entity declared.now)) []) }
 {
-    match declared {
-        Declared::Topic => Ok(()),
-        Declared::Entity(found) => {
-            declare_queue_of(alloc, queues, graph, order, kind, entity, found)
-        }
-    }
-}
-
-fn declare_queue_of(
-    alloc: Global,
-    queues: &mut Queues,
-    graph: &Graph,
-    order: Order,
-    kind: Kind,
-    entity: EntityNo,
-    found: &GraphEntity,
-) -> Result<(), Memory>
-    requires taken { takes_from_queue kind ≡ true }
-    requires within { IsTrue (is_within found.now.is) }
-    ensures { OnOk result (queues.new
-        ≡ queues.old ++ cons_if (has_kind kind (in_group found.now.group found.now.is)) (queue_for order graph.now kind entity found.now) []) }
-{
-    let Some(script) = callback_script(alloc, kind, &found.is)? else {
+    let Declared::Entity(found) = declared else {
         return Ok(());
     };
+    if !found.is.has_callbacks(kind) {
+        return Ok(());
+    }
+    let script = shared(alloc, found.is.script(kind))?;
     let handler = handler(graph, entity, found, script);
-    let depth = found.is.queue_depth() as usize;
-    queues.declare(handler, kind, depth, order)
+    queues.declare(handler, kind, depth_of(&found.is, kind), order)
+}
+
+// The depth of an entity's queue for callbacks of a kind.
+fn depth_of(is: &EntityOf<EntityNo, Script>, kind: Kind) -> usize
+    requires taken { takes_from_queue kind ≡ true }
+    requires has { is_some (callback_script kind is.now) ≡ true }
+    requires within { IsTrue (is_within is.now) }
+    ensures value { result ≡ queue_depth is.now }
+    ensures bounds { (1 ≤ result) × (result ≤ DEPTH) }
+{
+    is.queue_depth() as usize
 }
 
 // The servers of a graph, in the order of declaration. None has a goal.
@@ -383,5 +376,10 @@ fn subscribes_to(is: &EntityOf<EntityNo, Script>, topic: EntityNo) -> bool
 fn handler(graph: &Graph, entity: EntityNo, found: &GraphEntity, script: Script) -> Handler
     ensures { result ≡ record { entity = entity; group = found.now.group; exclusive = is_exclusive graph.now found.now.group; script = script } }
 {
-    Handler::new(entity, found.group, graph.is_exclusive(found.group), script)
+    Handler {
+        entity,
+        group: found.group,
+        exclusive: graph.is_exclusive(found.group),
+        script,
+    }
 }

@@ -3,16 +3,18 @@
 
 mod arrived;
 mod banks;
-mod callback_script;
 mod fault;
 mod first_world;
 mod fronts;
 mod mail;
 mod scratch;
+mod scripts;
 mod state;
 mod taken;
+mod weighing;
 mod world;
 
 pub use exec_rules::{Cause, Item, Ready};
 pub use fault::WorldFault;
+pub use weighing::{Heavy, Light};
 pub use world::{World, run_plan};

@@ -2,8 +2,8 @@ use crate::fronts::Fronts;
 use exec_entity::Servers;
 use exec_msg::{EntityNo, Line, Lines, Memory, Moment, number_after};
 use exec_plan::Order;
-use exec_queue::{Queues, bring_home_to_queues};
-use exec_rules::{Home, Item, ReadyList};
+use exec_queue::Queues;
+use exec_rules::{Item, ReadyList};
 use std::marker::Model;
 
 // What callbacks send goes here: to the queues of entities, and to the lines of the transcript. It also has the order of ready
@@ -33,7 +33,6 @@ impl<L: Lines> Mail<L> {
     ghost use Rattle.exec_rules.specs.Ready.{queue_taken};
     ghost use Rattle.exec_rules.specs.Transcript.{expire_lines, server_expired};
     ghost use Rattle.std.specs.List.{flat_map};
-    ghost use Rattle.exec_rules.specs.inner.Homes.{AreHomes, handlers_of};
     ghost use Rattle.exec_rules.specs.inner.Listing.{listed_behind};
     ghost use Rattle.exec_rules.specs.inner.Places.{places_where};
     ghost use Rattle.exec_world.specs.inner.Snapshots.{fronts_at};
@@ -117,26 +116,14 @@ impl<L: Lines> Mail<L> {
 
     // Lists the callbacks that take from the queues at these places.
     pub(crate) fn list_fronts(
-        &mut self,
+        &self,
         fronts: &Fronts<'_>,
         places: &[usize],
         list: &mut ReadyList,
-        homes: &mut Vec<Home>,
     ) -> Result<(), Memory>
-        ensures list { OnOk result (list.new ≡ listed_behind list.old (fronts_at fronts.now.moment fronts.now.servers.now self.old.queues places.now)) }
-        ensures same { self.new ≡ self.old }
-        ensures homes { OnOk result (AreHomes (handlers_of self.old.queues) list.old homes.old.items
-            → AreHomes (handlers_of self.old.queues) list.new homes.new.items) }
+        ensures { OnOk result (list.new ≡ listed_behind list.old (fronts_at fronts.now.moment fronts.now.servers.now self.now.queues places.now)) }
     {
-        fronts.list_all(places, &mut self.queues, list, homes)
-    }
-
-    // Brings home the scripts that come from queues.
-    pub(crate) fn bring_scripts_home(&mut self, list: &mut ReadyList, homes: &[Home])
-        requires { AreHomes (handlers_of self.old.queues) list.old homes.now }
-        ensures { self.new ≡ self.old }
-    {
-        bring_home_to_queues(&mut self.queues, list, homes);
+        fronts.list_all(places, &self.queues, list)
     }
 
     // Takes the first item of each queue that has one.

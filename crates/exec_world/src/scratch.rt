@@ -1,6 +1,8 @@
 //! What a round works with.
 use crate::arrived::Arrived;
-use exec_rules::{AwakeGoal, Homes, Ready, ReadyList};
+use crate::weighing::{instructions, poll_instructions};
+use exec_plan::Graph;
+use exec_rules::{AwakeGoal, Listed, ReadyList};
 use exec_script::EffectList;
 use std::alloc::Global;
 use std::mem;
@@ -9,9 +11,8 @@ use std::mem;
 // it.
 #[derive(Drop)]
 pub(crate) struct Scratch {
-    // The callbacks that are ready, and the handlers that their scripts come from.
+    // The callbacks that are ready, as a snapshot lists them.
     pub(crate) list: ReadyList,
-    pub(crate) homes: Homes,
     // The goals that are awake.
     pub(crate) goals: Vec<AwakeGoal>,
     // The numbers of arrivals, if callbacks run in their order.
@@ -29,7 +30,6 @@ impl Scratch {
     pub(crate) fn new(alloc: Global) -> Scratch {
         Scratch {
             list: ReadyList::new(alloc),
-            homes: Homes::new(alloc),
             goals: Vec::new(alloc),
             arrivals: Vec::new(alloc),
             places: Vec::new(alloc),
@@ -37,8 +37,21 @@ impl Scratch {
         }
     }
 
-    // The ready list, which is then empty.
-    pub(crate) fn take_list(&mut self, alloc: Global) -> Vec<Ready>
+    // How many callbacks are listed, with the polls of the goals.
+    pub(crate) fn count(&self) -> usize {
+        self.list.as_slice().len().saturating_add(self.goals.len())
+    }
+
+    // How many instructions they have.
+    pub(crate) fn instructions(&self, graph: &Graph) -> u64 {
+        instructions(graph, self.list.as_slice()).saturating_add(poll_instructions(
+            graph,
+            &self.goals,
+        ))
+    }
+
+    // The list, which is then empty.
+    pub(crate) fn take_list(&mut self, alloc: Global) -> Vec<Listed>
         ensures { result.items ≡ self.old.list }
     {
         mem::replace(&mut self.list, ReadyList::new(alloc)).into_vec()

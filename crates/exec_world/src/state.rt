@@ -3,6 +3,7 @@ mod arrivals;
 mod callback;
 mod close;
 mod give;
+mod handing;
 mod lend;
 mod plain;
 mod poll;
@@ -19,6 +20,7 @@ use exec_msg::{Line, Lines, Memory};
 use exec_plan::{GroupNo, Plan};
 use exec_queue::EntityTimer;
 use exec_script::Bank;
+pub(crate) use round::Round;
 use std::alloc::Global;
 use std::marker::Model;
 

@@ -5,29 +5,30 @@ ghost use Rattle.exec_script.specs.Instruction.{Script};
 ghost use Rattle.exec_rules.specs.Ready.{candidates_for, ready_for, script_to_take};
 ghost use Rattle.exec_rules.specs.World.{has_room_for};
 ghost use Rattle.exec_rules.specs.declared.ready.Cause.TheVariants as cause;
+ghost use Rattle.exec_rules.specs.inner.Listing.{as_listed};
 
 use exec_entity::Server;
 use exec_goal::GoalInfo;
 use exec_msg::{Elements, GoalId, Memory, Moment};
-use exec_plan::Script;
-use exec_rules::{Cause, Handler, Item, Ready};
+use exec_rules::{Cause, Handler, Item, Listed};
 use std::alloc::Global;
 
-// The callback that takes an item. `script` is what it runs, if it runs one. The server is the item's entity, if that is one.
+// The callback that takes an item, as a snapshot lists it. The server is the item's entity, if that is one.
 #[inline(always)]
-pub(crate) fn ready_for_item(
+pub(crate) fn listed_for_item(
     alloc: Global,
     moment: Moment,
     handler: &Handler,
     server: Option<&Server>,
     item: Item,
-    script: Option<Script>,
-) -> Result<Ready, Memory>
-    ensures { IfOk result (λ ready. ready ≡ ready_for moment handler.now (cause.Took item)
-        (candidates_for item (option_map_or (λ entry. entry.goals) (option_copied server.entry) [])) script) }
+) -> Result<Listed, Memory>
+    ensures { IfOk result (λ listed. listed ≡ as_listed (ready_for moment handler.now (cause.Took item)
+        (candidates_for item (option_map_or (λ entry. entry.goals) (option_copied server.entry) []))
+        (script_to_take item (option_map_or (λ entry. entry.goals) (option_copied server.entry) []) handler.now.script))) }
 {
+    let runs = runs_script(&item, server);
     let candidates = candidates_for(alloc, &item, server)?;
-    Ok(handler.ready(moment, Cause::Took(item), candidates, script))
+    Ok(handler.listed(moment, Cause::Took(item), candidates, runs))
 }
 
 #[inline(always)]
@@ -46,7 +47,7 @@ fn candidates_for(
 
 // Whether a script runs for an item. The server is the item's entity, if that is one.
 #[inline(always)]
-pub(crate) fn runs_script(item: &Item, server: Option<&Server>) -> bool
+fn runs_script(item: &Item, server: Option<&Server>) -> bool
     ensures { (script : Script)
         → script_to_take item.now (option_map_or (λ entry. entry.goals) (option_copied server.entry) []) script ≡ (if result then Some script else None) }
 {

@@ -1,10 +1,12 @@
-ghost use Rattle.std.specs.Prelude.{◌≡◌, [], IfOk};
+ghost use Rattle.std.specs.Prelude.{◌≡◌, [], length, IfOk};
 ghost use Rattle.std.specs.Arc.{arc_value};
+ghost use Rattle.std.specs.Option.{option_map_or};
 ghost use Rattle.exec_rules.specs.Transcript.{lines_of};
 
 use crate::fault::WorldFault;
 use crate::scratch::Scratch;
-use crate::state::WorldBody;
+use crate::state::{Round, WorldBody};
+use crate::weighing::{Heavy, Light};
 use exec_msg::{EntityNo, GoalId, Line, LineList, Lines, Memory};
 use exec_plan::{FeedByRound, GroupNo, Plan};
 use exec_rules::Ready;
@@ -82,6 +84,7 @@ impl<L: Lines> World<L> {
     ghost use Rattle.std.specs.Prelude.{◌≡◌, ◌↔◌, ◌<◌, [], length, true, false, None, Some, IfOk, IfErr, OnOk};
     ghost use Rattle.std.specs.Arc.{arc_value};
     ghost use Rattle.exec_world.specs.Faults.{HasFailed};
+    ghost use Rattle.exec_world.specs.Heavy.{IsBegun};
     ghost use Rattle.exec_rules.specs.Calls.{AreHome, HaveVariables, IsNext, ready_in};
     ghost use Rattle.exec_rules.specs.Calls.{after_all, after_commit, after_finish, after_round, after_snapshot, new_world, world_after};
     ghost use Rattle.exec_world.specs.declared.fault.WorldFault.TheVariants as fault;
@@ -180,21 +183,50 @@ impl<L: Lines> World<L> {
         ensures fault { IfErr result (λ why. HasFailed why self.old self.new) }
     {
         self.check()?;
-        let moment = self.plan.moments()[round - 1];
-        let begun = self.state.begin_round(
-            round as u64,
-            moment,
-            self.feed.fed_in(round),
-            &mut self.scratch,
-        );
-        if begun.is_err() {
-            self.failed = true;
-            return Err(WorldFault::Memory);
+        let begins = Round::of(&self.plan, &self.feed, round);
+        let begun = self.state.begin_round(&begins, &mut self.scratch);
+        match begun {
+            Ok(list) => {
+                self.round = round;
+                self.uncommitted = list.len();
+                Ok(list)
+            }
+            Err(_) => {
+                self.failed = true;
+                Err(WorldFault::Memory)
+            }
         }
-        self.round = round;
-        let list = self.scratch.take_list(self.alloc);
-        self.uncommitted = list.len();
-        Ok(list)
+    }
+
+    /// Runs a whole round in the calling thread if its work is light, and answers nothing. Otherwise begins it as
+    /// [`snapshot`](World::snapshot) does, and answers its callbacks.
+    ///
+    /// # Errors
+    /// [`WorldFault::Memory`] if a growth or a clone was refused, [`WorldFault::Failed`] if the world had failed before.
+    pub fn run_if_light(&mut self, round: usize, light: &Light) -> Result<Option<Heavy>, WorldFault>
+        requires { self.old.failed ≡ false → IsNext round self.old }
+        ensures begun { IfOk result (λ heavy. IsBegun round heavy self.old self.new) }
+        ensures unfailed { OnOk result (self.old.failed ≡ false) }
+        ensures fault { IfErr result (λ why. HasFailed why self.old self.new) }
+    {
+        self.check()?;
+        let begins = Round::of(&self.plan, &self.feed, round);
+        let mut context = self.poller.begin();
+        let begun = self
+            .state
+            .run_light_round(&begins, light, &mut self.scratch, &mut context);
+        context.cancel();
+        match begun {
+            Ok(heavy) => {
+                self.round = round;
+                self.uncommitted = count(&heavy);
+                Ok(heavy)
+            }
+            Err(_) => {
+                self.failed = true;
+                Err(WorldFault::Memory)
+            }
+        }
     }
 
     /// Gives to the world what the next callback of the last snapshot did: its line, its effects and what closes it.
@@ -297,15 +329,11 @@ impl<L: Lines> World<L> {
         requires next { IsNext round self.old }
         ensures { OnOk result (self.new ≡ after_round round self.old) }
     {
-        let moment = self.plan.moments()[round - 1];
+        let begins = Round::of(&self.plan, &self.feed, round);
         let mut context = self.poller.begin();
-        let ran = self.state.run_round(
-            round as u64,
-            moment,
-            self.feed.fed_in(round),
-            &mut self.scratch,
-            &mut context,
-        );
+        let ran = self
+            .state
+            .run_round(&begins, &mut self.scratch, &mut context);
         context.cancel();
         if ran.is_err() {
             self.failed = true;
@@ -374,6 +402,16 @@ impl<L: Lines> World<L> {
         ensures { L.lines result ≡ self.state.lines }
     {
         self.state.into_lines()
+    }
+}
+
+// How many callbacks a round handed out.
+fn count(heavy: &Option<Heavy>) -> usize
+    ensures { result ≡ option_map_or (λ heavy. length heavy.list.items) heavy.now 0 }
+{
+    match heavy {
+        Some(heavy) => heavy.list.len(),
+        None => 0,
     }
 }
 

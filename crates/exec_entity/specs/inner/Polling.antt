@@ -42,6 +42,10 @@ polled_by server _ task servers = servers
 abbrev pub goal_polled : Turn → GoalId → ServerEntry → Variables → AfterCallback (List Effect)
 goal_polled turn id entry variables = poll_listed turn (option_and_then (λ held. held.work) (find (is_for id) entry.held)) variables
 
--- the poll of a server's goal that is awake at a moment, alone
+-- the poll of a server's goal that is awake at a moment
+abbrev pub poll_of : Moment → Handler → AwakeGoal → Ready
+poll_of moment handler goal = ready_for moment handler (cause.Woke goal.id goal.value goal.canceling) [] (Some handler.script)
+
+-- the same, alone
 abbrev pub poll_by : Moment → Handler → AwakeGoal → List Ready
-poll_by moment handler goal = ready_for moment handler (cause.Woke goal.id goal.value goal.canceling) [] (Some handler.script) ∷ []
+poll_by moment handler goal = poll_of moment handler goal ∷ []

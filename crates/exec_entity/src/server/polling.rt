@@ -10,7 +10,7 @@ ghost use Rattle.exec_entity.specs.inner.Waking.{wake_in};
 use super::{KeptWithGoal, Server};
 use exec_goal::GoalInfo;
 use exec_msg::{Elements, GoalId, Memory, Moment};
-use exec_rules::{AwakeGoal, Cause, Ready, ReadyList, poll_any};
+use exec_rules::{AwakeGoal, Cause, Listed, ReadyList, poll_any};
 use exec_script::{Bank, Close, EffectList};
 use exec_task::{GoalTask, Turn, is_awake, wakes_at};
 use futures::task::Context;
@@ -28,9 +28,9 @@ impl Server {
     ghost use Rattle.exec_rules.specs.Ready.{is_goal_awake, is_task_awake, poll_ready};
     ghost use Rattle.exec_rules.specs.World.{is_for};
     ghost use Rattle.exec_rules.specs.inner.Awake.{awake_goal, awake_goals, goal_awake};
-    ghost use Rattle.exec_rules.specs.inner.Listing.{listed_behind};
+    ghost use Rattle.exec_rules.specs.inner.Listing.{as_listed, listed_behind};
     ghost use Rattle.exec_entity.specs.inner.Keeping.{IsFor};
-    ghost use Rattle.exec_entity.specs.inner.Polling.{goal_polled, poll_by, server_arrived, server_polled, server_with_work};
+    ghost use Rattle.exec_entity.specs.inner.Polling.{goal_polled, poll_by, poll_of, server_arrived, server_polled, server_with_work};
 
     // How many goals the server works on. If it works on none, none is awake. It looks at no goal.
     pub(crate) fn count_working(&self) -> usize
@@ -106,7 +106,7 @@ impl Server {
         ensures { OnOk result (list.new ≡ listed_behind list.old (flat_map (poll_by moment self.now.handler) goals.now)) }
     {
         for goal in goals {
-            list.push(self.poll_of(alloc, moment, goal)?)?;
+            list.push(self.poll_of(alloc, moment, goal))?;
         }
         Ok(())
     }
@@ -162,19 +162,16 @@ impl Server {
         }
     }
 
-    fn poll_of(&self, alloc: Global, moment: Moment, goal: &AwakeGoal) -> Result<Ready, Memory>
-        ensures { IfOk result (λ ready. poll_by moment self.now.handler goal.now ≡ ready ∷ []) }
+    fn poll_of(&self, alloc: Global, moment: Moment, goal: &AwakeGoal) -> Listed
+        ensures { result ≡ as_listed (poll_of moment self.now.handler goal.now) }
     {
-        let script = self.handler.share_script()?;
         let cause = Cause::Woke {
             id: goal.id,
             value: goal.value,
             canceling: goal.canceling,
         };
-        Ok(
-            self.handler
-                .ready(moment, cause, Elements::new(alloc), Some(script)),
-        )
+        self.handler
+            .listed(moment, cause, Elements::new(alloc), true)
     }
 
     // Polls a goal in a turn with the variables of its callback group, in a context that the caller has made. Answers what

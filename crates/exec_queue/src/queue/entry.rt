@@ -3,17 +3,15 @@ ghost use Rattle.exec_msg.specs.KeepLast.{displaced};
 ghost use Rattle.exec_script.specs.Instruction.{Script};
 ghost use Rattle.exec_rules.specs.Ready.{candidates_for, first_number, item_ready, queue_taken, script_to_take};
 ghost use Rattle.exec_rules.specs.inner.ByKind.{is_before_polls};
-ghost use Rattle.exec_rules.specs.World.{Handler, queue_after};
-ghost use Rattle.exec_rules.specs.inner.Homes.{AreHomes, handlers_of};
-ghost use Rattle.std.specs.Option.{option_copied, option_map, option_map_or};
+ghost use Rattle.exec_rules.specs.World.{queue_after};
+ghost use Rattle.std.specs.Option.{option_copied, option_map};
 ghost use Rattle.exec_rules.specs.inner.Listing.{listed_behind};
 ghost use Rattle.exec_queue.specs.inner.Queues.{has_item};
 ghost use Rattle.exec_queue.specs.inner.Numbers.{items_of};
 
 use super::is_before_polls;
 use exec_msg::{Elements, Kind, LazyQueue, Memory, Moment};
-use exec_plan::Script;
-use exec_rules::{Cause, Handler, Home, Item, ReadyList};
+use exec_rules::{Cause, Handler, Item, ReadyList};
 use std::alloc::Global;
 use std::marker::Model;
 
@@ -103,35 +101,17 @@ impl EntityQueue {
         &self.handler
     }
 
-    pub(super) fn take_script(&mut self) -> Result<Script, Memory>
-        ensures script { IfOk result (λ script. script ≡ self.old.handler.script) }
-        ensures same { self.new ≡ self.old }
-    {
-        self.handler.take_script()
-    }
-
-    pub(super) fn bring_home(&mut self, script: Script)
-        requires { script ≡ self.old.handler.script }
-        ensures { self.new ≡ self.old }
-    {
-        self.handler.bring_home(script);
-    }
-
     // Lists the callback that takes its first item, if there is one. Answers whether that is done. If the item asks about
-    // a server's goals, nothing is listed, and the answer is `false`. The queue is at this place.
+    // a server's goals, nothing is listed, and the answer is `false`.
     #[inline(always)]
     pub(super) fn list_plain(
-        &mut self,
+        &self,
         alloc: Global,
         moment: Moment,
-        place: usize,
         list: &mut ReadyList,
-        homes: &mut Vec<Home>,
     ) -> Result<bool, Memory>
-        ensures same { self.new ≡ self.old }
-        ensures listed { IfOk result (λ done. done ≡ true → (goals : List _) → list.new ≡ listed_behind list.old (item_ready moment self.old.handler goals self.old.items)) }
+        ensures listed { IfOk result (λ done. done ≡ true → (goals : List _) → list.new ≡ listed_behind list.old (item_ready moment self.now.handler goals self.now.items)) }
         ensures left { IfOk result (λ done. done ≡ false → list.new ≡ list.old) }
-        ensures homes { OnOk result ((handlers : List Handler) → slice_get handlers place ≡ Some self.old.handler → AreHomes handlers list.old homes.old.items → AreHomes handlers list.new homes.new.items) }
     {
         let Some(item) = front_of(&self.queue) else {
             return Ok(true);
@@ -139,14 +119,10 @@ impl EntityQueue {
         if asks_server(item) {
             return Ok(false);
         }
-        let script = self.handler.take_script()?;
-        let ready = self.handler.ready(
-            moment,
-            Cause::Took(*item),
-            Elements::new(alloc),
-            Some(script),
-        );
-        list.push_from(ready, place, homes)?;
+        list.push(
+            self.handler
+                .listed(moment, Cause::Took(*item), Elements::new(alloc), true),
+        )?;
         Ok(true)
     }
 
@@ -154,30 +130,6 @@ impl EntityQueue {
         ensures { result ≡ is_before_polls self.now.kind }
     {
         is_before_polls(self.kind)
-    }
-}
-
-// Lists the callback that takes from the queue at a place, if there is one, as `list_plain` does.
-#[inline(always)]
-pub(super) fn list_plain_at(
-    entries: &mut Vec<EntityQueue>,
-    alloc: Global,
-    moment: Moment,
-    place: usize,
-    list: &mut ReadyList,
-    homes: &mut Vec<Home>,
-) -> Result<bool, Memory>
-    ensures same { entries.new.items ≡ entries.old.items }
-    ensures listed { IfOk result (λ done. done ≡ true → (goals : Handler → List _) → list.new ≡ listed_behind list.old (option_map_or (λ queue. item_ready moment queue.handler (goals queue.handler) queue.items) (slice_get entries.old.items place) [])) }
-    ensures left { IfOk result (λ done. done ≡ false → list.new ≡ list.old) }
-    ensures homes { OnOk result (AreHomes (handlers_of entries.old.items) list.old homes.old.items → AreHomes (handlers_of entries.old.items) list.new homes.new.items) }
-{
-    match entries.get_mut(place) {
-        None => Ok(true),
-        Some(entry) => {
-            let done = entry.list_plain(alloc, moment, place, list, homes)?;
-            Ok(done)
-        }
     }
 }
 

@@ -1,21 +1,28 @@
 -- What a snapshot makes of the queues at places.
-use Rattle.std.specs.Prelude.{ℕ, List, [], ◌++◌, Bool, ◌&&◌, slice_get}
-use Rattle.std.specs.List.{filter, flat_map, fold}
+use Rattle.std.specs.Prelude.{◌≡◌, ℕ, ◌+◌, ◌≤◌, List, [], ◌++◌, length, map, take, drop, Bool, ◌&&◌, Option, None, Some, slice_get}
+use Rattle.std.specs.List.{All, AllByRecursion, filter, flat_map, fold}
 use Rattle.std.specs.Option.{option_map_or}
+use Rattle.exec_msg.specs.declared.kind.Kind.TheVariants as kind
+use Rattle.exec_msg.specs.declared.line.Line.TheVariants as line
+use Rattle.exec_plan.specs.Graph.{GraphData, script_at}
 use Rattle.exec_plan.specs.declared.order.Order.{Order}
 use Rattle.exec_plan.specs.declared.order.Order.TheVariants as order
-use Rattle.exec_rules.specs.Ready.{item_ready, placed_from, poll_ready, rank_under, reply_taken}
+use Rattle.exec_rules.specs.Item.{taker_of}
+use Rattle.exec_rules.specs.Ready.{item_ready, placed_from, poll_ready, rank_under, reply_taken, timer_taken}
 use Rattle.exec_rules.specs.Sorting.{sorted_by}
-use Rattle.exec_rules.specs.Transcript.{run_all}
-use Rattle.exec_rules.specs.inner.ByKind.{listed_by_kind, ready_before, ready_behind, taken_in_parts}
-use Rattle.exec_rules.specs.inner.Listing.{positioned}
+use Rattle.exec_rules.specs.Transcript.{expire, feed, run_all}
+use Rattle.exec_rules.specs.inner.Awake.{awake_goals}
+use Rattle.exec_rules.specs.inner.ByKind.{listed_by_kind, queues_before_polls, ready_before, ready_behind, taken_in_parts}
+use Rattle.exec_rules.specs.inner.Listing.{as_listed, positioned}
 use Rattle.exec_msg.specs.Numbers.{Moment}
-use Rattle.exec_rules.specs.World.{ClientEntry, Queue, ServerEntry, WorldState, goals_in}
+use Rattle.exec_rules.specs.World.{ClientEntry, Queue, ServerEntry, WorldState, add_line, goals_in}
 use Rattle.exec_rules.specs.inner.Places.{places_where}
 use Rattle.exec_queue.specs.inner.Queues.{has_item, is_in_part}
-use Rattle.exec_rules.specs.declared.homes.Homes.{Homes}
+use Rattle.exec_rules.specs.declared.listed.Listed.{Listed}
+use Rattle.exec_rules.specs.declared.ready.AwakeGoal.{AwakeGoal}
 use Rattle.exec_rules.specs.declared.ready.Ready.{Ready}
-use Rattle.exec_rules.specs.inner.Homes.{AreHomes, queue_handlers, timer_handlers}
+use Rattle.exec_world.specs.declared.weighing.Heavy.{Heavy}
+use Rattle.exec_world.specs.declared.state.round.Round.{Round}
 
 -- the callback that takes from a queue where that has an item
 abbrev pub front_of : Moment → List ServerEntry → Queue → List Ready
@@ -49,9 +56,13 @@ filled_places before_polls queues = places_where (λ queue. has_item queue && is
 abbrev pub ready_in_parts : Moment → WorldState → List Ready
 ready_in_parts moment world = (ready_before moment world ++ ready_behind moment world) ++ flat_map (poll_ready moment) world.servers
 
--- a ready callback with the number of its arrival as its position, until the list is arranged
-abbrev pub numbered_in : WorldState → Ready → Ready
-numbered_in world one = positioned (rank_under order.Arrival world one) one
+-- a ready callback with its rank as its position, until the list is arranged
+abbrev pub ranked_in : WorldState → Ready → Ready
+ranked_in world one = positioned (rank_under world.order world one) one
+
+-- all of them, sorted by their ranks
+abbrev pub arranged_in : Moment → WorldState → List Ready
+arranged_in moment world = placed_from 1 (sorted_by (rank_under world.order world) (ready_in_parts moment world))
 
 -- the ready list as it is made under an order
 abbrev pub listed_under : Order → Moment → WorldState → List Ready
@@ -69,7 +80,28 @@ listed_in moment world = listed_under world.order moment world
 abbrev pub round_in : Moment → WorldState → WorldState
 round_in moment world = round_under world.order moment world
 
--- the scripts of a ready list come from a world's timers and queues
-pub record ScriptsComeFrom (world : WorldState) (list : List Ready) (homes : Homes) : Type 0 where
-  pub timers : AreHomes (timer_handlers world) list homes.timers.items
-  pub queues : AreHomes (queue_handlers world) list homes.queues.items
+-- the world of which the snapshot of a round is taken, after what begins the round
+abbrev pub begun_by : Round → WorldState → WorldState
+begun_by round world = feed round.fed.now (expire round.moment (add_line (line.Round round.number round.moment) world))
+
+-- the script of each of a world's callbacks is a graph's, and what its queues hold is of their kinds
+pub record HaveScriptsOf (graph : GraphData) (world : WorldState) : Type 0 where
+  pub timers : AllByRecursion (λ entry. entry.handler.script ≡ script_at graph entry.handler.entity kind.Timer) world.timers
+  pub queues : AllByRecursion (λ queue. queue.handler.script ≡ script_at graph queue.handler.entity queue.kind) world.queues
+  pub servers : AllByRecursion (λ entry. entry.handler.script ≡ script_at graph entry.handler.entity kind.Poll) world.servers
+  pub kinds : AllByRecursion (λ queue. All (λ one. taker_of one ≡ queue.kind) queue.items) world.queues
+
+-- what a snapshot listed of a world at a moment: the callbacks that are no polls, the first of which, so many, come before polls,
+-- and the goals that are awake; the world is then this one, whose queues still have their first items
+pub record IsListed (moment : Moment) (world : WorldState) (before : ℕ) (now : WorldState) (list : List Listed) (goals : List AwakeGoal) : Type 0 where
+  pub within : before ≤ length list
+  pub first : take before list ≡ map as_listed (placed_from 1 (ready_before moment world))
+  pub last : drop before list ≡ map as_listed (placed_from (before + 1) (ready_behind moment world))
+  pub whole : list ≡ map as_listed (placed_from 1 (ready_before moment world ++ ready_behind moment world))
+  pub awake : goals ≡ flat_map (awake_goals moment) world.servers
+  pub taken : now ≡ record world { timers = map (timer_taken moment) world.timers; clients = fold reply_taken world.clients (queues_before_polls world) }
+
+-- the world after a round whose work is light; of another round these are the callbacks, and each input is taken
+abbrev pub IsHandedOut : Moment → WorldState → Option Heavy → WorldState → Type 0
+IsHandedOut moment world None after = after ≡ round_in moment world
+IsHandedOut moment world (Some heavy) after = (heavy.list.items ≡ arranged_in moment world) × (after ≡ taken_in_parts moment world)

@@ -1,21 +1,22 @@
 //! Ready callbacks in the order of arrival.
-ghost use Rattle.std.specs.Prelude.{◌≡◌, ◌++◌, length, map, slice_get, OnOk};
+ghost use Rattle.std.specs.Prelude.{◌≡◌, ◌++◌, map, slice_get, OnOk};
 ghost use Rattle.std.specs.Option.{option_map_or};
 
 use super::WorldBody;
 use crate::arrived::{Arrived, note_arrival, sort_arrivals};
 use crate::scratch::Scratch;
 use exec_msg::{Lines, Memory, Moment};
-use exec_plan::Order;
-use exec_rules::{AwakeGoal, Cause, Ready, ReadyList};
+use exec_plan::{Graph, Order};
+use exec_rules::{AwakeGoal, Cause, Listed, Ready};
 use exec_script::EffectList;
 use futures::task::Context;
 use std::marker::Model;
 
-// What a snapshot listed: the callbacks of a list, and after them polls at a moment.
+// What a snapshot listed: the callbacks of a list, whose scripts are the graph's, and after them polls at a moment.
 #[derive(Drop)]
 struct Parts<'a> {
-    list: &'a [Ready],
+    graph: &'a Graph,
+    list: &'a [Listed],
     moment: Moment,
     goals: &'a [AwakeGoal],
 }
@@ -24,33 +25,32 @@ impl<'a> Model for Parts<'a> {
     ghost use Rattle.std.specs.Prelude.{◌++◌, List, map};
     ghost use Rattle.exec_rules.specs.declared.ready.Ready.{Ready};
     ghost use Rattle.exec_rules.specs.inner.Awake.{poll_at};
+    ghost use Rattle.exec_rules.specs.inner.Listing.{with_script_of};
 
     ghost Value = { List Ready };
 
-    ghost view = { λ parts. parts.list.now ++ map (poll_at parts.moment) parts.goals.now };
+    ghost view = { λ parts. map (with_script_of parts.graph.now) parts.list.now ++ map (poll_at parts.moment) parts.goals.now };
 }
 
 impl<L: Lines> WorldBody<L> {
     ghost use Rattle.std.specs.Prelude.{◌≡◌, ◌++◌, map, slice_get, OnOk};
     ghost use Rattle.std.specs.List.{fold};
     ghost use Rattle.std.specs.Option.{option_map_or};
-    ghost use Rattle.exec_msg.specs.Places.{change_at};
+    ghost use Rattle.exec_plan.specs.Graph.{GraphData};
     ghost use Rattle.exec_plan.specs.declared.order.Order.TheVariants as order;
     ghost use Rattle.exec_rules.specs.Ready.{arrival_for, goal_arrival};
     ghost use Rattle.exec_rules.specs.inner.Awake.{poll_at};
-    ghost use Rattle.exec_rules.specs.inner.ByKind.{taken_in_parts};
+    ghost use Rattle.exec_rules.specs.inner.Listing.{with_script_of};
     ghost use Rattle.exec_world.specs.inner.Arrivals.{AreListed, run_arrived, run_at, with_arrived};
-    ghost use Rattle.exec_world.specs.inner.Snapshots.{listed_under, numbered_in};
 
     // Under the order of arrival, lists the numbers of the arrivals of what a snapshot listed, each with the place of its callback,
     // the earliest first. Polls come after the callbacks of the list. Only the numbers are sorted: callbacks and their scripts
     // are not moved. Under the order of kinds it lists nothing.
     pub(super) fn list_arrivals(&self, moment: Moment, scratch: &mut Scratch) -> Result<(), Memory>
-        ensures arrivals { OnOk result (AreListed self.now.order self.now (scratch.old.list ++ map (poll_at moment) scratch.old.goals.items)
-            scratch.new.arrivals.items) }
+        ensures arrivals { OnOk result ((graph : GraphData) → AreListed self.now.order self.now
+            (map (with_script_of graph) scratch.old.list ++ map (poll_at moment) scratch.old.goals.items) scratch.new.arrivals.items) }
         ensures list { scratch.new.list ≡ scratch.old.list }
         ensures goals { scratch.new.goals.items ≡ scratch.old.goals.items }
-        ensures homes { scratch.new.homes ≡ scratch.old.homes }
     {
         match self.mail.order() {
             Order::Kind => Ok(()),
@@ -61,11 +61,10 @@ impl<L: Lines> WorldBody<L> {
     // The same under the order of arrival.
     #[inline(never)]
     fn list_sorted(&self, moment: Moment, scratch: &mut Scratch) -> Result<(), Memory>
-        ensures arrivals { OnOk result (AreListed order.Arrival self.now (scratch.old.list ++ map (poll_at moment) scratch.old.goals.items)
-            scratch.new.arrivals.items) }
+        ensures arrivals { OnOk result ((graph : GraphData) → AreListed order.Arrival self.now
+            (map (with_script_of graph) scratch.old.list ++ map (poll_at moment) scratch.old.goals.items) scratch.new.arrivals.items) }
         ensures list { scratch.new.list ≡ scratch.old.list }
         ensures goals { scratch.new.goals.items ≡ scratch.old.goals.items }
-        ensures homes { scratch.new.homes ≡ scratch.old.homes }
     {
         scratch.arrivals.clear();
         self.note_arrivals(scratch.list.as_slice(), &mut scratch.arrivals)?;
@@ -78,16 +77,16 @@ impl<L: Lines> WorldBody<L> {
     #[inline(never)]
     pub(super) fn run_sorted(
         &mut self,
+        graph: &Graph,
         moment: Moment,
         scratch: &mut Scratch,
         cx: &mut Context<'_>,
     ) -> Result<(), Memory>
-        ensures ran { OnOk result (self.new
-            ≡ run_arrived (scratch.old.list ++ map (poll_at moment) scratch.old.goals.items) self.old scratch.old.arrivals.items) }
-        ensures list { scratch.new.list ≡ scratch.old.list }
-        ensures homes { scratch.new.homes ≡ scratch.old.homes }
+        ensures { OnOk result (self.new ≡ run_arrived (map (with_script_of graph.now) scratch.old.list ++ map (poll_at moment) scratch.old.goals.items)
+            self.old scratch.old.arrivals.items) }
     {
         let parts = Parts {
+            graph,
             list: scratch.list.as_slice(),
             moment,
             goals: &scratch.goals,
@@ -111,8 +110,7 @@ impl<L: Lines> WorldBody<L> {
         Ok(())
     }
 
-    // Runs the callback at the place of an arrival, if there is one: as a list of one, so that the loop over a list is the only one
-    // that calls the body.
+    // Runs the callback at the place of an arrival, if there is one.
     fn run_at(
         &mut self,
         parts: &Parts<'_>,
@@ -125,7 +123,7 @@ impl<L: Lines> WorldBody<L> {
         let place = arrived.place;
         let count = parts.list.len();
         if place < count {
-            return self.run_all(&parts.list[place..place + 1], effects, cx);
+            return self.run_each(parts.graph, &parts.list[place..place + 1], effects, cx);
         }
         let at = place - count;
         if at < parts.goals.len() {
@@ -135,12 +133,12 @@ impl<L: Lines> WorldBody<L> {
     }
 
     // Notes the numbers of these callbacks' arrivals.
-    fn note_arrivals(&self, list: &[Ready], arrivals: &mut Vec<Arrived>) -> Result<(), Memory>
+    fn note_arrivals(&self, list: &[Listed], arrivals: &mut Vec<Arrived>) -> Result<(), Memory>
         ensures { OnOk result (arrivals.new.items
-            ≡ fold (λ so_far one. with_arrived so_far (arrival_for one.entity one.cause self.now)) arrivals.old.items list.now) }
+            ≡ fold (λ so_far one. with_arrived so_far (arrival_for one.ready.entity one.ready.cause self.now)) arrivals.old.items list.now) }
     {
         for one in list {
-            note_arrival(arrivals, self.arrival(one))?;
+            note_arrival(arrivals, self.arrival(&one.ready))?;
         }
         Ok(())
     }
@@ -157,7 +155,7 @@ impl<L: Lines> WorldBody<L> {
     }
 
     // The number of the arrival that made a callback ready, and 0 if none did.
-    fn arrival(&self, one: &Ready) -> u64
+    pub(super) fn arrival(&self, one: &Ready) -> u64
         ensures { result ≡ arrival_for one.now.entity one.now.cause self.now }
     {
         match &one.cause {
@@ -166,50 +164,4 @@ impl<L: Lines> WorldBody<L> {
             Cause::Woke { id, .. } => self.servers.arrival(one.entity, *id),
         }
     }
-
-    // Takes each input at a moment. The list then has only the callbacks that are ready, in their order. They are listed part
-    // by part, and then arranged by the numbers of arrivals. The homes are those of the list before that, and none is used.
-    pub(super) fn snapshot_by_arrival(
-        &mut self,
-        moment: Moment,
-        scratch: &mut Scratch,
-    ) -> Result<(), Memory>
-        ensures list { OnOk result (scratch.new.list ≡ listed_under order.Arrival moment self.old) }
-        ensures taken { OnOk result (self.new ≡ taken_in_parts moment self.old) }
-    {
-        self.list_first(moment, scratch)?;
-        self.list_queues(false, moment, scratch)?;
-        self.servers
-            .list_polls(self.alloc, moment, &mut scratch.goals, &mut scratch.list)?;
-        self.number_all(&mut scratch.list);
-        scratch.list.arrange()?;
-        self.take_first();
-        Ok(())
-    }
-
-    // Gives each callback the number of its arrival as its position, until the list is arranged.
-    fn number_all(&self, list: &mut ReadyList)
-        ensures { list.new ≡ map (numbered_in self.now) list.old }
-    {
-        for at in 0..count(list) {
-            self.number_at(list, at);
-        }
-    }
-
-    // The same of the callback at a place, from 0, if there is one.
-    fn number_at(&self, list: &mut ReadyList, at: usize)
-        ensures { list.new ≡ change_at at (numbered_in self.now) list.old }
-    {
-        let Some(one) = list.as_slice().get(at) else {
-            return;
-        };
-        let number = self.arrival(one);
-        list.set_position(at, number as usize);
-    }
-}
-
-fn count(list: &ReadyList) -> usize
-    ensures { result ≡ length list.now }
-{
-    list.as_slice().len()
 }

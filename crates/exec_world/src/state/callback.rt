@@ -1,19 +1,21 @@
 //! How a ready callback runs: one body, over the steps that depend on what is known of the callback.
-ghost use Rattle.std.specs.Prelude.{◌≡◌, IfOk, OnOk};
+ghost use Rattle.std.specs.Prelude.{◌≡◌, map, IfOk, OnOk};
 ghost use Rattle.exec_rules.specs.Close.{close_callback};
 ghost use Rattle.exec_rules.specs.Give.{give_all};
 ghost use Rattle.exec_rules.specs.Ready.{run_line};
 ghost use Rattle.exec_rules.specs.Run.{apart, brought_home};
 ghost use Rattle.exec_rules.specs.declared.ready.Ready.{Ready};
+ghost use Rattle.exec_rules.specs.inner.Listing.{with_script_of};
 
 use super::WorldBody;
 use super::plain::Plain;
+use crate::scripts::script_of;
 use exec_msg::{Kind, Line, Lines, Memory};
-use exec_rules::{Cause, Item, Ready, call_in, take_item};
-use exec_script::{Close, Effect, EffectList, Input, Role};
+use exec_plan::Graph;
+use exec_rules::{Cause, Item, Listed, Ready, Runnable};
+use exec_script::{Close, Effect, EffectList, Role};
 use exec_task::Turn;
 use futures::task::Context;
-use std::marker::Model;
 
 // A ready callback, with what is known of it when it runs.
 pub(super) trait Callback<L: Lines> {
@@ -47,9 +49,10 @@ pub(super) trait Callback<L: Lines> {
 }
 
 impl<L: Lines> WorldBody<L> {
-    ghost use Rattle.std.specs.Prelude.{◌≡◌, OnOk};
+    ghost use Rattle.std.specs.Prelude.{◌≡◌, map, OnOk};
     ghost use Rattle.exec_rules.specs.Run.{commit, run};
     ghost use Rattle.exec_rules.specs.Transcript.{run_all};
+    ghost use Rattle.exec_rules.specs.inner.Listing.{with_script_of};
 
     // Runs callbacks one after another, each in the world that the one before it left.
     pub(crate) fn run_all(
@@ -61,14 +64,73 @@ impl<L: Lines> WorldBody<L> {
         ensures { OnOk result (self.new ≡ run_all list.now self.old) }
     {
         for one in list {
-            self.run(one, effects, cx)?;
+            self.run_one(one, effects, cx)?;
         }
         Ok(())
     }
 
-    // Runs a ready callback. The causes that most callbacks have are distinguished here, once.
+    // The same of callbacks that a snapshot listed. Their scripts are the graph's.
+    pub(super) fn run_each(
+        &mut self,
+        graph: &Graph,
+        list: &[Listed],
+        effects: &mut EffectList,
+        cx: &mut Context<'_>,
+    ) -> Result<(), Memory>
+        ensures { OnOk result (self.new ≡ run_all (map (with_script_of graph.now) list.now) self.old) }
+    {
+        for listed in list {
+            self.run_listed_callback(graph, listed, effects, cx)?;
+        }
+        Ok(())
+    }
+
+    // Runs a listed callback. The causes that most callbacks have are distinguished here, once, so that their scripts are looked
+    // up as those of a kind that is known.
     #[inline(always)]
-    fn run(
+    fn run_listed_callback(
+        &mut self,
+        graph: &Graph,
+        listed: &Listed,
+        effects: &mut EffectList,
+        cx: &mut Context<'_>,
+    ) -> Result<(), Memory>
+        ensures { OnOk result (self.new ≡ run (with_script_of graph.now listed.now) self.old) }
+    {
+        let one = &listed.ready;
+        match one.cause {
+            Cause::Due => {
+                let script = script_of(graph, listed, Kind::Timer);
+                let ticks = one.moment.ticks() as i64;
+                self.run_as(&Plain::of(one, script, Kind::Timer, ticks, 0), effects, cx)
+            }
+            Cause::Took(Item::Message { value }) => {
+                let script = script_of(graph, listed, Kind::Message);
+                self.run_as(
+                    &Plain::of(one, script, Kind::Message, value, 0),
+                    effects,
+                    cx,
+                )
+            }
+            Cause::Took(Item::Reply { number, value }) => {
+                let script = script_of(graph, listed, Kind::Reply);
+                let call = number.cast_signed();
+                self.run_as(
+                    &Plain::of(one, script, Kind::Reply, value, call),
+                    effects,
+                    cx,
+                )
+            }
+            _ => {
+                let script = script_of(graph, listed, one.kind());
+                self.run_as(&Runnable::handed(one, script, one.input()), effects, cx)
+            }
+        }
+    }
+
+    // Runs a ready callback with its own script. It isn't inlined, because few rounds run their callbacks so.
+    #[inline(never)]
+    fn run_one(
         &mut self,
         one: &Ready,
         effects: &mut EffectList,
@@ -76,23 +138,10 @@ impl<L: Lines> WorldBody<L> {
     ) -> Result<(), Memory>
         ensures { OnOk result (self.new ≡ run one.now self.old) }
     {
-        match one.cause {
-            Cause::Due => {
-                let ticks = one.moment.ticks() as i64;
-                self.run_as(&Plain::of(one, Kind::Timer, ticks, 0), effects, cx)
-            }
-            Cause::Took(Item::Message { value }) => {
-                self.run_as(&Plain::of(one, Kind::Message, value, 0), effects, cx)
-            }
-            Cause::Took(Item::Reply { number, value }) => {
-                let call = number.cast_signed();
-                self.run_as(&Plain::of(one, Kind::Reply, value, call), effects, cx)
-            }
-            _ => self.run_as(&Handed::of(one), effects, cx),
-        }
+        self.run_as(&Runnable::of(one), effects, cx)
     }
 
-    // The same of any form of it. A goal is polled in a context that the caller has made. The list has room for effects, and
+    // Runs any form of a callback. A goal is polled in a context that the caller has made. The list has room for effects, and
     // each callback uses it again.
     #[inline(always)]
     pub(super) fn run_as<C: Callback<L>>(
@@ -116,7 +165,7 @@ impl<L: Lines> WorldBody<L> {
     ) -> Result<(), Memory>
         ensures { OnOk result (self.new ≡ commit one.now (record { list = effects.now; close = close.now }) self.old) }
     {
-        self.commit_as(&Handed::of(one), effects, close)
+        self.commit_as(&Runnable::of(one), effects, close)
     }
 
     // The same of any form of it.
@@ -134,40 +183,7 @@ impl<L: Lines> WorldBody<L> {
     }
 }
 
-// A ready callback of any kind, with what it is handed.
-#[derive(Drop)]
-struct Handed<'a> {
-    one: &'a Ready,
-    input: Input,
-}
-
-impl<'a> Model for Handed<'a> {
-    ghost use Rattle.std.specs.Prelude.{◌≡◌};
-    ghost use Rattle.exec_rules.specs.Ready.{input_of};
-    ghost use Rattle.exec_rules.specs.declared.ready.Ready.{Ready};
-
-    ghost Value = { Ready };
-
-    ghost view = { λ handed. handed.one.now };
-
-    ghost invariant = { λ handed. handed.input ≡ input_of handed.one.now };
-}
-
-impl<'a> Handed<'a> {
-    ghost use Rattle.std.specs.Prelude.{◌≡◌};
-
-    #[inline(always)]
-    fn of(one: &'a Ready) -> Handed<'a>
-        ensures { result ≡ one.now }
-    {
-        Handed {
-            one,
-            input: one.input(),
-        }
-    }
-}
-
-impl<'a, L: Lines> Callback<L> for Handed<'a> {
+impl<'a, L: Lines> Callback<L> for Runnable<'a> {
     ghost ready = { λ one. one };
 
     #[inline(always)]
@@ -183,20 +199,12 @@ impl<'a, L: Lines> Callback<L> for Handed<'a> {
         match &one.cause {
             Cause::Due => {
                 let mut close = Close::Nothing;
-                call_in(Role::Callback, one, &self.input, bank, effects, &mut close)?;
+                self.call_in(Role::Callback, bank, effects, &mut close)?;
                 Ok(close)
             }
             Cause::Took(item) => {
                 let mut close = Close::Nothing;
-                take_item(
-                    state.alloc,
-                    item,
-                    one,
-                    &self.input,
-                    bank,
-                    effects,
-                    &mut close,
-                )?;
+                self.take_item(state.alloc, item, bank, effects, &mut close)?;
                 Ok(close)
             }
             Cause::Woke { id, canceling, .. } => {
@@ -213,7 +221,7 @@ impl<'a, L: Lines> Callback<L> for Handed<'a> {
 
     #[inline(always)]
     fn line(&self) -> Line {
-        self.one.run_line(&self.input)
+        Runnable::line(self)
     }
 
     #[inline(always)]

@@ -6,131 +6,164 @@ ghost use Rattle.exec_rules.specs.Transcript.{pending_by};
 use super::WorldBody;
 use crate::mail::Mail;
 use crate::scratch::Scratch;
+use crate::weighing::{Heavy, Light};
 use exec_entity::{Client, Numbered};
 use exec_goal::CancelRequest;
 use exec_msg::{Line, Lines, Memory, Moment};
-use exec_plan::{Fed, Feed, Order};
-use exec_queue::bring_home_to_timers;
-use exec_rules::Item;
+use exec_plan::{Fed, Feed, FeedByRound, Graph, Order, Plan};
+use exec_rules::{Item, Ready};
 use futures::task::Context;
 
+// A round of a plan that begins: the graph, the round's number and moment, and what is fed in it.
+#[derive(Drop)]
+pub(crate) struct Round<'a> {
+    pub(crate) graph: &'a Graph,
+    pub(crate) number: u64,
+    pub(crate) moment: Moment,
+    pub(crate) fed: &'a [Feed],
+}
+
+impl<'a> Round<'a> {
+    ghost use Rattle.std.specs.Prelude.{◌≡◌, ◌<◌, ◌≤◌, length};
+    ghost use Rattle.exec_plan.specs.Feeding.{feeds_by_round};
+    ghost use Rattle.exec_rules.specs.Calls.{moment_of};
+    ghost use Rattle.exec_rules.specs.Transcript.{at_snapshot};
+    ghost use Rattle.exec_rules.specs.World.{WorldState};
+    ghost use Rattle.exec_world.specs.inner.Snapshots.{begun_by};
+
+    // The round of a plan that has this number, from 1, with what the plan feeds in it.
+    pub(crate) fn of(plan: &'a Plan, feed: &'a FeedByRound, number: usize) -> Round<'a>
+        requires first { 0 < number }
+        requires last { number ≤ length plan.now.moments }
+        requires fed { feed.now ≡ feeds_by_round plan.now }
+        requires sized { length feed.now ≡ length plan.now.moments }
+        ensures graph { result.graph.now ≡ plan.now.graph }
+        ensures moment { result.moment ≡ moment_of number plan.now }
+        ensures begun { (world : WorldState) → begun_by result world ≡ at_snapshot plan.now number (moment_of number plan.now) world }
+    {
+        Round {
+            graph: plan.graph(),
+            number: number as u64,
+            moment: plan.moments()[number - 1],
+            fed: feed.fed_in(number),
+        }
+    }
+}
+
 impl<L: Lines> WorldBody<L> {
-    ghost use Rattle.std.specs.Prelude.{◌≡◌, ◌≤◌, length, map, take, drop, OnOk};
+    ghost use Rattle.std.specs.Prelude.{◌≡◌, ◌≤◌, length, map, take, drop, IfOk, OnOk};
     ghost use Rattle.exec_msg.specs.declared.line.Line.TheVariants as line;
     ghost use Rattle.exec_rules.specs.Transcript.{expire, feed, feed_one, finish, run_all};
-    ghost use Rattle.exec_rules.specs.World.{add_line};
+    ghost use Rattle.exec_rules.specs.World.{WorldState, add_line};
     ghost use Rattle.exec_rules.specs.inner.Awake.{poll_at};
     ghost use Rattle.exec_rules.specs.inner.ByKind.{taken_in_parts};
-    ghost use Rattle.exec_world.specs.inner.Arrivals.{run_listed};
-    ghost use Rattle.exec_world.specs.inner.Snapshots.{ScriptsComeFrom, listed_in, round_in};
+    ghost use Rattle.exec_rules.specs.inner.Listing.{with_script_of};
+    ghost use Rattle.exec_world.specs.inner.Snapshots.{HaveScriptsOf, IsHandedOut, IsListed, arranged_in, begun_by, round_in};
 
-    // Begins the round of a number at a moment, and takes each input. The list then has only the callbacks that are ready.
+    // Begins a round, and takes each input. Answers the callbacks that are ready, each with a share in its script.
     pub(crate) fn begin_round(
         &mut self,
-        number: u64,
-        moment: Moment,
-        fed: &[Feed],
+        round: &Round<'_>,
         scratch: &mut Scratch,
-    ) -> Result<(), Memory>
-        ensures list { OnOk result (scratch.new.list ≡ listed_in moment (feed fed.now (expire moment (add_line (line.Round number moment) self.old)))) }
-        ensures taken { OnOk result (self.new ≡ taken_in_parts moment (feed fed.now (expire moment (add_line (line.Round number moment) self.old)))) }
+    ) -> Result<Vec<Ready>, Memory>
+        requires { HaveScriptsOf round.now.graph.now (begun_by round.now self.old) }
+        ensures list { IfOk result (λ list. list.items ≡ arranged_in round.now.moment (begun_by round.now self.old)) }
+        ensures taken { OnOk result (self.new ≡ taken_in_parts round.now.moment (begun_by round.now self.old)) }
     {
-        self.open_round(number, moment, fed)?;
-        self.snapshot(moment, scratch)?;
-        Ok(())
+        self.open_round(round)?;
+        self.list_in_parts(round.moment, scratch)?;
+        self.hand_out(round.graph, round.moment, scratch)
     }
 
-    // Runs the whole round of a number at a moment. Goals are polled in a context that the caller has made.
+    // Runs a whole round. Goals are polled in a context that the caller has made.
     pub(crate) fn run_round(
         &mut self,
-        number: u64,
-        moment: Moment,
-        fed: &[Feed],
+        round: &Round<'_>,
         scratch: &mut Scratch,
         cx: &mut Context<'_>,
     ) -> Result<(), Memory>
-        ensures { OnOk result (self.new ≡ round_in moment (feed fed.now (expire moment (add_line (line.Round number moment) self.old)))) }
+        requires { HaveScriptsOf round.now.graph.now (begun_by round.now self.old) }
+        ensures { OnOk result (self.new ≡ round_in round.now.moment (begun_by round.now self.old)) }
     {
-        self.open_round(number, moment, fed)?;
-        self.run_ready(moment, scratch, cx)
+        self.open_round(round)?;
+        let before = self.list_in_parts(round.moment, scratch)?;
+        self.run_listed(round.graph, round.moment, before, scratch, cx)
     }
 
-    // Takes each input at a moment, and runs the callbacks that are ready.
-    fn run_ready(
+    // Runs a whole round if its work is light, and answers nothing. Otherwise begins it, and answers its callbacks.
+    pub(crate) fn run_light_round(
         &mut self,
-        moment: Moment,
+        round: &Round<'_>,
+        light: &Light,
         scratch: &mut Scratch,
         cx: &mut Context<'_>,
-    ) -> Result<(), Memory>
-        ensures { OnOk result (self.new ≡ round_in moment self.old) }
+    ) -> Result<Option<Heavy>, Memory>
+        requires { HaveScriptsOf round.now.graph.now (begun_by round.now self.old) }
+        ensures { IfOk result (λ heavy. IsHandedOut round.now.moment (begun_by round.now self.old) heavy self.new) }
     {
-        let before = self.list_in_parts(moment, scratch)?;
-        self.list_arrivals(moment, scratch)?;
-        self.take_first();
-        self.run_listed(moment, before, scratch, cx)?;
-        self.bring_scripts_home(scratch);
-        Ok(())
+        self.open_round(round)?;
+        let before = self.list_in_parts(round.moment, scratch)?;
+        let instructions = scratch.instructions(round.graph);
+        if light.is_light(scratch.count(), instructions) {
+            self.run_listed(round.graph, round.moment, before, scratch, cx)?;
+            return Ok(None);
+        }
+        let list = self.hand_out(round.graph, round.moment, scratch)?;
+        Ok(Some(Heavy { list, instructions }))
     }
 
-    // Brings home the scripts of callbacks that ran.
-    fn bring_scripts_home(&mut self, scratch: &mut Scratch)
-        requires { ScriptsComeFrom self.old scratch.old.list scratch.old.homes }
-        ensures { self.new ≡ self.old }
-    {
-        bring_home_to_timers(&mut self.timers, &mut scratch.list, &scratch.homes.timers);
-        self.mail
-            .bring_scripts_home(&mut scratch.list, &scratch.homes.queues);
-    }
-
-    // Runs what was listed in the order of the plan. The first callbacks of the list, this many, come before polls under the order
-    // of kinds.
+    // Takes the first item of each queue that has one, and runs what a snapshot listed at a moment. The first callbacks, this
+    // many, come before polls under the order of kinds.
     fn run_listed(
         &mut self,
+        graph: &Graph,
         moment: Moment,
         before: usize,
         scratch: &mut Scratch,
         cx: &mut Context<'_>,
     ) -> Result<(), Memory>
         requires { before ≤ length scratch.old.list }
-        ensures ran { OnOk result (self.new
-            ≡ run_listed self.old.order before scratch.old.list (map (poll_at moment) scratch.old.goals.items) scratch.old.arrivals.items self.old) }
-        ensures list { scratch.new.list ≡ scratch.old.list }
-        ensures homes { scratch.new.homes ≡ scratch.old.homes }
+        ensures { OnOk result ((world : WorldState) → HaveScriptsOf graph.now world
+            → IsListed moment world before self.old scratch.old.list scratch.old.goals.items → self.new ≡ round_in moment world) }
     {
+        self.list_arrivals(moment, scratch)?;
+        self.take_first();
         match self.mail.order() {
-            Order::Kind => self.run_parts(moment, before, scratch, cx),
-            Order::Arrival => self.run_sorted(moment, scratch, cx),
+            Order::Kind => self.run_parts(graph, moment, before, scratch, cx),
+            Order::Arrival => self.run_sorted(graph, moment, scratch, cx),
         }
     }
 
-    // Runs the callbacks of the list that come before polls, then polls the goals, and then runs the others of the list.
+    // Runs the callbacks of the list that come before polls, this many, then polls the goals, and then runs the others of the list.
     fn run_parts(
         &mut self,
+        graph: &Graph,
         moment: Moment,
         before: usize,
         scratch: &mut Scratch,
         cx: &mut Context<'_>,
     ) -> Result<(), Memory>
         requires { before ≤ length scratch.old.list }
-        ensures ran { OnOk result (self.new ≡ run_all (drop before scratch.old.list)
-            (run_all (map (poll_at moment) scratch.old.goals.items) (run_all (take before scratch.old.list) self.old))) }
-        ensures list { scratch.new.list ≡ scratch.old.list }
-        ensures homes { scratch.new.homes ≡ scratch.old.homes }
+        ensures { OnOk result (self.new ≡ run_all (map (with_script_of graph.now) (drop before scratch.old.list))
+            (run_all (map (poll_at moment) scratch.old.goals.items) (run_all (map (with_script_of graph.now) (take before scratch.old.list)) self.old))) }
     {
         let list = scratch.list.as_slice();
         let effects = &mut scratch.effects;
-        self.run_all(&list[..before], effects, cx)?;
+        self.run_each(graph, &list[..before], effects, cx)?;
         self.run_polls(moment, &scratch.goals, effects, cx)?;
-        self.run_all(&list[before..], effects, cx)
+        self.run_each(graph, &list[before..], effects, cx)
     }
 
-    // Begins the round of a number at a moment: its line, expiry, and what is fed in it.
-    fn open_round(&mut self, number: u64, moment: Moment, fed: &[Feed]) -> Result<(), Memory>
-        ensures { OnOk result (self.new ≡ feed fed.now (expire moment (add_line (line.Round number moment) self.old))) }
+    // Begins a round: its line, expiry, and what is fed in it.
+    fn open_round(&mut self, round: &Round<'_>) -> Result<(), Memory>
+        ensures { OnOk result (self.new ≡ begun_by round.now self.old) }
     {
-        self.add_line(Line::Round { number, moment })?;
-        self.expire(moment)?;
-        self.feed(fed)?;
+        self.add_line(Line::Round {
+            number: round.number,
+            moment: round.moment,
+        })?;
+        self.expire(round.moment)?;
+        self.feed(round.fed)?;
         Ok(())
     }
 

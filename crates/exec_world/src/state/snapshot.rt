@@ -8,46 +8,16 @@ use crate::fronts::Fronts;
 use crate::scratch::Scratch;
 use exec_entity::Clients;
 use exec_msg::{EntityNo, Lines, Memory, Moment};
-use exec_plan::Order;
 use exec_queue::{Queues, take_due_into};
 use exec_rules::Item;
 
 impl<L: Lines> WorldBody<L> {
-    ghost use Rattle.std.specs.Prelude.{◌≡◌, ◌+◌, ◌≤◌, length, map, take, drop, IfOk, OnOk};
+    ghost use Rattle.std.specs.Prelude.{◌≡◌, map, IfOk, OnOk};
     ghost use Rattle.std.specs.List.{flat_map, fold};
-    ghost use Rattle.exec_plan.specs.declared.order.Order.TheVariants as order;
     ghost use Rattle.exec_rules.specs.Ready.{placed_from, queue_ready, queue_taken, reply_taken, timer_taken};
-    ghost use Rattle.exec_rules.specs.inner.ByKind.{queues_before_polls, taken_in_parts};
-    ghost use Rattle.exec_rules.specs.inner.Awake.{awake_goals};
-    ghost use Rattle.exec_rules.specs.inner.ByKind.{ready_before, ready_behind};
-    ghost use Rattle.exec_rules.specs.World.{WorldState};
-    ghost use Rattle.exec_rules.specs.inner.Homes.{queue_handlers};
-    ghost use Rattle.exec_rules.specs.inner.Listing.{listed_behind};
-    ghost use Rattle.exec_world.specs.inner.Snapshots.{ScriptsComeFrom, filled_places, listed_in, listed_under, queues_in_part};
-
-    // Takes each input at a moment. The list then has only the callbacks that are ready.
-    pub(super) fn snapshot(&mut self, moment: Moment, scratch: &mut Scratch) -> Result<(), Memory>
-        ensures list { OnOk result (scratch.new.list ≡ listed_in moment self.old) }
-        ensures taken { OnOk result (self.new ≡ taken_in_parts moment self.old) }
-    {
-        match self.mail.order() {
-            Order::Kind => self.snapshot_by_kind(moment, scratch),
-            Order::Arrival => self.snapshot_by_arrival(moment, scratch),
-        }
-    }
-
-    // The same under the order of kinds: each part is listed at its place.
-    fn snapshot_by_kind(&mut self, moment: Moment, scratch: &mut Scratch) -> Result<(), Memory>
-        ensures list { OnOk result (scratch.new.list ≡ listed_under order.Kind moment self.old) }
-        ensures taken { OnOk result (self.new ≡ taken_in_parts moment self.old) }
-    {
-        self.list_first(moment, scratch)?;
-        self.servers
-            .list_polls(self.alloc, moment, &mut scratch.goals, &mut scratch.list)?;
-        self.list_queues(false, moment, scratch)?;
-        self.take_first();
-        Ok(())
-    }
+    ghost use Rattle.exec_rules.specs.inner.ByKind.{queues_before_polls, ready_before};
+    ghost use Rattle.exec_rules.specs.inner.Listing.{as_listed, listed_behind};
+    ghost use Rattle.exec_world.specs.inner.Snapshots.{IsListed, filled_places, queues_in_part};
 
     // Lists the callbacks that are ready at a moment and no polls, and the goals that are awake. Queues still have their first
     // items. The answer is how many of the callbacks come before polls under the order of kinds.
@@ -56,15 +26,7 @@ impl<L: Lines> WorldBody<L> {
         moment: Moment,
         scratch: &mut Scratch,
     ) -> Result<usize, Memory>
-        ensures within { IfOk result (λ before. before ≤ length scratch.new.list) }
-        ensures first { IfOk result (λ before. take before scratch.new.list ≡ placed_from 1 (ready_before moment self.old)) }
-        ensures goals { OnOk result (scratch.new.goals.items ≡ flat_map (awake_goals moment) self.old.servers) }
-        ensures last { IfOk result (λ before. drop before scratch.new.list ≡ placed_from (before + 1) (ready_behind moment self.old)) }
-        ensures taken { OnOk result (self.new ≡ record self.old {
-          timers = map (timer_taken moment) self.old.timers;
-          clients = fold reply_taken self.old.clients (queues_before_polls self.old);
-        }) }
-        ensures homes { OnOk result (ScriptsComeFrom self.old scratch.new.list scratch.new.homes) }
+        ensures { IfOk result (λ before. IsListed moment self.old before self.new scratch.new.list scratch.new.goals.items) }
     {
         self.list_first(moment, scratch)?;
         let before = scratch.list.as_slice().len();
@@ -81,23 +43,15 @@ impl<L: Lines> WorldBody<L> {
     }
 
     // Lists only the callbacks that come before polls. Timers are called, and calls have the replies that are taken.
-    pub(super) fn list_first(&mut self, moment: Moment, scratch: &mut Scratch) -> Result<(), Memory>
-        ensures list { OnOk result (scratch.new.list ≡ placed_from 1 (ready_before moment self.old)) }
+    fn list_first(&mut self, moment: Moment, scratch: &mut Scratch) -> Result<(), Memory>
+        ensures list { OnOk result (scratch.new.list ≡ map as_listed (placed_from 1 (ready_before moment self.old))) }
         ensures taken { OnOk result (self.new ≡ record self.old {
           timers = map (timer_taken moment) self.old.timers;
           clients = fold reply_taken self.old.clients (queues_before_polls self.old);
         }) }
-        ensures homes { OnOk result (ScriptsComeFrom self.old scratch.new.list scratch.new.homes) }
     {
         scratch.list.clear();
-        scratch.homes.clear();
-        take_due_into(
-            self.alloc,
-            &mut self.timers,
-            moment,
-            &mut scratch.list,
-            &mut scratch.homes.timers,
-        )?;
+        take_due_into(self.alloc, &mut self.timers, moment, &mut scratch.list)?;
         self.list_queues(true, moment, scratch)?;
         answer_calls(&mut self.clients, self.mail.queues(), &scratch.places);
         Ok(())
@@ -105,7 +59,7 @@ impl<L: Lines> WorldBody<L> {
 
     // Lists the callbacks that take from the queues of kinds before polls, or of the other kinds. The places are then those of
     // the queues with an item.
-    pub(super) fn list_queues(
+    fn list_queues(
         &mut self,
         before_polls: bool,
         moment: Moment,
@@ -115,8 +69,6 @@ impl<L: Lines> WorldBody<L> {
             ≡ listed_behind scratch.old.list (flat_map (queue_ready moment self.old) (queues_in_part before_polls self.old))) }
         ensures places { OnOk result (scratch.new.places.items ≡ filled_places before_polls self.old.queues) }
         ensures same { self.new ≡ self.old }
-        ensures homes { OnOk result ((world : WorldState) → queue_handlers world ≡ queue_handlers self.old
-            → ScriptsComeFrom world scratch.old.list scratch.old.homes → ScriptsComeFrom world scratch.new.list scratch.new.homes) }
     {
         self.mail.list_filled(before_polls, &mut scratch.places)?;
         let fronts = Fronts {
@@ -124,12 +76,8 @@ impl<L: Lines> WorldBody<L> {
             moment,
             servers: &self.servers,
         };
-        self.mail.list_fronts(
-            &fronts,
-            &scratch.places,
-            &mut scratch.list,
-            &mut scratch.homes.queues,
-        )
+        self.mail
+            .list_fronts(&fronts, &scratch.places, &mut scratch.list)
     }
 }
 

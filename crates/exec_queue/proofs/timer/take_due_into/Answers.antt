@@ -1,6 +1,4 @@
-use Rattle.std.proofs.Common.{◌<◌, Some, slice_set, length, map, ap, sym, ◌∙◌, arith}
-use Rattle.std.proofs.lemmas.Option.{slice_get-get_or, slice_get-map}
-use Rattle.std.specs.Option.{option_map}
+use Rattle.std.proofs.Common.{◌<◌, slice_set, length, ap, sym, ◌∙◌, arith}
 use Rattle.std.proofs.lemmas.List.Edits.{map_over_more}
 use Rattle.exec_rules.specs.Ready.{due_ready, timer_taken}
 use Rattle.exec_rules.specs.World.{TimerEntry}
@@ -19,10 +17,4 @@ loop-place-preserved c =
           ∙ map_over_more (timer_taken c.args.now) c.args.timers.now c.loop-place.timers place entry within c.loop-place.invariant.0 read,
       listed_next (due_ready c.args.now) c.args.timers.now place entry c.loop-place.list _ _ within
           (c.in_ok-take_into.ensures.listed ∙ ap (λ (one : TimerEntry). listed_behind c.loop-place.list (due_ready c.args.now one)) (sym read ∙ there)) c.loop-place.invariant.1,
-      λ are. c.in_ok-take_into.ensures.homes (map (λ (one : TimerEntry). one.handler) c.args.timers.now)
-          (slice_get-map (λ (one : TimerEntry). one.handler) c.args.timers.now place ∙ ap (option_map (λ (one : TimerEntry). one.handler)) (slice_get-get_or c.args.timers.now place entry within ∙ ap Some (sym there ∙ read)))
-          (c.loop-place.invariant.2 are),
     )
-
-pub returns-clause-homes : goal.returns-clause-homes
-returns-clause-homes c = c.loop-place.invariant.2

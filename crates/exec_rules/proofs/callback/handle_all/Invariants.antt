@@ -10,4 +10,4 @@ invariant-loop-candidate l = record {
   variables = l.bank;
   given = l.effects;
   decisions = l.decisions;
-} ≡ fold (handle_cancel listed l.one) (record { variables = l.initial.bank; given = l.initial.effects; decisions = [] }) (take l.candidate-index l.candidate-items)
+} ≡ fold (handle_cancel listed l.runnable) (record { variables = l.initial.bank; given = l.initial.effects; decisions = [] }) (take l.candidate-index l.candidate-items)

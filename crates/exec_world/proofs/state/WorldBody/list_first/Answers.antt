@@ -1,10 +1,8 @@
-use Rattle.std.proofs.Common.{List, true, rules, map, ap, subst, sym, ◌∙◌}
+use Rattle.std.proofs.Common.{true, rules, map, ap, sym, ◌∙◌}
 use Rattle.std.proofs.lemmas.List.{with_items_is}
-use Rattle.exec_rules.proofs.ScriptsHome.{no_homes}
 use Rattle.exec_world.proofs.Snapshots.{answered, first_listed}
-use Rattle.exec_rules.specs.World.{Handler, TimerEntry, WorldState}
+use Rattle.exec_rules.specs.World.{WorldState}
 use Rattle.exec_rules.specs.Ready.{timer_taken}
-use Rattle.exec_rules.specs.inner.Homes.{AreHomes, queue_handlers, timer_handlers}
 use Rattle.exec_world.specs.inner.Snapshots.{filled_places}
 use Rattle.exec_world.proofs.state.WorldBody.list_first.Goals as goal
 
@@ -12,16 +10,6 @@ pub returns-clause-list : goal.returns-clause-list
 returns-clause-list g c =
     first_listed c.deref_mut.result.now c.args.moment c.clear.new.self c.take_due_into.new.list c.list_queues.new.scratch.list
     c.self.view_is c.deref_mut.ensures.value c.clear.ensures c.in_ok-take_due_into.ensures.listed c.in_ok-list_queues.ensures.list
-
-pub returns-clause-homes : goal.returns-clause-homes
-returns-clause-homes g c =
-    let handlers = map (λ (entry : TimerEntry). entry.handler) c.deref_mut.result.now in
-    let list = c.take_due_into.new.list in
-    let due = c.in_ok-take_due_into.ensures.homes (no_homes handlers c.clear.new.self c.clear-2.new.self.timers.items c.clear-2.ensures.timers) in
-    c.in_ok-list_queues.ensures.homes c.args.self.now (sym (ap queue_handlers c.self.view_is)) (record {
-      timers = subst (λ (of : List Handler). AreHomes of list c.take_due_into.new.homes.items) (ap (map (λ (entry : TimerEntry). entry.handler)) c.deref_mut.ensures.value ∙ ap timer_handlers c.self.view_is) due;
-      queues = no_homes (queue_handlers c.args.self.now) list c.clear-2.new.self.queues.items c.clear-2.ensures.queues;
-    })
 
 pub returns-clause-taken : goal.returns-clause-taken
 returns-clause-taken g c =
