@@ -97,7 +97,8 @@ impl ByNumber<ActionClient> {
     /// [`Memory`] if the goal's number isn't below 2^60. No run of a lawful plan sends so many goals (law
     /// `numbers_stay_below_their_limit`).
     pub fn send_goal(&mut self, client: EntityNo) -> Result<Option<(EntityNo, GoalId)>, Memory>
-        ensures made { IfOk result (λ made. made ≡ option_map (λ entry. (entry.server, goal_id entry.place (entry.goals + 1))) (find (is_action_client_at client) self.old)) }
+        ensures made { IfOk result (λ made. made
+            ≡ option_map (λ entry. (entry.server, goal_id entry.place (entry.goals + 1))) (find (is_action_client_at client) self.old)) }
         ensures sent { OnOk result (self.new ≡ change_first (is_action_client_at client) (λ entry. record entry { goals = entry.goals + 1 }) self.old) }
         ensures absent { IfOk result (λ made. made ≡ None → self.new ≡ self.old) }
         ensures memory { OnErr result (IsSomeAnd (find (is_action_client_at client) self.old) (λ entry. 2 ^ 60 ≤ entry.goals + 1)) }

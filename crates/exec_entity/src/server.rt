@@ -77,7 +77,8 @@ impl Model for Server {
 
     ghost view = { λ server. record { handler = server.handler; timeout = server.timeout; goals = server.goals; held = held_goals_of server.held.entries } };
 
-    ghost invariant = { λ server. AreKept server.goals (held_goals_of server.held.entries) × (server.wakes.items ≡ wakes_of (held_goals_of server.held.entries)) };
+    ghost invariant = { λ server. AreKept server.goals (held_goals_of server.held.entries)
+        × (server.wakes.items ≡ wakes_of (held_goals_of server.held.entries)) };
 }
 
 impl Server {

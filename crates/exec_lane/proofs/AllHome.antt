@@ -24,12 +24,12 @@ use Rattle.exec_rules.specs.declared.ready.Ready.{Ready}
 -- ---- one callback
 
 -- a task that was at home is there where the work is the same
-home_there : (server : EntityNo) (of : Cause) (first world : WorldState) → work_for server of world ≡ work_for server of first → IsHomeFor server of first → IsHomeFor server of world
+pub home_there : (server : EntityNo) (of : Cause) (first world : WorldState) → work_for server of world ≡ work_for server of first → IsHomeFor server of first → IsHomeFor server of world
 home_there server cause.Due first world same home = tt
 home_there server (cause.Took item) first world same home = tt
 home_there server (cause.Woke id value canceling) first world same home = (home.0, same ∙ home.1)
 
-work_beside : (server : EntityNo) (of : Cause) (one : Ready) (variables : Variables) (world : WorldState) → work_for server of (with_variables_for one variables world) ≡ work_for server of world
+pub work_beside : (server : EntityNo) (of : Cause) (one : Ready) (variables : Variables) (world : WorldState) → work_for server of (with_variables_for one variables world) ≡ work_for server of world
 work_beside server of one variables world = by of one.exclusive
   where
     by : (why : Cause) (b : Bool) → work_for server why (if b then with_variables one.group variables world else world) ≡ work_for server why world
@@ -39,7 +39,7 @@ work_beside server of one variables world = by of one.exclusive
     by (cause.Woke id value canceling) false = refl
 
 -- what comes home of a callback whose task was out, comes home as if the task had been there
-brought : (one : Ready) (work : Option GoalWork) (outcome : AfterCallback (List Effect)) (world : WorldState) → work_for one.entity one.cause world ≡ work → IsHomeFor one.entity one.cause world →
+pub brought : (one : Ready) (work : Option GoalWork) (outcome : AfterCallback (List Effect)) (world : WorldState) → work_for one.entity one.cause world ≡ work → IsHomeFor one.entity one.cause world →
     task_home one.entity one.cause (option_map (work_after outcome.task) work) (with_variables_for one outcome.variables (task_put one.entity one.cause None world)) ≡ brought_home one outcome world
 brought one work outcome world is home = by one.cause refl is home
   where
@@ -57,7 +57,7 @@ brought one work outcome world is home = by one.cause refl is home
         ∙ work_twice one.entity id None (Some (work_after outcome.task home.0)) after
         ∙ polled_home one.entity id home.0 outcome.task value canceling after (work_beside one.entity (cause.Woke id value canceling) one outcome.variables world ∙ home.1)
 
-variables_out : (server : EntityNo) (of : Cause) (world : WorldState) → (task_put server of None world).variables ≡ world.variables
+pub variables_out : (server : EntityNo) (of : Cause) (world : WorldState) → (task_put server of None world).variables ≡ world.variables
 variables_out server cause.Due world = refl
 variables_out server (cause.Took item) world = refl
 variables_out server (cause.Woke id value canceling) world = refl

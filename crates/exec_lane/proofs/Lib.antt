@@ -6,6 +6,12 @@ pub mod Cutting
 pub mod Groups
 pub mod Joining
 pub mod Outcomes
+pub mod Owned
+pub mod OwnersNoted
+pub mod PiecesMore
+pub mod PortionsGiven
+pub mod PortionsHome
+pub mod PortionsSteps
 pub mod Putting
 pub mod Stepping
 pub mod Taken

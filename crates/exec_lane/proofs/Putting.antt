@@ -201,7 +201,7 @@ left_by_home server (cause.Woke id value canceling) (Some work) other world apar
 
 -- ---- the variables of the group that a callback is of
 
-not_equal : (one other : ℕ) → (one == other) ≡ false → one ≢ other
+pub not_equal : (one other : ℕ) → (one == other) ≡ false → one ≢ other
 not_equal one other differ same = true≢false (sym (eq-eqb one other same) ∙ differ)
 
 -- those of callbacks that aren't beside each other may be put in either order

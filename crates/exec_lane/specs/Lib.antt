@@ -2,4 +2,5 @@ pub mod Examples
 pub mod Gather
 pub mod Lane
 pub mod Opening
+pub mod Portions
 pub mod inner

@@ -1,3 +1,5 @@
 pub mod Cuts
+pub mod Dealing
 pub mod Homing
+pub mod Pieces
 pub mod Slots

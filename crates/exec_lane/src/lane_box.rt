@@ -80,7 +80,12 @@ impl Model for LaneBox {
 
     ghost Value = { Lane };
 
-    ghost view = { λ lane. record { variables = lane.first_bank.value; entries = entries_of lane.first_slots.value.items; done = lane.done; failed = lane.failed } };
+    ghost view = { λ lane. record {
+      variables = lane.first_bank.value;
+      entries = entries_of lane.first_slots.value.items;
+      done = lane.done;
+      failed = lane.failed;
+    } };
 
     ghost invariant = { λ lane.
         (lane.bank ≡ (lane_at lane.first_bank.value (entries_of lane.first_slots.value.items) lane.done).variables)

@@ -4,6 +4,7 @@ ghost use Rattle.std.specs.List.{filter, flat_map, list_any};
 ghost use Rattle.exec_plan.specs.Plan.{PlanData};
 ghost use Rattle.exec_lane.specs.Gather.{all_ran, outcomes_in, ran_in};
 ghost use Rattle.exec_lane.specs.Lane.{AreFinished, Lane, as_lane, has_exclusive, is_of_exclusive, lanes_home, lanes_of, opened_lanes, tasks_out};
+ghost use Rattle.exec_lane.specs.Portions.{AreWhole, HasRun, IsGiven, PortionState, all_ran_apart, of_owner, run_owned};
 ghost use Rattle.exec_lane.specs.declared.outcome.Outcome.{Outcome};
 ghost use Rattle.exec_msg.specs.declared.kind.Kind.{Kind};
 ghost use Rattle.exec_msg.specs.declared.kind.Kind.TheVariants as kind;
@@ -38,7 +39,8 @@ pub fn a_reentrant_callback_is_a_lane()
 /// queue.
 pub fn lanes_share_no_queue()
     ensures { (plan : PlanData) (number : ℕ) (moments : List ℕ) (next moment entity : ℕ) (of : Kind) → of ≢ kind.Poll →
-        length (filter (is_callback_of entity of) (flat_map (λ lane. lane) (lanes_of (ready_list moment (at_snapshot plan next moment (rounds plan number moments (first_world plan))))))) ≤ 1 }
+        length (filter (is_callback_of entity of) (flat_map (λ lane. lane)
+        (lanes_of (ready_list moment (at_snapshot plan next moment (rounds plan number moments (first_world plan))))))) ≤ 1 }
 {
     exec_rules::laws::an_entity_has_one_callback_of_a_kind();
 }
@@ -54,8 +56,19 @@ pub fn outcomes_stay_as_a_lane_goes_on()
 /// Lanes that ran, in any threads and in any order, come home as callbacks do that run one after another. What the callbacks
 /// did is the same.
 pub fn lanes_come_home_as_one_thread_leaves_them()
-    ensures home { (list : List Ready) (world : WorldState) (lanes : List Lane) → AreHome list world → HaveVariables list world → AreFinished (opened_lanes list world) lanes →
+    ensures home { (list : List Ready) (world : WorldState) (lanes : List Lane) → AreHome list world → HaveVariables list world
+        → AreFinished (opened_lanes list world) lanes →
         lanes_home lanes (tasks_out list world) ≡ all_home list world }
-    ensures ran { (list : List Ready) (world : WorldState) (lanes : List Lane) → AreHome list world → HaveVariables list world → AreFinished (opened_lanes list world) lanes →
+    ensures ran { (list : List Ready) (world : WorldState) (lanes : List Lane) → AreHome list world → HaveVariables list world
+        → AreFinished (opened_lanes list world) lanes →
         IsPermutation (flat_map ran_in lanes) (all_ran list (all_apart list world)) }
+{}
+
+/// A worker that runs the callbacks of a list that it owns, from what it was given, does what they do that run one after another
+/// among the others.
+pub fn a_worker_runs_its_callbacks_as_one_thread_does()
+    ensures { (list : List Ready) (world : WorldState) (owners : List ℕ) (worker : ℕ) (portion : PortionState) → AreWhole owners list
+        → AreHome list world → HaveVariables list world →
+        IsGiven world (of_owner worker owners list) portion
+        → HasRun (of_owner worker owners (all_ran_apart list world)) (run_owned worker owners list portion) }
 {}

@@ -53,7 +53,9 @@ impl Model for Queues {
 
     ghost view = { λ queues. queues.entries.items };
 
-    ghost invariant = { λ queues. FindsQueues queues.places queues.entries.items × CoversFilled queues.filled.items queues.entries.items × AreFilled queues.filled.items queues.entries.items × (queues.settled ≡ true → IsStrictlyIncreasing queues.filled.items) × (queues.has_late ≡ false → AreBeforePolls queues.entries.items) × HaveTheirNumbers queues.entries.items };
+    ghost invariant = { λ queues. FindsQueues queues.places queues.entries.items × CoversFilled queues.filled.items queues.entries.items
+        × AreFilled queues.filled.items queues.entries.items × (queues.settled ≡ true → IsStrictlyIncreasing queues.filled.items)
+        × (queues.has_late ≡ false → AreBeforePolls queues.entries.items) × HaveTheirNumbers queues.entries.items };
 }
 
 impl Queues {
@@ -84,7 +86,8 @@ impl Queues {
         order: Order,
     ) -> Result<(), Memory>
         requires { (1 ≤ depth) × (depth ≤ DEPTH) }
-        ensures ok { OnOk result (self.new ≡ self.old ++ record { handler = handler; kind = kind; depth = depth; items = []; arrivals = no_arrivals order } ∷ []) }
+        ensures ok { OnOk result (self.new
+            ≡ self.old ++ record { handler = handler; kind = kind; depth = depth; items = []; arrivals = no_arrivals order } ∷ []) }
         ensures unchanged { OnErr result (self.new ≡ self.old) }
     {
         let slot = queue_number(handler.entity, kind);
@@ -172,7 +175,9 @@ impl Queues {
         place: usize,
         list: &mut ReadyList,
     ) -> Result<bool, Memory>
-        ensures listed { IfOk result (λ done. done ≡ true → (goals : Handler → List _) → list.new ≡ listed_behind list.old (option_map_or (λ queue. item_ready moment queue.handler (goals queue.handler) queue.items) (slice_get self.now place) [])) }
+        ensures listed { IfOk result (λ done. done ≡ true → (goals : Handler → List _)
+            → list.new ≡ listed_behind list.old
+            (option_map_or (λ queue. item_ready moment queue.handler (goals queue.handler) queue.items) (slice_get self.now place) [])) }
         ensures left { IfOk result (λ done. done ≡ false → list.new ≡ list.old) }
     {
         match self.at(place) {
@@ -263,8 +268,10 @@ fn send_at(
 ) -> Result<Option<Item>, Memory>
     ensures ok { OnOk result (entries.new.items ≡ change_at place (queue_after number.now item) entries.old.items) }
     ensures filled { OnOk result (place < length entries.old.items → is_filled_at entries.new.items place ≡ true) }
-    ensures noted { OnOk result (place < length entries.old.items → filled.new.items ≡ noted_if (is_filled_at entries.old.items place) place filled.old.items) }
-    ensures lost { IfOk result (λ lost. lost ≡ option_map_or (λ queue. slice_get (displaced queue.depth item queue.items) 0) (slice_get entries.old.items place) None) }
+    ensures noted { OnOk result (place < length entries.old.items
+        → filled.new.items ≡ noted_if (is_filled_at entries.old.items place) place filled.old.items) }
+    ensures lost { IfOk result (λ lost. lost
+        ≡ option_map_or (λ queue. slice_get (displaced queue.depth item queue.items) 0) (slice_get entries.old.items place) None) }
     ensures bound { IfSome (slice_get entries.old.items place) (λ queue. length queue.items ≤ queue.depth) }
     ensures unchanged { OnErr result (entries.new.items ≡ entries.old.items) }
     ensures same { OnErr result (filled.new.items ≡ filled.old.items) }

@@ -1,17 +1,17 @@
 -- What was collected is what the callbacks did.
-use Rattle.std.proofs.Common.{◌≡◌, ℕ, zero, suc, ◌+◌, ◌-◌, ◌<◌, ◌≤◌, All, List, [], ◌∷◌, ◌++◌, get_or, length, refl, sym, ap, subst, ◌∙◌, arith, IsPermutation}
+use Rattle.std.proofs.Common.{◌≡◌, ℕ, zero, suc, ◌<◌, ◌≤◌, List, [], ◌∷◌, ◌++◌, length, refl, sym, subst, ◌∙◌, arith, IsPermutation}
 use Rattle.std.specs.List.{flat_map}
 use Rattle.std.proofs.lemmas.List.Concat.{flat_map-cons}
 use Rattle.std.proofs.lemmas.List.Sorted.{IsPermutation-append_left, IsPermutation-sym, IsPermutation-trans}
-use Rattle.exec_board.specs.Board.{AreClosed, IsClosedLane}
-use Rattle.exec_board.specs.Rule.{covered, in_range, in_segment, tally}
-use Rattle.exec_board.specs.Seats.{SeatView, Segment}
+use Rattle.exec_board.specs.Board.{AreClosed}
+use Rattle.exec_board.specs.Rule.{in_range, in_segment, tally}
+use Rattle.exec_board.specs.Seats.{SeatView}
 use Rattle.exec_lane.specs.Gather.{outcomes_in}
 use Rattle.exec_lane.specs.Lane.{AreFinished, IsFinished, Lane}
 use Rattle.exec_lane.specs.Opening.{no_lane, opened_lane}
 use Rattle.exec_lane.specs.declared.outcome.Outcome.{Outcome}
 use Rattle.exec_round.proofs.Places.{whole_left}
-use Rattle.exec_round.specs.inner.Streams.{AreUnrun, all_outcomes, outcomes_by, outcomes_of}
+use Rattle.exec_round.specs.inner.Streams.{AreUnrun, all_outcomes, outcomes_by}
 
 -- a lane of which all callbacks ran has the outcomes of all
 finished_outcomes : (opening lane : Lane) → IsFinished opening lane → outcomes_in lane ≡ all_outcomes opening

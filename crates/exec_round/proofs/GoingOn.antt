@@ -1,5 +1,5 @@
 -- What workers of a streamed round run, and what they send on.
-use Rattle.std.proofs.Common.{◌≡◌, ℕ, zero, suc, ◌+◌, ◌-◌, ◌<◌, ◌≤◌, List, [], ◌∷◌, ◌++◌, append-nil, append_assoc, length, Option, refl, slice_set, sym, ap, subst, ◌∙◌, arith, IsPermutation}
+use Rattle.std.proofs.Common.{◌≡◌, ℕ, zero, suc, ◌+◌, ◌-◌, ◌≤◌, List, [], ◌∷◌, ◌++◌, append-nil, append_assoc, length, refl, slice_set, sym, ap, subst, ◌∙◌, arith, IsPermutation}
 use Rattle.std.specs.Result.{OnOk, result_and}
 use Rattle.std.specs.declared.result.Result.{Result}
 use Rattle.std.specs.declared.result.Result.TheVariants.{Ok, Err}
@@ -8,13 +8,13 @@ use Rattle.std.specs.List.{flat_map, range_with_len, slice_get}
 use Rattle.std.specs.Option.{option_to_list}
 use Rattle.std.proofs.lemmas.Grind.{flat_map-append}
 use Rattle.std.proofs.lemmas.List.Concat.{flat_map-cons}
-use Rattle.std.proofs.lemmas.List.Sorted.{IsPermutation-append, IsPermutation-append_left, IsPermutation-append_right, IsPermutation-refl, IsPermutation-trans}
+use Rattle.std.proofs.lemmas.List.Sorted.{IsPermutation-append, IsPermutation-append_left, IsPermutation-refl, IsPermutation-trans}
 use Rattle.exec_lane.specs.Gather.{outcomes_in}
 use Rattle.exec_lane.specs.Lane.{Lane}
 use Rattle.exec_lane.specs.Opening.{IsLaneOf, opened_lane}
 use Rattle.exec_lane.specs.declared.outcome.Outcome.{Outcome}
 use Rattle.exec_board.specs.Board.{ClaimView, IsClaimOf}
-use Rattle.exec_board.specs.Seats.{SeatView, Segment, holding, released_lane, together}
+use Rattle.exec_board.specs.Seats.{SeatView, holding, released_lane, together}
 use Rattle.exec_round.proofs.Balances.{behind}
 use Rattle.exec_round.specs.Outcomes.{Hand, joined_hands}
 use Rattle.exec_round.specs.declared.streaming.Worker.{Worker}

@@ -2,6 +2,7 @@ pub mod Balances
 pub mod Collected
 pub mod Crossing
 pub mod Dealing
+pub mod DealtRounds
 pub mod GoingOn
 pub mod HeldLanes
 pub mod InOrder

@@ -76,7 +76,7 @@ snapshot_is number world taken (one ∷ list) is some begun =
     begun ∙ ap (λ (ready : List Ready). with_uncommitted (length ready) begun_world) (sym is) ∙ some_left (length list) begun_world
 
 -- a round whose callbacks are committed behind the last of them, at home
-round_ends : (number : ℕ) (world taken home : WorldData) (list : List Ready) → list ≡ ready_in number world → 0 < length list → taken ≡ after_snapshot number world →
+pub round_ends : (number : ℕ) (world taken home : WorldData) (list : List Ready) → list ≡ ready_in number world → 0 < length list → taken ≡ after_snapshot number world →
     home ≡ record taken { state = all_home list taken.state } →
     run_all list taken.state ≡ commit_all list (all_apart list taken.state) (all_home list taken.state) →
     after_commits (all_ran list (all_apart list taken.state)) home ≡ after_round number world

@@ -1,5 +1,5 @@
 -- What was sent on.
-use Rattle.std.proofs.Common.{◌≡◌, ◌∷◌, [], ◌++◌, List, sym, ap, subst, ◌∙◌, IsPermutation}
+use Rattle.std.proofs.Common.{◌≡◌, ◌∷◌, [], ◌++◌, List, sym, ap, subst, IsPermutation}
 use Rattle.exec_lane.specs.declared.outcome.Outcome.{Outcome}
 use Rattle.exec_round.proofs.Balances.{behind}
 use Rattle.exec_round.specs.Outcomes.{Hand, having_put}

@@ -37,7 +37,8 @@ pub fn put_outcome<R: Wait>(
     requires queue { IsPassOf queue.now pass.old }
     requires parts { 0 < (view pass.old).parts }
     ensures queue { IsPassOf queue.now pass.new }
-    ensures put { MatchResult result (λ _. view pass.new ≡ having_put outcome (view pass.old)) (λ back. (back ≡ outcome) × (view pass.new ≡ view pass.old) × WasHolding (ruled_capacity queue.now) (view pass.old)) }
+    ensures put { MatchResult result (λ _. view pass.new ≡ having_put outcome (view pass.old))
+        (λ back. (back ≡ outcome) × (view pass.new ≡ view pass.old) × WasHolding (ruled_capacity queue.now) (view pass.old)) }
 {
     queue.push_as::<Putting, R>(rt, pass, outcome)
 }
@@ -51,7 +52,8 @@ pub fn take_outcome<R: Wait>(
     requires queue { IsPassOf queue.now pass.old }
     requires parts { 0 < (view pass.old).parts }
     ensures queue { IsPassOf queue.now pass.new }
-    ensures taken { MatchOption result ((view pass.new ≡ view pass.old) × WasHolding 0 (view pass.old)) (λ outcome. view pass.new ≡ having_taken outcome (view pass.old)) }
+    ensures taken { MatchOption result ((view pass.new ≡ view pass.old) × WasHolding 0 (view pass.old))
+        (λ outcome. view pass.new ≡ having_taken outcome (view pass.old)) }
 {
     queue.pop_as::<Taking, R>(rt, pass)
 }

@@ -5,6 +5,7 @@ mod claiming;
 mod collecting;
 pub mod laws;
 mod outcomes;
+mod portions;
 mod rounds;
 mod running;
 mod sending;

@@ -8,6 +8,7 @@ ghost use Rattle.exec_rules.specs.Calls.{IsNext, after_commit, after_round};
 ghost use Rattle.exec_world.specs.Heavy.{IsBegun};
 
 use crate::claiming::claim_lanes;
+use crate::portions::run_dealt;
 use crate::streaming::stream_lanes;
 use crate::weighing::{LIGHT, workers_for};
 use crate::workers::run_lanes;
@@ -30,8 +31,8 @@ pub(crate) enum Division {
 /// Runs a whole round by at most `workers` workers, 1 or more. Its callbacks are cut into lanes. Lane i, from 0, goes to worker
 /// i modulo the number of workers. Each worker runs its lanes one after another, in a thread of its own if one can be made.
 /// What the callbacks did is committed when the last of them has run. No thread is made for one worker alone. If nobody
-/// watches, none is made for a round whose callbacks take less time than workers to start. If memory is refused, the world is
-/// dropped.
+/// watches there are no lanes: callbacks are dealt to workers, or run in the calling thread if they take less time than workers
+/// to start. If memory is refused, the world is dropped.
 ///
 /// # Errors
 /// [`Memory`] if a growth or a clone was refused. All threads have ended then.
@@ -58,8 +59,8 @@ pub fn round_forked<L: Lines, R: Threads + Sync, G: Gate>(
 /// Runs a whole round by at most `workers` workers, 1 or more. Its callbacks are cut into lanes on a board. Each worker claims
 /// a lane that is open, runs at most `quantum` callbacks of it, 1 or more, and releases it, until a visit to each lane brings
 /// no claim. It runs in a thread of its own if one can be made. What the callbacks did is committed when the last of them has
-/// run. No thread is made for one worker alone. If nobody watches, none is made for a round whose callbacks take less time than
-/// workers to start. If memory is refused, the world is dropped.
+/// run. No thread is made for one worker alone. If nobody watches, there are neither lanes nor claims ([`round_forked`]). If
+/// memory is refused, the world is dropped.
 ///
 /// # Errors
 /// [`Memory`] if a growth or a clone was refused. All threads have ended then.
@@ -114,7 +115,7 @@ pub fn round_streamed<L: Lines, R: Threads + Wait + Sync, G: Gate>(
     Ok(world)
 }
 
-// Runs a round. If nobody watches, the calling thread runs callbacks that take less time than workers to start.
+// Runs a round. If somebody watches, it is cut into lanes.
 pub(crate) fn run_round<L: Lines, R: Threads + Sync, G: Gate>(
     rt: &R,
     alloc: Global,
@@ -131,7 +132,7 @@ pub(crate) fn run_round<L: Lines, R: Threads + Sync, G: Gate>(
 {
     laws::lanes_come_home_as_one_thread_leaves_them();
     exec_rules::laws::callbacks_may_be_committed_behind();
-    let Some(begun) = begin(rt, world, round, workers, gate)? else {
+    let Some(begun) = begin(rt, alloc, world, round, workers, gate)? else {
         return Ok(());
     };
     let Begun { list, workers } = begun;
@@ -142,8 +143,7 @@ pub(crate) fn run_round<L: Lines, R: Threads + Sync, G: Gate>(
     Ok(())
 }
 
-// Runs a round whose workers send on what callbacks did, and commits that. If nobody watches, the calling thread runs callbacks
-// that take less time than workers to start.
+// Runs a round. If somebody watches, it is cut into lanes, whose workers send on what callbacks did, and that is committed.
 pub(crate) fn stream_round<L: Lines, R: Threads + Wait + Sync, G: Gate>(
     rt: &R,
     alloc: Global,
@@ -160,7 +160,7 @@ pub(crate) fn stream_round<L: Lines, R: Threads + Wait + Sync, G: Gate>(
 {
     laws::lanes_come_home_as_one_thread_leaves_them();
     exec_rules::laws::callbacks_may_be_committed_behind();
-    let Some(begun) = begin(rt, world, round, workers, gate)? else {
+    let Some(begun) = begin(rt, alloc, world, round, workers, gate)? else {
         return Ok(());
     };
     let Begun { list, workers } = begun;
@@ -177,10 +177,11 @@ struct Begun {
     workers: usize,
 }
 
-// Begins a round. Answers its callbacks, or nothing if the calling thread has run them. It does if there are none. If nobody
-// watches, it does too if workers would save no time.
-fn begin<L: Lines, R: Threads, G: Gate>(
+// Begins a round. Answers its callbacks, or nothing if the round is done. It is if there are none, and if nobody watches: the
+// callbacks are then dealt to workers if these save time, and run in the calling thread otherwise.
+fn begin<L: Lines, R: Threads + Sync, G: Gate>(
     rt: &R,
+    alloc: Global,
     world: &mut World<L>,
     round: usize,
     workers: usize,
@@ -190,6 +191,7 @@ fn begin<L: Lines, R: Threads, G: Gate>(
     requires workers { 0 < workers }
     ensures { IfOk result (λ begun. HasBegun round begun world.old world.new) }
 {
+    exec_rules::laws::callbacks_may_be_committed_behind();
     let Some(heavy) = list_callbacks(world, round, gate)? else {
         return Ok(None);
     };
@@ -201,6 +203,10 @@ fn begin<L: Lines, R: Threads, G: Gate>(
         world.run_ready(list.as_slice())?;
         return Ok(None);
     };
+    if gate.is_open() {
+        run_dealt(rt, alloc, list.as_slice(), workers, world)?;
+        return Ok(None);
+    }
     Ok(Some(Begun { list, workers }))
 }
 

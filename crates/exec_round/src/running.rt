@@ -133,11 +133,13 @@ pub fn run_into<R: Threads + Wait + Sync, G: Gate, O: Out>(
     requires workers { (0 < workers) × (workers ≤ 64) }
     requires quantum { (0 < quantum) × (quantum ≤ 1024) }
     requires unfailed { (O.sink out.old).failed ≡ false }
-    ensures text { OnOk result ((plan : PlanData) × (document_of document.now ≡ Some plan) × Appends (O.sink out.old).contents (O.sink out.new).contents (text_of plan)) }
+    ensures text { OnOk result ((plan : PlanData) × (document_of document.now ≡ Some plan)
+        × Appends (O.sink out.old).contents (O.sink out.new).contents (text_of plan)) }
     ensures unfailed { OnOk result ((O.sink out.new).failed ≡ false) }
     ensures refused { (code : _) → result ≡ Err (fault.Refused code) → IsRefusalOf document.now code × (O.sink out.new ≡ O.sink out.old) }
     ensures failed { result ≡ Err fault.Write → (O.sink out.new).failed ≡ true }
-    ensures front { result ≡ Err fault.Write → (plan : PlanData) × (document_of document.now ≡ Some plan) × ((count : ℕ) × Appends (O.sink out.old).contents (O.sink out.new).contents (take count (text_of plan))) }
+    ensures front { result ≡ Err fault.Write → (plan : PlanData) × (document_of document.now ≡ Some plan)
+        × ((count : ℕ) × Appends (O.sink out.old).contents (O.sink out.new).contents (take count (text_of plan))) }
 {
     let transcript = transcribe_streamed(rt, alloc, document, workers, quantum, gate)?;
     let mut reader = transcript.reader(alloc)?;

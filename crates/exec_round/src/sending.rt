@@ -25,7 +25,12 @@ impl Model for Sender {
 
     ghost Value = { SenderView };
 
-    ghost view = { λ sender. record { queue = sender.pass.table_id; hand = hand_of sender.pass; kept = sender.kept.items; room = vec_capacity sender.kept - vec_len sender.kept } };
+    ghost view = { λ sender. record {
+      queue = sender.pass.table_id;
+      hand = hand_of sender.pass;
+      kept = sender.kept.items;
+      room = vec_capacity sender.kept - vec_len sender.kept;
+    } };
 
     // No slot of the queue is out with the pass.
     ghost invariant = { λ sender. sender.pass.me.1 ≡ [] };

@@ -223,11 +223,13 @@ fn work_by<R: Threads + Wait + Sync, G: Gate>(
         rt,
         move || -> (Worker, Result<(), Memory>)
             requires { IsSync R.row × IsSync G.row × MayBegin stream.now.board (queue_id stream.now.queue) front }
-            ensures { IsWorkerAt stream.entry.now.board (queue_id stream.entry.now.queue) result.0 × KeepsShare front result.0 × OnOk result.1 (HasSentAll result.0) }
+            ensures { IsWorkerAt stream.entry.now.board (queue_id stream.entry.now.queue) result.0 × KeepsShare front result.0
+                × OnOk result.1 (HasSentAll result.0) }
         { work_by(rt, alloc, stream, front, gate) },
         move || -> (Worker, Result<(), Memory>)
             requires { IsSync R.row × IsSync G.row × MayBegin stream.now.board (queue_id stream.now.queue) back }
-            ensures { IsWorkerAt stream.entry.now.board (queue_id stream.entry.now.queue) result.0 × KeepsShare back result.0 × OnOk result.1 (HasSentAll result.0) }
+            ensures { IsWorkerAt stream.entry.now.board (queue_id stream.entry.now.queue) result.0 × KeepsShare back result.0
+                × OnOk result.1 (HasSentAll result.0) }
         { work_by(rt, alloc, stream, back, gate) },
     );
     let (worker, joined) = front.join(stream, back);
@@ -273,7 +275,8 @@ fn work_beside<R: Threads + Wait + Sync, G: Gate>(
         rt,
         move || -> (Worker, Result<(), Memory>)
             requires { IsSync R.row × IsSync G.row × MayBegin stream.now.board (queue_id stream.now.queue) worker }
-            ensures { IsWorkerAt stream.entry.now.board (queue_id stream.entry.now.queue) result.0 × KeepsShare worker result.0 × OnOk result.1 (HasSentAll result.0) }
+            ensures { IsWorkerAt stream.entry.now.board (queue_id stream.entry.now.queue) result.0 × KeepsShare worker result.0
+                × OnOk result.1 (HasSentAll result.0) }
         {
             let worked = work_by(rt, alloc, stream, worker, gate);
             running.end();

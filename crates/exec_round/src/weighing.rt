@@ -5,18 +5,18 @@ use exec_lane::Gate;
 use exec_world::Light;
 use std::thread::{Threads, available_parallelism};
 
-// Nanoseconds: what an instruction takes, what it costs to cut a callback off and to bring it home, and what it costs to start
-// a worker and to wait for its end. How they were measured is in docs/MEASURED.md.
-const INSTRUCTION: u64 = 5;
+// Nanoseconds: what an instruction takes, what it costs to deal a callback and to bring it home, and what it costs to start a
+// worker and to wait for its end. How they were measured is in docs/MEASURED.md.
+const INSTRUCTION: u64 = 4;
 
-const CUT: u64 = 3_000;
+const DEAL: u64 = 200;
 
-const START: u64 = 50_000;
+const START: u64 = 200_000;
 
 // What no number of workers saves time with.
 pub(crate) const LIGHT: Light = Light {
     least: START / INSTRUCTION,
-    each: CUT / INSTRUCTION,
+    each: DEAL / INSTRUCTION,
 };
 
 // How many workers run so many callbacks with so many instructions in all, at most `workers`. None if the calling thread runs
@@ -79,7 +79,7 @@ fn pays(work: u64, callbacks: usize, workers: usize) -> bool
     }
     let workers = workers as u64;
     let cost = (callbacks as u64)
-        .saturating_mul(CUT)
+        .saturating_mul(DEAL)
         .saturating_add((workers - 1).saturating_mul(START));
     work - work / workers > cost
 }

@@ -34,28 +34,54 @@ impl Ready {
     ) -> Result<Effects, Memory>
         ensures effects { IfOk result (λ did. did ≡ effects_of (apart_with self.now (option_map work_of task.old) bank.old)) }
         ensures variables { OnOk result (bank.new ≡ (apart_with self.now (option_map work_of task.old) bank.old).variables) }
-        ensures task { OnOk result (option_map work_of task.new ≡ option_map (work_after (apart_with self.now (option_map work_of task.old) bank.old).task) (option_map work_of task.old)) }
+        ensures task { OnOk result (option_map work_of task.new
+            ≡ option_map (work_after (apart_with self.now (option_map work_of task.old) bank.old).task) (option_map work_of task.old)) }
         ensures unchanged { OnErr result (bank.new ≡ bank.old) }
         ensures unchanged_task { OnErr result (option_map work_of task.new ≡ option_map work_of task.old) }
     {
         let mut effects = EffectList::new(alloc);
-        let mut after = *bank;
-        let runnable = Runnable::of(self);
-        let mut close = Close::Nothing;
-        match &self.cause {
-            Cause::Due => runnable.call_in(Role::Callback, &mut after, &mut effects, &mut close)?,
-            Cause::Took(item) => {
-                runnable.take_item(alloc, item, &mut after, &mut effects, &mut close)?;
-            }
-            Cause::Woke { canceling, .. } => {
-                close = self.poll_apart(*canceling, task, &mut after, poller, &mut effects)?;
-            }
-        }
-        *bank = after;
+        let close = self.run_apart_into(alloc, task, bank, poller, &mut effects)?;
         Ok(Effects {
             list: effects,
             close,
         })
+    }
+
+    /// Runs the callback as [`run_apart`](Ready::run_apart) does. The list then has its effects alone. Answers what closes it.
+    ///
+    /// # Errors
+    /// [`Memory`] if a growth was refused. The variables and the task's work don't change.
+    pub fn run_apart_into(
+        &self,
+        alloc: Global,
+        task: &mut Option<GoalTask>,
+        bank: &mut Bank,
+        poller: &Poller,
+        effects: &mut EffectList,
+    ) -> Result<Close, Memory>
+        ensures effects { OnOk result (effects.new ≡ (apart_with self.now (option_map work_of task.old) bank.old).given) }
+        ensures close { IfOk result (λ close. close ≡ (apart_with self.now (option_map work_of task.old) bank.old).close) }
+        ensures variables { OnOk result (bank.new ≡ (apart_with self.now (option_map work_of task.old) bank.old).variables) }
+        ensures task { OnOk result (option_map work_of task.new
+            ≡ option_map (work_after (apart_with self.now (option_map work_of task.old) bank.old).task) (option_map work_of task.old)) }
+        ensures unchanged { OnErr result (bank.new ≡ bank.old) }
+        ensures unchanged_task { OnErr result (option_map work_of task.new ≡ option_map work_of task.old) }
+    {
+        effects.clear();
+        let mut after = *bank;
+        let runnable = Runnable::of(self);
+        let mut close = Close::Nothing;
+        match &self.cause {
+            Cause::Due => runnable.call_in(Role::Callback, &mut after, effects, &mut close)?,
+            Cause::Took(item) => {
+                runnable.take_item(alloc, item, &mut after, effects, &mut close)?;
+            }
+            Cause::Woke { canceling, .. } => {
+                close = self.poll_apart(*canceling, task, &mut after, poller, effects)?;
+            }
+        }
+        *bank = after;
+        Ok(close)
     }
 
     // Polls the goal's task. The list then has its effects alone.
@@ -70,7 +96,9 @@ impl Ready {
         ensures effects { OnOk result (effects.new ≡ (poll_listed (turn_at self.now.moment canceling) (option_map work_of task.old) bank.old).given) }
         ensures close { IfOk result (λ close. close ≡ (poll_listed (turn_at self.now.moment canceling) (option_map work_of task.old) bank.old).close) }
         ensures variables { OnOk result (bank.new ≡ (poll_listed (turn_at self.now.moment canceling) (option_map work_of task.old) bank.old).variables) }
-        ensures task { OnOk result (option_map work_of task.new ≡ option_map (work_after (poll_listed (turn_at self.now.moment canceling) (option_map work_of task.old) bank.old).task) (option_map work_of task.old)) }
+        ensures task { OnOk result (option_map work_of task.new
+            ≡ option_map (work_after (poll_listed (turn_at self.now.moment canceling) (option_map work_of task.old) bank.old).task)
+            (option_map work_of task.old)) }
         ensures unchanged { OnErr result (option_map work_of task.new ≡ option_map work_of task.old) }
     {
         let turn = Turn {
@@ -112,9 +140,13 @@ fn handle_cancel(
     bank: &mut Bank,
     effects: &mut EffectList,
 ) -> Result<CancelDecision, Memory>
-    ensures variables { OnOk result (bank.new ≡ (called listed (instructions_of runnable.now.script) bank.old (candidate_input runnable.now.moment candidate.now) effects.old).variables) }
-    ensures effects { OnOk result (effects.new ≡ (called listed (instructions_of runnable.now.script) bank.old (candidate_input runnable.now.moment candidate.now) effects.old).given) }
-    ensures decision { IfOk result (λ decision. decision ≡ cancel_decided (called listed (instructions_of runnable.now.script) bank.old (candidate_input runnable.now.moment candidate.now) effects.old).reply_or_decision) }
+    ensures variables { OnOk result (bank.new
+        ≡ (called listed (instructions_of runnable.now.script) bank.old (candidate_input runnable.now.moment candidate.now) effects.old).variables) }
+    ensures effects { OnOk result (effects.new
+        ≡ (called listed (instructions_of runnable.now.script) bank.old (candidate_input runnable.now.moment candidate.now) effects.old).given) }
+    ensures decision { IfOk result (λ decision. decision
+        ≡ cancel_decided (called listed (instructions_of runnable.now.script) bank.old
+        (candidate_input runnable.now.moment candidate.now) effects.old).reply_or_decision) }
 {
     let input = candidate_input(runnable.one.moment, candidate);
     let close = run_call_into(

@@ -33,7 +33,8 @@ pub fn callbacks_may_be_committed_behind()
 /// The rounds of a plan follow one another: one more round, after the first ones, leaves the world that is after them all. The
 /// world after all rounds of the plan, when it is closed, has the plan's lines.
 pub fn rounds_follow_one_another()
-    ensures next { (plan : PlanData) (count : ℕ) → count < length plan.moments → after_round (count + 1) (world_after count plan) ≡ world_after (count + 1) plan }
+    ensures next { (plan : PlanData) (count : ℕ) → count < length plan.moments
+        → after_round (count + 1) (world_after count plan) ≡ world_after (count + 1) plan }
     ensures closed { (plan : PlanData) → (after_finish (world_after (length plan.moments) plan)).state.lines ≡ lines_of plan }
 {}
 
@@ -62,7 +63,8 @@ pub fn queues_have_a_number_for_each_item()
 pub fn ready_callbacks_come_by_arrival()
     ensures parts { (moment : ℕ) (world : WorldState) → world.order ≡ order.Arrival → ready_list moment world
         ≡ placed_from 1 (flat_map (due_ready moment) world.timers
-        ++ sorted_by (λ one. arrival_for one.entity one.cause world) (flat_map (queue_ready moment world) world.queues ++ flat_map (poll_ready moment) world.servers)) }
+        ++ sorted_by (λ one. arrival_for one.entity one.cause world)
+        (flat_map (queue_ready moment world) world.queues ++ flat_map (poll_ready moment) world.servers)) }
     ensures numbers { (moment : ℕ) (world : WorldState) → world.order ≡ order.Arrival →
         IsNonDecreasingBy (λ one. arrival_for one.entity one.cause world) (ready_list moment world) }
 {}

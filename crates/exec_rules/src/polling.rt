@@ -37,7 +37,8 @@ pub fn poll_any(
     ensures effects { OnOk result (effects.new ≡ (poll_listed turn.now (option_map work_of task.old) bank.old).given) }
     ensures close { IfOk result (λ close. close ≡ (poll_listed turn.now (option_map work_of task.old) bank.old).close) }
     ensures variables { OnOk result (bank.new ≡ (poll_listed turn.now (option_map work_of task.old) bank.old).variables) }
-    ensures task { OnOk result (option_map work_of task.new ≡ option_map (work_after (poll_listed turn.now (option_map work_of task.old) bank.old).task) (option_map work_of task.old)) }
+    ensures task { OnOk result (option_map work_of task.new
+        ≡ option_map (work_after (poll_listed turn.now (option_map work_of task.old) bank.old).task) (option_map work_of task.old)) }
     ensures memory { OnErr result (IsSomeAnd (option_map work_of task.old) (λ work. is_awake work.task turn.now ≡ true)) }
     ensures unchanged { OnErr result (option_map work_of task.new ≡ option_map work_of task.old) }
     ensures unchanged_variables { OnErr result (bank.new ≡ bank.old) }

@@ -10,7 +10,7 @@ use crate::weighing::{Heavy, Light};
 use exec_msg::{EntityNo, GoalId, Line, LineList, Lines, Memory};
 use exec_plan::{FeedByRound, GroupNo, Plan};
 use exec_rules::Ready;
-use exec_script::{Bank, Effects};
+use exec_script::{Bank, Close, Effect, Effects};
 use exec_task::{GoalTask, Poller};
 use std::alloc::Global;
 use std::marker::Model;
@@ -239,10 +239,26 @@ impl<L: Lines> World<L> {
         ensures unfailed { OnOk result (self.old.failed ≡ false) }
         ensures fault { IfErr result (λ why. HasFailed why self.old self.new) }
     {
+        self.commit_given(one, effects.list.as_slice(), &effects.close)
+    }
+
+    /// The same of effects and a closing that are lent.
+    ///
+    /// # Errors
+    /// [`WorldFault::Memory`] if a growth was refused, [`WorldFault::Failed`] if the world had failed before.
+    pub fn commit_given(
+        &mut self,
+        one: &Ready,
+        effects: &[Effect],
+        close: &Close,
+    ) -> Result<(), WorldFault>
+        requires { self.old.failed ≡ false → 0 < self.old.uncommitted }
+        ensures committed { OnOk result (self.new ≡ after_commit one.now (record { list = effects.now; close = close.now }) self.old) }
+        ensures unfailed { OnOk result (self.old.failed ≡ false) }
+        ensures fault { IfErr result (λ why. HasFailed why self.old self.new) }
+    {
         self.check()?;
-        let given = self
-            .state
-            .commit(one, effects.list.as_slice(), &effects.close);
+        let given = self.state.commit(one, effects, close);
         if given.is_err() {
             self.failed = true;
             return Err(WorldFault::Memory);

@@ -162,7 +162,8 @@ impl ByNumber<Server> {
         moment: Moment,
     ) -> Option<State>
         ensures reached { result ≡ end_state id event (goals_in server self.old) }
-        ensures ended { IfSome result (λ _. self.new ≡ change_first (is_server_at server) (with_goals (change_first (has_id id) (after_end event value moment))) self.old) }
+        ensures ended { IfSome result (λ _. self.new
+            ≡ change_first (is_server_at server) (with_goals (change_first (has_id id) (after_end event value moment))) self.old) }
         ensures unchanged { IfNone result (self.new ≡ self.old) }
     {
         let place = self.place(server);
@@ -189,7 +190,8 @@ impl ByNumber<Server> {
         ensures effects { OnOk result (effects.new ≡ (poll_listed turn.now (work_in server id self.old) bank.old).given) }
         ensures close { IfOk result (λ close. close ≡ (poll_listed turn.now (work_in server id self.old) bank.old).close) }
         ensures variables { OnOk result (bank.new ≡ (poll_listed turn.now (work_in server id self.old) bank.old).variables) }
-        ensures task { OnOk result (self.new ≡ change_first (is_server_at server) (server_polled id (poll_listed turn.now (work_in server id self.old) bank.old).task) self.old) }
+        ensures task { OnOk result (self.new
+            ≡ change_first (is_server_at server) (server_polled id (poll_listed turn.now (work_in server id self.old) bank.old).task) self.old) }
         ensures memory { OnErr result (IsSomeAnd (work_in server id self.old) (λ work. is_awake work.task turn.now ≡ true)) }
         ensures unchanged { OnErr result (bank.new ≡ bank.old) }
     {

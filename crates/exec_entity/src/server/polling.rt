@@ -64,7 +64,8 @@ impl Server {
     #[inline(always)]
     fn has_woken(&self, index: usize, moment: Moment) -> bool
         requires { index < length self.now.goals }
-        ensures { (info : GoalInfo) → slice_get (map info_of self.now.goals) index ≡ Some info → result ≡ is_task_awake (turn_at moment false) (find (is_for info.id) self.now.held) }
+        ensures { (info : GoalInfo) → slice_get (map info_of self.now.goals) index ≡ Some info
+            → result ≡ is_task_awake (turn_at moment false) (find (is_for info.id) self.now.held) }
     {
         self.wakes[index] <= moment.ticks()
     }
@@ -74,7 +75,8 @@ impl Server {
     #[inline(never)]
     fn is_canceling_awake(&self, index: usize, moment: Moment) -> bool
         requires { index < length self.now.goals }
-        ensures { (info : GoalInfo) → slice_get (map info_of self.now.goals) index ≡ Some info → result ≡ is_task_awake (turn_at moment true) (find (is_for info.id) self.now.held) }
+        ensures { (info : GoalInfo) → slice_get (map info_of self.now.goals) index ≡ Some info
+            → result ≡ is_task_awake (turn_at moment true) (find (is_for info.id) self.now.held) }
     {
         let entry = self.held.get_index(index).unwrap();
         is_any_awake(&entry.1.task, moment)
@@ -190,7 +192,8 @@ impl Server {
         ensures close { IfOk result (λ close. close ≡ (goal_polled turn.now id self.old bank.old).close) }
         ensures variables { OnOk result (bank.new ≡ (goal_polled turn.now id self.old bank.old).variables) }
         ensures task { OnOk result (self.new ≡ server_polled id (goal_polled turn.now id self.old bank.old).task self.old) }
-        ensures memory { OnErr result (IsSomeAnd (option_and_then (λ held. held.work) (find (is_for id) self.old.held)) (λ work. is_awake work.task turn.now ≡ true)) }
+        ensures memory { OnErr result (IsSomeAnd (option_and_then (λ held. held.work) (find (is_for id) self.old.held))
+            (λ work. is_awake work.task turn.now ≡ true)) }
         ensures unchanged { OnErr result (self.new ≡ self.old) }
         ensures unchanged_variables { OnErr result (bank.new ≡ bank.old) }
     {

@@ -39,7 +39,13 @@ impl Model for EntityQueue {
 
     ghost Value = { Queue };
 
-    ghost view = { λ entry. record { handler = entry.handler; kind = entry.kind; depth = entry.queue.depth; items = items_of entry.queue.items; arrivals = numbers_of entry.numbered entry.queue.items } };
+    ghost view = { λ entry. record {
+      handler = entry.handler;
+      kind = entry.kind;
+      depth = entry.queue.depth;
+      items = items_of entry.queue.items;
+      arrivals = numbers_of entry.numbered entry.queue.items;
+    } };
 
     ghost invariant = { λ entry. 1 ≤ entry.queue.depth };
 }
@@ -110,7 +116,8 @@ impl EntityQueue {
         moment: Moment,
         list: &mut ReadyList,
     ) -> Result<bool, Memory>
-        ensures listed { IfOk result (λ done. done ≡ true → (goals : List _) → list.new ≡ listed_behind list.old (item_ready moment self.now.handler goals self.now.items)) }
+        ensures listed { IfOk result (λ done. done ≡ true → (goals : List _)
+            → list.new ≡ listed_behind list.old (item_ready moment self.now.handler goals self.now.items)) }
         ensures left { IfOk result (λ done. done ≡ false → list.new ≡ list.old) }
     {
         let Some(item) = front_of(&self.queue) else {

@@ -1,4 +1,4 @@
-use Rattle.std.proofs.Common.{◌<◌, ◌∷◌, List, length, reverse, ap, subst, sym, ◌∙◌, arith}
+use Rattle.std.proofs.Common.{List, reverse, ap, sym, ◌∙◌, arith}
 use Rattle.exec_lane.specs.declared.gathering.Ran.{Ran}
 use Rattle.exec_round.proofs.Sends.{effects_next}
 use Rattle.exec_round.specs.inner.Commits.{after_commits, with_effects_of}

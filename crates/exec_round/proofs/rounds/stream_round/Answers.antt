@@ -1,4 +1,4 @@
-use Rattle.std.proofs.Common.{List, Option, length, map, vec_len, ap, sym, subst, ◌∙◌}
+use Rattle.std.proofs.Common.{List, Option, length, vec_len, ap, sym, subst, ◌∙◌}
 use Rattle.std.proofs.lemmas.Result.{on_ok_weaker}
 use Rattle.std.proofs.lemmas.List.{length-map}
 use Rattle.exec_lane.specs.Gather.{outcome_of}

@@ -4,9 +4,7 @@ use Rattle.exec_lane.proofs.Outcomes.{did_in_box}
 use Rattle.exec_lane.proofs.Stepping.{still_as_many}
 use Rattle.exec_lane.specs.Gather.{outcomes_in}
 use Rattle.exec_lane.specs.Lane.{Lane}
-use Rattle.exec_lane.specs.declared.outcome.Outcome.{Outcome}
 use Rattle.exec_lane.specs.inner.Slots.{SlotState}
-use Rattle.exec_script.specs.declared.effects.Effects.{Effects}
 use Rattle.exec_lane.proofs.lane_box.LaneBox.outcome.Goals as goal
 
 pub index-slot-requires : goal.index-slot-requires

@@ -4,7 +4,7 @@ use Rattle.exec_rules.proofs.Running.{commit_keeps}
 use Rattle.exec_world.proofs.Sound.{not_refused, sound}
 use Rattle.exec_rules.specs.World.{WorldState}
 use Rattle.exec_world.specs.inner.Sound.{IsSound}
-use Rattle.exec_world.proofs.world.World.commit.Goals as goal
+use Rattle.exec_world.proofs.world.World.commit_given.Goals as goal
 
 pub invariant_of-self-2 : goal.invariant_of-self-2
 invariant_of-self-2 g c =
@@ -14,5 +14,5 @@ invariant_of-self-2 g c =
       c.self.invariant.0,
       c.self.invariant.1,
       begun,
-      λ unfailed. subst (λ (state : WorldState). IsSound plan state) (sym given) (commit_keeps (sound plan).basic (sound plan).accepts_kept c.args.one.now (record { list = c.as_slice.result.now; close = c.args.effects.close }) c.self.inside.state (c.self.invariant.3 unfailed)),
+      λ unfailed. subst (λ (state : WorldState). IsSound plan state) (sym given) (commit_keeps (sound plan).basic (sound plan).accepts_kept c.args.one.now (record { list = c.args.effects.now; close = c.args.close.now }) c.self.inside.state (c.self.invariant.3 unfailed)),
     )

@@ -1,0 +1,40 @@
+-- A round whose callbacks are dealt to workers.
+use Rattle.std.proofs.Common.{◌≡◌, ℕ, ◌<◌, ◌≤◌, false, List, [], ◌∷◌, length, slice_index_or, sym, ap, subst, ◌∙◌, arith, refl}
+use Rattle.exec_lane.specs.Gather.{all_ran}
+use Rattle.exec_lane.specs.Portions.{AreDealt, AreWhole, AreWorkers, HasRun, HaveRun, IsGiven, PortionState, all_ran_apart, nothing, of_owner, run_owned}
+use Rattle.exec_round.proofs.Rounding.{round_ends}
+use Rattle.exec_round.specs.inner.Commits.{after_commits}
+use Rattle.exec_rules.specs.Calls.{AreHome, HaveVariables, WorldData, after_round, after_snapshot, ready_in}
+use Rattle.exec_rules.specs.Run.{all_apart, all_home, commit_all}
+use Rattle.exec_rules.specs.Transcript.{run_all}
+use Rattle.exec_rules.specs.World.{WorldState}
+use Rattle.exec_rules.specs.declared.ready.Ready.{Ready}
+
+-- there are as many workers after their callbacks ran
+pub same_workers : (owners : List ℕ) (portions after : List PortionState) → length after ≡ length portions → AreWorkers owners portions → AreWorkers owners after
+same_workers [] portions after same workers = tt
+same_workers (owner ∷ owners) portions after same workers = (subst (λ (n : ℕ). owner < n) (sym same) workers.0, same_workers owners portions after same workers.1)
+
+-- each of them has what came of its own
+pub have_run : (list : List Ready) (state : WorldState) (owners read : List ℕ) (portions after : List PortionState) → AreHome list state → HaveVariables list state → AreDealt list state owners portions → read ≡ owners →
+    length after ≡ length portions →
+    ((worker : ℕ) → worker < length portions → (slice_index_or after worker nothing).failed ≡ false → slice_index_or after worker nothing ≡ run_owned worker read list (slice_index_or portions worker nothing)) →
+    ((worker : ℕ) (portion : PortionState) → AreWhole owners list → AreHome list state → HaveVariables list state → IsGiven state (of_owner worker owners list) portion →
+    HasRun (of_owner worker owners (all_ran_apart list state)) (run_owned worker owners list portion)) → HaveRun list state owners after
+have_run list state owners read portions after home groups dealt is same ran law worker within unfailed =
+    let here : worker < length portions = subst (λ (n : ℕ). worker < n) same within in
+    let portion : PortionState = slice_index_or portions worker nothing in
+    let so : slice_index_or after worker nothing ≡ run_owned worker owners list portion = ran worker here unfailed ∙ ap (λ (os : List ℕ). run_owned worker os list portion) is in
+    subst (HasRun (of_owner worker owners (all_ran_apart list state))) (sym so) (law worker portion dealt.whole home groups (dealt.given worker here))
+
+-- and the round is done
+pub dealt_is : (number : ℕ) (world taken after : WorldData) (list : List Ready) → list ≡ ready_in number world → 0 < length list → taken ≡ after_snapshot number world →
+    after ≡ after_commits (all_ran list (all_apart list taken.state)) (record taken { state = all_home list taken.state }) →
+    run_all list taken.state ≡ commit_all list (all_apart list taken.state) (all_home list taken.state) → after ≡ after_round number world
+dealt_is number world taken after list is some begun committed law = committed ∙ round_ends number world taken (record taken { state = all_home list taken.state }) list is some begun refl law
+
+-- all of its callbacks are left to be committed
+pub all_left : (number : ℕ) (world taken : WorldData) (list : List Ready) → list ≡ ready_in number world → taken ≡ after_snapshot number world → length list ≤ taken.uncommitted
+all_left number world taken list is begun =
+    let here : taken.uncommitted ≡ length list = ap (λ (w : WorldData). w.uncommitted) begun ∙ sym (ap length is) in
+    omega (arith, here)
