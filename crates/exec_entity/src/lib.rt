@@ -11,5 +11,5 @@ mod topic;
 pub use action_client::{ActionClient, ActionClients};
 pub use by_number::{ByNumber, Numbered};
 pub use client::{Client, Clients};
-pub use server::{GoalRequest, Server, Servers};
+pub use server::{GoalRequest, GoalTurn, Server, Servers};
 pub use topic::{Topic, Topics};

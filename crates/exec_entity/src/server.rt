@@ -14,7 +14,7 @@ mod polling;
 use exec_goal::{Asked, CancelAnswer, CancelRequest, GoalInfo, Goals, State};
 use exec_msg::{Acceptance, CancelDecision, Elements, EntityNo, Event, GoalId, Memory, Moment};
 use exec_rules::Handler;
-use exec_task::GoalTask;
+use exec_task::{GoalTask, Turn};
 pub use found::Servers;
 use indexmap::IndexMap;
 use std::alloc::Global;
@@ -39,6 +39,17 @@ impl Model for GoalRequest {
     ghost view = { λ request. record { id = request.id; client = request.client; value = request.value } };
 
     ghost inverse = { λ request. record { id = request.id; client = request.client; value = request.value } };
+}
+
+/// A goal's turn: the goal that is polled, its server, and the round in which it is polled.
+#[derive(Clone, Copy, Debug, PartialEq, Eq)]
+pub struct GoalTurn {
+    /// The goal's server.
+    pub server: EntityNo,
+    /// The goal's identifier.
+    pub id: GoalId,
+    /// The round.
+    pub turn: Turn,
 }
 
 // What a server keeps with a goal's record: its task, the action client that sent the goal, if one did, and the number of the

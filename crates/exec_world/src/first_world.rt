@@ -3,10 +3,10 @@ ghost use Rattle.std.specs.Prelude.{◌≡◌, ◌<◌, ◌≤◌, ◌^◌, ◌+
 ghost use Rattle.std.specs.List.{filter};
 ghost use Rattle.exec_msg.specs.declared.limits.TheConstants.{DEPTH};
 ghost use Rattle.exec_plan.specs.Entity.{is_within, queue_depth};
-ghost use Rattle.exec_plan.specs.Graph.{callback_script, cons_if, entities_where, has_kind, in_group};
+ghost use Rattle.exec_plan.specs.Graph.{callback_script, cons_if, declared_at, entities_where, has_kind};
 ghost use Rattle.exec_plan.specs.Graph.{is_action_client, is_client, is_exclusive, is_server, is_timer, is_topic, of_entity, wait_set};
-ghost use Rattle.exec_rules.specs.Transcript.{as_entity, new_action_clients, new_client, new_queue, new_server, new_timer, new_topic};
-ghost use Rattle.exec_rules.specs.Transcript.{action_client_for, client_for, queue_for, server_for, timer_for, subscribes_to, takes_from_queue};
+ghost use Rattle.exec_rules.specs.Transcript.{action_client_for, entity_at, new_action_clients, new_client, new_queue, new_server, new_timer, new_topic};
+ghost use Rattle.exec_rules.specs.Transcript.{subscribes_to, takes_from_queue};
 ghost use Rattle.exec_world.specs.inner.Parts.{new_queue_of, queues_of};
 
 use crate::scripts::shared;
@@ -23,42 +23,26 @@ pub(crate) fn new_timers(alloc: Global, graph: &Graph) -> Result<Vec<EntityTimer
 {
     let mut timers = Vec::new(alloc);
     for number in 0..graph.len() {
-        let entity = EntityNo(number as u16);
-        push_timer(&mut timers, graph, entity, graph.declaration(entity))?;
+        push_timer(&mut timers, graph, EntityNo(number as u16))?;
     }
     Ok(timers)
 }
 
-fn push_timer(
-    timers: &mut Vec<EntityTimer>,
-    graph: &Graph,
-    entity: EntityNo,
-    declared: &Declared,
-) -> Result<(), Memory>
-    requires { IsTrue (of_entity true is_within declared.now) }
-    ensures { OnOk result (timers.new.items ≡ timers.old.items ++ cons_if (is_timer declared.now) (timer_for graph.now entity (as_entity declared.now)) []) }
-{
-    match declared {
-        Declared::Topic => Ok(()),
-        Declared::Entity(found) => push_timer_of(timers, graph, entity, found),
-    }
-}
-
-fn push_timer_of(
-    timers: &mut Vec<EntityTimer>,
-    graph: &Graph,
-    entity: EntityNo,
-    found: &GraphEntity,
-) -> Result<(), Memory>
-    requires { IsTrue (is_within found.now.is) }
+fn push_timer(timers: &mut Vec<EntityTimer>, graph: &Graph, entity: EntityNo) -> Result<(), Memory>
+    requires here { entity < length graph.now.entities }
+    requires within { IsTrue (of_entity true is_within (declared_at graph.now entity)) }
     ensures { OnOk result (timers.new.items
-        ≡ timers.old.items ++ cons_if (is_timer (in_group found.now.group found.now.is)) (timer_for graph.now entity found.now) []) }
+        ≡ timers.old.items ++ cons_if (is_timer (declared_at graph.now entity)) (new_timer graph.now entity) []) }
 {
-    if let EntityOf::Timer(timer) = &found.is {
-        let script = share(&timer.script)?;
-        let handler = handler(graph, entity, found, script);
-        timers.push(EntityTimer::new(handler, timer.period))?;
-    }
+    let Declared::Entity(found) = graph.declaration(entity) else {
+        return Ok(());
+    };
+    let EntityOf::Timer(timer) = &found.is else {
+        return Ok(());
+    };
+    let script = share(&timer.script)?;
+    let handler = handler(graph, entity, found, script);
+    timers.push(EntityTimer::new(handler, timer.period))?;
     Ok(())
 }
 
@@ -111,15 +95,7 @@ fn declare_all(
 {
     for number in 0..graph.len() {
         let entity = EntityNo(number as u16);
-        declare_queue(
-            alloc,
-            queues,
-            graph,
-            order,
-            kind,
-            entity,
-            graph.declaration(entity),
-        )?;
+        declare_queue(alloc, queues, graph, order, kind, entity)?;
     }
     Ok(())
 }
@@ -131,14 +107,14 @@ fn declare_queue(
     order: Order,
     kind: Kind,
     entity: EntityNo,
-    declared: &Declared,
 ) -> Result<(), Memory>
     requires taken { takes_from_queue kind ≡ true }
-    requires within { IsTrue (of_entity true is_within declared.now) }
+    requires here { entity < length graph.now.entities }
+    requires within { IsTrue (of_entity true is_within (declared_at graph.now entity)) }
     ensures { OnOk result (queues.new
-        ≡ queues.old ++ cons_if (has_kind kind declared.now) (queue_for order graph.now kind entity (as_entity declared.now)) []) }
+        ≡ queues.old ++ cons_if (has_kind kind (declared_at graph.now entity)) (new_queue_of order graph.now kind entity) []) }
 {
-    let Declared::Entity(found) = declared else {
+    let Declared::Entity(found) = graph.declaration(entity) else {
         return Ok(());
     };
     if !found.is.has_callbacks(kind) {
@@ -166,14 +142,7 @@ pub(crate) fn new_servers(alloc: Global, graph: &Graph) -> Result<Servers, Memor
 {
     let mut servers = Servers::new(alloc);
     for number in 0..graph.len() {
-        let entity = EntityNo(number as u16);
-        declare_server(
-            alloc,
-            &mut servers,
-            graph,
-            entity,
-            graph.declaration(entity),
-        )?;
+        declare_server(alloc, &mut servers, graph, EntityNo(number as u16))?;
     }
     Ok(servers)
 }
@@ -183,32 +152,19 @@ fn declare_server(
     servers: &mut Servers,
     graph: &Graph,
     entity: EntityNo,
-    declared: &Declared,
 ) -> Result<(), Memory>
-    ensures { OnOk result (servers.new ≡ servers.old ++ cons_if (is_server declared.now) (server_for graph.now entity (as_entity declared.now)) []) }
+    requires { entity < length graph.now.entities }
+    ensures { OnOk result (servers.new ≡ servers.old ++ cons_if (is_server (declared_at graph.now entity)) (new_server graph.now entity) []) }
 {
-    match declared {
-        Declared::Topic => Ok(()),
-        Declared::Entity(found) => declare_server_of(alloc, servers, graph, entity, found),
-    }
-}
-
-fn declare_server_of(
-    alloc: Global,
-    servers: &mut Servers,
-    graph: &Graph,
-    entity: EntityNo,
-    found: &GraphEntity,
-) -> Result<(), Memory>
-    ensures { OnOk result (servers.new
-        ≡ servers.old ++ cons_if (is_server (in_group found.now.group found.now.is)) (server_for graph.now entity found.now) []) }
-{
-    if let EntityOf::Server(server) = &found.is {
-        let script = share(&server.script)?;
-        let handler = handler(graph, entity, found, script);
-        servers.declare(Server::new(alloc, handler, server.result_timeout))?;
-    }
-    Ok(())
+    let Declared::Entity(found) = graph.declaration(entity) else {
+        return Ok(());
+    };
+    let EntityOf::Server(server) = &found.is else {
+        return Ok(());
+    };
+    let script = share(&server.script)?;
+    let handler = handler(graph, entity, found, script);
+    servers.declare(Server::new(alloc, handler, server.result_timeout))
 }
 
 // The service clients of a graph, in the order of declaration. None has a call.
@@ -217,8 +173,7 @@ pub(crate) fn new_clients(alloc: Global, graph: &Graph) -> Result<Clients, Memor
 {
     let mut clients = Clients::new(alloc);
     for number in 0..graph.len() {
-        let entity = EntityNo(number as u16);
-        declare_client(alloc, &mut clients, entity, graph.declaration(entity))?;
+        declare_client(alloc, &mut clients, graph, EntityNo(number as u16))?;
     }
     Ok(clients)
 }
@@ -226,29 +181,19 @@ pub(crate) fn new_clients(alloc: Global, graph: &Graph) -> Result<Clients, Memor
 fn declare_client(
     alloc: Global,
     clients: &mut Clients,
+    graph: &Graph,
     entity: EntityNo,
-    declared: &Declared,
 ) -> Result<(), Memory>
-    ensures { OnOk result (clients.new ≡ clients.old ++ cons_if (is_client declared.now) (client_for entity (as_entity declared.now)) []) }
+    requires { entity < length graph.now.entities }
+    ensures { OnOk result (clients.new ≡ clients.old ++ cons_if (is_client (declared_at graph.now entity)) (new_client graph.now entity) []) }
 {
-    match declared {
-        Declared::Topic => Ok(()),
-        Declared::Entity(found) => declare_client_of(alloc, clients, entity, found),
-    }
-}
-
-fn declare_client_of(
-    alloc: Global,
-    clients: &mut Clients,
-    entity: EntityNo,
-    found: &GraphEntity,
-) -> Result<(), Memory>
-    ensures { OnOk result (clients.new ≡ clients.old ++ cons_if (is_client (in_group found.now.group found.now.is)) (client_for entity found.now) []) }
-{
-    if let EntityOf::Client(client) = &found.is {
-        clients.declare(Client::new(alloc, entity, client.service))?;
-    }
-    Ok(())
+    let Declared::Entity(found) = graph.declaration(entity) else {
+        return Ok(());
+    };
+    let EntityOf::Client(client) = &found.is else {
+        return Ok(());
+    };
+    clients.declare(Client::new(alloc, entity, client.service))
 }
 
 // The action clients of a graph, in the order of declaration, each with its place among them. None has a goal.
@@ -257,42 +202,30 @@ pub(crate) fn new_action_clients(alloc: Global, graph: &Graph) -> Result<ActionC
 {
     let mut clients = ActionClients::new(alloc);
     for number in 0..graph.len() {
-        let entity = EntityNo(number as u16);
-        declare_action_client(&mut clients, entity, graph.declaration(entity))?;
+        declare_action_client(&mut clients, graph, EntityNo(number as u16))?;
     }
     Ok(clients)
 }
 
 fn declare_action_client(
     clients: &mut ActionClients,
+    graph: &Graph,
     entity: EntityNo,
-    declared: &Declared,
 ) -> Result<(), Memory>
-    requires { length clients.old < 2 ^ 16 }
-    ensures { OnOk result (clients.new
-        ≡ clients.old ++ cons_if (is_action_client declared.now) (action_client_for (length clients.old) entity (as_entity declared.now)) []) }
-{
-    match declared {
-        Declared::Topic => Ok(()),
-        Declared::Entity(found) => declare_action_client_of(clients, entity, found),
-    }
-}
-
-fn declare_action_client_of(
-    clients: &mut ActionClients,
-    entity: EntityNo,
-    found: &GraphEntity,
-) -> Result<(), Memory>
-    requires { length clients.old < 2 ^ 16 }
+    requires here { entity < length graph.now.entities }
+    requires few { length clients.old < 2 ^ 16 }
     ensures { OnOk result (clients.new ≡ clients.old
-        ++ cons_if (is_action_client (in_group found.now.group found.now.is)) (action_client_for (length clients.old) entity found.now) []) }
+        ++ cons_if (is_action_client (declared_at graph.now entity)) (action_client_for (length clients.old) entity (entity_at graph.now entity)) []) }
 {
-    if let EntityOf::ActionClient(client) = &found.is {
-        let place = clients.as_slice().len() as u16;
-        let asks = client.on_result.is_some();
-        clients.declare(ActionClient::new(entity, place, client.server, asks))?;
-    }
-    Ok(())
+    let Declared::Entity(found) = graph.declaration(entity) else {
+        return Ok(());
+    };
+    let EntityOf::ActionClient(client) = &found.is else {
+        return Ok(());
+    };
+    let place = clients.as_slice().len() as u16;
+    let asks = client.on_result.is_some();
+    clients.declare(ActionClient::new(entity, place, client.server, asks))
 }
 
 // The topics of a graph, in the order of declaration, each with its subscriptions.
@@ -301,8 +234,7 @@ pub(crate) fn new_topics(alloc: Global, graph: &Graph) -> Result<Topics, Memory>
 {
     let mut topics = Topics::new(alloc);
     for number in 0..graph.len() {
-        let entity = EntityNo(number as u16);
-        declare_topic(alloc, &mut topics, graph, entity, graph.declaration(entity))?;
+        declare_topic(alloc, &mut topics, graph, EntityNo(number as u16))?;
     }
     Ok(topics)
 }
@@ -312,20 +244,18 @@ fn declare_topic(
     topics: &mut Topics,
     graph: &Graph,
     entity: EntityNo,
-    declared: &Declared,
 ) -> Result<(), Memory>
-    ensures { OnOk result (topics.new ≡ topics.old ++ cons_if (is_topic declared.now) (new_topic graph.now entity) []) }
+    requires { entity < length graph.now.entities }
+    ensures { OnOk result (topics.new ≡ topics.old ++ cons_if (is_topic (declared_at graph.now entity)) (new_topic graph.now entity) []) }
 {
-    match declared {
-        Declared::Topic => {
-            let subscribers = subscribers_at(alloc, graph, entity)?;
-            topics.declare(Topic {
-                entity,
-                subscribers,
-            })
-        }
-        Declared::Entity(_) => Ok(()),
+    if !graph.declaration(entity).is_topic() {
+        return Ok(());
     }
+    let subscribers = subscribers_at(alloc, graph, entity)?;
+    topics.declare(Topic {
+        entity,
+        subscribers,
+    })
 }
 
 // The subscriptions of a topic, in the order of declaration.

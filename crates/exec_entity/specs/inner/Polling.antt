@@ -7,10 +7,11 @@ use Rattle.exec_msg.specs.Lists.{change_first}
 use Rattle.exec_script.specs.declared.effects.Effect.{Effect}
 use Rattle.exec_task.specs.Task.{TaskState}
 use Rattle.exec_task.specs.declared.wait.Turn.{Turn}
+use Rattle.exec_entity.specs.declared.server.GoalTurn.{GoalTurn}
 use Rattle.exec_rules.specs.Callback.{AfterCallback, poll_listed}
 use Rattle.exec_rules.specs.Ready.{ready_for}
 use Rattle.exec_script.specs.Script.{Variables}
-use Rattle.exec_rules.specs.World.{GoalWork, Handler, HeldGoal, ServerEntry, is_for, is_server_at, arrived}
+use Rattle.exec_rules.specs.World.{GoalWork, Handler, HeldGoal, ServerEntry, is_for, is_server_at, arrived, work_in}
 use Rattle.exec_rules.specs.declared.ready.AwakeGoal.{AwakeGoal}
 use Rattle.exec_rules.specs.declared.ready.Cause.{Cause}
 use Rattle.exec_rules.specs.declared.ready.Cause.TheVariants as cause
@@ -41,6 +42,10 @@ polled_by server _ task servers = servers
 -- a poll of a server's goal
 abbrev pub goal_polled : Turn → GoalId → ServerEntry → Variables → AfterCallback (List Effect)
 goal_polled turn id entry variables = poll_listed turn (option_and_then (λ held. held.work) (find (is_for id) entry.held)) variables
+
+-- a poll of a goal in its turn
+abbrev pub polled_in : GoalTurn → List ServerEntry → Variables → AfterCallback (List Effect)
+polled_in goal servers variables = poll_listed goal.turn (work_in goal.server goal.id servers) variables
 
 -- the poll of a server's goal that is awake at a moment
 abbrev pub poll_of : Moment → Handler → AwakeGoal → Ready

@@ -1,11 +1,11 @@
 //! Servers, each found by its number. A request to a server that isn't there changes nothing.
-use super::{GoalRequest, Server};
+use super::{GoalRequest, GoalTurn, Server};
 use crate::by_number::{ByNumber, Numbered};
 use exec_goal::{Asked, CancelAnswer, CancelRequest, Goals, State};
 use exec_msg::{Acceptance, CancelDecision, EntityNo, Event, GoalId, Memory, Moment};
 use exec_rules::{AwakeGoal, ReadyList};
 use exec_script::{Bank, Close, EffectList};
-use exec_task::{GoalTask, Turn};
+use exec_task::GoalTask;
 use futures::task::Context;
 use std::alloc::Global;
 
@@ -33,8 +33,7 @@ impl ByNumber<Server> {
     ghost use Rattle.exec_rules.specs.World.{has_room_for, is_server_at, is_for, work_of, goals_in, held_in, work_in};
     ghost use Rattle.exec_rules.specs.inner.Awake.{awake_goals};
     ghost use Rattle.exec_rules.specs.inner.Listing.{listed_behind};
-    ghost use Rattle.exec_rules.specs.Callback.{poll_listed};
-    ghost use Rattle.exec_entity.specs.inner.Polling.{server_arrived, server_polled, server_with_work};
+    ghost use Rattle.exec_entity.specs.inner.Polling.{polled_in, server_arrived, server_polled, server_with_work};
     ghost use Rattle.exec_entity.specs.inner.Servers.{asked_in, executed_in, with_goals};
 
     /// Whether a server can hold one more goal of an identifier.
@@ -171,36 +170,34 @@ impl ByNumber<Server> {
         entry.end(id, event, value, moment)
     }
 
-    /// A server polls a goal in a turn with the variables of its callback group, in a context that the caller has made. Answers
-    /// what closes the poll. The list then has the poll's effects alone. A goal that isn't held or isn't awake isn't polled,
-    /// and pends.
+    /// A server polls a goal in its turn with the variables of its callback group, in a context that the caller has made.
+    /// Answers what closes the poll. The list then has the poll's effects alone. A goal that isn't held or isn't awake isn't
+    /// polled, and pends.
     ///
     /// # Errors
     /// [`Memory`] if a growth was refused. Only a goal that is awake needs memory. The variables don't change.
     #[inline(always)]
     pub fn poll(
         &mut self,
-        server: EntityNo,
-        id: GoalId,
-        turn: &Turn,
+        goal: &GoalTurn,
         bank: &mut Bank,
         cx: &mut Context<'_>,
         effects: &mut EffectList,
     ) -> Result<Close, Memory>
-        ensures effects { OnOk result (effects.new ≡ (poll_listed turn.now (work_in server id self.old) bank.old).given) }
-        ensures close { IfOk result (λ close. close ≡ (poll_listed turn.now (work_in server id self.old) bank.old).close) }
-        ensures variables { OnOk result (bank.new ≡ (poll_listed turn.now (work_in server id self.old) bank.old).variables) }
+        ensures effects { OnOk result (effects.new ≡ (polled_in goal.now self.old bank.old).given) }
+        ensures close { IfOk result (λ close. close ≡ (polled_in goal.now self.old bank.old).close) }
+        ensures variables { OnOk result (bank.new ≡ (polled_in goal.now self.old bank.old).variables) }
         ensures task { OnOk result (self.new
-            ≡ change_first (is_server_at server) (server_polled id (poll_listed turn.now (work_in server id self.old) bank.old).task) self.old) }
-        ensures memory { OnErr result (IsSomeAnd (work_in server id self.old) (λ work. is_awake work.task turn.now ≡ true)) }
+            ≡ change_first (is_server_at goal.now.server) (server_polled goal.now.id (polled_in goal.now self.old bank.old).task) self.old) }
+        ensures memory { OnErr result (IsSomeAnd (work_in goal.now.server goal.now.id self.old) (λ work. is_awake work.task goal.now.turn ≡ true)) }
         ensures unchanged { OnErr result (bank.new ≡ bank.old) }
     {
-        let place = self.place(server);
+        let place = self.place(goal.server);
         let Some(entry) = self.entries.get_mut(place) else {
             effects.clear();
             return Ok(Close::Pending);
         };
-        let close = entry.poll(id, turn, bank, cx, effects)?;
+        let close = entry.poll(goal.id, &goal.turn, bank, cx, effects)?;
         Ok(close)
     }
 

@@ -10,6 +10,7 @@ ghost use Rattle.exec_rules.specs.inner.Listing.{with_script_of};
 use super::WorldBody;
 use super::plain::Plain;
 use crate::scripts::script_of;
+use exec_entity::GoalTurn;
 use exec_msg::{Kind, Line, Lines, Memory};
 use exec_plan::Graph;
 use exec_rules::{Cause, Item, Listed, Ready, Runnable};
@@ -212,9 +213,12 @@ impl<'a, L: Lines> Callback<L> for Runnable<'a> {
                     moment: one.moment,
                     canceling: *canceling,
                 };
-                state
-                    .servers
-                    .poll(one.entity, *id, &turn, bank, cx, effects)
+                let polled = GoalTurn {
+                    server: one.entity,
+                    id: *id,
+                    turn,
+                };
+                state.servers.poll(&polled, bank, cx, effects)
             }
         }
     }

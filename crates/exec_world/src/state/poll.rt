@@ -1,6 +1,7 @@
 //! Polls of goals that are awake.
 use super::WorldBody;
 use super::callback::Callback;
+use exec_entity::GoalTurn;
 use exec_msg::{Kind, Line, Lines, Memory, Moment};
 use exec_rules::AwakeGoal;
 use exec_script::{Close, Effect, EffectList};
@@ -31,10 +32,13 @@ impl<'a, L: Lines> Callback<L> for Poll<'a> {
             moment: self.moment,
             canceling: goal.canceling,
         };
+        let polled = GoalTurn {
+            server: goal.server,
+            id: goal.id,
+            turn,
+        };
         let bank = state.banks.lend(goal.exclusive, goal.group);
-        state
-            .servers
-            .poll(goal.server, goal.id, &turn, bank, cx, effects)
+        state.servers.poll(&polled, bank, cx, effects)
     }
 
     #[inline(always)]
