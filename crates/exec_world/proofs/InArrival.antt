@@ -29,6 +29,11 @@ use Rattle.exec_world.specs.declared.arrived.Arrived.{Arrived}
 use Rattle.exec_world.specs.inner.Arrivals.{AreListed, arrived_in, run_arrived, run_at, run_listed, with_arrived}
 use Rattle.exec_world.specs.inner.Snapshots.{HaveScriptsOf, IsListed, listed_in, listed_under, ready_in_parts, round_in}
 
+-- arrivals that are listed by their numbers are listed as any order asks
+pub listed_so : (under : Order) (world : WorldState) (all : List Ready) (arrivals : List Arrived) → AreListed order.Arrival world all arrivals → AreListed under world all arrivals
+listed_so order.Kind world all arrivals listed = tt
+listed_so order.Arrival world all arrivals listed = listed
+
 -- ---- two lists of one length, by each two of one place
 
 -- both sorted, where each two have one rank

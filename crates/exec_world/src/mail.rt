@@ -1,9 +1,8 @@
-use crate::fronts::Fronts;
 use exec_entity::Servers;
 use exec_msg::{EntityNo, Line, Lines, Memory, Moment, number_after};
 use exec_plan::Order;
 use exec_queue::Queues;
-use exec_rules::{Item, ReadyList};
+use exec_rules::Item;
 use std::marker::Model;
 
 // What callbacks send goes here: to the queues of entities, and to the lines of the transcript. It also has the order of ready
@@ -33,11 +32,9 @@ impl<L: Lines> Mail<L> {
     ghost use Rattle.exec_rules.specs.Ready.{queue_taken};
     ghost use Rattle.exec_rules.specs.Transcript.{expire_lines, server_expired};
     ghost use Rattle.std.specs.List.{flat_map};
-    ghost use Rattle.exec_rules.specs.inner.Listing.{listed_behind};
     ghost use Rattle.exec_rules.specs.inner.Places.{places_where};
-    ghost use Rattle.exec_world.specs.inner.Snapshots.{fronts_at};
     ghost use Rattle.exec_queue.specs.inner.Queues.{has_item, is_in_part};
-    ghost use Rattle.exec_world.specs.inner.Mail.{next_number, with_line, with_next, sent_to, sent_to_any, sent_to_each};
+    ghost use Rattle.exec_world.specs.inner.Mail.{next_number, with_line, with_next, sent_to, sent_to_each};
 
     // Empty queues under an order, and what lines go to.
     pub(crate) fn new(order: Order, queues: Queues, lines: L) -> Mail<L>
@@ -114,18 +111,6 @@ impl<L: Lines> Mail<L> {
         self.queues.list_filled(before_polls, places)
     }
 
-    // Lists the callbacks that take from the queues at these places.
-    pub(crate) fn list_fronts(
-        &self,
-        fronts: &Fronts<'_>,
-        places: &[usize],
-        list: &mut ReadyList,
-    ) -> Result<(), Memory>
-        ensures { OnOk result (list.new ≡ listed_behind list.old (fronts_at fronts.now.moment fronts.now.servers.now self.now.queues places.now)) }
-    {
-        fronts.list_all(places, &self.queues, list)
-    }
-
     // Takes the first item of each queue that has one.
     pub(crate) fn take_first(&mut self)
         ensures { self.new ≡ record self.old { queues = map queue_taken self.old.queues } }
@@ -170,16 +155,6 @@ impl<L: Lines> Mail<L> {
             })?;
         }
         Ok(())
-    }
-
-    // Sends an item to an entity, if there is one.
-    pub(crate) fn send_any(&mut self, entity: Option<EntityNo>, item: Item) -> Result<(), Memory>
-        ensures { OnOk result (self.new ≡ sent_to_any entity item self.old) }
-    {
-        match entity {
-            Some(entity) => self.send(entity, item),
-            None => Ok(()),
-        }
     }
 
     // Sends an item to each of these entities, in their order.

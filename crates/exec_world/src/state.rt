@@ -4,7 +4,6 @@ mod callback;
 mod close;
 mod give;
 mod handing;
-mod lend;
 mod plain;
 mod poll;
 mod round;
@@ -16,10 +15,11 @@ use crate::first_world::{
 };
 use crate::mail::Mail;
 use exec_entity::{ActionClients, Clients, Servers, Topics};
-use exec_msg::{Line, Lines, Memory};
+use exec_msg::{EntityNo, GoalId, Line, Lines, Memory};
 use exec_plan::{GroupNo, Plan};
 use exec_queue::EntityTimer;
 use exec_script::Bank;
+use exec_task::GoalTask;
 pub(crate) use round::Round;
 use std::alloc::Global;
 use std::marker::Model;
@@ -58,9 +58,10 @@ impl<L: Lines> Model for WorldBody<L> {
 }
 
 impl<L: Lines> WorldBody<L> {
-    ghost use Rattle.std.specs.Prelude.{◌≡◌, [], IfOk, OnOk};
+    ghost use Rattle.std.specs.Option.{option_map};
+    ghost use Rattle.std.specs.Prelude.{◌≡◌, [], None, Some, IfOk, OnOk};
     ghost use Rattle.exec_rules.specs.Transcript.{first_world};
-    ghost use Rattle.exec_rules.specs.World.{add_line, variables_at, with_variables};
+    ghost use Rattle.exec_rules.specs.World.{add_line, variables_at, with_variables, with_work, work_at, work_of};
 
     // The world of a plan before its first round. It has no lines yet.
     pub(crate) fn new(alloc: Global, plan: &Plan, lines: L) -> Result<WorldBody<L>, Memory>
@@ -114,5 +115,20 @@ impl<L: Lines> WorldBody<L> {
         ensures { self.new ≡ with_variables group bank.now self.old }
     {
         self.banks.set(group, bank);
+    }
+
+    // Takes the task of a server's goal out of the world, and answers `None` if no such goal is held or its task is out.
+    pub(crate) fn take_task(&mut self, server: EntityNo, id: GoalId) -> Option<GoalTask>
+        ensures taken { option_map work_of result ≡ work_at server id self.old }
+        ensures out { self.new ≡ with_work server id None self.old }
+    {
+        self.servers.take_task(server, id)
+    }
+
+    // Puts the task of a server's goal in its place. If no such goal is held, nothing changes.
+    pub(crate) fn put_task(&mut self, server: EntityNo, id: GoalId, task: GoalTask)
+        ensures { self.new ≡ with_work server id (Some (work_of task)) self.old }
+    {
+        self.servers.put_task(server, id, task);
     }
 }

@@ -1,6 +1,6 @@
 -- What callbacks send, apart from the rest of the world: the queues with the order of ready callbacks and the number of the last
 -- arrival, and the lines.
-use Rattle.std.specs.Prelude.{◌≡◌, ◌<◌, ◌^◌, ℕ, List, [], ◌∷◌, ◌++◌, map, Option, None, Some}
+use Rattle.std.specs.Prelude.{◌≡◌, ◌<◌, ◌^◌, ℕ, List, [], ◌∷◌, ◌++◌, map}
 use Rattle.std.specs.List.{fold}
 use Rattle.exec_msg.specs.Numbers.{EntityNo}
 use Rattle.exec_msg.specs.Lists.{change_first}
@@ -42,11 +42,6 @@ sent_to entity new mail = record {
   queues = change_first (is_queue entity (taker_of new)) (queue_after (next_number mail) new) mail.queues;
   lines = mail.lines ++ map (drop_line entity) (lost_from entity new mail.queues);
 }
-
--- after an item was sent to an entity, if there is one
-abbrev pub sent_to_any : Option EntityNo → Item → MailState → MailState
-sent_to_any None new mail = mail
-sent_to_any (Some entity) new mail = sent_to entity new mail
 
 -- after an item was sent to each of these entities
 abbrev pub sent_to_each : List EntityNo → Item → MailState → MailState

@@ -1,6 +1,5 @@
 //! Ready callbacks in the order of arrival.
-ghost use Rattle.std.specs.Prelude.{◌≡◌, ◌++◌, map, slice_get, OnOk};
-ghost use Rattle.std.specs.Option.{option_map_or};
+ghost use Rattle.std.specs.Prelude.{◌≡◌, ◌++◌, map, OnOk};
 
 use super::WorldBody;
 use crate::arrived::{Arrived, note_arrival, sort_arrivals};
@@ -33,11 +32,9 @@ impl<'a> Model for Parts<'a> {
 }
 
 impl<L: Lines> WorldBody<L> {
-    ghost use Rattle.std.specs.Prelude.{◌≡◌, ◌++◌, map, slice_get, OnOk};
+    ghost use Rattle.std.specs.Prelude.{◌≡◌, ◌++◌, map, OnOk};
     ghost use Rattle.std.specs.List.{fold};
-    ghost use Rattle.std.specs.Option.{option_map_or};
     ghost use Rattle.exec_plan.specs.Graph.{GraphData};
-    ghost use Rattle.exec_plan.specs.declared.order.Order.TheVariants as order;
     ghost use Rattle.exec_rules.specs.Ready.{arrival_for, goal_arrival};
     ghost use Rattle.exec_rules.specs.inner.Awake.{poll_at};
     ghost use Rattle.exec_rules.specs.inner.Listing.{with_script_of};
@@ -46,26 +43,16 @@ impl<L: Lines> WorldBody<L> {
     // Under the order of arrival, lists the numbers of the arrivals of what a snapshot listed, each with the place of its callback,
     // the earliest first. Polls come after the callbacks of the list. Only the numbers are sorted: callbacks and their scripts
     // are not moved. Under the order of kinds it lists nothing.
+    #[inline(never)]
     pub(super) fn list_arrivals(&self, moment: Moment, scratch: &mut Scratch) -> Result<(), Memory>
         ensures arrivals { OnOk result ((graph : GraphData) → AreListed self.now.order self.now
             (map (with_script_of graph) scratch.old.list ++ map (poll_at moment) scratch.old.goals.items) scratch.new.arrivals.items) }
         ensures list { scratch.new.list ≡ scratch.old.list }
         ensures goals { scratch.new.goals.items ≡ scratch.old.goals.items }
     {
-        match self.mail.order() {
-            Order::Kind => Ok(()),
-            Order::Arrival => self.list_sorted(moment, scratch),
+        if let Order::Kind = self.mail.order() {
+            return Ok(());
         }
-    }
-
-    // The same under the order of arrival.
-    #[inline(never)]
-    fn list_sorted(&self, moment: Moment, scratch: &mut Scratch) -> Result<(), Memory>
-        ensures arrivals { OnOk result ((graph : GraphData) → AreListed order.Arrival self.now
-            (map (with_script_of graph) scratch.old.list ++ map (poll_at moment) scratch.old.goals.items) scratch.new.arrivals.items) }
-        ensures list { scratch.new.list ≡ scratch.old.list }
-        ensures goals { scratch.new.goals.items ≡ scratch.old.goals.items }
-    {
         scratch.arrivals.clear();
         self.note_arrivals(scratch.list.as_slice(), &mut scratch.arrivals)?;
         self.note_polls(&scratch.goals, &mut scratch.arrivals)?;

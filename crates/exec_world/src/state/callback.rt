@@ -55,7 +55,9 @@ impl<L: Lines> WorldBody<L> {
     ghost use Rattle.exec_rules.specs.Transcript.{run_all};
     ghost use Rattle.exec_rules.specs.inner.Listing.{with_script_of};
 
-    // Runs callbacks one after another, each in the world that the one before it left.
+    // Runs callbacks one after another, each in the world that the one before it left. It isn't inlined, because few rounds run
+    // their callbacks so.
+    #[inline(never)]
     pub(crate) fn run_all(
         &mut self,
         list: &[Ready],
@@ -65,7 +67,7 @@ impl<L: Lines> WorldBody<L> {
         ensures { OnOk result (self.new ≡ run_all list.now self.old) }
     {
         for one in list {
-            self.run_one(one, effects, cx)?;
+            self.run_as(&Runnable::of(one), effects, cx)?;
         }
         Ok(())
     }
@@ -101,45 +103,24 @@ impl<L: Lines> WorldBody<L> {
         let one = &listed.ready;
         match one.cause {
             Cause::Due => {
-                let script = script_of(graph, listed, Kind::Timer);
                 let ticks = one.moment.ticks() as i64;
-                self.run_as(&Plain::of(one, script, Kind::Timer, ticks, 0), effects, cx)
+                let plain = Plain::of(graph, listed, Kind::Timer, ticks, 0);
+                self.run_as(&plain, effects, cx)
             }
             Cause::Took(Item::Message { value }) => {
-                let script = script_of(graph, listed, Kind::Message);
-                self.run_as(
-                    &Plain::of(one, script, Kind::Message, value, 0),
-                    effects,
-                    cx,
-                )
+                let plain = Plain::of(graph, listed, Kind::Message, value, 0);
+                self.run_as(&plain, effects, cx)
             }
             Cause::Took(Item::Reply { number, value }) => {
-                let script = script_of(graph, listed, Kind::Reply);
                 let call = number.cast_signed();
-                self.run_as(
-                    &Plain::of(one, script, Kind::Reply, value, call),
-                    effects,
-                    cx,
-                )
+                let plain = Plain::of(graph, listed, Kind::Reply, value, call);
+                self.run_as(&plain, effects, cx)
             }
             _ => {
                 let script = script_of(graph, listed, one.kind());
                 self.run_as(&Runnable::handed(one, script, one.input()), effects, cx)
             }
         }
-    }
-
-    // Runs a ready callback with its own script. It isn't inlined, because few rounds run their callbacks so.
-    #[inline(never)]
-    fn run_one(
-        &mut self,
-        one: &Ready,
-        effects: &mut EffectList,
-        cx: &mut Context<'_>,
-    ) -> Result<(), Memory>
-        ensures { OnOk result (self.new ≡ run one.now self.old) }
-    {
-        self.run_as(&Runnable::of(one), effects, cx)
     }
 
     // Runs any form of a callback. A goal is polled in a context that the caller has made. The list has room for effects, and

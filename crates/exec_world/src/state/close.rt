@@ -1,6 +1,6 @@
 //! What closes a callback in the world, after its effects.
 ghost use Rattle.std.specs.Prelude.{◌≡◌};
-ghost use Rattle.exec_rules.specs.Close.{reply_of_close};
+ghost use Rattle.exec_rules.specs.Close.{decisions_of_close, reply_of_close};
 
 use super::WorldBody;
 use exec_entity::GoalRequest;
@@ -23,7 +23,7 @@ impl<L: Lines> WorldBody<L> {
     ghost use Rattle.exec_msg.specs.declared.line.Line.TheVariants as line;
     ghost use Rattle.exec_rules.specs.declared.item.Item.TheVariants as item;
     ghost use Rattle.exec_goal.specs.Table.{is_accepting};
-    ghost use Rattle.exec_rules.specs.Close.{accept, answer_goal, ask, cancel, decide, decisions_of_close, end, goal_arrived, pend, reply_to, respond, tell};
+    ghost use Rattle.exec_rules.specs.Close.{accept, answer_goal, ask, cancel, decide, end, goal_arrived, pend, reply_to, respond, tell};
     ghost use Rattle.exec_rules.specs.Close.{close_callback, close_item, close_poll};
     ghost use Rattle.exec_rules.specs.World.{action_client_at, add_line, add_lines, goals_at, has_room_for};
 
@@ -64,9 +64,9 @@ impl<L: Lines> WorldBody<L> {
                 };
                 self.answer_goal(entity, moment, decision_of_close(closing), &request)
             }
-            Item::Cancel { request, client } => self.close_cancel(
-                entity, request, *client, closing,
-            ),
+            Item::Cancel { request, client } => {
+                self.cancel(entity, request, *client, decisions_of_close(closing))
+            }
             Item::Ask { id, client } => self.ask(entity, *id, *client),
             Item::Response { id, accepted } => self.respond(entity, *id, *accepted),
             Item::Message { .. }
@@ -160,23 +160,6 @@ impl<L: Lines> WorldBody<L> {
         ensures { OnOk result (self.new ≡ add_line (line.State server id status) self.old) }
     {
         self.add_line(Line::State { server, id, status })
-    }
-
-    fn close_cancel(
-        &mut self,
-        server: EntityNo,
-        request: &CancelRequest,
-        client: Option<EntityNo>,
-        closing: &Close,
-    ) -> Result<(), Memory>
-        ensures { OnOk result (self.new ≡ cancel server request.now client (decisions_of_close closing.now) self.old) }
-    {
-        match closing {
-            Close::Decisions(decisions) => {
-                self.cancel(server, request, client, decisions.as_slice())
-            }
-            _ => self.cancel(server, request, client, &[]),
-        }
     }
 
     fn cancel(
@@ -313,23 +296,10 @@ impl<L: Lines> WorldBody<L> {
         ensures ended { OnOk result (self.new ≡ end server id event value moment self.old) }
         ensures memory { OnErr result (is_some (end_state id event (goals_at server self.old)) ≡ true) }
     {
-        match self.servers.end(server, id, event, value, moment) {
-            None => Ok(()),
-            Some(reached) => self.tell_end(server, id, reached.status(), value),
-        }
-    }
-
-    // Reports that a goal ended with a status and a result.
-    fn tell_end(
-        &mut self,
-        server: EntityNo,
-        id: GoalId,
-        status: GoalStatus,
-        value: i64,
-    ) -> Result<(), Memory>
-        ensures { OnOk result (self.new ≡ fold (λ before client. tell server id status value client before)
-            (add_line (line.State server id status) self.old) (askers_in id (goals_at server self.old))) }
-    {
+        let Some(reached) = self.servers.end(server, id, event, value, moment) else {
+            return Ok(());
+        };
+        let status = reached.status();
         self.add_state(server, id, status)?;
         self.tell_askers(server, id, status, value)
     }
@@ -360,5 +330,14 @@ fn reply_of_close(closing: &Close) -> i64
     match closing {
         Close::Reply(value) => *value,
         _ => 0,
+    }
+}
+
+fn decisions_of_close(closing: &Close) -> &[(GoalId, CancelDecision)]
+    ensures { result.now ≡ decisions_of_close closing.now }
+{
+    match closing {
+        Close::Decisions(decisions) => decisions.as_slice(),
+        _ => &[],
     }
 }

@@ -76,7 +76,10 @@ impl<L: Lines> WorldBody<L> {
     pub(super) fn push_any(&mut self, entity: Option<EntityNo>, item: Item) -> Result<(), Memory>
         ensures { OnOk result (self.new ≡ push_any entity item self.old) }
     {
-        self.mail.send_any(entity, item)
+        match entity {
+            Some(entity) => self.push(entity, item),
+            None => Ok(()),
+        }
     }
 
     // An item is sent to an entity, after its line.

@@ -1,9 +1,11 @@
 //! Callbacks that run their script once, that nothing closes, and whose line has no identifier. Most callbacks are such.
 use super::WorldBody;
 use super::callback::Callback;
+use crate::scripts::script_of;
 use exec_msg::{Kind, Line, Lines, Memory};
-use exec_rules::{Ready, Runnable};
-use exec_script::{Close, Effect, EffectList, Input, Instr, Role};
+use exec_plan::Graph;
+use exec_rules::{Listed, Runnable};
+use exec_script::{Close, Effect, EffectList, Input, Role};
 use futures::task::Context;
 use std::marker::Model;
 
@@ -29,24 +31,26 @@ impl<'a> Model for Plain<'a> {
 
 impl<'a> Plain<'a> {
     ghost use Rattle.std.specs.Prelude.{◌≡◌, true};
-    ghost use Rattle.std.specs.Option.{option_copied};
     ghost use Rattle.exec_rules.specs.Ready.{input_of, kind_of};
+    ghost use Rattle.exec_rules.specs.inner.Listing.{with_script_of};
     ghost use Rattle.exec_world.specs.inner.Plain.{is_plain};
 
-    // A callback of this kind with this script, if it runs one. It is handed these numbers.
+    // A listed callback of this kind with its script, which is the graph's. It is handed these numbers.
     #[inline(always)]
     pub(super) fn of(
-        one: &'a Ready,
-        script: Option<&'a [Instr]>,
+        graph: &'a Graph,
+        listed: &'a Listed,
         kind: Kind,
         first: i64,
         aux: i64,
     ) -> Plain<'a>
-        requires plain { is_plain one.now.cause ≡ true }
-        requires kind { kind_of one.now.cause ≡ kind }
-        requires handed { input_of one.now ≡ record { first = first; aux = aux; moment = one.now.moment } }
-        ensures { result ≡ record one.now { script = option_copied script.entry } }
+        requires plain { is_plain listed.now.ready.cause ≡ true }
+        requires kind { kind_of listed.now.ready.cause ≡ kind }
+        requires handed { input_of listed.now.ready ≡ record { first = first; aux = aux; moment = listed.now.ready.moment } }
+        ensures { result ≡ with_script_of graph.now listed.now }
     {
+        let one = &listed.ready;
+        let script = script_of(graph, listed, kind);
         let input = Input {
             first,
             aux,

@@ -53,7 +53,7 @@ impl<'a> Round<'a> {
 impl<L: Lines> WorldBody<L> {
     ghost use Rattle.std.specs.Prelude.{◌≡◌, ◌≤◌, length, map, take, drop, IfOk, OnOk};
     ghost use Rattle.exec_msg.specs.declared.line.Line.TheVariants as line;
-    ghost use Rattle.exec_rules.specs.Transcript.{expire, feed, feed_one, finish, run_all};
+    ghost use Rattle.exec_rules.specs.Transcript.{feed, feed_one, finish, run_all};
     ghost use Rattle.exec_rules.specs.World.{WorldState, add_line};
     ghost use Rattle.exec_rules.specs.inner.Awake.{poll_at};
     ghost use Rattle.exec_rules.specs.inner.ByKind.{taken_in_parts};
@@ -162,15 +162,9 @@ impl<L: Lines> WorldBody<L> {
             number: round.number,
             moment: round.moment,
         })?;
-        self.expire(round.moment)?;
+        self.mail.expire(round.moment, &mut self.servers)?;
         self.feed(round.fed)?;
         Ok(())
-    }
-
-    fn expire(&mut self, moment: Moment) -> Result<(), Memory>
-        ensures { OnOk result (self.new ≡ expire moment self.old) }
-    {
-        self.mail.expire(moment, &mut self.servers)
     }
 
     fn feed(&mut self, entries: &[Feed]) -> Result<(), Memory>

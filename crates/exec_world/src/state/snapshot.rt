@@ -1,13 +1,12 @@
 //! The snapshot of a round.
-ghost use Rattle.std.specs.Prelude.{◌≡◌, [], ◌∷◌};
-ghost use Rattle.exec_rules.specs.Ready.{answered_by_first};
+ghost use Rattle.std.specs.Prelude.{◌≡◌};
 ghost use Rattle.exec_world.specs.inner.Snapshots.{replies_at, with_reply_at};
 
 use super::WorldBody;
 use crate::fronts::Fronts;
 use crate::scratch::Scratch;
 use exec_entity::Clients;
-use exec_msg::{EntityNo, Lines, Memory, Moment};
+use exec_msg::{Lines, Memory, Moment};
 use exec_queue::{Queues, take_due_into};
 use exec_rules::Item;
 
@@ -76,8 +75,7 @@ impl<L: Lines> WorldBody<L> {
             moment,
             servers: &self.servers,
         };
-        self.mail
-            .list_fronts(&fronts, &scratch.places, &mut scratch.list)
+        fronts.list_all(&scratch.places, self.mail.queues(), &mut scratch.list)
     }
 }
 
@@ -100,17 +98,7 @@ fn answer_call(clients: &mut Clients, queues: &Queues, place: usize)
     let Some(queue) = queues.at(place) else {
         return;
     };
-    let Some(item) = queue.front() else {
-        return;
-    };
-    answer_by(clients, queue.handler().entity, item);
-}
-
-// Gives a client's call the reply that this item is, if it is one.
-fn answer_by(clients: &mut Clients, entity: EntityNo, item: Item)
-    ensures { clients.new ≡ answered_by_first entity (item ∷ []) clients.old }
-{
-    if let Item::Reply { number, value } = item {
-        let _answered = clients.complete(entity, number, value);
+    if let Some(Item::Reply { number, value }) = queue.front() {
+        let _answered = clients.complete(queue.handler().entity, number, value);
     }
 }

@@ -6,7 +6,7 @@ use Rattle.exec_world.proofs.state.WorldBody.list_queues.Goals as goal
 
 pub returns-clause-list : goal.returns-clause-list
 returns-clause-list g c =
-    on_ok_weaker c.list_fronts.result
-    (listed_in_part c.args.before_polls c.list_filled.new.self.queues c.deref.result.now c.args.moment c.args.scratch.now.list c.list_fronts.new.list
-    c.self.view_is (ap (λ (mail : MailState). mail.queues) c.list_filled.ensures.same) (c.deref.ensures.value ∙ c.in_ok-list_filled.ensures.places))
-    c.list_fronts.ensures
+    on_ok_weaker c.list_all.result
+    (listed_in_part c.args.before_polls c.queues.result.now c.deref.result.now c.args.moment c.args.scratch.now.list c.list_all.new.list
+    c.self.view_is (c.queues.ensures ∙ ap (λ (mail : MailState). mail.queues) c.list_filled.ensures.same) (c.deref.ensures.value ∙ c.in_ok-list_filled.ensures.places))
+    c.list_all.ensures

@@ -11,7 +11,8 @@ use Rattle.exec_world.proofs.state.WorldBody.run_all.Goals as goal
 pub loop-one-preserved : goal.loop-one-preserved
 loop-one-preserved g c =
     let step = λ (world : WorldState) (one : Ready). run one world in
-    c.in_ok-run_one.ensures
+    c.in_ok-run_as.ensures
+    ∙ ap (λ (one : Ready). run one c.loop-one.self) c.of.ensures
     ∙ ap (λ (world : WorldState). step world c.one-item.result) c.loop-one.invariant
     ∙ ap (step (fold step c.args.self.now (take c.loop-one.one-index c.args.list.now))) c.one-item.is
     ∙ sym (fold_more step c.args.self.now c.args.list.now c.loop-one.one-index c.one-item.result c.loop-one-test.true)

@@ -10,5 +10,5 @@ returns-in_default g c =
     (λ ran.
     ran
     ∙ ap (λ (one : Ready). run one c.args.self.now) c.handed.ensures
-    ∙ ap (λ (script : _). run (record c.args.listed.now.ready { script = script }) c.args.self.now) c.script_of-script-in_default.ensures)
+    ∙ ap (λ (script : _). run (record c.args.listed.now.ready { script = script }) c.args.self.now) c.script_of-script.ensures)
     c.run_as-in_default.ensures
