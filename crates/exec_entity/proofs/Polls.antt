@@ -1,15 +1,13 @@
--- A server's polls, goal by goal.
+-- A server's goals that are awake, goal by goal.
 use Rattle.std.proofs.Common.{◌≡◌, ℕ, ◌+◌, ◌<◌, Bool, true, false, List, [], ◌∷◌, ◌++◌, length, get_or, take, map, Some, refl, sym, ap, ◌∙◌}
 use Rattle.std.specs.List.{filter, flat_map}
 use Rattle.std.proofs.lemmas.List.{flat_map_more, take_more}
 use Rattle.exec_goal.specs.Table.{GoalRecord}
-use Rattle.exec_rules.specs.Ready.{is_goal_awake, poll_ready, ready_for, woken}
+use Rattle.exec_rules.specs.Ready.{is_goal_awake}
 use Rattle.exec_msg.specs.Numbers.{Moment}
 use Rattle.exec_rules.specs.World.{ServerEntry}
 use Rattle.exec_rules.specs.declared.ready.AwakeGoal.{AwakeGoal}
-use Rattle.exec_rules.specs.declared.ready.Ready.{Ready}
 use Rattle.exec_rules.specs.inner.Awake.{awake_goal, awake_goals, goal_awake}
-use Rattle.exec_entity.specs.inner.Polling.{poll_by}
 
 pub awake_are : (moment : Moment) (entry : ServerEntry) → awake_goals moment entry ≡ map (awake_goal entry.handler) (filter (is_goal_awake moment entry.held) entry.goals)
 awake_are moment entry = each entry.goals
@@ -22,14 +20,6 @@ awake_are moment entry = each entry.goals
             → flat_map (goal_awake moment entry) (goal ∷ goals) ≡ map (awake_goal entry.handler) (filter (is_goal_awake moment entry.held) (goal ∷ goals))
         by true e rest = rw e (ap (λ (goals : List AwakeGoal). awake_goal entry.handler goal ∷ goals) rest)
         by false e rest = rw e rest
-
--- a server's polls are those of its goals that are awake
-pub polls_are : (moment : Moment) (entry : ServerEntry) → flat_map (poll_by moment entry.handler) (awake_goals moment entry) ≡ poll_ready moment entry
-polls_are moment entry = ap (flat_map (poll_by moment entry.handler)) (awake_are moment entry) ∙ each (filter (is_goal_awake moment entry.held) entry.goals)
-  where
-    each : (goals : List GoalRecord) → flat_map (poll_by moment entry.handler) (map (awake_goal entry.handler) goals) ≡ map (λ goal. ready_for moment entry.handler (woken goal) [] (Some entry.handler.script)) goals
-    each [] = refl
-    each (goal ∷ goals) = ap (λ (readies : List Ready). ready_for moment entry.handler (woken goal) [] (Some entry.handler.script) ∷ readies) (each goals)
 
 pub none_awake : (moment : Moment) (entry : ServerEntry) → filter (is_goal_awake moment entry.held) entry.goals ≡ [] → awake_goals moment entry ≡ []
 none_awake moment entry none = awake_are moment entry ∙ ap (map (awake_goal entry.handler)) none

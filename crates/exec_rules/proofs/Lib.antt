@@ -14,7 +14,6 @@ pub mod OfKinds
 pub mod Pairs
 pub mod Placing
 pub mod PolledAlike
-pub mod Ranking
 pub mod ReadyLists
 pub mod Running
 pub mod Shapes

@@ -7,11 +7,11 @@ use Rattle.exec_rules.specs.declared.listed.Listed.{Listed}
 use Rattle.exec_rules.specs.declared.ready.Ready.{Ready}
 use Rattle.exec_rules.specs.inner.Listing.{as_listed, listed_behind}
 
-placed_length : (position : ℕ) (list : List Ready) → length (placed_from position list) ≡ length list
+pub placed_length : (position : ℕ) (list : List Ready) → length (placed_from position list) ≡ length list
 placed_length position [] = refl
 placed_length position (one ∷ list) = ap (λ (n : ℕ). suc n) (placed_length (suc position) list)
 
-placed_more : (position : ℕ) (some more : List Ready) → placed_from position (some ++ more) ≡ placed_from position some ++ placed_from (position + length some) more
+pub placed_more : (position : ℕ) (some more : List Ready) → placed_from position (some ++ more) ≡ placed_from position some ++ placed_from (position + length some) more
 placed_more position [] more = ap (λ (n : ℕ). placed_from n more) (omega arith)
 placed_more position (one ∷ some) more =
     ap (λ (rest : List Ready). record one { position = position } ∷ rest)

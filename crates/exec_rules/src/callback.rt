@@ -51,6 +51,7 @@ impl Ready {
     ///
     /// # Errors
     /// [`Memory`] if a growth was refused. The variables and the task's work don't change.
+    #[inline(always)]
     pub fn run_apart_into(
         &self,
         alloc: Global,

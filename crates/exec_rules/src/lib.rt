@@ -2,7 +2,6 @@
 //! and the transcript of a plan. The rules are definitions, in specs/. The code here is what all crates that follow them share.
 #![tactic(auto)]
 
-mod arranging;
 mod callback;
 mod handler;
 mod item;
@@ -13,7 +12,6 @@ mod ready;
 mod runnable;
 mod shared;
 
-pub use arranging::{arrange, set_position};
 pub use callback::decision_of_close;
 pub use handler::Handler;
 pub use item::Item;

@@ -76,11 +76,4 @@ impl ReadyList {
     {
         self.items.as_slice()
     }
-
-    /// The vector of the callbacks. It takes no memory.
-    pub fn into_vec(self) -> Vec<Listed>
-        ensures { result.items ≡ self }
-    {
-        self.items
-    }
 }

@@ -12,13 +12,13 @@ use Rattle.exec_rules.specs.declared.ready.Ready.{Ready}
 use Rattle.exec_rules.specs.inner.ByKind.{taken_in_parts}
 use Rattle.exec_world.proofs.Begun.{round_kept, snapshot_kept}
 use Rattle.exec_world.proofs.Grouped.{snapshot_variables}
-use Rattle.exec_world.proofs.Sound.{begun_sound, snapshot_home, sound, sound_arranged, sound_rounded, sound_taken}
+use Rattle.exec_world.proofs.Sound.{begun_sound, snapshot_home, sound, sound_listed, sound_rounded, sound_taken}
 use Rattle.exec_world.proofs.PlanScripts.{scripts_sound}
 use Rattle.exec_world.specs.Heavy.{IsBegun}
 use Rattle.exec_world.specs.declared.state.round.Round.{Round}
 use Rattle.exec_world.specs.declared.weighing.Heavy.{Heavy}
 use Rattle.exec_world.specs.inner.Rounds.{rounds_in}
-use Rattle.exec_world.specs.inner.Snapshots.{HaveScriptsOf, IsHandedOut, arranged_in, begun_by, round_in}
+use Rattle.exec_world.specs.inner.Snapshots.{HaveScriptsOf, IsHandedOut, begun_by, listed_in, round_in}
 use Rattle.exec_world.specs.inner.Sound.{IsSound}
 
 -- the callbacks, and the world after that
@@ -59,9 +59,9 @@ module _ (kept world : WorldData) (same : kept ≡ world) (plan : PlanData) (num
   pub has_scripts : (graph : GraphData) → graph ≡ plan.graph → HaveScriptsOf graph before
   has_scripts graph is = subst (λ (of : GraphData). HaveScriptsOf of before) (ap (λ (one : PlanData). one.graph) (sym read) ∙ sym is) (scripts_sound kept.plan before before_sound)
 
-  pub has_handed : (list : List Ready) (after : WorldState) → list ≡ arranged_in round.moment before → after ≡ taken_in_parts round.moment before → HasHanded kept.plan world number list after
+  pub has_handed : (list : List Ready) (after : WorldState) → list ≡ listed_in round.moment before → after ≡ taken_in_parts round.moment before → HasHanded kept.plan world number list after
   has_handed list after listed taken =
-      let lists : list ≡ ready_list round.moment before = listed ∙ sym (sound_arranged kept.plan round.moment before before_sound) in
+      let lists : list ≡ ready_list round.moment before = listed ∙ sym (sound_listed kept.plan round.moment before before_sound) in
       let takes : after ≡ take_inputs round.moment before = taken ∙ sym (sound_taken kept.plan round.moment before before_sound) in
       record {
         ready = lists ∙ (λ i. ready_list (moments i) (begins i));

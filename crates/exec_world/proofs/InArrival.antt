@@ -7,7 +7,7 @@ use Rattle.std.proofs.lemmas.Option.{slice_get_past}
 use Rattle.exec_plan.proofs.Positions.{slice_get-behind}
 use Rattle.std.proofs.lemmas.List.{append-nil, drop-map, length-map, map-append, take-append-drop, take-map}
 use Rattle.exec_goal.specs.Table.{GoalRecord}
-use Rattle.exec_msg.specs.Numbers.{Moment}
+use Rattle.exec_msg.specs.Numbers.{EntityNo, Moment}
 use Rattle.exec_plan.specs.Graph.{GraphData}
 use Rattle.exec_plan.specs.declared.order.Order.{Order}
 use Rattle.exec_plan.specs.declared.order.Order.TheVariants as order
@@ -18,12 +18,13 @@ use Rattle.exec_rules.specs.Sorting.{inserted_by, sorted_by}
 use Rattle.exec_rules.specs.Transcript.{run_all}
 use Rattle.exec_rules.specs.World.{ClientEntry, ServerEntry, TimerEntry, WorldState}
 use Rattle.exec_rules.specs.declared.ready.AwakeGoal.{AwakeGoal}
+use Rattle.exec_rules.specs.declared.ready.Cause.{Cause}
+use Rattle.exec_rules.specs.declared.ready.Cause.TheVariants as cause
 use Rattle.exec_rules.specs.declared.ready.Ready.{Ready}
 use Rattle.exec_rules.specs.inner.Awake.{awake_goals, goal_awake, poll_at}
 use Rattle.exec_rules.specs.declared.listed.Listed.{Listed}
 use Rattle.exec_rules.specs.inner.ByKind.{ready_before, ready_behind, taken_in_parts}
 use Rattle.exec_rules.specs.inner.Listing.{with_script_of}
-use Rattle.exec_world.proofs.Arranged.{arrival_same}
 use Rattle.exec_world.proofs.PlanScripts.{scripts_before, scripts_behind}
 use Rattle.exec_world.specs.declared.arrived.Arrived.{Arrived}
 use Rattle.exec_world.specs.inner.Arrivals.{AreListed, arrived_in, run_arrived, run_at, run_listed, with_arrived}
@@ -33,6 +34,12 @@ use Rattle.exec_world.specs.inner.Snapshots.{HaveScriptsOf, IsListed, listed_in,
 pub listed_so : (under : Order) (world : WorldState) (all : List Ready) (arrivals : List Arrived) → AreListed order.Arrival world all arrivals → AreListed under world all arrivals
 listed_so order.Kind world all arrivals listed = tt
 listed_so order.Arrival world all arrivals listed = listed
+
+-- timers and clients don't matter for numbers of arrivals
+pub arrival_same : (entity : EntityNo) (why : Cause) (world : WorldState) (timers : List TimerEntry) (clients : List ClientEntry) → arrival_for entity why (record world { timers = timers; clients = clients }) ≡ arrival_for entity why world
+arrival_same entity cause.Due world timers clients = refl
+arrival_same entity (cause.Took taken) world timers clients = refl
+arrival_same entity (cause.Woke id value canceling) world timers clients = refl
 
 -- ---- two lists of one length, by each two of one place
 
@@ -50,13 +57,13 @@ module _ {A B : Type 0} (R : A → B → Type 0) (rank : A → ℕ) (other : B �
       by true rest = (r, p)
       by false rest = (p.0, rest)
 
-  zip_sorted : (xs : List A) (ys : List B) → AllZip R xs ys → AllZip R (sorted_by rank xs) (sorted_by other ys)
+  pub zip_sorted : (xs : List A) (ys : List B) → AllZip R xs ys → AllZip R (sorted_by rank xs) (sorted_by other ys)
   zip_sorted [] [] p = tt
   zip_sorted [] (v ∷ ys) p = absurd p
   zip_sorted (u ∷ xs) [] p = absurd p
   zip_sorted (u ∷ xs) (v ∷ ys) p = zip_inserted u v (sorted_by rank xs) (sorted_by other ys) p.0 (zip_sorted xs ys p.1)
 
-zip_append : {A B : Type 0} (R : A → B → Type 0) (xs zs : List A) (ys ws : List B) → AllZip R xs ys → AllZip R zs ws → AllZip R (xs ++ zs) (ys ++ ws)
+pub zip_append : {A B : Type 0} (R : A → B → Type 0) (xs zs : List A) (ys ws : List B) → AllZip R xs ys → AllZip R zs ws → AllZip R (xs ++ zs) (ys ++ ws)
 zip_append R [] zs [] ws p q = q
 zip_append R [] zs (v ∷ ys) ws p q = absurd p
 zip_append R (u ∷ xs) zs [] ws p q = absurd p
@@ -136,7 +143,7 @@ module _ (rank : Ready → ℕ) where
   -- ---- callbacks at the places of arrivals
 
   -- the arrivals of a list whose first has this place
-  abbrev arrived_from : ℕ → List Ready → List Arrived
+  abbrev pub arrived_from : ℕ → List Ready → List Arrived
   arrived_from place [] = []
   arrived_from place (one ∷ list) = record { number = rank one; place = place } ∷ arrived_from (suc place) list
 

@@ -1,7 +1,9 @@
 -- The scripts of a world's callbacks are those of its plan's graph, so that what a snapshot lists has its scripts from there.
-use Rattle.std.proofs.Common.{◌≡◌, ℕ, Bool, true, false, List, [], ◌∷◌, ◌++◌, map, Option, Some, None, is_some, if◌then◌else◌, refl, sym, ap, subst, ◌∙◌, arith}
+use Rattle.std.proofs.Common.{◌≡◌, ℕ, Bool, true, false, List, [], ◌∷◌, ◌++◌, map, Option, Some, None, is_some, if◌then◌else◌, refl, sym, ap, ap₂, subst, ◌∙◌, arith}
 use Rattle.std.specs.List.{All, AllByRecursion, filter, flat_map}
 use Rattle.std.specs.Option.{unwrap_or}
+use Rattle.std.proofs.lemmas.List.{map-append}
+use Rattle.exec_entity.proofs.Polls.{awake_are}
 use Rattle.exec_goal.specs.Table.{GoalRecord}
 use Rattle.exec_msg.specs.Numbers.{EntityNo, Moment}
 use Rattle.exec_msg.specs.Timer.{is_due}
@@ -23,9 +25,10 @@ use Rattle.exec_rules.specs.declared.item.Item.{Item}
 use Rattle.exec_rules.specs.declared.item.Item.TheVariants as item
 use Rattle.exec_rules.specs.declared.ready.Cause.TheVariants as cause
 use Rattle.exec_rules.specs.declared.ready.Ready.{Ready}
+use Rattle.exec_rules.specs.inner.Awake.{awake_goal, awake_goals}
 use Rattle.exec_rules.specs.inner.ByKind.{is_before_polls, queues_before_polls, ready_before, ready_behind}
 use Rattle.exec_rules.specs.inner.Listing.{HasScriptOf, as_listed, with_script_of}
-use Rattle.exec_world.specs.inner.Snapshots.{HaveScriptsOf, ready_in_parts}
+use Rattle.exec_world.specs.inner.Snapshots.{HaveScriptsOf, scripted_poll}
 use Rattle.exec_world.specs.inner.Sound.{IsSound}
 
 -- ---- the scripts of a plan's first world
@@ -126,12 +129,17 @@ module _ (graph : GraphData) (moment : Moment) where
             tt,
           )
 
-  poll_scripts : (entry : ServerEntry) → HasServerScript graph entry → AllByRecursion (HasScriptOf graph) (poll_ready moment entry)
-  poll_scripts entry has = by (filter (is_goal_awake moment entry.held) entry.goals)
+  poll_scripts : (entry : ServerEntry) → HasServerScript graph entry → map (scripted_poll graph moment) (awake_goals moment entry) ≡ poll_ready moment entry
+  poll_scripts entry has = ap (map (scripted_poll graph moment)) (awake_are moment entry) ∙ by (filter (is_goal_awake moment entry.held) entry.goals)
     where
-      by : (goals : List GoalRecord) → AllByRecursion (HasScriptOf graph) (map (λ goal. ready_for moment entry.handler (woken goal) [] (Some entry.handler.script)) goals)
-      by [] = tt
-      by (goal ∷ goals) = ((λ i. ready_for moment entry.handler (woken goal) [] (Some (sym has i))), by goals)
+      by : (goals : List GoalRecord) → map (scripted_poll graph moment) (map (awake_goal entry.handler) goals) ≡ map (λ goal. ready_for moment entry.handler (woken goal) [] (Some entry.handler.script)) goals
+      by [] = refl
+      by (goal ∷ goals) = λ i. ready_for moment entry.handler (woken goal) [] (Some (sym has i)) ∷ by goals i
+
+  server_scripts : (servers : List ServerEntry) → AllByRecursion (HasServerScript graph) servers → map (scripted_poll graph moment) (flat_map (awake_goals moment) servers) ≡ flat_map (poll_ready moment) servers
+  server_scripts [] has = refl
+  server_scripts (entry ∷ servers) has =
+      map-append (scripted_poll graph moment) (awake_goals moment entry) (flat_map (awake_goals moment) servers) ∙ ap₂ (λ (some more : List Ready). some ++ more) (poll_scripts entry has.0) (server_scripts servers has.1)
 
 -- what is listed has its scripts from the graph
 pub scripted : (graph : GraphData) (list : List Ready) → AllByRecursion (HasScriptOf graph) list → map (with_script_of graph) (map as_listed list) ≡ list
@@ -162,9 +170,6 @@ module _ (graph : GraphData) (moment : Moment) (world : WorldState) (p : HaveScr
   behind_polls : AllByRecursion (HasScriptOf graph) (ready_behind moment world)
   behind_polls = in_queues _
 
-  in_polls : AllByRecursion (HasScriptOf graph) (flat_map (poll_ready moment) world.servers)
-  in_polls = all_flat_where (HasServerScript graph) (HasScriptOf graph) (poll_ready moment) (poll_scripts graph moment) world.servers p.servers
-
   placed_scripts : (position : ℕ) (list : List Ready) → AllByRecursion (HasScriptOf graph) list → map (with_script_of graph) (map as_listed (placed_from position list)) ≡ placed_from position list
   placed_scripts position list has = scripted graph (placed_from position list) (all_placed (HasScriptOf graph) (moved graph) position list has)
 
@@ -174,8 +179,10 @@ module _ (graph : GraphData) (moment : Moment) (world : WorldState) (p : HaveScr
   pub scripts_behind : (position : ℕ) → map (with_script_of graph) (map as_listed (placed_from position (ready_behind moment world))) ≡ placed_from position (ready_behind moment world)
   scripts_behind position = placed_scripts position (ready_behind moment world) behind_polls
 
-  pub scripts_in_parts : map (with_script_of graph) (map as_listed (placed_from 1 (ready_in_parts moment world))) ≡ placed_from 1 (ready_in_parts moment world)
-  scripts_in_parts =
-      placed_scripts 1 (ready_in_parts moment world)
-      (all_append (HasScriptOf graph) (ready_before moment world ++ ready_behind moment world) (flat_map (poll_ready moment) world.servers)
-      (all_append (HasScriptOf graph) (ready_before moment world) (ready_behind moment world) before_polls behind_polls) in_polls)
+  pub scripts_whole : map (with_script_of graph) (map as_listed (placed_from 1 (ready_before moment world ++ ready_behind moment world))) ≡ placed_from 1 (ready_before moment world ++ ready_behind moment world)
+  scripts_whole =
+      placed_scripts 1 (ready_before moment world ++ ready_behind moment world)
+      (all_append (HasScriptOf graph) (ready_before moment world) (ready_behind moment world) before_polls behind_polls)
+
+  pub scripts_of_polls : map (scripted_poll graph moment) (flat_map (awake_goals moment) world.servers) ≡ flat_map (poll_ready moment) world.servers
+  scripts_of_polls = server_scripts graph moment world.servers p.servers

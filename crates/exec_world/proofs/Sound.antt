@@ -36,7 +36,7 @@ use Rattle.exec_rules.specs.declared.ready.Cause.{Cause}
 use Rattle.exec_rules.specs.declared.ready.Cause.TheVariants as cause
 use Rattle.exec_rules.specs.declared.ready.Ready.{Ready}
 use Rattle.exec_rules.specs.inner.ByKind.{queues_before_polls, queues_behind_polls, ready_behind, taken_in_parts}
-use Rattle.exec_world.specs.inner.Snapshots.{arranged_in, begun_by, listed_in, listed_under, ready_in_parts, round_in}
+use Rattle.exec_world.specs.inner.Snapshots.{begun_by, listed_in, listed_under, ready_in_parts, round_in}
 use Rattle.exec_plan.specs.declared.order.Order.{Order}
 use Rattle.exec_plan.specs.declared.order.Order.TheVariants as order
 use Rattle.std.proofs.lemmas.Grind.{flat_map-append}
@@ -106,9 +106,6 @@ module _ (plan : PlanData) (moment : Moment) (world : WorldState) (p : IsSound p
 
   pub sound_listed : ready_list moment world ≡ listed_in moment world
   sound_listed = listed_by world.order refl
-
-  pub sound_arranged : ready_list moment world ≡ arranged_in moment world
-  sound_arranged = ap (λ (list : List Ready). placed_from 1 (sorted_by (rank_under world.order world) list)) (parts_ready moment world (queues_rise plan world p.shape))
 
   pub sound_taken : take_inputs moment world ≡ taken_in_parts moment world
   sound_taken = taken moment world p.kinds

@@ -2,10 +2,9 @@
 use crate::arrived::Arrived;
 use crate::weighing::{instructions, poll_instructions};
 use exec_plan::Graph;
-use exec_rules::{AwakeGoal, Listed, ReadyList};
+use exec_rules::{AwakeGoal, ReadyList};
 use exec_script::EffectList;
 use std::alloc::Global;
-use std::mem;
 
 // What a round lists, and what the callback that runs does. The next round uses the same memory again, but nothing that is in
 // it.
@@ -24,8 +23,6 @@ pub(crate) struct Scratch {
 }
 
 impl Scratch {
-    ghost use Rattle.std.specs.Prelude.{◌≡◌};
-
     // Nothing is listed. It takes no memory.
     pub(crate) fn new(alloc: Global) -> Scratch {
         Scratch {
@@ -48,12 +45,5 @@ impl Scratch {
             graph,
             &self.goals,
         ))
-    }
-
-    // The list, which is then empty.
-    pub(crate) fn take_list(&mut self, alloc: Global) -> Vec<Listed>
-        ensures { result.items ≡ self.old.list }
-    {
-        mem::replace(&mut self.list, ReadyList::new(alloc)).into_vec()
     }
 }

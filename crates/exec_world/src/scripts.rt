@@ -2,11 +2,13 @@
 ghost use Rattle.std.specs.Prelude.{◌≡◌, [], map, IfOk, OnOk};
 ghost use Rattle.std.specs.Option.{option_copied, unwrap_or};
 ghost use Rattle.exec_rules.specs.Ready.{kind_of};
-ghost use Rattle.exec_rules.specs.inner.Listing.{with_script_of};
+ghost use Rattle.exec_rules.specs.inner.Listing.{positioned, with_script_of};
+ghost use Rattle.exec_world.specs.inner.Snapshots.{placed_behind, scripted_poll};
 
-use exec_msg::{Kind, Memory};
+use exec_goal::GoalInfo;
+use exec_msg::{Elements, Kind, Memory, Moment};
 use exec_plan::{Graph, Script};
-use exec_rules::{Listed, Ready, share};
+use exec_rules::{AwakeGoal, Listed, Ready, share};
 use exec_script::Instr;
 use std::alloc::Global;
 use std::sync::Arc;
@@ -34,24 +36,78 @@ fn instructions_of(script: Option<&Script>) -> &[Instr]
     }
 }
 
-// Callbacks that a snapshot listed, each with a share in its script.
-pub(crate) fn with_scripts(
+// Adds callbacks that a snapshot listed at their places, each with a share in its script.
+pub(crate) fn push_listed(
     alloc: Global,
     graph: &Graph,
-    list: Vec<Listed>,
-) -> Result<Vec<Ready>, Memory>
-    ensures { IfOk result (λ ready. ready.items ≡ map (with_script_of graph.now) list.items) }
+    list: &[Listed],
+    all: &mut Vec<Ready>,
+) -> Result<(), Memory>
+    ensures { OnOk result (all.new.items ≡ placed_behind all.old.items (map (with_script_of graph.now) list.now)) }
 {
-    let mut left = list;
-    left.reverse();
-    let mut all = Vec::new(alloc);
-    all.reserve(left.len())?;
-    while let Some(listed) = left.pop() {
-        let script = script_share(alloc, graph, &listed)?;
-        let ready = listed.ready;
-        all.push(Ready { script, ..ready })?;
+    for listed in list {
+        let position = all.as_slice().len() + 1;
+        all.push(with_script(alloc, graph, listed, position)?)?;
     }
-    Ok(all)
+    Ok(())
+}
+
+// Adds the polls of goals at their places, each with a share in its script.
+pub(crate) fn push_polls(
+    alloc: Global,
+    graph: &Graph,
+    moment: Moment,
+    goals: &[AwakeGoal],
+    all: &mut Vec<Ready>,
+) -> Result<(), Memory>
+    ensures { OnOk result (all.new.items ≡ placed_behind all.old.items (map (scripted_poll graph.now moment) goals.now)) }
+{
+    for goal in goals {
+        let script = shared(alloc, graph.script(goal.server, Kind::Poll))?;
+        let position = all.as_slice().len() + 1;
+        all.push(Ready {
+            position,
+            script: Some(script),
+            ..goal.poll_at(alloc, moment)
+        })?;
+    }
+    Ok(())
+}
+
+// A callback that a snapshot listed, with a share in its script, at this place.
+#[inline(always)]
+fn with_script(
+    alloc: Global,
+    graph: &Graph,
+    listed: &Listed,
+    position: usize,
+) -> Result<Ready, Memory>
+    ensures { IfOk result (λ ready. ready ≡ positioned position (with_script_of graph.now listed.now)) }
+{
+    let script = script_share(alloc, graph, listed)?;
+    let candidates = copied(alloc, &listed.ready.candidates)?;
+    Ok(Ready {
+        position,
+        entity: listed.ready.entity,
+        group: listed.ready.group,
+        exclusive: listed.ready.exclusive,
+        moment: listed.ready.moment,
+        cause: listed.ready.cause,
+        candidates,
+        script,
+    })
+}
+
+// A copy of the goals that a cancel request may cancel. No memory is taken if there are none.
+#[inline(always)]
+fn copied(alloc: Global, candidates: &Elements<GoalInfo>) -> Result<Elements<GoalInfo>, Memory>
+    ensures { IfOk result (λ copy. copy ≡ candidates.now) }
+{
+    let mut copy = Vec::new(alloc);
+    if !candidates.is_empty() {
+        copy.extend_from_slice(candidates.as_slice())?;
+    }
+    Ok(Elements::of(copy))
 }
 
 // A share in the script that a listed callback runs, if it runs one.

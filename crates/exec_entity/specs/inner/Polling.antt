@@ -1,21 +1,18 @@
 -- What a poll makes of a server, and what a task that is taken from it leaves.
-use Rattle.std.specs.Prelude.{ℕ, List, [], ◌∷◌, Option, None, Some}
+use Rattle.std.specs.Prelude.{ℕ, List, Option, None, Some}
 use Rattle.std.specs.List.{find}
 use Rattle.std.specs.Option.{option_and_then, option_map}
-use Rattle.exec_msg.specs.Numbers.{EntityNo, GoalId, Moment}
+use Rattle.exec_msg.specs.Numbers.{EntityNo, GoalId}
 use Rattle.exec_msg.specs.Lists.{change_first}
 use Rattle.exec_script.specs.declared.effects.Effect.{Effect}
 use Rattle.exec_task.specs.Task.{TaskState}
 use Rattle.exec_task.specs.declared.wait.Turn.{Turn}
 use Rattle.exec_entity.specs.declared.server.GoalTurn.{GoalTurn}
 use Rattle.exec_rules.specs.Callback.{AfterCallback, poll_listed}
-use Rattle.exec_rules.specs.Ready.{ready_for}
 use Rattle.exec_script.specs.Script.{Variables}
-use Rattle.exec_rules.specs.World.{GoalWork, Handler, HeldGoal, ServerEntry, is_for, is_server_at, arrived, work_in}
-use Rattle.exec_rules.specs.declared.ready.AwakeGoal.{AwakeGoal}
+use Rattle.exec_rules.specs.World.{GoalWork, HeldGoal, ServerEntry, is_for, is_server_at, arrived, work_in}
 use Rattle.exec_rules.specs.declared.ready.Cause.{Cause}
 use Rattle.exec_rules.specs.declared.ready.Cause.TheVariants as cause
-use Rattle.exec_rules.specs.declared.ready.Ready.{Ready}
 
 -- what is kept of a goal, with this work, or with none where its task is out
 abbrev pub doing : Option GoalWork → HeldGoal → HeldGoal
@@ -46,11 +43,3 @@ goal_polled turn id entry variables = poll_listed turn (option_and_then (λ held
 -- a poll of a goal in its turn
 abbrev pub polled_in : GoalTurn → List ServerEntry → Variables → AfterCallback (List Effect)
 polled_in goal servers variables = poll_listed goal.turn (work_in goal.server goal.id servers) variables
-
--- the poll of a server's goal that is awake at a moment
-abbrev pub poll_of : Moment → Handler → AwakeGoal → Ready
-poll_of moment handler goal = ready_for moment handler (cause.Woke goal.id goal.value goal.canceling) [] (Some handler.script)
-
--- the same, alone
-abbrev pub poll_by : Moment → Handler → AwakeGoal → List Ready
-poll_by moment handler goal = poll_of moment handler goal ∷ []

@@ -3,7 +3,7 @@ use super::{GoalRequest, GoalTurn, Server};
 use crate::by_number::{ByNumber, Numbered};
 use exec_goal::{Asked, CancelAnswer, CancelRequest, Goals, State};
 use exec_msg::{Acceptance, CancelDecision, EntityNo, Event, GoalId, Memory, Moment};
-use exec_rules::{AwakeGoal, ReadyList};
+use exec_rules::AwakeGoal;
 use exec_script::{Bank, Close, EffectList};
 use exec_task::GoalTask;
 use futures::task::Context;
@@ -29,10 +29,8 @@ impl ByNumber<Server> {
     ghost use Rattle.exec_msg.specs.Lists.{change_first};
     ghost use Rattle.exec_task.specs.Task.{is_awake};
     ghost use Rattle.exec_rules.specs.Close.{server_accepting};
-    ghost use Rattle.exec_rules.specs.Ready.{poll_ready};
     ghost use Rattle.exec_rules.specs.World.{has_room_for, is_server_at, is_for, work_of, goals_in, held_in, work_in};
     ghost use Rattle.exec_rules.specs.inner.Awake.{awake_goals};
-    ghost use Rattle.exec_rules.specs.inner.Listing.{listed_behind};
     ghost use Rattle.exec_entity.specs.inner.Polling.{polled_in, server_arrived, server_polled, server_with_work};
     ghost use Rattle.exec_entity.specs.inner.Servers.{asked_in, executed_in, with_goals};
 
@@ -243,26 +241,6 @@ impl ByNumber<Server> {
         goals.clear();
         for entry in &self.entries {
             entry.add_awake(moment, goals)?;
-        }
-        Ok(())
-    }
-
-    /// Lists a poll for each goal that is awake at a moment, server by server, each in the order of acceptance. The caller
-    /// lends the room, and may use it again.
-    ///
-    /// # Errors
-    /// [`Memory`] if a growth was refused.
-    pub fn list_polls(
-        &self,
-        alloc: Global,
-        moment: Moment,
-        room: &mut Vec<AwakeGoal>,
-        list: &mut ReadyList,
-    ) -> Result<(), Memory>
-        ensures { OnOk result (list.new ≡ listed_behind list.old (flat_map (poll_ready moment) self.now)) }
-    {
-        for entry in &self.entries {
-            entry.list_polls(alloc, moment, room, list)?;
         }
         Ok(())
     }

@@ -9,28 +9,25 @@ ghost use Rattle.exec_entity.specs.inner.Waking.{wake_in};
 
 use super::{KeptWithGoal, Server};
 use exec_goal::GoalInfo;
-use exec_msg::{Elements, GoalId, Memory, Moment};
-use exec_rules::{AwakeGoal, Cause, Listed, ReadyList, poll_any};
+use exec_msg::{GoalId, Memory, Moment};
+use exec_rules::{AwakeGoal, poll_any};
 use exec_script::{Bank, Close, EffectList};
 use exec_task::{GoalTask, Turn, is_awake, wakes_at};
 use futures::task::Context;
-use std::alloc::Global;
 use std::mem;
 
 impl Server {
     ghost use Rattle.std.specs.Prelude.{ℕ, ◌<◌, ◌∷◌, ◌++◌, true, None, length, map, filter, find, slice_get, IfNone, IfSome};
-    ghost use Rattle.std.specs.List.{flat_map};
     ghost use Rattle.std.specs.Option.{option_and_then};
     ghost use Rattle.exec_goal.specs.Info.{info_of};
     ghost use Rattle.exec_goal.specs.declared.info.GoalInfo.{GoalInfo};
     ghost use Rattle.exec_goal.specs.State.{is_canceling};
     ghost use Rattle.exec_goal.specs.Table.{GoalRecord, working};
-    ghost use Rattle.exec_rules.specs.Ready.{is_goal_awake, is_task_awake, poll_ready};
+    ghost use Rattle.exec_rules.specs.Ready.{is_goal_awake, is_task_awake};
     ghost use Rattle.exec_rules.specs.World.{is_for};
     ghost use Rattle.exec_rules.specs.inner.Awake.{awake_goal, awake_goals, goal_awake};
-    ghost use Rattle.exec_rules.specs.inner.Listing.{as_listed, listed_behind};
     ghost use Rattle.exec_entity.specs.inner.Keeping.{IsFor};
-    ghost use Rattle.exec_entity.specs.inner.Polling.{goal_polled, poll_by, poll_of, server_arrived, server_polled, server_with_work};
+    ghost use Rattle.exec_entity.specs.inner.Polling.{goal_polled, server_arrived, server_polled, server_with_work};
 
     // How many goals the server works on. If it works on none, none is awake. It looks at no goal.
     pub(crate) fn count_working(&self) -> usize
@@ -82,37 +79,6 @@ impl Server {
         is_any_awake(&entry.1.task, moment)
     }
 
-    // Lists a poll for each goal that is awake at a moment, in the order of acceptance. The room may be used again.
-    pub(crate) fn list_polls(
-        &self,
-        alloc: Global,
-        moment: Moment,
-        room: &mut Vec<AwakeGoal>,
-        list: &mut ReadyList,
-    ) -> Result<(), Memory>
-        ensures { OnOk result (list.new ≡ listed_behind list.old (poll_ready moment self.now)) }
-    {
-        room.clear();
-        self.add_awake(moment, room)?;
-        self.list_each(alloc, moment, room.as_slice(), list)?;
-        Ok(())
-    }
-
-    fn list_each(
-        &self,
-        alloc: Global,
-        moment: Moment,
-        goals: &[AwakeGoal],
-        list: &mut ReadyList,
-    ) -> Result<(), Memory>
-        ensures { OnOk result (list.new ≡ listed_behind list.old (flat_map (poll_by moment self.now.handler) goals.now)) }
-    {
-        for goal in goals {
-            list.push(self.poll_of(alloc, moment, goal))?;
-        }
-        Ok(())
-    }
-
     // Adds each goal that is awake at a moment, in the order of acceptance.
     pub(crate) fn add_awake(&self, moment: Moment, goals: &mut Vec<AwakeGoal>) -> Result<(), Memory>
         ensures { OnOk result (goals.new.items ≡ goals.old.items ++ awake_goals moment self.now) }
@@ -162,18 +128,6 @@ impl Server {
             exclusive: self.handler.exclusive,
             canceling: info.state.is_canceling(),
         }
-    }
-
-    fn poll_of(&self, alloc: Global, moment: Moment, goal: &AwakeGoal) -> Listed
-        ensures { result ≡ as_listed (poll_of moment self.now.handler goal.now) }
-    {
-        let cause = Cause::Woke {
-            id: goal.id,
-            value: goal.value,
-            canceling: goal.canceling,
-        };
-        self.handler
-            .listed(moment, cause, Elements::new(alloc), true)
     }
 
     // Polls a goal in a turn with the variables of its callback group, in a context that the caller has made. Answers what

@@ -13,7 +13,7 @@ as_listed one = record { ready = record one { script = None }; runs = is_some on
 abbrev pub listed_behind : List Listed → List Ready → List Listed
 listed_behind list more = list ++ map as_listed (placed_from (length list + 1) more)
 
--- a ready callback with another position; that may be a rank until the list is arranged
+-- a ready callback at another place
 abbrev pub positioned : ℕ → Ready → Ready
 positioned position one = record one { position = position }
 

@@ -1,8 +1,8 @@
 -- The numbers of arrivals of what a snapshot listed, and the callbacks run by them.
 use Rattle.std.specs.Prelude.{◌≡◌, ℕ, List, [], ◌∷◌, ◌++◌, drop, length, slice_get, take}
 use Rattle.std.specs.Bool.{⊤}
-use Rattle.std.specs.List.{fold}
-use Rattle.std.specs.Option.{option_map_or}
+use Rattle.std.specs.List.{flat_map, fold}
+use Rattle.std.specs.Option.{option_map_or, option_to_list}
 use Rattle.exec_plan.specs.declared.order.Order.{Order}
 use Rattle.exec_plan.specs.declared.order.Order.TheVariants as order
 use Rattle.exec_rules.specs.Ready.{arrival_for}
@@ -26,6 +26,14 @@ arrived_in world all = fold (λ arrivals one. with_arrived arrivals (arrival_for
 abbrev pub AreListed : Order → WorldState → List Ready → List Arrived → Type 0
 AreListed order.Kind world all arrivals = ⊤
 AreListed order.Arrival world all arrivals = arrivals ≡ sorted_by (λ one. one.number) (arrived_in world all)
+
+-- the callback at a place, from 0, if there is one
+abbrev pub callback_at : List Ready → ℕ → List Ready
+callback_at all place = option_to_list (slice_get all place)
+
+-- the callbacks at the places of arrivals
+abbrev pub callbacks_at : List Ready → List Arrived → List Ready
+callbacks_at all arrivals = flat_map (λ arrived. callback_at all arrived.place) arrivals
 
 -- the world after the callback at a place, from 0, if there is one
 abbrev pub run_at : List Ready → WorldState → ℕ → WorldState

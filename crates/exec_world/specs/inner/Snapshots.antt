@@ -11,9 +11,9 @@ use Rattle.exec_rules.specs.Item.{taker_of}
 use Rattle.exec_rules.specs.Ready.{item_ready, placed_from, poll_ready, rank_under, reply_taken, timer_taken}
 use Rattle.exec_rules.specs.Sorting.{sorted_by}
 use Rattle.exec_rules.specs.Transcript.{expire, feed, run_all}
-use Rattle.exec_rules.specs.inner.Awake.{awake_goals}
+use Rattle.exec_rules.specs.inner.Awake.{awake_goals, poll_at}
 use Rattle.exec_rules.specs.inner.ByKind.{listed_by_kind, queues_before_polls, ready_before, ready_behind, taken_in_parts}
-use Rattle.exec_rules.specs.inner.Listing.{as_listed, positioned}
+use Rattle.exec_rules.specs.inner.Listing.{as_listed, with_script_of}
 use Rattle.exec_msg.specs.Numbers.{Moment}
 use Rattle.exec_rules.specs.World.{ClientEntry, Queue, ServerEntry, WorldState, add_line, goals_in}
 use Rattle.exec_rules.specs.inner.Places.{places_where}
@@ -56,14 +56,6 @@ filled_places before_polls queues = places_where (λ queue. has_item queue && is
 abbrev pub ready_in_parts : Moment → WorldState → List Ready
 ready_in_parts moment world = (ready_before moment world ++ ready_behind moment world) ++ flat_map (poll_ready moment) world.servers
 
--- a ready callback with its rank as its position, until the list is arranged
-abbrev pub ranked_in : WorldState → Ready → Ready
-ranked_in world one = positioned (rank_under world.order world one) one
-
--- all of them, sorted by their ranks
-abbrev pub arranged_in : Moment → WorldState → List Ready
-arranged_in moment world = placed_from 1 (sorted_by (rank_under world.order world) (ready_in_parts moment world))
-
 -- the ready list as it is made under an order
 abbrev pub listed_under : Order → Moment → WorldState → List Ready
 listed_under order.Kind moment world = listed_by_kind moment world
@@ -91,6 +83,23 @@ pub record HaveScriptsOf (graph : GraphData) (world : WorldState) : Type 0 where
   pub servers : AllByRecursion (λ entry. entry.handler.script ≡ script_at graph entry.handler.entity kind.Poll) world.servers
   pub kinds : AllByRecursion (λ queue. All (λ one. taker_of one ≡ queue.kind) queue.items) world.queues
 
+-- ready callbacks behind others, at their places
+abbrev pub placed_behind : List Ready → List Ready → List Ready
+placed_behind list more = list ++ placed_from (length list + 1) more
+
+-- the poll of a goal at a moment, with its script from a graph
+abbrev pub scripted_poll : GraphData → Moment → AwakeGoal → Ready
+scripted_poll graph moment goal = record (poll_at moment goal) { script = Some (script_at graph goal.server kind.Poll) }
+
+-- callbacks that are listed so, with their scripts from a graph, and polls after the first of them, so many
+abbrev pub in_parts : GraphData → Moment → ℕ → List Listed → List AwakeGoal → List Ready
+in_parts graph moment before list goals =
+    placed_from 1 (map (with_script_of graph) (take before list) ++ map (scripted_poll graph moment) goals ++ map (with_script_of graph) (drop before list))
+
+-- the same callbacks, and polls behind all of them
+abbrev pub with_polls : GraphData → Moment → List Listed → List AwakeGoal → List Ready
+with_polls graph moment list goals = map (with_script_of graph) list ++ map (scripted_poll graph moment) goals
+
 -- what a snapshot listed of a world at a moment: the callbacks that are no polls, the first of which, so many, come before polls,
 -- and the goals that are awake; the world is then this one, whose queues still have their first items
 pub record IsListed (moment : Moment) (world : WorldState) (before : ℕ) (now : WorldState) (list : List Listed) (goals : List AwakeGoal) : Type 0 where
@@ -104,4 +113,4 @@ pub record IsListed (moment : Moment) (world : WorldState) (before : ℕ) (now :
 -- the world after a round whose work is light; of another round these are the callbacks, and each input is taken
 abbrev pub IsHandedOut : Moment → WorldState → Option Heavy → WorldState → Type 0
 IsHandedOut moment world None after = after ≡ round_in moment world
-IsHandedOut moment world (Some heavy) after = (heavy.list.items ≡ arranged_in moment world) × (after ≡ taken_in_parts moment world)
+IsHandedOut moment world (Some heavy) after = (heavy.list.items ≡ listed_in moment world) × (after ≡ taken_in_parts moment world)

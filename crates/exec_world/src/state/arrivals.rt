@@ -142,7 +142,7 @@ impl<L: Lines> WorldBody<L> {
     }
 
     // The number of the arrival that made a callback ready, and 0 if none did.
-    pub(super) fn arrival(&self, one: &Ready) -> u64
+    fn arrival(&self, one: &Ready) -> u64
         ensures { result ≡ arrival_for one.now.entity one.now.cause self.now }
     {
         match &one.cause {

@@ -58,7 +58,7 @@ impl<L: Lines> WorldBody<L> {
     ghost use Rattle.exec_rules.specs.inner.Awake.{poll_at};
     ghost use Rattle.exec_rules.specs.inner.ByKind.{taken_in_parts};
     ghost use Rattle.exec_rules.specs.inner.Listing.{with_script_of};
-    ghost use Rattle.exec_world.specs.inner.Snapshots.{HaveScriptsOf, IsHandedOut, IsListed, arranged_in, begun_by, round_in};
+    ghost use Rattle.exec_world.specs.inner.Snapshots.{HaveScriptsOf, IsHandedOut, IsListed, listed_in, begun_by, round_in};
 
     // Begins a round, and takes each input. Answers the callbacks that are ready, each with a share in its script.
     pub(crate) fn begin_round(
@@ -67,12 +67,12 @@ impl<L: Lines> WorldBody<L> {
         scratch: &mut Scratch,
     ) -> Result<Vec<Ready>, Memory>
         requires { HaveScriptsOf round.now.graph.now (begun_by round.now self.old) }
-        ensures list { IfOk result (λ list. list.items ≡ arranged_in round.now.moment (begun_by round.now self.old)) }
+        ensures list { IfOk result (λ list. list.items ≡ listed_in round.now.moment (begun_by round.now self.old)) }
         ensures taken { OnOk result (self.new ≡ taken_in_parts round.now.moment (begun_by round.now self.old)) }
     {
         self.open_round(round)?;
-        self.list_in_parts(round.moment, scratch)?;
-        self.hand_out(round.graph, round.moment, scratch)
+        let before = self.list_in_parts(round.moment, scratch)?;
+        self.hand_out(round.graph, round.moment, before, scratch)
     }
 
     // Runs a whole round. Goals are polled in a context that the caller has made.
@@ -108,7 +108,7 @@ impl<L: Lines> WorldBody<L> {
             self.run_listed(round.graph, round.moment, before, scratch, cx)?;
             return Ok(None);
         }
-        let list = self.hand_out(round.graph, round.moment, scratch)?;
+        let list = self.hand_out(round.graph, round.moment, before, scratch)?;
         Ok(Some(Heavy { list, instructions }))
     }
 
