@@ -78,21 +78,8 @@ impl<L: Lines> WorldBody<L> {
             moment,
             goals: &scratch.goals,
         };
-        let effects = &mut scratch.effects;
-        self.run_arrived(&parts, &scratch.arrivals, effects, cx)
-    }
-
-    fn run_arrived(
-        &mut self,
-        parts: &Parts<'_>,
-        arrivals: &[Arrived],
-        effects: &mut EffectList,
-        cx: &mut Context<'_>,
-    ) -> Result<(), Memory>
-        ensures { OnOk result (self.new ≡ run_arrived parts.now self.old arrivals.now) }
-    {
-        for arrived in arrivals {
-            self.run_at(parts, arrived, effects, cx)?;
+        for arrived in &scratch.arrivals {
+            self.run_at(&parts, arrived, &mut scratch.effects, cx)?;
         }
         Ok(())
     }

@@ -27,7 +27,10 @@ impl<L: Lines> WorldBody<L> {
     ) -> Result<usize, Memory>
         ensures { IfOk result (λ before. IsListed moment self.old before self.new scratch.new.list scratch.new.goals.items) }
     {
-        self.list_first(moment, scratch)?;
+        scratch.list.clear();
+        take_due_into(self.alloc, &mut self.timers, moment, &mut scratch.list)?;
+        self.list_queues(true, moment, scratch)?;
+        answer_calls(&mut self.clients, self.mail.queues(), &scratch.places);
         let before = scratch.list.as_slice().len();
         self.list_queues(false, moment, scratch)?;
         self.servers.awake_goals(moment, &mut scratch.goals)?;
@@ -39,21 +42,6 @@ impl<L: Lines> WorldBody<L> {
         ensures { self.new ≡ record self.old { queues = map queue_taken self.old.queues } }
     {
         self.mail.take_first();
-    }
-
-    // Lists only the callbacks that come before polls. Timers are called, and calls have the replies that are taken.
-    fn list_first(&mut self, moment: Moment, scratch: &mut Scratch) -> Result<(), Memory>
-        ensures list { OnOk result (scratch.new.list ≡ map as_listed (placed_from 1 (ready_before moment self.old))) }
-        ensures taken { OnOk result (self.new ≡ record self.old {
-          timers = map (timer_taken moment) self.old.timers;
-          clients = fold reply_taken self.old.clients (queues_before_polls self.old);
-        }) }
-    {
-        scratch.list.clear();
-        take_due_into(self.alloc, &mut self.timers, moment, &mut scratch.list)?;
-        self.list_queues(true, moment, scratch)?;
-        answer_calls(&mut self.clients, self.mail.queues(), &scratch.places);
-        Ok(())
     }
 
     // Lists the callbacks that take from the queues of kinds before polls, or of the other kinds. The places are then those of
