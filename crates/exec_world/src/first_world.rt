@@ -1,49 +1,113 @@
 //! The parts of the first world of a plan.
-ghost use Rattle.std.specs.Prelude.{◌≡◌, ◌<◌, ◌≤◌, ◌^◌, ◌++◌, [], false, true, is_some, length, map, IsTrue, OnOk, IfOk};
+ghost use Rattle.std.specs.Prelude.{◌≡◌, ◌<◌, ◌≤◌, ◌++◌, [], false, true, is_some, length, map, IsTrue, OnOk, IfOk};
 ghost use Rattle.std.specs.List.{filter};
 ghost use Rattle.exec_msg.specs.declared.limits.TheConstants.{DEPTH};
 ghost use Rattle.exec_plan.specs.Entity.{is_within, queue_depth};
-ghost use Rattle.exec_plan.specs.Graph.{callback_script, cons_if, declared_at, entities_where, has_kind};
-ghost use Rattle.exec_plan.specs.Graph.{is_action_client, is_client, is_exclusive, is_server, is_timer, is_topic, of_entity, wait_set};
-ghost use Rattle.exec_rules.specs.Transcript.{action_client_for, entity_at, new_action_clients, new_client, new_queue, new_server, new_timer, new_topic};
-ghost use Rattle.exec_rules.specs.Transcript.{subscribes_to, takes_from_queue};
-ghost use Rattle.exec_world.specs.inner.Parts.{new_queue_of, queues_of};
+ghost use Rattle.exec_plan.specs.Graph.{callback_script, declared_at, entities_where, has_kind, of_entity, wait_set};
+ghost use Rattle.exec_rules.specs.Transcript.{handler_for, new_queue, subscribes_to, takes_from_queue};
+ghost use Rattle.exec_world.specs.inner.Parts.{new_queue_of, queues_of, with_if};
 
 use crate::scripts::shared;
 use exec_entity::{ActionClient, ActionClients, Client, Clients, Server, Servers, Topic, Topics};
 use exec_msg::{EntityNo, Kind, Memory};
 use exec_plan::{Declared, EntityOf, Graph, GraphEntity, Order, Script};
 use exec_queue::{EntityTimer, Queues};
-use exec_rules::{Handler, share};
+use exec_rules::Handler;
 use std::alloc::Global;
+use std::marker::Model;
 
-// The timers of a graph, in the order of declaration.
-pub(crate) fn new_timers(alloc: Global, graph: &Graph) -> Result<Vec<EntityTimer>, Memory>
-    ensures { IfOk result (λ timers. timers.items ≡ map (new_timer graph.now) (entities_where is_timer graph.now)) }
-{
-    let mut timers = Vec::new(alloc);
-    for number in 0..graph.len() {
-        push_timer(&mut timers, graph, EntityNo(number as u16))?;
-    }
-    Ok(timers)
+// The entities of a graph by their kinds, each in the order of declaration.
+#[derive(Drop)]
+pub(crate) struct Entities {
+    pub(crate) topics: Topics,
+    pub(crate) timers: Vec<EntityTimer>,
+    pub(crate) servers: Servers,
+    pub(crate) clients: Clients,
+    pub(crate) action_clients: ActionClients,
 }
 
-fn push_timer(timers: &mut Vec<EntityTimer>, graph: &Graph, entity: EntityNo) -> Result<(), Memory>
-    requires here { entity < length graph.now.entities }
-    requires within { IsTrue (of_entity true is_within (declared_at graph.now entity)) }
-    ensures { OnOk result (timers.new.items
-        ≡ timers.old.items ++ cons_if (is_timer (declared_at graph.now entity)) (new_timer graph.now entity) []) }
-{
-    let Declared::Entity(found) = graph.declaration(entity) else {
-        return Ok(());
-    };
-    let EntityOf::Timer(timer) = &found.is else {
-        return Ok(());
-    };
-    let script = share(&timer.script)?;
-    let handler = handler(graph, entity, found, script);
-    timers.push(EntityTimer::new(handler, timer.period))?;
-    Ok(())
+impl Model for Entities {
+    ghost use Rattle.exec_world.specs.inner.Parts.{EntitiesData};
+
+    ghost Value = { EntitiesData };
+
+    ghost view = { λ entities. record {
+      topics = entities.topics;
+      timers = entities.timers.items;
+      servers = entities.servers;
+      clients = entities.clients;
+      action_clients = entities.action_clients;
+    } };
+}
+
+impl Entities {
+    ghost use Rattle.std.specs.Prelude.{◌≡◌, ◌<◌, ◌^◌, ◌++◌, ◌∷◌, [], true, length, IfOk, IsTrue, OnOk};
+    ghost use Rattle.exec_plan.specs.Entity.{is_within};
+    ghost use Rattle.exec_plan.specs.Graph.{declared_at, of_entity};
+    ghost use Rattle.exec_rules.specs.Transcript.{new_topic};
+    ghost use Rattle.exec_world.specs.inner.Parts.{new_entities, with_declared};
+
+    // Those of a graph before the first round. No server has a goal, and no client has a call or a goal.
+    pub(crate) fn of(alloc: Global, graph: &Graph) -> Result<Entities, Memory>
+        ensures { IfOk result (λ entities. entities ≡ new_entities graph.now) }
+    {
+        let mut entities = Entities {
+            topics: Topics::new(alloc),
+            timers: Vec::new(alloc),
+            servers: Servers::new(alloc),
+            clients: Clients::new(alloc),
+            action_clients: ActionClients::new(alloc),
+        };
+        for number in 0..graph.len() {
+            entities.declare(alloc, graph, EntityNo(number as u16))?;
+        }
+        Ok(entities)
+    }
+
+    // Adds what a number is declared as, if that has a place here.
+    fn declare(&mut self, alloc: Global, graph: &Graph, number: EntityNo) -> Result<(), Memory>
+        requires here { number < length graph.now.entities }
+        requires within { IsTrue (of_entity true is_within (declared_at graph.now number)) }
+        requires few { length self.old.action_clients < 2 ^ 16 }
+        ensures { OnOk result (self.new ≡ with_declared graph.now number self.old) }
+    {
+        let Declared::Entity(found) = graph.declaration(number) else {
+            return self.declare_topic(alloc, graph, number);
+        };
+        match &found.is {
+            EntityOf::Timer(timer) => {
+                let handler = handler(alloc, graph, number, found, Kind::Timer)?;
+                self.timers.push(EntityTimer::new(handler, timer.period))?;
+                Ok(())
+            }
+            EntityOf::Server(server) => {
+                let handler = handler(alloc, graph, number, found, Kind::Poll)?;
+                self.servers
+                    .declare(Server::new(alloc, handler, server.result_timeout))
+            }
+            EntityOf::Client(client) => self
+                .clients
+                .declare(Client::new(alloc, number, client.service)),
+            EntityOf::ActionClient(client) => {
+                let place = self.action_clients.as_slice().len() as u16;
+                let asks = client.on_result.is_some();
+                self.action_clients
+                    .declare(ActionClient::new(number, place, client.server, asks))
+            }
+            EntityOf::Subscription(_) | EntityOf::Service(_) => Ok(()),
+        }
+    }
+
+    // Adds a topic with its subscriptions.
+    fn declare_topic(&mut self, alloc: Global, graph: &Graph, topic: EntityNo) -> Result<(), Memory>
+        ensures { OnOk result (self.new ≡ record self.old { topics = self.old.topics ++ new_topic graph.now topic ∷ [] }) }
+    {
+        let subscribers = subscribers_at(alloc, graph, topic)?;
+        self.topics.declare(Topic {
+            entity: topic,
+            subscribers,
+        })
+    }
 }
 
 // The queues of a graph in ready order, all empty.
@@ -111,8 +175,7 @@ fn declare_queue(
     requires taken { takes_from_queue kind ≡ true }
     requires here { entity < length graph.now.entities }
     requires within { IsTrue (of_entity true is_within (declared_at graph.now entity)) }
-    ensures { OnOk result (queues.new
-        ≡ queues.old ++ cons_if (has_kind kind (declared_at graph.now entity)) (new_queue_of order graph.now kind entity) []) }
+    ensures { OnOk result (queues.new ≡ with_if (has_kind kind (declared_at graph.now entity)) (new_queue_of order graph.now kind entity) queues.old) }
 {
     let Declared::Entity(found) = graph.declaration(entity) else {
         return Ok(());
@@ -120,8 +183,7 @@ fn declare_queue(
     if !found.is.has_callbacks(kind) {
         return Ok(());
     }
-    let script = shared(alloc, found.is.script(kind))?;
-    let handler = handler(graph, entity, found, script);
+    let handler = handler(alloc, graph, entity, found, kind)?;
     queues.declare(handler, kind, depth_of(&found.is, kind), order)
 }
 
@@ -134,128 +196,6 @@ fn depth_of(is: &EntityOf<EntityNo, Script>, kind: Kind) -> usize
     ensures bounds { (1 ≤ result) × (result ≤ DEPTH) }
 {
     is.queue_depth() as usize
-}
-
-// The servers of a graph, in the order of declaration. None has a goal.
-pub(crate) fn new_servers(alloc: Global, graph: &Graph) -> Result<Servers, Memory>
-    ensures { IfOk result (λ servers. servers ≡ map (new_server graph.now) (entities_where is_server graph.now)) }
-{
-    let mut servers = Servers::new(alloc);
-    for number in 0..graph.len() {
-        declare_server(alloc, &mut servers, graph, EntityNo(number as u16))?;
-    }
-    Ok(servers)
-}
-
-fn declare_server(
-    alloc: Global,
-    servers: &mut Servers,
-    graph: &Graph,
-    entity: EntityNo,
-) -> Result<(), Memory>
-    requires { entity < length graph.now.entities }
-    ensures { OnOk result (servers.new ≡ servers.old ++ cons_if (is_server (declared_at graph.now entity)) (new_server graph.now entity) []) }
-{
-    let Declared::Entity(found) = graph.declaration(entity) else {
-        return Ok(());
-    };
-    let EntityOf::Server(server) = &found.is else {
-        return Ok(());
-    };
-    let script = share(&server.script)?;
-    let handler = handler(graph, entity, found, script);
-    servers.declare(Server::new(alloc, handler, server.result_timeout))
-}
-
-// The service clients of a graph, in the order of declaration. None has a call.
-pub(crate) fn new_clients(alloc: Global, graph: &Graph) -> Result<Clients, Memory>
-    ensures { IfOk result (λ clients. clients ≡ map (new_client graph.now) (entities_where is_client graph.now)) }
-{
-    let mut clients = Clients::new(alloc);
-    for number in 0..graph.len() {
-        declare_client(alloc, &mut clients, graph, EntityNo(number as u16))?;
-    }
-    Ok(clients)
-}
-
-fn declare_client(
-    alloc: Global,
-    clients: &mut Clients,
-    graph: &Graph,
-    entity: EntityNo,
-) -> Result<(), Memory>
-    requires { entity < length graph.now.entities }
-    ensures { OnOk result (clients.new ≡ clients.old ++ cons_if (is_client (declared_at graph.now entity)) (new_client graph.now entity) []) }
-{
-    let Declared::Entity(found) = graph.declaration(entity) else {
-        return Ok(());
-    };
-    let EntityOf::Client(client) = &found.is else {
-        return Ok(());
-    };
-    clients.declare(Client::new(alloc, entity, client.service))
-}
-
-// The action clients of a graph, in the order of declaration, each with its place among them. None has a goal.
-pub(crate) fn new_action_clients(alloc: Global, graph: &Graph) -> Result<ActionClients, Memory>
-    ensures { IfOk result (λ clients. clients ≡ new_action_clients graph.now 0 (entities_where is_action_client graph.now)) }
-{
-    let mut clients = ActionClients::new(alloc);
-    for number in 0..graph.len() {
-        declare_action_client(&mut clients, graph, EntityNo(number as u16))?;
-    }
-    Ok(clients)
-}
-
-fn declare_action_client(
-    clients: &mut ActionClients,
-    graph: &Graph,
-    entity: EntityNo,
-) -> Result<(), Memory>
-    requires here { entity < length graph.now.entities }
-    requires few { length clients.old < 2 ^ 16 }
-    ensures { OnOk result (clients.new ≡ clients.old
-        ++ cons_if (is_action_client (declared_at graph.now entity)) (action_client_for (length clients.old) entity (entity_at graph.now entity)) []) }
-{
-    let Declared::Entity(found) = graph.declaration(entity) else {
-        return Ok(());
-    };
-    let EntityOf::ActionClient(client) = &found.is else {
-        return Ok(());
-    };
-    let place = clients.as_slice().len() as u16;
-    let asks = client.on_result.is_some();
-    clients.declare(ActionClient::new(entity, place, client.server, asks))
-}
-
-// The topics of a graph, in the order of declaration, each with its subscriptions.
-pub(crate) fn new_topics(alloc: Global, graph: &Graph) -> Result<Topics, Memory>
-    ensures { IfOk result (λ topics. topics ≡ map (new_topic graph.now) (entities_where is_topic graph.now)) }
-{
-    let mut topics = Topics::new(alloc);
-    for number in 0..graph.len() {
-        declare_topic(alloc, &mut topics, graph, EntityNo(number as u16))?;
-    }
-    Ok(topics)
-}
-
-fn declare_topic(
-    alloc: Global,
-    topics: &mut Topics,
-    graph: &Graph,
-    entity: EntityNo,
-) -> Result<(), Memory>
-    requires { entity < length graph.now.entities }
-    ensures { OnOk result (topics.new ≡ topics.old ++ cons_if (is_topic (declared_at graph.now entity)) (new_topic graph.now entity) []) }
-{
-    if !graph.declaration(entity).is_topic() {
-        return Ok(());
-    }
-    let subscribers = subscribers_at(alloc, graph, entity)?;
-    topics.declare(Topic {
-        entity,
-        subscribers,
-    })
 }
 
 // The subscriptions of a topic, in the order of declaration.
@@ -276,7 +216,7 @@ fn push_subscriber(
     entity: EntityNo,
     declared: &Declared,
 ) -> Result<(), Memory>
-    ensures { OnOk result (subscribers.new.items ≡ subscribers.old.items ++ cons_if (of_entity false (subscribes_to topic) declared.now) entity []) }
+    ensures { OnOk result (subscribers.new.items ≡ with_if (of_entity false (subscribes_to topic) declared.now) entity subscribers.old.items) }
 {
     if subscribes(declared, topic) {
         subscribers.push(entity)?;
@@ -287,29 +227,29 @@ fn push_subscriber(
 fn subscribes(declared: &Declared, topic: EntityNo) -> bool
     ensures { result ≡ of_entity false (subscribes_to topic) declared.now }
 {
-    match declared {
-        Declared::Topic => false,
-        Declared::Entity(found) => subscribes_to(&found.is, topic),
-    }
-}
-
-fn subscribes_to(is: &EntityOf<EntityNo, Script>, topic: EntityNo) -> bool
-    ensures { result ≡ subscribes_to topic is.now }
-{
-    match is {
+    let Declared::Entity(found) = declared else {
+        return false;
+    };
+    match &found.is {
         EntityOf::Subscription(subscription) => subscription.topic == topic,
         _ => false,
     }
 }
 
-// A callback of an entity, with its script.
-fn handler(graph: &Graph, entity: EntityNo, found: &GraphEntity, script: Script) -> Handler
-    ensures { result ≡ record { entity = entity; group = found.now.group; exclusive = is_exclusive graph.now found.now.group; script = script } }
+// The callback of a kind of an entity, with a share in its script.
+fn handler(
+    alloc: Global,
+    graph: &Graph,
+    number: EntityNo,
+    entity: &GraphEntity,
+    kind: Kind,
+) -> Result<Handler, Memory>
+    ensures { IfOk result (λ handler. handler ≡ handler_for graph.now kind number entity.now) }
 {
-    Handler {
-        entity,
-        group: found.group,
-        exclusive: graph.is_exclusive(found.group),
-        script,
-    }
+    Ok(Handler {
+        entity: number,
+        group: entity.group,
+        exclusive: graph.is_exclusive(entity.group),
+        script: shared(alloc, entity.is.script(kind))?,
+    })
 }

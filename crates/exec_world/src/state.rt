@@ -10,9 +10,7 @@ mod round;
 mod snapshot;
 
 use crate::banks::Banks;
-use crate::first_world::{
-    new_action_clients, new_clients, new_queues, new_servers, new_timers, new_topics,
-};
+use crate::first_world::{Entities, new_queues};
 use crate::mail::Mail;
 use exec_entity::{ActionClients, Clients, Servers, Topics};
 use exec_msg::{EntityNo, GoalId, Line, Lines, Memory};
@@ -70,13 +68,14 @@ impl<L: Lines> WorldBody<L> {
     {
         let graph = plan.graph();
         let order = plan.order();
+        let entities = Entities::of(alloc, graph)?;
         Ok(WorldBody {
             alloc,
-            topics: new_topics(alloc, graph)?,
-            timers: new_timers(alloc, graph)?,
-            servers: new_servers(alloc, graph)?,
-            clients: new_clients(alloc, graph)?,
-            action_clients: new_action_clients(alloc, graph)?,
+            topics: entities.topics,
+            timers: entities.timers,
+            servers: entities.servers,
+            clients: entities.clients,
+            action_clients: entities.action_clients,
             banks: Banks::new(alloc, graph.groups().len())?,
             mail: Mail::new(order, new_queues(alloc, graph, order)?, lines),
         })

@@ -1,8 +1,0 @@
-use Rattle.std.proofs.Common.{arith}
-use Rattle.exec_plan.specs.Graph.{is_client}
-use Rattle.exec_rules.specs.Transcript.{new_client}
-use Rattle.exec_world.proofs.Wired.{next_made}
-use Rattle.exec_world.proofs.first_world.new_clients.Goals as goal
-
-pub loop-number-preserved : goal.loop-number-preserved
-loop-number-preserved c = next_made (new_client c.args.graph.now) is_client c.args.graph.now c.loop-number.number c.loop-number.clients _ _ (omega arith) c.in_ok-declare_client.ensures c.loop-number.invariant
