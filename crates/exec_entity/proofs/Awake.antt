@@ -1,5 +1,5 @@
 -- Which goals of a server are awake, and what a poll of one is.
-use Rattle.std.proofs.Common.{◌≡◌, ℕ, zero, suc, List, [], ◌∷◌, map, length, Bool, true, false, cond, if◌then◌else◌, Option, None, Some, slice_get, slice_index_or, refl, ap, sym, ◌∙◌}
+use Rattle.std.proofs.Common.{◌≡◌, ℕ, zero, suc, List, [], ◌∷◌, map, length, Bool, true, false, cond, Option, None, Some, slice_get, slice_index_or, refl, ap, sym, ◌∙◌}
 use Rattle.std.specs.List.{find, filter}
 use Rattle.std.specs.Option.{option_and_then, option_map}
 use Rattle.exec_goal.specs.Info.{info_of}
@@ -13,6 +13,7 @@ use Rattle.exec_rules.specs.Ready.{is_goal_awake}
 use Rattle.exec_script.specs.Script.{Variables}
 use Rattle.exec_rules.specs.World.{GoalWork, HeldGoal, ServerEntry, is_for}
 use Rattle.exec_rules.specs.Run.{work_after}
+use Rattle.exec_entity.proofs.Changed.{unchanged_first}
 use Rattle.exec_entity.proofs.Serving.{goal_ids, held_ids}
 use Rattle.exec_entity.specs.declared.server.KeptWithGoal.{KeptWithGoal}
 use Rattle.exec_entity.specs.inner.Server.{held_goals_of}
@@ -50,24 +51,6 @@ none-awake moment held (goal ∷ goals) none = by (is_worked_on goal.state) refl
 -- a poll of a goal of which it is known what is kept
 pub polled-in : (turn : Turn) (id : ℕ) (entry : ServerEntry) (variables : Variables) (found : Option HeldGoal) → find (is_for id) entry.held ≡ found → goal_polled turn id entry variables ≡ poll_listed turn (option_and_then (λ held. held.work) found) variables
 polled-in turn id entry variables found is = ap (λ (found : Option HeldGoal). poll_listed turn (option_and_then (λ held. held.work) found) variables) is
-
--- where each element is changed to itself a list stays
-pub unchanged_first : {A : Type 0} (test : A → Bool) (xs : List A) → change_first test (λ (x : A). x) xs ≡ xs
-unchanged_first test [] = refl
-unchanged_first {A} test (x ∷ xs) = by (test x) (unchanged_first test xs)
-  where
-    by : (b : Bool) → change_first test (λ (x : A). x) xs ≡ xs → (if b then x ∷ xs else x ∷ change_first test (λ (x : A). x) xs) ≡ x ∷ xs
-    by true others = refl
-    by false others = ap (λ xs. x ∷ xs) others
-
--- where no element passes none is changed
-pub unchanged-none : {A : Type 0} (test : A → Bool) (change : A → A) (xs : List A) → find test xs ≡ None → change_first test change xs ≡ xs
-unchanged-none test change [] none = refl
-unchanged-none {A} test change (x ∷ xs) none = by (test x) none (unchanged-none test change xs)
-  where
-    by : (b : Bool) → cond b (Some x) (find test xs) ≡ None → (find test xs ≡ None → change_first test change xs ≡ xs) → (if b then change x ∷ xs else x ∷ change_first test change xs) ≡ x ∷ xs
-    by true none others = absurd cc
-    by false none others = ap (λ xs. x ∷ xs) (others none)
 
 -- a goal's work after a poll, and the server after it
 abbrev pub after_poll_of : Option TaskState → HeldGoal → HeldGoal

@@ -1,4 +1,5 @@
 pub mod Awake
+pub mod Changed
 pub mod Closings
 pub mod Expiring
 pub mod FoundByNumber

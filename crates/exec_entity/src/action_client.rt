@@ -64,15 +64,16 @@ impl ActionClient {
         GoalId::new((self.place as u128 + 1) * (1 << 64) + number as u128)
     }
 
-    // Counts its next goal, and gives the goal's number, from 1. If the number isn't below 2^60, the client doesn't change.
-    pub(crate) fn send_goal(&mut self) -> Result<u64, Memory>
-        ensures number { IfOk result (λ number. number ≡ self.old.goals + 1) }
+    // Counts its next goal, and gives its server and the goal's identifier. If the goal's number isn't below 2^60, the client
+    // doesn't change.
+    pub(crate) fn send_goal(&mut self) -> Result<(EntityNo, GoalId), Memory>
+        ensures made { IfOk result (λ made. made ≡ (self.old.server, goal_id self.old.place (self.old.goals + 1))) }
         ensures sent { OnOk result (self.new ≡ record self.old { goals = self.old.goals + 1 }) }
         ensures memory { OnErr result (2 ^ 60 ≤ self.old.goals + 1) }
         ensures unchanged { OnErr result (self.new ≡ self.old) }
     {
         self.goals = number_after(self.goals)?;
-        Ok(self.goals)
+        Ok((self.server, self.goal_id(self.goals)))
     }
 }
 
@@ -103,12 +104,7 @@ impl ByNumber<ActionClient> {
         ensures absent { IfOk result (λ made. made ≡ None → self.new ≡ self.old) }
         ensures memory { OnErr result (IsSomeAnd (find (is_action_client_at client) self.old) (λ entry. 2 ^ 60 ≤ entry.goals + 1)) }
     {
-        let place = self.place(client);
-        let Some(entry) = self.entries.get_mut(place) else {
-            return Ok(None);
-        };
-        let number = entry.send_goal()?;
-        Ok(Some((entry.server(), entry.goal_id(number))))
+        self.change(client, |entry| entry.send_goal()).transpose()
     }
 }
 

@@ -34,7 +34,9 @@ impl<E: Numbered> Model for ByNumber<E> {
 
 impl<E: Numbered> ByNumber<E> {
     ghost use Rattle.std.specs.Prelude.{◌≡◌, ◌==◌, [], ◌∷◌, ◌++◌, find, OnOk, OnErr};
-    ghost use Rattle.std.specs.Option.{option_copied};
+    ghost use Rattle.std.specs.Fn.{FnOnceReturnsAtMut, FnOnceTakesAtMut};
+    ghost use Rattle.std.specs.Option.{option_copied, ForSome};
+    ghost use Rattle.exec_entity.specs.inner.Numbered.{IsChanged, KeepsNumber};
     ghost use Rattle.exec_rules.specs.inner.Places.{place_in};
 
     /// No entries. It takes no memory.
@@ -77,6 +79,25 @@ impl<E: Numbered> ByNumber<E> {
         ensures { option_copied result ≡ find (λ entry. E.number_of entry == entity) self.now }
     {
         self.entries.get(self.place(entity))
+    }
+
+    // Changes the first entry of an entity, and answers what the change does. If there is none, nothing changes, and there is no
+    // answer. A change leaves the entry its number.
+    #[inline(always)]
+    pub(crate) fn change<T, F: FnOnce(&mut E) -> T>(
+        &mut self,
+        entity: EntityNo,
+        change: F,
+    ) -> Option<T>
+        requires callable { ForSome (find (λ entry. E.number_of entry == entity) self.old) (FnOnceTakesAtMut F.FnOnce change) }
+        requires numbered { KeepsNumber E.number_of (FnOnceReturnsAtMut F.FnOnce change) }
+        ensures { IsChanged (FnOnceReturnsAtMut F.FnOnce change) (λ entry. E.number_of entry == entity) self.old result self.new }
+    {
+        let place = self.place(entity);
+        let Some(entry) = self.entries.get_mut(place) else {
+            return None;
+        };
+        Some(change(entry))
     }
 
     /// All entries in their order.

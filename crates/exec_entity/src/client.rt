@@ -52,23 +52,16 @@ impl Client {
         }
     }
 
-    // Its service.
-    pub(crate) fn service(&self) -> EntityNo
-        ensures { result ≡ self.now.service }
-    {
-        self.service
-    }
-
-    // Makes its next call, which pends, and gives the call's number, from 1.
-    pub(crate) fn call(&mut self) -> Result<u64, Memory>
-        ensures number { IfOk result (λ number. number ≡ self.old.calls + 1) }
+    // Makes its next call, which pends, and gives its service and the call's number, from 1.
+    pub(crate) fn call(&mut self) -> Result<(EntityNo, u64), Memory>
+        ensures made { IfOk result (λ made. made ≡ (self.old.service, self.old.calls + 1)) }
         ensures called { OnOk result (self.new ≡ client_called self.old) }
         ensures unchanged { OnErr result (self.new ≡ self.old) }
     {
         let number = number_after(self.calls)?;
         self.pending.insert(number, PendingCall::new(number))?;
         self.calls = number;
-        Ok(number)
+        Ok((self.service, number))
     }
 
     // Gives a call its reply. The call pends no more, and is handed out. Answers `None` exactly if no such call pended.
@@ -119,12 +112,7 @@ impl ByNumber<Client> {
         ensures called { OnOk result (self.new ≡ change_first (is_client_at client) client_called self.old) }
         ensures absent { IfOk result (λ made. made ≡ None → self.new ≡ self.old) }
     {
-        let place = self.place(client);
-        let Some(entry) = self.entries.get_mut(place) else {
-            return Ok(None);
-        };
-        let number = entry.call()?;
-        Ok(Some((entry.service(), number)))
+        self.change(client, |entry| entry.call()).transpose()
     }
 
     /// A client's call is given its reply, and pends no more. Answers the call with its reply, or `None` exactly if no such
@@ -134,11 +122,8 @@ impl ByNumber<Client> {
         ensures pended { is_some result ≡ is_pending_in client number self.old }
         ensures call { IfSome result (λ pending. pending.call ≡ completed value (new_call number)) }
     {
-        let place = self.place(client);
-        let Some(entry) = self.entries.get_mut(place) else {
-            return None;
-        };
-        entry.complete(number, value)
+        self.change(client, |entry| entry.complete(number, value))
+            .flatten()
     }
 }
 

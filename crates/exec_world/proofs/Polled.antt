@@ -5,7 +5,7 @@ use Rattle.exec_script.specs.Script.{listed, Variables}
 use Rattle.exec_script.specs.declared.effects.Effect.{Effect}
 use Rattle.exec_script.specs.Zeros.{zeros}
 use Rattle.exec_task.specs.Task.{TaskState}
-use Rattle.exec_entity.proofs.Awake.{unchanged_first}
+use Rattle.exec_entity.proofs.Changed.{unchanged_first}
 use Rattle.exec_rules.specs.Callback.{AfterCallback, act, callback, poll_listed}
 use Rattle.exec_rules.specs.Ready.{turn_at}
 use Rattle.exec_rules.specs.Run.{apart, brought_home, variables_for, with_polled, work_for, work_by}

@@ -85,12 +85,8 @@ impl ByNumber<Server> {
         requires room { has_room_for request.now.id (goals_in server self.old) ≡ true }
         ensures { OnOk result (self.new ≡ change_first (is_server_at server) (server_accepting number moment how request.now) self.old) }
     {
-        let place = self.place(server);
-        let Some(entry) = self.entries.get_mut(place) else {
-            return Ok(());
-        };
-        entry.accept(number, moment, how, request)?;
-        Ok(())
+        self.change(server, |entry| entry.accept(number, moment, how, request))
+            .unwrap_or(Ok(()))
     }
 
     /// A server cancels by what was decided of a request's candidates, each by its identifier. A server that isn't there has no
@@ -109,14 +105,14 @@ impl ByNumber<Server> {
         ensures moved { IfOk result (λ answer. answer.moved ≡ map (λ goal. goal.id) (moved decisions.now (goals_in server self.old))) }
         ensures table { OnOk result (self.new ≡ change_first (is_server_at server) (with_goals (table_after decisions.now)) self.old) }
     {
-        let place = self.place(server);
-        let Some(entry) = self.entries.get_mut(place) else {
-            let mut goals = Goals::new(alloc);
-            let answer = goals.answer(request, decisions)?;
-            return Ok(answer);
-        };
-        let answer = entry.cancel(request, decisions)?;
-        Ok(answer)
+        match self.change(server, |entry| entry.cancel(request, decisions)) {
+            Some(answer) => answer,
+            None => {
+                let mut goals = Goals::new(alloc);
+                let answer = goals.answer(request, decisions)?;
+                Ok(answer)
+            }
+        }
     }
 
     /// What an action client is answered that asks a server for a goal's result. If the result comes later, the client is
@@ -129,12 +125,8 @@ impl ByNumber<Server> {
         ensures noted { OnOk result (self.new ≡ asked_in (asked_for id (goals_in server self.old)) server id client self.old) }
         ensures memory { OnErr result (asked_for id (goals_in server self.old) ≡ later) }
     {
-        let place = self.place(server);
-        let Some(entry) = self.entries.get_mut(place) else {
-            return Ok(Asked::Unknown);
-        };
-        let told = entry.ask(id, client)?;
-        Ok(told)
+        self.change(server, |entry| entry.ask(id, client))
+            .unwrap_or(Ok(Asked::Unknown))
     }
 
     /// A server executes its oldest goal that is accepted and not executed yet. Answers its identifier, or `None` if there is
@@ -143,9 +135,8 @@ impl ByNumber<Server> {
         ensures found { result ≡ option_map (λ goal. goal.id) (find (λ goal. is_accepted goal.state) (goals_in server self.old)) }
         ensures executed { self.new ≡ executed_in server (find (λ goal. is_accepted goal.state) (goals_in server self.old)) self.old }
     {
-        let place = self.place(server);
-        let entry = self.entries.get_mut(place)?;
-        entry.execute_oldest()
+        self.change(server, |entry| entry.execute_oldest())
+            .flatten()
     }
 
     /// A server ends a goal by an event at a moment with its result, and answers its terminal state. Nothing changes if no such
@@ -163,9 +154,8 @@ impl ByNumber<Server> {
             ≡ change_first (is_server_at server) (with_goals (change_first (has_id id) (after_end event value moment))) self.old) }
         ensures unchanged { IfNone result (self.new ≡ self.old) }
     {
-        let place = self.place(server);
-        let entry = self.entries.get_mut(place)?;
-        entry.end(id, event, value, moment)
+        self.change(server, |entry| entry.end(id, event, value, moment))
+            .flatten()
     }
 
     /// A server polls a goal in its turn with the variables of its callback group, in a context that the caller has made.
@@ -204,31 +194,21 @@ impl ByNumber<Server> {
         ensures taken { option_map work_of result ≡ work_in server id self.old }
         ensures out { self.new ≡ change_first (is_server_at server) (server_with_work id None) self.old }
     {
-        let place = self.place(server);
-        let entry = self.entries.get_mut(place)?;
-        entry.take_task(id)
+        self.change(server, |entry| entry.take_task(id)).flatten()
     }
 
     /// Puts the task of a server's goal in its place. If no such goal is held, nothing changes.
     pub fn put_task(&mut self, server: EntityNo, id: GoalId, task: GoalTask)
         ensures { self.new ≡ change_first (is_server_at server) (server_with_work id (Some (work_of task))) self.old }
     {
-        let place = self.place(server);
-        let Some(entry) = self.entries.get_mut(place) else {
-            return;
-        };
-        entry.put_task(id, task);
+        let _put = self.change(server, |entry| entry.put_task(id, task));
     }
 
     /// Gives a server's goal the number of its new arrival. If no such goal is held, nothing changes.
     pub fn goal_arrives(&mut self, server: EntityNo, id: GoalId, number: u64)
         ensures { self.new ≡ change_first (is_server_at server) (server_arrived id number) self.old }
     {
-        let place = self.place(server);
-        let Some(entry) = self.entries.get_mut(place) else {
-            return;
-        };
-        entry.goal_arrives(id, number);
+        let _changed = self.change(server, |entry| entry.goal_arrives(id, number));
     }
 
     /// Makes the list that of all goals that are awake at a moment, server by server, each in the order of acceptance.

@@ -5,7 +5,7 @@ use Rattle.std.specs.Option.{option_and_then, option_map}
 use Rattle.indexmap.specs.IndexMap.{set_value_at}
 use Rattle.exec_msg.specs.Lists.{change_first}
 use Rattle.exec_task.specs.Goal.{GoalTaskState}
-use Rattle.exec_entity.proofs.Awake.{unchanged-none}
+use Rattle.exec_entity.proofs.Changed.{unchanged-none}
 use Rattle.exec_entity.proofs.Placed.{kept-at, found-at, changed-at}
 use Rattle.exec_entity.proofs.Serving.{kept-same, changed-ids, held_ids}
 use Rattle.exec_entity.proofs.Wakes.{wake-set}

@@ -2,7 +2,7 @@ use Rattle.std.proofs.Common.{◌≡◌, List, Some, slice_get, ap, sym, ◌∙�
 use Rattle.std.specs.Map.{values_of}
 use Rattle.indexmap.specs.IndexMap.{set_value_at}
 use Rattle.exec_msg.specs.Lists.{change_first}
-use Rattle.exec_entity.proofs.Awake.{unchanged-none}
+use Rattle.exec_entity.proofs.Changed.{unchanged-none}
 use Rattle.exec_entity.proofs.Placed.{kept-at, changed-at}
 use Rattle.exec_entity.proofs.Serving.{kept-same, changed-ids, held_ids}
 use Rattle.exec_rules.specs.World.{HeldGoal, ServerEntry, arrived, is_for}

@@ -7,7 +7,8 @@ use Rattle.exec_goal.proofs.Entries.{on_err}
 use Rattle.exec_msg.specs.Lists.{change_first}
 use Rattle.exec_script.specs.declared.effects.Effect.{Effect}
 use Rattle.exec_task.specs.Task.{TaskState, is_awake}
-use Rattle.exec_entity.proofs.Awake.{polled-in, unchanged_first, after_poll_of, server-polled}
+use Rattle.exec_entity.proofs.Awake.{polled-in, after_poll_of, server-polled}
+use Rattle.exec_entity.proofs.Changed.{unchanged_first}
 use Rattle.exec_entity.proofs.Placed.{kept-at, found-at, changed-at}
 use Rattle.exec_entity.proofs.Serving.{kept-same, changed-ids, held_ids}
 use Rattle.exec_entity.proofs.Wakes.{wake-set}
