@@ -185,7 +185,7 @@ impl ByNumber<Server> {
             effects.clear();
             return Ok(Close::Pending);
         };
-        let close = entry.poll(goal.id, &goal.turn, bank, cx, effects)?;
+        let close = entry.poll(goal, bank, cx, effects)?;
         Ok(close)
     }
 

@@ -7,12 +7,12 @@ ghost use Rattle.exec_rules.specs.Ready.{turn_at};
 ghost use Rattle.exec_rules.specs.World.{work_of};
 ghost use Rattle.exec_entity.specs.inner.Waking.{wake_in};
 
-use super::{KeptWithGoal, Server};
+use super::{GoalTurn, KeptWithGoal, Server};
 use exec_goal::GoalInfo;
 use exec_msg::{GoalId, Memory, Moment};
 use exec_rules::{AwakeGoal, poll_any};
 use exec_script::{Bank, Close, EffectList};
-use exec_task::{GoalTask, Turn, is_awake, wakes_at};
+use exec_task::{GoalTask, is_awake, wakes_at};
 use futures::task::Context;
 use std::mem;
 
@@ -130,34 +130,33 @@ impl Server {
         }
     }
 
-    // Polls a goal in a turn with the variables of its callback group, in a context that the caller has made. Answers what
+    // Polls a goal in its turn with the variables of its callback group, in a context that the caller has made. Answers what
     // closes the poll. The list then has its effects alone. A goal that isn't held or isn't awake, or whose task is out, isn't
     // polled, and pends. If memory is refused, the server and the bank don't change.
     #[inline(always)]
     pub(crate) fn poll(
         &mut self,
-        id: GoalId,
-        turn: &Turn,
+        goal: &GoalTurn,
         bank: &mut Bank,
         cx: &mut Context<'_>,
         effects: &mut EffectList,
     ) -> Result<Close, Memory>
-        ensures effects { OnOk result (effects.new ≡ (goal_polled turn.now id self.old bank.old).given) }
-        ensures close { IfOk result (λ close. close ≡ (goal_polled turn.now id self.old bank.old).close) }
-        ensures variables { OnOk result (bank.new ≡ (goal_polled turn.now id self.old bank.old).variables) }
-        ensures task { OnOk result (self.new ≡ server_polled id (goal_polled turn.now id self.old bank.old).task self.old) }
-        ensures memory { OnErr result (IsSomeAnd (option_and_then (λ held. held.work) (find (is_for id) self.old.held))
-            (λ work. is_awake work.task turn.now ≡ true)) }
+        ensures effects { OnOk result (effects.new ≡ (goal_polled goal.now.turn goal.now.id self.old bank.old).given) }
+        ensures close { IfOk result (λ close. close ≡ (goal_polled goal.now.turn goal.now.id self.old bank.old).close) }
+        ensures variables { OnOk result (bank.new ≡ (goal_polled goal.now.turn goal.now.id self.old bank.old).variables) }
+        ensures task { OnOk result (self.new ≡ server_polled goal.now.id (goal_polled goal.now.turn goal.now.id self.old bank.old).task self.old) }
+        ensures memory { OnErr result (IsSomeAnd (option_and_then (λ held. held.work) (find (is_for goal.now.id) self.old.held))
+            (λ work. is_awake work.task goal.now.turn ≡ true)) }
         ensures unchanged { OnErr result (self.new ≡ self.old) }
         ensures unchanged_variables { OnErr result (bank.new ≡ bank.old) }
     {
-        let Some(place) = self.place_of(id) else {
+        let Some(place) = self.place_of(goal.id) else {
             effects.clear();
             return Ok(Close::Pending);
         };
         self.next = self.behind(place);
         let held = self.held.get_index_mut(place).unwrap();
-        let close = poll_any(&mut held.task, turn, bank, cx, effects)?;
+        let close = poll_any(&mut held.task, &goal.turn, bank, cx, effects)?;
         self.wakes[place] = wake_in(&held.task);
         Ok(close)
     }
