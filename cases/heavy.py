@@ -14,9 +14,9 @@ def many_candidates(servers=64, goals=40, instructions=64):
     return json.dumps({"version": 1, "nodes": [node], "moments": list(range(1, goals + 2)), "feed": feed}).encode()
 
 
-def long_scripts(timers=512, instructions=256):
-    """A document of timers of one reentrant group, all of which are called in its round, with scripts as long as they may be."""
+def long_scripts(timers=512, instructions=256, rounds=1):
+    """A document of timers of one reentrant group, all of which are called in each round, with scripts as long as they may be."""
     script = [["set", "r0", "add", "r0", "now"]] * instructions
     group = {"name": "w", "kind": "reentrant"}
     node = {"name": "n", "groups": [group], "timers": [{"name": f"t{at}", "group": "w", "period": 1, "script": script} for at in range(timers)]}
-    return json.dumps({"version": 2, "nodes": [node], "moments": [1]}).encode()
+    return json.dumps({"version": 2, "nodes": [node], "moments": list(range(1, rounds + 1))}).encode()

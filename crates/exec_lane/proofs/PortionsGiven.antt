@@ -230,3 +230,10 @@ still_given some [] (one ∷ list) portions world workers = workers
 still_given some (owner ∷ owners) [] portions world workers = workers
 still_given some (owner ∷ owners) (one ∷ list) portions world workers =
     still_given some owners list (with_changed owner (given one world) portions) (without_task one.entity one.cause world) (workers_stay some owner (given one world (portion_at owner portions)) portions workers)
+
+-- there are as many workers
+pub as_many_given : (owners : List ℕ) (list : List Ready) (portions : List PortionState) (world : WorldState) → length (given_each owners list portions world) ≡ length portions
+as_many_given [] list portions world = refl
+as_many_given (owner ∷ owners) [] portions world = refl
+as_many_given (owner ∷ owners) (one ∷ list) portions world =
+    as_many_given owners list (with_changed owner (given one world) portions) (without_task one.entity one.cause world) ∙ length-set portions owner (given one world (portion_at owner portions))

@@ -27,7 +27,7 @@ pub struct Dealt {
 
 /// Deals the ready list of the last snapshot to this many workers, 1 or more. Each callback has one owner, and the callbacks of
 /// a mutually exclusive group have one together. The tasks of the goals that callbacks poll are out of the world until
-/// [`Dealt::commit`] brings them home.
+/// [`commit_dealt`] brings them home.
 ///
 /// # Errors
 /// [`Memory`] if a growth was refused. The world has failed then.
@@ -40,6 +40,7 @@ pub fn deal<L: Lines>(
     requires workers { 0 < workers }
     requires home { AreHome list.now world.old.state }
     ensures dealt { IfOk result (λ dealt. AreDealt list.now world.old.state dealt.owners.items dealt.portions.items) }
+    ensures many { IfOk result (λ dealt. length dealt.portions.items ≡ workers) }
     ensures out { OnOk result (world.new ≡ record world.old { state = tasks_out list.now world.old.state }) }
     ensures failed { OnErr result (world.new.failed ≡ true) }
 {
@@ -61,6 +62,7 @@ fn deal_all<L: Lines>(
     requires workers { 0 < workers }
     requires home { AreHome list.now world.old.state }
     ensures dealt { IfOk result (λ dealt. AreDealt list.now world.old.state dealt.owners.items dealt.portions.items) }
+    ensures many { IfOk result (λ dealt. length dealt.portions.items ≡ workers) }
     ensures out { OnOk result (world.new ≡ record world.old { state = tasks_out list.now world.old.state }) }
 {
     let owners = choose_owners(alloc, list, workers)?;
@@ -195,32 +197,31 @@ fn give<L: Lines>(one: &Ready, portion: &mut Portion, world: &mut World<L>) -> R
     Ok(())
 }
 
-impl Dealt {
-    /// Brings home what all callbacks left, and then commits them, in ready order.
-    ///
-    /// # Errors
-    /// [`Memory`] if a growth was refused, here or to a callback that ran. The world has failed then.
-    pub fn commit<L: Lines>(self, list: &[Ready], world: &mut World<L>) -> Result<(), Memory>
-        requires many { length self.owners.items ≡ length list.now }
-        requires workers { AreWorkers self.owners.items self.portions.items }
-        requires left { length list.now ≤ world.old.uncommitted }
-        ensures committed { OnOk result ((before : WorldState) → AreHome list.now before → world.old.state ≡ tasks_out list.now before
-            → HaveRun list.now before self.owners.items self.portions.items
-            → world.new ≡ fold (λ after ran. after_commit ran.ready ran.effects after)
-            (record world.old { state = all_home list.now before }) (all_ran list.now (all_apart list.now before))) }
-        ensures failed { OnErr result (world.new.failed ≡ true) }
-    {
-        let Dealt {
-            owners,
-            mut portions,
-        } = self;
-        if has_failed(&portions) {
-            world.fail();
-            return Err(Memory);
-        }
-        bring_home(list, owners.as_slice(), &mut portions, world);
-        commit_all(list, owners.as_slice(), &mut portions, world)
+/// Brings home what all callbacks of a list left that was dealt to workers, and then commits them, in ready order.
+///
+/// # Errors
+/// [`Memory`] if a growth was refused, here or to a callback that ran. The world has failed then.
+pub fn commit_dealt<L: Lines>(
+    list: &[Ready],
+    owners: &[usize],
+    mut portions: Vec<Portion>,
+    world: &mut World<L>,
+) -> Result<(), Memory>
+    requires many { length owners.now ≡ length list.now }
+    requires workers { AreWorkers owners.now portions.items }
+    requires left { length list.now ≤ world.old.uncommitted }
+    ensures committed { OnOk result ((before : WorldState) → AreHome list.now before → world.old.state ≡ tasks_out list.now before
+        → HaveRun list.now before owners.now portions.items
+        → world.new ≡ fold (λ after ran. after_commit ran.ready ran.effects after)
+        (record world.old { state = all_home list.now before }) (all_ran list.now (all_apart list.now before))) }
+    ensures failed { OnErr result (world.new.failed ≡ true) }
+{
+    if has_failed(&portions) {
+        world.fail();
+        return Err(Memory);
     }
+    bring_home(list, owners, &mut portions, world);
+    commit_all(list, owners, &mut portions, world)
 }
 
 // Whether a callback of some worker was refused memory.

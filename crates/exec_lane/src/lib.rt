@@ -12,7 +12,7 @@ mod outcome;
 mod portion;
 mod splitting;
 
-pub use dealing::{Dealt, deal};
+pub use dealing::{Dealt, commit_dealt, deal};
 pub use gate::{Gate, Open};
 pub use gathering::{Gathered, Ran, gather};
 pub use lane_box::LaneBox;

@@ -3,12 +3,14 @@
 
 mod claiming;
 mod collecting;
+mod keeping;
 pub mod laws;
 mod outcomes;
 mod portions;
 mod rounds;
 mod running;
 mod sending;
+mod sharing;
 mod streaming;
 #[cfg(test)]
 mod tests;

@@ -3,14 +3,14 @@ ghost use Rattle.std.specs.Prelude.{◌≡◌, ◌<◌, ◌≤◌, false, vec_le
 ghost use Rattle.exec_lane.specs.Lane.{AreFinished};
 ghost use Rattle.exec_round.specs.inner.Commits.{after_commits, with_effects, with_effects_of};
 ghost use Rattle.exec_round.specs.inner.Begun.{HasBegun};
-ghost use Rattle.exec_round.specs.inner.Division.{TakesSome};
 ghost use Rattle.exec_rules.specs.Calls.{IsNext, after_commit, after_round};
 ghost use Rattle.exec_world.specs.Heavy.{IsBegun};
 
 use crate::claiming::claim_lanes;
 use crate::portions::run_dealt;
+use crate::sharing::Sharing;
 use crate::streaming::stream_lanes;
-use crate::weighing::{LIGHT, workers_for};
+use crate::weighing::{LIGHT, Work, workers_for};
 use crate::workers::run_lanes;
 use exec_lane::{Gate, Gathered, LaneBox, Outcome, Ran, gather, laws, split};
 use exec_msg::{Lines, Memory};
@@ -24,8 +24,8 @@ use std::thread::Threads;
 pub(crate) enum Division {
     // Before any lane runs.
     Dealt,
-    // By claims, each of at most this many callbacks.
-    Claimed(usize),
+    // By claims.
+    Claimed,
 }
 
 /// Runs a whole round by at most `workers` workers, 1 or more. Its callbacks are cut into lanes. Lane i, from 0, goes to worker
@@ -50,7 +50,14 @@ pub fn round_forked<L: Lines, R: Threads + Sync, G: Gate>(
     ensures { IfOk result (λ after. after ≡ after_round round world) }
 {
     let mut world = world;
-    if run_round(rt, alloc, &mut world, round, workers, Division::Dealt, gate).is_err() {
+    // Lanes that are dealt aren't claimed.
+    let sharing = Sharing {
+        alloc,
+        workers,
+        quantum: 1,
+        gate,
+    };
+    if run_round(rt, &mut world, round, Division::Dealt, &sharing).is_err() {
         return Err(world.give_up());
     }
     Ok(world)
@@ -80,8 +87,13 @@ pub fn round_claimed<L: Lines, R: Threads + Sync, G: Gate>(
     ensures { IfOk result (λ after. after ≡ after_round round world) }
 {
     let mut world = world;
-    let division = Division::Claimed(quantum);
-    if run_round(rt, alloc, &mut world, round, workers, division, gate).is_err() {
+    let sharing = Sharing {
+        alloc,
+        workers,
+        quantum,
+        gate,
+    };
+    if run_round(rt, &mut world, round, Division::Claimed, &sharing).is_err() {
         return Err(world.give_up());
     }
     Ok(world)
@@ -109,7 +121,13 @@ pub fn round_streamed<L: Lines, R: Threads + Wait + Sync, G: Gate>(
     ensures { IfOk result (λ after. after ≡ after_round round world) }
 {
     let mut world = world;
-    if stream_round(rt, alloc, &mut world, round, workers, quantum, gate).is_err() {
+    let sharing = Sharing {
+        alloc,
+        workers,
+        quantum,
+        gate,
+    };
+    if stream_round(rt, &mut world, round, &sharing).is_err() {
         return Err(world.give_up());
     }
     Ok(world)
@@ -118,26 +136,23 @@ pub fn round_streamed<L: Lines, R: Threads + Wait + Sync, G: Gate>(
 // Runs a round. If somebody watches, it is cut into lanes.
 pub(crate) fn run_round<L: Lines, R: Threads + Sync, G: Gate>(
     rt: &R,
-    alloc: Global,
     world: &mut World<L>,
     round: usize,
-    workers: usize,
     division: Division,
-    gate: &G,
+    sharing: &Sharing<'_, G>,
 ) -> Result<(), Memory>
-    requires next { IsNext round world.old }
-    requires workers { 0 < workers }
-    requires quantum { TakesSome division }
+    requires { IsNext round world.old }
     ensures { OnOk result (world.new ≡ after_round round world.old) }
 {
     laws::lanes_come_home_as_one_thread_leaves_them();
     exec_rules::laws::callbacks_may_be_committed_behind();
-    let Some(begun) = begin(rt, alloc, world, round, workers, gate)? else {
+    let Some(begun) = begin(rt, world, round, sharing)? else {
         return Ok(());
     };
     let Begun { list, workers } = begun;
+    let alloc = sharing.alloc;
     let lanes = split(alloc, list, world)?;
-    let ran = run_shared(rt, alloc, lanes, workers, division, gate)?;
+    let ran = run_shared(rt, lanes, workers, division, sharing)?;
     let all = gather(alloc, ran, world)?;
     commit_each(all, world)?;
     Ok(())
@@ -146,25 +161,22 @@ pub(crate) fn run_round<L: Lines, R: Threads + Sync, G: Gate>(
 // Runs a round. If somebody watches, it is cut into lanes, whose workers send on what callbacks did, and that is committed.
 pub(crate) fn stream_round<L: Lines, R: Threads + Wait + Sync, G: Gate>(
     rt: &R,
-    alloc: Global,
     world: &mut World<L>,
     round: usize,
-    workers: usize,
-    quantum: usize,
-    gate: &G,
+    sharing: &Sharing<'_, G>,
 ) -> Result<(), Memory>
-    requires next { IsNext round world.old }
-    requires workers { 0 < workers }
-    requires quantum { 0 < quantum }
+    requires { IsNext round world.old }
     ensures { OnOk result (world.new ≡ after_round round world.old) }
 {
     laws::lanes_come_home_as_one_thread_leaves_them();
     exec_rules::laws::callbacks_may_be_committed_behind();
-    let Some(begun) = begin(rt, alloc, world, round, workers, gate)? else {
+    let Some(begun) = begin(rt, world, round, sharing)? else {
         return Ok(());
     };
     let Begun { list, workers } = begun;
+    let alloc = sharing.alloc;
     let lanes = split(alloc, list, world)?;
+    let (quantum, gate) = (sharing.quantum, sharing.gate);
     let (ran, sent) = stream_lanes(rt, alloc, lanes, workers, quantum, gate)?;
     let all = gather(alloc, ran, world)?;
     commit_sent(all, sent, world)
@@ -181,30 +193,31 @@ struct Begun {
 // callbacks are then dealt to workers if these save time, and run in the calling thread otherwise.
 fn begin<L: Lines, R: Threads + Sync, G: Gate>(
     rt: &R,
-    alloc: Global,
     world: &mut World<L>,
     round: usize,
-    workers: usize,
-    gate: &G,
+    sharing: &Sharing<'_, G>,
 ) -> Result<Option<Begun>, Memory>
-    requires next { IsNext round world.old }
-    requires workers { 0 < workers }
+    requires { IsNext round world.old }
     ensures { IfOk result (λ begun. HasBegun round begun world.old world.new) }
 {
     exec_rules::laws::callbacks_may_be_committed_behind();
-    let Some(heavy) = list_callbacks(world, round, gate)? else {
+    let Some(heavy) = list_callbacks(world, round, sharing.gate)? else {
         return Ok(None);
     };
     let Heavy { list, instructions } = heavy;
     if list.is_empty() {
         return Ok(None);
     }
-    let Some(workers) = workers_for(rt, instructions, list.len(), workers, gate) else {
+    let work = Work {
+        instructions,
+        callbacks: list.len(),
+    };
+    let Some(workers) = workers_for(rt, work, sharing.workers, sharing.gate) else {
         world.run_ready(list.as_slice())?;
         return Ok(None);
     };
-    if gate.is_open() {
-        run_dealt(rt, alloc, list.as_slice(), workers, world)?;
+    if sharing.gate.is_open() {
+        run_dealt(rt, sharing.alloc, list.as_slice(), workers, world)?;
         return Ok(None);
     }
     Ok(Some(Begun { list, workers }))
@@ -232,19 +245,18 @@ fn list_callbacks<L: Lines, G: Gate>(
 // Runs all callbacks of lanes.
 fn run_shared<R: Threads + Sync, G: Gate>(
     rt: &R,
-    alloc: Global,
     lanes: Vec<LaneBox>,
     workers: usize,
     division: Division,
-    gate: &G,
+    sharing: &Sharing<'_, G>,
 ) -> Result<Vec<LaneBox>, Memory>
-    requires workers { 0 < workers }
-    requires quantum { TakesSome division }
+    requires { 0 < workers }
     ensures { IfOk result (λ ran. AreFinished lanes.items ran.items) }
 {
+    let (alloc, gate) = (sharing.alloc, sharing.gate);
     match division {
         Division::Dealt => run_lanes(rt, alloc, lanes, workers, gate),
-        Division::Claimed(quantum) => claim_lanes(rt, alloc, lanes, workers, quantum, gate),
+        Division::Claimed => claim_lanes(rt, alloc, lanes, workers, sharing.quantum, gate),
     }
 }
 

@@ -9,7 +9,9 @@ ghost use Rattle.exec_round.specs.declared.running.RunFault.TheVariants as fault
 ghost use Rattle.exec_rules.specs.Calls.{new_world};
 ghost use Rattle.exec_rules.specs.Transcript.{lines_of, text_of};
 
+use crate::keeping::run_kept;
 use crate::rounds::{Division, run_round, stream_round};
+use crate::sharing::Sharing;
 use exec_doc::{Refused, read_document};
 use exec_io::{Out, OutFailed, put_pieces};
 use exec_lane::Gate;
@@ -77,7 +79,13 @@ pub fn run<R: Threads + Sync, G: Gate>(
     ensures text { IfOk result (λ text. (plan : PlanData) × (document_of document.now ≡ Some plan) × (text.items ≡ text_of plan)) }
     ensures refused { IfErr result (λ code. IsRefusalOf document.now code) }
 {
-    let transcript = transcribe(rt, alloc, document, workers, quantum, gate)?;
+    let sharing = Sharing {
+        alloc,
+        workers,
+        quantum,
+        gate,
+    };
+    let transcript = transcribe(rt, document, &sharing)?;
     Ok(transcript.text(alloc)?)
 }
 
@@ -141,7 +149,13 @@ pub fn run_into<R: Threads + Wait + Sync, G: Gate, O: Out>(
     ensures front { result ≡ Err fault.Write → (plan : PlanData) × (document_of document.now ≡ Some plan)
         × ((count : ℕ) × Appends (O.sink out.old).contents (O.sink out.new).contents (take count (text_of plan))) }
 {
-    let transcript = transcribe_streamed(rt, alloc, document, workers, quantum, gate)?;
+    let sharing = Sharing {
+        alloc,
+        workers,
+        quantum,
+        gate,
+    };
+    let transcript = transcribe_streamed(rt, document, &sharing)?;
     let mut reader = transcript.reader(alloc)?;
     let mut buffer = reader.buffer(alloc)?;
     put_pieces(out, &mut reader, buffer.as_mut_slice())?;
@@ -151,63 +165,49 @@ pub fn run_into<R: Threads + Wait + Sync, G: Gate, O: Out>(
 // Runs a document, and gives its transcript.
 fn transcribe<R: Threads + Sync, G: Gate>(
     rt: &R,
-    alloc: Global,
     document: &[u8],
-    workers: usize,
-    quantum: usize,
-    gate: &G,
+    sharing: &Sharing<'_, G>,
 ) -> Result<PlanTranscript, Refused>
-    requires workers { 0 < workers }
-    requires quantum { 0 < quantum }
     ensures plan { IfOk result (λ transcript. document_of document.now ≡ Some transcript.plan) }
     ensures lines { IfOk result (λ transcript. transcript.lines ≡ lines_of transcript.plan) }
     ensures refused { IfErr result (λ code. IsRefusalOf document.now code) }
 {
+    let alloc = sharing.alloc;
     let plan = Arc::new(alloc, read_document(alloc, document)?)?;
     let lines = Transcript::new(alloc);
-    let lines = run_by(rt, alloc, plan.clone()?, lines, workers, quantum, gate)?;
+    let lines = run_by(rt, plan.clone()?, lines, sharing)?;
     Ok(PlanTranscript { plan, lines })
 }
 
-// Runs all rounds of a plan by `workers` workers. If there is one worker and nobody watches, the calling thread runs them.
+// Runs all rounds of a plan by workers. If there is one worker and nobody watches, the calling thread runs them.
 fn run_by<L: Lines, R: Threads + Sync, G: Gate>(
     rt: &R,
-    alloc: Global,
     plan: Arc<Plan>,
     lines: L,
-    workers: usize,
-    quantum: usize,
-    gate: &G,
+    sharing: &Sharing<'_, G>,
 ) -> Result<L, Memory>
-    requires lines { L.lines lines ≡ [] }
-    requires workers { 0 < workers }
-    requires quantum { 0 < quantum }
+    requires { L.lines lines ≡ [] }
     ensures { IfOk result (λ lines. L.lines lines ≡ lines_of (arc_value plan)) }
 {
-    if workers == 1 && gate.is_open() {
-        return run_plan(alloc, plan, lines);
+    if sharing.workers == 1 && sharing.gate.is_open() {
+        return run_plan(sharing.alloc, plan, lines);
     }
-    run_rounds(rt, alloc, plan, lines, workers, quantum, gate)
+    run_rounds(rt, plan, lines, sharing)
 }
 
 // Runs the rounds of a plan one after another, each claimed by workers.
 fn run_rounds<L: Lines, R: Threads + Sync, G: Gate>(
     rt: &R,
-    alloc: Global,
     plan: Arc<Plan>,
     lines: L,
-    workers: usize,
-    quantum: usize,
-    gate: &G,
+    sharing: &Sharing<'_, G>,
 ) -> Result<L, Memory>
-    requires lines { L.lines lines ≡ [] }
-    requires workers { 0 < workers }
-    requires quantum { 0 < quantum }
+    requires { L.lines lines ≡ [] }
     ensures { IfOk result (λ lines. L.lines lines ≡ lines_of (arc_value plan)) }
 {
     let rounds = plan.moments().len();
-    let mut world = World::with_lines(alloc, plan, lines)?;
-    if run_each(rt, alloc, &mut world, rounds, workers, quantum, gate).is_err() {
+    let mut world = World::with_lines(sharing.alloc, plan, lines)?;
+    if run_each(rt, &mut world, rounds, sharing).is_err() {
         return Err(world.give_up());
     }
     Ok(world.into_lines())
@@ -216,24 +216,18 @@ fn run_rounds<L: Lines, R: Threads + Sync, G: Gate>(
 // Runs `rounds` rounds and closes the transcript. They are all rounds of the plan, and the world is new.
 fn run_each<L: Lines, R: Threads + Sync, G: Gate>(
     rt: &R,
-    alloc: Global,
     world: &mut World<L>,
     rounds: usize,
-    workers: usize,
-    quantum: usize,
-    gate: &G,
+    sharing: &Sharing<'_, G>,
 ) -> Result<(), Memory>
     requires new { world.old ≡ new_world world.old.plan }
     requires all { rounds ≡ length world.old.plan.moments }
-    requires workers { 0 < workers }
-    requires quantum { 0 < quantum }
     ensures unfailed { OnOk result (world.new.failed ≡ false) }
     ensures lines { OnOk result (world.new.state.lines ≡ lines_of world.old.plan) }
 {
     exec_rules::laws::rounds_follow_one_another();
-    let division = Division::Claimed(quantum);
     for done in 0..rounds {
-        run_round(rt, alloc, world, done + 1, workers, division, gate)?;
+        run_round(rt, world, done + 1, Division::Claimed, sharing)?;
     }
     world.finish()?;
     Ok(())
@@ -242,64 +236,53 @@ fn run_each<L: Lines, R: Threads + Sync, G: Gate>(
 // Runs a document by workers that send on what callbacks did, and gives its transcript.
 fn transcribe_streamed<R: Threads + Wait + Sync, G: Gate>(
     rt: &R,
-    alloc: Global,
     document: &[u8],
-    workers: usize,
-    quantum: usize,
-    gate: &G,
+    sharing: &Sharing<'_, G>,
 ) -> Result<PlanTranscript, Refused>
-    requires workers { 0 < workers }
-    requires quantum { 0 < quantum }
     ensures plan { IfOk result (λ transcript. document_of document.now ≡ Some transcript.plan) }
     ensures lines { IfOk result (λ transcript. transcript.lines ≡ lines_of transcript.plan) }
     ensures refused { IfErr result (λ code. IsRefusalOf document.now code) }
 {
+    let alloc = sharing.alloc;
     let plan = Arc::new(alloc, read_document(alloc, document)?)?;
     let lines = Transcript::new(alloc);
-    let lines = stream_by(rt, alloc, plan.clone()?, lines, workers, quantum, gate)?;
+    let lines = stream_by(rt, plan.clone()?, lines, sharing)?;
     Ok(PlanTranscript { plan, lines })
 }
 
-// Runs all rounds of a plan by `workers` workers that send on what callbacks did. If there is one worker and nobody watches,
-// the calling thread runs them.
+// Runs all rounds of a plan by workers. If somebody watches, they send on what callbacks did. Otherwise they last, or
+// the calling thread runs all if there is one worker.
 fn stream_by<L: Lines, R: Threads + Wait + Sync, G: Gate>(
     rt: &R,
-    alloc: Global,
     plan: Arc<Plan>,
     lines: L,
-    workers: usize,
-    quantum: usize,
-    gate: &G,
+    sharing: &Sharing<'_, G>,
 ) -> Result<L, Memory>
-    requires lines { L.lines lines ≡ [] }
-    requires workers { 0 < workers }
-    requires quantum { 0 < quantum }
+    requires { L.lines lines ≡ [] }
     ensures { IfOk result (λ lines. L.lines lines ≡ lines_of (arc_value plan)) }
 {
-    if workers == 1 && gate.is_open() {
-        return run_plan(alloc, plan, lines);
+    if !sharing.gate.is_open() {
+        return stream_rounds(rt, plan, lines, sharing);
     }
-    stream_rounds(rt, alloc, plan, lines, workers, quantum, gate)
+    if sharing.workers == 1 {
+        return run_plan(sharing.alloc, plan, lines);
+    }
+    run_kept(rt, sharing.alloc, plan, lines, sharing.workers)
 }
 
 // Runs the rounds of a plan one after another, each by workers that send on what callbacks did.
 fn stream_rounds<L: Lines, R: Threads + Wait + Sync, G: Gate>(
     rt: &R,
-    alloc: Global,
     plan: Arc<Plan>,
     lines: L,
-    workers: usize,
-    quantum: usize,
-    gate: &G,
+    sharing: &Sharing<'_, G>,
 ) -> Result<L, Memory>
-    requires lines { L.lines lines ≡ [] }
-    requires workers { 0 < workers }
-    requires quantum { 0 < quantum }
+    requires { L.lines lines ≡ [] }
     ensures { IfOk result (λ lines. L.lines lines ≡ lines_of (arc_value plan)) }
 {
     let rounds = plan.moments().len();
-    let mut world = World::with_lines(alloc, plan, lines)?;
-    if stream_each(rt, alloc, &mut world, rounds, workers, quantum, gate).is_err() {
+    let mut world = World::with_lines(sharing.alloc, plan, lines)?;
+    if stream_each(rt, &mut world, rounds, sharing).is_err() {
         return Err(world.give_up());
     }
     Ok(world.into_lines())
@@ -308,23 +291,18 @@ fn stream_rounds<L: Lines, R: Threads + Wait + Sync, G: Gate>(
 // Runs `rounds` such rounds and closes the transcript. They are all rounds of the plan, and the world is new.
 fn stream_each<L: Lines, R: Threads + Wait + Sync, G: Gate>(
     rt: &R,
-    alloc: Global,
     world: &mut World<L>,
     rounds: usize,
-    workers: usize,
-    quantum: usize,
-    gate: &G,
+    sharing: &Sharing<'_, G>,
 ) -> Result<(), Memory>
     requires new { world.old ≡ new_world world.old.plan }
     requires all { rounds ≡ length world.old.plan.moments }
-    requires workers { 0 < workers }
-    requires quantum { 0 < quantum }
     ensures unfailed { OnOk result (world.new.failed ≡ false) }
     ensures lines { OnOk result (world.new.state.lines ≡ lines_of world.old.plan) }
 {
     exec_rules::laws::rounds_follow_one_another();
     for done in 0..rounds {
-        stream_round(rt, alloc, world, done + 1, workers, quantum, gate)?;
+        stream_round(rt, world, done + 1, sharing)?;
     }
     world.finish()?;
     Ok(())

@@ -1,9 +1,9 @@
 //! `exec_ways <workers> <quantum>`: reads a document on standard input and runs it by each way in which workers share a round,
 //! under a gate that counts what is reported to it. It is for tests. For each way it prints a line: its name, how many
-//! callbacks ran, and how many outcomes came to the collector through the queue. Then it runs the document by `run`, and by
-//! `run_into` into memory, while somebody watches. It writes the text that both gave.
+//! callbacks ran, and how many outcomes came to the collector through the queue. Then it runs the document by `run`, while
+//! somebody watches and while nobody does, and by `run_into` into memory. It writes the text that all of them gave.
 //!
-//! Its status is 0 if each way left the transcript of one thread and reported to its gate what it owes, and both calls gave one
+//! Its status is 0 if each way left the transcript of one thread and reported to its gate what it owes, and all calls gave one
 //! text. It is 1 if the document or memory is refused, 2 if the words are wrong, and 3 if a way or a call differs.
 #![tactic(auto)]
 
@@ -13,7 +13,7 @@ mod ways;
 
 ghost use Rattle.std.specs.Prelude.{◌<◌, ◌≤◌};
 
-use calls::texts;
+use calls::run_calls;
 use exec_doc::{Refused, read_document};
 use exec_io::{InputStream, OutFailed, Settings, Through, read_words, write_text};
 use exec_plan::Plan;
@@ -96,7 +96,7 @@ fn tell<H: Print>(rt: &H, way: Way, ended: Result<Ran, Fault>) -> io::Result<()>
     }
 }
 
-// Runs a document by both calls, writes the text that both gave, and answers the status that it comes to.
+// Runs a document by each call, writes the text that all of them gave, and answers the status that it comes to.
 fn try_calls<H: Threads + Wait + Sync, W: Write + Drop>(
     rt: &H,
     alloc: Global,
@@ -107,13 +107,16 @@ fn try_calls<H: Threads + Wait + Sync, W: Write + Drop>(
     requires workers { (0 < settings.workers) × (settings.workers ≤ 64) }
     requires quantum { (0 < settings.quantum) × (settings.quantum ≤ 1024) }
 {
-    let Ok((whole, written)) = texts(rt, alloc, document, settings) else {
+    let Ok(texts) = run_calls(rt, alloc, document, settings) else {
         return 1;
     };
-    if whole.as_slice() != written.as_slice() {
+    let text = texts.watched;
+    if text.as_slice() != texts.unwatched.as_slice()
+        || text.as_slice() != texts.written.as_slice()
+    {
         return 3;
     }
-    match write_text(&mut Through::new(output), &whole) {
+    match write_text(&mut Through::new(output), &text) {
         Ok(()) => 0,
         Err(OutFailed) => 3,
     }

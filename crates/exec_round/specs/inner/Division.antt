@@ -1,13 +1,6 @@
 -- How lanes are shared among workers.
-use Rattle.std.specs.Prelude.{◌≡◌, ⊤, ◌<◌, []}
+use Rattle.std.specs.Prelude.{◌≡◌, []}
 use Rattle.exec_board.specs.Seats.{SeatView}
-use Rattle.exec_round.specs.declared.rounds.Division.{Division}
-use Rattle.exec_round.specs.declared.rounds.Division.TheVariants.{Dealt, Claimed}
-
--- a claim may have a callback
-abbrev pub TakesSome : Division → Type 0
-TakesSome Dealt = ⊤
-TakesSome (Claimed quantum) = 0 < quantum
 
 -- a pass whose caller swept a board, or had others sweep it, kept its opening and its share, and holds no lane
 pub record IsSweptPass (before after : SeatView) : Type 0 where

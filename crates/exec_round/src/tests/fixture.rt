@@ -130,7 +130,8 @@ pub(super) fn visit(
     requires board { pass.old.board ≡ board.now }
     requires lane { lane < board.now.words }
     ensures board { pass.new.board ≡ pass.old.board }
-    ensures share { (pass.new.view.start ≡ pass.old.view.start) × (pass.new.view.stop ≡ pass.old.view.stop) × (pass.new.view.passes ≡ pass.old.view.passes) }
+    ensures share { (pass.new.view.start ≡ pass.old.view.start) × (pass.new.view.stop ≡ pass.old.view.stop)
+        × (pass.new.view.passes ≡ pass.old.view.passes) }
     ensures opening { pass.new.view.opening ≡ pass.old.view.opening }
     ensures holds { pass.new.view.holds ≡ pass.old.view.holds }
     ensures on { IfOk result (λ counts. counts.0 ≤ counts.1) }

@@ -40,7 +40,9 @@ fn put<R: Wait>(
     ensures queue { IsPassOf queue.now pass.new }
     ensures parts { (view pass.new).parts ≡ (view pass.old).parts }
     ensures took { (view pass.new).took ≡ (view pass.old).took }
-    ensures put { MatchOption result (map (λ (one : Outcome). one.position) (view pass.new).put ≡ map (λ (one : Outcome). one.position) (view pass.old).put ++ position ∷ []) (λ _. (view pass.new).put ≡ (view pass.old).put) }
+    ensures put { MatchOption result
+        (map (λ (one : Outcome). one.position) (view pass.new).put ≡ map (λ (one : Outcome). one.position) (view pass.old).put ++ position ∷ [])
+        (λ _. (view pass.new).put ≡ (view pass.old).put) }
 {
     match put_outcome(rt, queue, pass, outcome(alloc, position)) {
         Ok(()) => None,
@@ -55,7 +57,8 @@ fn take<R: Wait>(rt: &R, queue: &OutcomeQueue, pass: &mut OutcomePass) -> Option
     ensures queue { IsPassOf queue.now pass.new }
     ensures parts { (view pass.new).parts ≡ (view pass.old).parts }
     ensures put { (view pass.new).put ≡ (view pass.old).put }
-    ensures took { MatchOption result ((view pass.new).took ≡ (view pass.old).took) (λ position. map (λ (one : Outcome). one.position) (view pass.new).took ≡ map (λ (one : Outcome). one.position) (view pass.old).took ++ position ∷ []) }
+    ensures took { MatchOption result ((view pass.new).took ≡ (view pass.old).took)
+        (λ position. map (λ (one : Outcome). one.position) (view pass.new).took ≡ map (λ (one : Outcome). one.position) (view pass.old).took ++ position ∷ []) }
 {
     match take_outcome(rt, queue, pass) {
         None => None,

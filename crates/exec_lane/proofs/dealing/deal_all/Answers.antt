@@ -1,5 +1,6 @@
-use Rattle.std.proofs.Common.{◌≡◌, ℕ, List, replicate, sym, subst, ◌∙◌}
-use Rattle.exec_lane.proofs.PortionsGiven.{all_given, still_given}
+use Rattle.std.proofs.Common.{◌≡◌, ℕ, List, length, replicate, sym, ap, subst, ◌∙◌}
+use Rattle.std.proofs.lemmas.List.{length-replicate}
+use Rattle.exec_lane.proofs.PortionsGiven.{all_given, as_many_given, still_given}
 use Rattle.exec_lane.specs.Portions.{AreDealt, AreWorkers, PortionState, nothing}
 use Rattle.exec_lane.specs.inner.Dealing.{given_each}
 use Rattle.exec_rules.specs.World.{WorldState}
@@ -22,3 +23,8 @@ returns-clause-dealt g c =
       whole = c.in_ok-owners.ensures.whole;
       given = all_given owners list state c.args.workers c.in_ok-owners.ensures.many workers c.requires.home.apart;
     })
+
+pub returns-clause-many : goal.returns-clause-many
+returns-clause-many g c =
+    ap length (c.in_ok-give_all.ensures.given ∙ (λ i. given_each (c.as_slice.ensures.value i) c.args.list.now (c.in_ok-portions.ensures i) c.args.world.now.state))
+    ∙ as_many_given c.in_ok-owners.owners.items c.args.list.now (replicate c.args.workers nothing) c.args.world.now.state ∙ length-replicate c.args.workers nothing

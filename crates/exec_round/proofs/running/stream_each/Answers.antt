@@ -5,8 +5,8 @@ use Rattle.exec_round.proofs.running.stream_each.Goals as goal
 pub loop-done-init : goal.loop-done-init
 loop-done-init g c = c.requires.new
 
-pub stream_round-requires-clause-next : goal.stream_round-requires-clause-next
-stream_round-requires-clause-next g c =
+pub stream_round-requires : goal.stream_round-requires
+stream_round-requires g c =
     let here = c.loop-done.invariant in
     let moments : c.args.rounds ≡ length c.loop-done.world.plan.moments = c.requires.all ∙ ap (λ (world : WorldData). length world.plan.moments) (sym here) in
     let next : IsNext (c.loop-done.done + 1) c.loop-done.world = record {

@@ -1,0 +1,3 @@
+pub mod Portioned
+pub mod Seating
+pub mod Steps
