@@ -14,7 +14,7 @@ use Rattle.std.proofs.lemmas.List.{length-map, take_all, take_more, take_more_se
 use Rattle.std.proofs.lemmas.Option.{get_or_from_slice_get, slice_get-map, slice_get_within}
 use Rattle.std.specs.Option.{option_map}
 use Rattle.indexmap.specs.IndexMap.{set_value_at}
-use Rattle.exec_goal.specs.Cancel.{CancelRequest, Decided, is_moved, moved, code_unmoved, code_of}
+use Rattle.exec_goal.specs.Cancel.{CancelRequest, Decided, is_moved, moved, table_after, code_unmoved, code_of}
 use Rattle.exec_goal.proofs.Filtering.{none-filter}
 use Rattle.exec_msg.specs.declared.goal.ReturnCode.TheVariants as code
 
@@ -186,6 +186,15 @@ code-unmoved request decisions goals none = by (list_any (is_moved decisions) go
     by : (b : Bool) → b ≡ false → code_unmoved request decisions goals ≡ (if b then code.None else code_unmoved request decisions goals)
     by true is = absurd cc
     by false is = refl
+
+-- the table stays as it is then
+pub table-unmoved : (decisions : List Decided) (goals : List GoalRecord) → moved decisions goals ≡ [] → table_after decisions goals ≡ goals
+table-unmoved decisions [] none = refl
+table-unmoved decisions (goal ∷ goals) none = by (is_moved decisions goal) refl none (table-unmoved decisions goals)
+  where
+    by : (b : Bool) → is_moved decisions goal ≡ b → cond b (goal ∷ moved decisions goals) (moved decisions goals) ≡ [] → (moved decisions goals ≡ [] → table_after decisions goals ≡ goals) → table_after decisions (goal ∷ goals) ≡ goal ∷ goals
+    by true is none others = absurd cc
+    by false is none others = rw is (ap (λ (after : List GoalRecord). goal ∷ after) (others none))
 
 -- ---- what stands behind the others
 

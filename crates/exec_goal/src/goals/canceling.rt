@@ -47,13 +47,15 @@ impl Goals {
     {
         let accepted = AcceptedIds::of(self.alloc, decisions)?;
         let moved = self.moving_ids(&accepted)?;
-        let code = if moved.is_empty() {
-            self.code_unmoved(request, decisions)
-        } else {
-            ReturnCode::None
-        };
+        if moved.is_empty() {
+            let code = self.code_unmoved(request, decisions);
+            return Ok(CancelAnswer { code, moved });
+        }
         self.cancel(&accepted);
-        Ok(CancelAnswer { code, moved })
+        Ok(CancelAnswer {
+            code: ReturnCode::None,
+            moved,
+        })
     }
 
     fn moving_ids(&self, accepted: &AcceptedIds) -> Result<Elements<GoalId>, Memory>
