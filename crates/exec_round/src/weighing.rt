@@ -6,7 +6,7 @@ use exec_world::Light;
 use std::thread::{Threads, available_parallelism};
 
 // Nanoseconds: what an instruction takes, what it costs to deal a callback and to bring it home, to start a worker and to wait
-// for its end, and to hand callbacks to a worker that waits and to get them back. How they were measured is in docs/MEASURED.md.
+// for its end, and to hand callbacks to a worker that waits and to get them back. `bench/weighing` measures them.
 const INSTRUCTION: u64 = 4;
 
 const DEAL: u64 = 200;

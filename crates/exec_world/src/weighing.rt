@@ -25,7 +25,8 @@ impl Light {
 pub struct Heavy {
     /// The callbacks as [`World::snapshot`](crate::World::snapshot) gives them.
     pub list: Vec<Ready>,
-    /// How many instructions their scripts have. A cancel handler's script counts once for each candidate.
+    /// How many instructions their scripts have. A cancel handler's script counts once for each candidate, and a goal's for a
+    /// quarter.
     pub instructions: u64,
 }
 
@@ -38,11 +39,12 @@ pub(crate) fn instructions(graph: &Graph, list: &[Listed]) -> u64 {
     all
 }
 
-// How many instructions the polls of goals have.
+// How many instructions the polls of goals have. A poll runs its goal's script from where it waited to where it waits next. How
+// much that is isn't known, and a quarter of the script is taken for it.
 pub(crate) fn poll_instructions(graph: &Graph, goals: &[AwakeGoal]) -> u64 {
     let mut all = 0u64;
     for goal in goals {
-        all = all.saturating_add(length(graph.script(goal.server, Kind::Poll)));
+        all = all.saturating_add(length(graph.script(goal.server, Kind::Poll)) / 4);
     }
     all
 }
