@@ -1,5 +1,6 @@
 """A library that is loaded before the C library's own functions: it counts what a program asks for, allocations and starts of
-threads, and can refuse one of either. It also can have standard input give, and standard output take, a few bytes at a time, have
+threads, and the started threads that asked for an allocation, and can refuse one of either. It can have a thread that wakes
+another wait until that one is at work. It also can have standard input give, and standard output take, a few bytes at a time, have
 one call of either fail, and interrupt each call of either some times before it does anything. `cc` compiles it.
 
 It ends a program with the status 99 if a thread that began wasn't joined, or hadn't ended when it was."""
@@ -13,7 +14,9 @@ LIBRARY = r"""
 #include <dlfcn.h>
 #include <errno.h>
 #include <fcntl.h>
+#include <linux/futex.h>
 #include <pthread.h>
+#include <stdarg.h>
 #include <stdatomic.h>
 #include <stdio.h>
 #include <stdlib.h>
@@ -29,11 +32,14 @@ struct start { void *(*run)(void *); void *given; };
 
 static int (*create)(pthread_t *, const pthread_attr_t *, void *(*)(void *), void *);
 static int (*wait_for)(pthread_t, void **);
-static atomic_long allocations, starts, begun, ended, joined, reads, writes, interruptions;
+static long (*call)(long, ...);
+static atomic_long allocations, starts, begun, ended, joined, working, reads, writes, interruptions;
+static _Thread_local int has_asked;
 
 __attribute__((constructor)) static void find(void) {
   create = dlsym(RTLD_NEXT, "pthread_create");
   wait_for = dlsym(RTLD_NEXT, "pthread_join");
+  call = dlsym(RTLD_NEXT, "syscall");
 }
 
 static long number(const char *name) {
@@ -47,6 +53,7 @@ static int refuses(atomic_long *count, const char *name) {
 }
 
 static int refuses_memory(void) {
+  has_asked = 1;
   if (!refuses(&allocations, "REFUSED_ALLOCATION")) return 0;
   errno = ENOMEM;
   return 1;
@@ -60,6 +67,7 @@ static void *run(void *handed) {
   struct start start = *(struct start *)handed;
   __libc_free(handed);
   void *result = start.run(start.given);
+  atomic_fetch_add(&working, has_asked);
   atomic_fetch_add(&ended, 1);
   return result;
 }
@@ -80,6 +88,19 @@ int pthread_join(pthread_t thread, void **result) {
   int status = wait_for(thread, result);
   if (!status) atomic_fetch_add(&joined, 1);
   return status;
+}
+
+// The call by which threads wake others. After a wake it waits for so many milliseconds as the environment says.
+long syscall(long name, ...) {
+  long words[6];
+  va_list all;
+  va_start(all, name);
+  for (int at = 0; at < 6; at++) words[at] = va_arg(all, long);
+  va_end(all);
+  long result = call(name, words[0], words[1], words[2], words[3], words[4], words[5]);
+  long waits = name == SYS_futex && (words[1] & FUTEX_CMD_MASK) == FUTEX_WAKE ? number("WAITS") : 0;
+  if (waits) usleep(1000 * waits);
+  return result;
 }
 
 // How many bytes, of so many, a stream gives or takes at once.
@@ -116,10 +137,10 @@ ssize_t write(int file, const void *bytes, size_t count) {
 // Writes the counts, and gives the status that a run ends with.
 static int after(int status) {
   const char *path = getenv("COUNTS");
-  char line[64];
+  char line[96];
   if (path) {
     int file = open(path, O_WRONLY | O_CREAT | O_TRUNC, 0600);
-    int length = snprintf(line, sizeof line, "%ld %ld\n", allocations, starts);
+    int length = snprintf(line, sizeof line, "%ld %ld %ld\n", allocations, starts, working);
     if (write(file, line, length) != length || close(file)) return UNWRITTEN;
   }
   return begun == joined && ended == joined ? status : UNJOINED;
@@ -158,8 +179,9 @@ def changed(library, program, words, given, **numbers):
     return answer(program, words, given, around={"LD_PRELOAD": library, **around})
 
 
-def counted(library, program, words, given):
-    """What is answered, and how many allocations and starts of threads were asked for; nothing if the run left no counts."""
+def counted(library, program, words, given, waits=0):
+    """What is answered; and how many allocations and starts of threads were asked for, and in how many of the started threads
+    allocations were, or nothing if the run left no counts. A thread that wakes another waits for so many milliseconds."""
     with tempfile.NamedTemporaryFile("r") as counts:
-        found = answer(program, words, given, around={"LD_PRELOAD": library, "COUNTS": counts.name})
+        found = answer(program, words, given, around={"LD_PRELOAD": library, "COUNTS": counts.name, "WAITS": str(waits)})
         return found, tuple(map(int, counts.read().split()))
