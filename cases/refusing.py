@@ -1,7 +1,8 @@
 """A library that is loaded before the C library's own functions: it counts what a program asks for, allocations and starts of
-threads, and the started threads that asked for an allocation, and can refuse one of either. It can have a thread that wakes
-another wait until that one is at work. It also can have standard input give, and standard output take, a few bytes at a time, have
-one call of either fail, and interrupt each call of either some times before it does anything. `cc` compiles it.
+threads, and can refuse one of either. It also counts the started threads that asked for an allocation, and can have a thread that
+wakes another wait a little, so that the other one works meanwhile. It can have standard input give, and standard output take, a few
+bytes at a time, have one call of either fail, and interrupt each call of either some times before it does anything. `cc` compiles
+it.
 
 It ends a program with the status 99 if a thread that began wasn't joined, or hadn't ended when it was."""
 import subprocess
