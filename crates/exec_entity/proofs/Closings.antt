@@ -1,7 +1,7 @@
 -- What closes a callback, and what the loops of a round come to.
-use Rattle.std.proofs.Common.{◌≡◌, ℕ, ℤ, zero, suc, ◌+◌, ◌<◌, ◌≤◌, ◌&&◌, ◌==◌, List, [], ◌∷◌, ◌++◌, length, map, take, drop, get_or, Bool, true, false, cond, if◌then◌else◌, Option, None, Some, find, slice_get, slice_set, refl, sym, ap, subst, ◌∙◌, add-one, append_assoc, arith}
+use Rattle.std.proofs.Common.{◌≡◌, inr, ℕ, ℤ, zero, suc, ◌+◌, ◌<◌, ◌≤◌, ◌&&◌, ◌==◌, List, [], ◌∷◌, ◌++◌, length, map, take, drop, get_or, Bool, true, false, cond, if◌then◌else◌, Option, None, Some, find, slice_get, slice_set, refl, sym, ap, subst, ◌∙◌, add-one, append_assoc, arith}
 use Rattle.std.specs.List.{flat_map, fold}
-use Rattle.std.specs.Option.{option_map, option_map_or, unwrap_or}
+use Rattle.std.specs.Option.{option_map, unwrap_or}
 use Rattle.std.proofs.lemmas.Bool.{eqb-true}
 use Rattle.std.proofs.lemmas.List.{append-nil, drop_all, flat_map_more, length-map, map_more, take_all, take_more}
 use Rattle.exec_goal.specs.Cancel.{CancelRequest, Decided, moved, table_after, code_of}
@@ -18,12 +18,13 @@ use Rattle.exec_msg.specs.declared.line.Line.{Line}
 use Rattle.exec_msg.specs.declared.line.Line.TheVariants as line
 use Rattle.exec_msg.specs.Lists.{change_first}
 use Rattle.exec_entity.proofs.FoundEntries.{found_number}
+use Rattle.exec_rules.proofs.Identifiers.{changing, goals_here}
+use Rattle.exec_rules.proofs.Keeping.{ids_changed}
 use Rattle.exec_rules.specs.Close.{ask_where, respond, moved_lines, answer_cancel, cancel, tell, tell_end, with_ended, end_in, end}
-use Rattle.exec_rules.specs.World.{WorldState, ServerEntry, ActionClientEntry, is_server_at, add_line, add_lines, push, push_any, goals_at, action_client_at, goals_in}
+use Rattle.exec_rules.specs.World.{WorldState, ServerEntry, ActionClientEntry, is_server_at, with_goals, add_line, add_lines, push, push_any, goals_at, action_client_at, goals_in}
 use Rattle.exec_rules.specs.declared.item.Item.TheVariants as item
 use Rattle.exec_entity.specs.inner.Numbered.{FindsByNumber}
 use Rattle.exec_msg.specs.Places.{first_place}
-use Rattle.exec_entity.specs.inner.Servers.{with_goals}
 
 -- ---- lists
 
@@ -145,17 +146,6 @@ cancels server request client decisions before now same servers table returned c
 
 -- ---- goals that end
 
--- the goals of a server whose goals are changed
-goals_changed : (server : EntityNo) (change : List GoalRecord → List GoalRecord) → change [] ≡ [] → (servers : List ServerEntry) →
-    goals_in server (change_first (is_server_at server) (with_goals change) servers) ≡ change (goals_in server servers)
-goals_changed server change empty [] = sym empty
-goals_changed server change empty (entry ∷ servers) = by (entry.handler.entity == server) refl (goals_changed server change empty servers)
-  where
-    by : (b : Bool) → (entry.handler.entity == server) ≡ b → goals_in server (change_first (is_server_at server) (with_goals change) servers) ≡ change (goals_in server servers) →
-        goals_in server (if b then with_goals change entry ∷ servers else entry ∷ change_first (is_server_at server) (with_goals change) servers) ≡ change (option_map_or (λ entry. entry.goals) (cond b (Some entry) (find (is_server_at server) servers)) [])
-    by true is others = rw is refl
-    by false is others = rw is others
-
 module _ (id : GoalId) (value : ℤ) (reached : State) where
   -- a goal is found that ended in a state with a result
   data Ends : Option GoalRecord → Type 0 where
@@ -193,7 +183,7 @@ ended_world : (server : EntityNo) (id : GoalId) (event : Event) (value : ℤ) (m
     fold (λ before client. tell server id (status_of reached) value client before) (add_line (line.State server id (status_of reached)) (with_ended server id event value moment world))
     (askers_in id (goals_at server (with_ended server id event value moment world))) ≡ end server id event value moment world
 ended_world server id event value moment reached world leads =
-    let there = goals_changed server (change_first (has_id id) (after_end event value moment)) refl world.servers in
+    let there = goals_here (changing (change_first (has_id id) (after_end event value moment)) (ids_changed id (after_end event value moment) (λ goal. refl))) server world.servers (inr refl) in
     let ended : Ends id value reached (find (has_id id) (goals_at server (with_ended server id event value moment world))) =
     subst (λ (goals : List GoalRecord). Ends id value reached (find (has_id id) goals)) (sym there) (ended_in id value reached event moment (goals_at server world) leads) in
     told_ends id value reached server (with_ended server id event value moment world) (find (has_id id) (goals_at server (with_ended server id event value moment world))) ended

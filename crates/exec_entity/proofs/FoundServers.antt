@@ -1,5 +1,5 @@
 -- What is found in a list of servers, and what changes there.
-use Rattle.std.proofs.Common.{◌≡◌, ℕ, true, false, List, [], Option, None, Some, length, find, nat_lt, get_or, slice_set, refl, sym, ap, ◌∙◌}
+use Rattle.std.proofs.Common.{◌≡◌, ℕ, true, false, List, [], ◌∷◌, Option, None, Some, length, find, nat_lt, get_or, slice_set, refl, sym, ap, ◌∙◌}
 use Rattle.std.specs.Option.{option_and_then, option_map_or}
 use Rattle.exec_goal.specs.Calls.{noted}
 use Rattle.exec_goal.specs.Table.{GoalRecord, Asked, told, later, unknown}
@@ -8,7 +8,7 @@ use Rattle.exec_task.specs.Task.{TaskState}
 use Rattle.exec_entity.proofs.Changed.{unchanged_first}
 use Rattle.exec_entity.proofs.FoundByNumber.{unfound, found_at, changed_at}
 use Rattle.exec_msg.specs.Numbers.{GoalId}
-use Rattle.exec_rules.specs.World.{GoalWork, HeldGoal, ServerEntry, is_for, is_server_at, work_in}
+use Rattle.exec_rules.specs.World.{GoalWork, HeldGoal, ServerEntry, is_for, is_server_at, records_of, with_goals, with_records, work_in}
 use Rattle.exec_entity.specs.inner.Keeping.{executed}
 use Rattle.exec_rules.specs.inner.Places.{place_in}
 use Rattle.exec_entity.specs.inner.Polling.{server_polled}
@@ -45,12 +45,22 @@ module _ (server : ℕ) (xs held : List ServerEntry) (i : ℕ) (same : xs ≡ he
 
 -- ---- what a server does only sometimes, as a change of its goals
 
+-- goals that are given the records that they have
+given_own : (held : List HeldGoal) → with_records (records_of held) held ≡ held
+given_own [] = refl
+given_own (one ∷ held) = ap (λ (others : List HeldGoal). one ∷ others) (given_own held)
+
 module _ (server : ℕ) (held : List ServerEntry) where
-  pub executed_each : (goal : Option GoalRecord) → executed_in server goal held ≡ change_first (is_server_at server) (λ entry. record entry { goals = executed goal entry.goals }) held
-  executed_each None = sym (unchanged_first (is_server_at server) held)
+  kept_all : change_first (is_server_at server) (with_goals (λ goals. goals)) held ≡ held
+  kept_all =
+      ap (λ (change : ServerEntry → ServerEntry). change_first (is_server_at server) change held) (λ i entry. record entry { held = given_own entry.held i })
+      ∙ unchanged_first (is_server_at server) held
+
+  pub executed_each : (goal : Option GoalRecord) → executed_in server goal held ≡ change_first (is_server_at server) (with_goals (executed goal)) held
+  executed_each None = sym kept_all
   executed_each (Some goal) = refl
 
-  pub asked_each : (asked : Asked) (id : GoalId) (client : ℕ) → asked_in asked server id client held ≡ change_first (is_server_at server) (λ entry. record entry { goals = noted asked id client entry.goals }) held
-  asked_each (told status value) id client = sym (unchanged_first (is_server_at server) held)
+  pub asked_each : (asked : Asked) (id : GoalId) (client : ℕ) → asked_in asked server id client held ≡ change_first (is_server_at server) (with_goals (noted asked id client)) held
+  asked_each (told status value) id client = sym kept_all
   asked_each later id client = refl
-  asked_each unknown id client = sym (unchanged_first (is_server_at server) held)
+  asked_each unknown id client = sym kept_all

@@ -6,6 +6,7 @@ pub mod FoundByNumber
 pub mod FoundEntries
 pub mod FoundServers
 pub mod HeldEntries
+pub mod Joined
 pub mod Pending
 pub mod Placed
 pub mod Polls

@@ -2,27 +2,26 @@
 use Rattle.std.proofs.Common.{◌≡◌, ℕ, ◌+◌, ◌<◌, Bool, true, false, List, [], ◌∷◌, ◌++◌, length, get_or, take, map, refl, sym, ap, ◌∙◌}
 use Rattle.std.specs.List.{filter, flat_map}
 use Rattle.std.proofs.lemmas.List.{flat_map_more, take_more}
-use Rattle.exec_goal.specs.Table.{GoalRecord}
 use Rattle.exec_rules.specs.Ready.{is_goal_awake}
 use Rattle.exec_msg.specs.Numbers.{Moment}
-use Rattle.exec_rules.specs.World.{ServerEntry}
+use Rattle.exec_rules.specs.World.{HeldGoal, ServerEntry}
 use Rattle.exec_rules.specs.declared.ready.AwakeGoal.{AwakeGoal}
 use Rattle.exec_rules.specs.inner.Awake.{awake_goal, awake_goals, goal_awake}
 
-pub awake_are : (moment : Moment) (entry : ServerEntry) → awake_goals moment entry ≡ map (awake_goal entry.handler) (filter (is_goal_awake moment entry.held) entry.goals)
-awake_are moment entry = each entry.goals
+pub awake_are : (moment : Moment) (entry : ServerEntry) → awake_goals moment entry ≡ map (λ held. awake_goal entry.handler held.goal) (filter (is_goal_awake moment) entry.held)
+awake_are moment entry = each entry.held
   where
-    each : (goals : List GoalRecord) → flat_map (goal_awake moment entry) goals ≡ map (awake_goal entry.handler) (filter (is_goal_awake moment entry.held) goals)
+    each : (held : List HeldGoal) → flat_map (goal_awake moment entry.handler) held ≡ map (λ held. awake_goal entry.handler held.goal) (filter (is_goal_awake moment) held)
     each [] = refl
-    each (goal ∷ goals) = by (is_goal_awake moment entry.held goal) refl (each goals)
+    each (one ∷ held) = by (is_goal_awake moment one) refl (each held)
       where
-        by : (b : Bool) → is_goal_awake moment entry.held goal ≡ b → flat_map (goal_awake moment entry) goals ≡ map (awake_goal entry.handler) (filter (is_goal_awake moment entry.held) goals)
-            → flat_map (goal_awake moment entry) (goal ∷ goals) ≡ map (awake_goal entry.handler) (filter (is_goal_awake moment entry.held) (goal ∷ goals))
-        by true e rest = rw e (ap (λ (goals : List AwakeGoal). awake_goal entry.handler goal ∷ goals) rest)
+        by : (b : Bool) → is_goal_awake moment one ≡ b → flat_map (goal_awake moment entry.handler) held ≡ map (λ held. awake_goal entry.handler held.goal) (filter (is_goal_awake moment) held)
+            → flat_map (goal_awake moment entry.handler) (one ∷ held) ≡ map (λ held. awake_goal entry.handler held.goal) (filter (is_goal_awake moment) (one ∷ held))
+        by true e rest = rw e (ap (λ (goals : List AwakeGoal). awake_goal entry.handler one.goal ∷ goals) rest)
         by false e rest = rw e rest
 
-pub none_awake : (moment : Moment) (entry : ServerEntry) → filter (is_goal_awake moment entry.held) entry.goals ≡ [] → awake_goals moment entry ≡ []
-none_awake moment entry none = awake_are moment entry ∙ ap (map (awake_goal entry.handler)) none
+pub none_awake : (moment : Moment) (entry : ServerEntry) → filter (is_goal_awake moment) entry.held ≡ [] → awake_goals moment entry ≡ []
+none_awake moment entry none = awake_are moment entry ∙ ap (map (λ held. awake_goal entry.handler held.goal)) none
 
 -- what an element gives is added next
 pub added_next : {A B : Type 0} (f : A → List B) (before : List B) (xs : List A) (i : ℕ) (d : A) → i < length xs → (before ++ flat_map f (take i xs)) ++ f (get_or xs i d) ≡ before ++ flat_map f (take (i + 1) xs)

@@ -3,8 +3,7 @@ ghost use Rattle.std.specs.Prelude.{◌≡◌, ◌<◌, ◌++◌, ◌∷◌, [],
 ghost use Rattle.std.specs.List.{list_any};
 ghost use Rattle.indexmap.specs.IndexMap.{spare};
 ghost use Rattle.exec_msg.specs.Lists.{drop_first};
-ghost use Rattle.exec_rules.specs.World.{is_for};
-ghost use Rattle.exec_entity.specs.inner.Server.{held_goal_of, held_goals_of};
+ghost use Rattle.exec_entity.specs.inner.Server.{all_kept, is_kept_for, kept_of};
 ghost use Rattle.exec_entity.specs.inner.Waking.{wakes_of};
 
 mod expiring;
@@ -81,15 +80,14 @@ impl Model for Server {
     ghost use Rattle.std.specs.Prelude.{◌≡◌};
     ghost use Rattle.exec_rules.specs.World.{ServerEntry};
     ghost use Rattle.exec_entity.specs.inner.Keeping.{AreKept};
-    ghost use Rattle.exec_entity.specs.inner.Server.{held_goals_of};
+    ghost use Rattle.exec_entity.specs.inner.Server.{all_joined, all_kept};
     ghost use Rattle.exec_entity.specs.inner.Waking.{wakes_of};
 
     ghost Value = { ServerEntry };
 
-    ghost view = { λ server. record { handler = server.handler; timeout = server.timeout; goals = server.goals; held = held_goals_of server.held.entries } };
+    ghost view = { λ server. record { handler = server.handler; timeout = server.timeout; held = all_joined server.goals (all_kept server.held.entries) } };
 
-    ghost invariant = { λ server. AreKept server.goals (held_goals_of server.held.entries)
-        × (server.wakes.items ≡ wakes_of (held_goals_of server.held.entries)) };
+    ghost invariant = { λ server. AreKept server.goals (all_kept server.held.entries) × (server.wakes.items ≡ wakes_of (all_kept server.held.entries)) };
 }
 
 impl Server {
@@ -103,12 +101,12 @@ impl Server {
     ghost use Rattle.exec_msg.specs.Lists.{change_first};
     ghost use Rattle.exec_task.specs.Task.{new_task};
     ghost use Rattle.exec_rules.specs.Close.{server_accepting};
-    ghost use Rattle.exec_rules.specs.World.{has_room_for};
+    ghost use Rattle.exec_rules.specs.World.{has_room_for, is_for, records_of, with_goals};
     ghost use Rattle.exec_entity.specs.inner.Keeping.{executed};
 
     /// A server without goals. It takes no memory.
     pub fn new(alloc: Global, handler: Handler, timeout: Option<u64>) -> Server
-        ensures { result ≡ record { handler = handler; timeout = timeout; goals = []; held = [] } }
+        ensures { result ≡ record { handler = handler; timeout = timeout; held = [] } }
     {
         Server {
             handler,
@@ -129,22 +127,22 @@ impl Server {
 
     // How many goals are held, in any state.
     fn len(&self) -> usize
-        ensures { result ≡ length self.now.goals }
+        ensures { result ≡ length self.now.held }
     {
         self.goals.len()
     }
 
     // The goal at this place, from 0, in the order of acceptance.
     fn goal_at(&self, index: usize) -> GoalInfo
-        requires { index < length self.now.goals }
-        ensures { slice_get (map info_of self.now.goals) index ≡ Some result }
+        requires { index < length self.now.held }
+        ensures { slice_get (map info_of (records_of self.now.held)) index ≡ Some result }
     {
         self.goals.at(index)
     }
 
     /// Whether one more goal of this identifier can be held: it isn't held yet, and there is room.
     pub fn has_room_for(&self, id: GoalId) -> bool
-        ensures { result ≡ has_room_for id self.now.goals }
+        ensures { result ≡ has_room_for id (records_of self.now.held) }
     {
         !(self.goals.holds(id) || self.goals.is_full())
     }
@@ -169,7 +167,7 @@ impl Server {
     // The action client that asked for a goal's result at this place, from 0, in the order of asking. It is `None` at a place
     // after the last one, and if no such goal is held.
     pub(crate) fn asker(&self, id: GoalId, index: usize) -> Option<EntityNo>
-        ensures { result ≡ slice_get (askers_in id self.now.goals) index }
+        ensures { result ≡ slice_get (askers_in id (records_of self.now.held)) index }
     {
         self.goals.asker(id, index)
     }
@@ -182,7 +180,7 @@ impl Server {
         how: Acceptance,
         request: &GoalRequest,
     ) -> Result<(), Memory>
-        requires room { has_room_for request.now.id self.old.goals ≡ true }
+        requires room { has_room_for request.now.id (records_of self.old.held) ≡ true }
         ensures accepted { OnOk result (self.new ≡ server_accepting number moment how request.now self.old) }
         ensures unchanged { OnErr result (self.new ≡ self.old) }
     {
@@ -218,7 +216,7 @@ impl Server {
     /// # Errors
     /// [`Memory`] if a growth was refused.
     pub fn candidates(&self, request: &CancelRequest) -> Result<Elements<GoalInfo>, Memory>
-        ensures { IfOk result (λ infos. infos ≡ map info_of (candidates request.now self.now.goals)) }
+        ensures { IfOk result (λ infos. infos ≡ map info_of (candidates request.now (records_of self.now.held))) }
     {
         self.goals.candidates(request)
     }
@@ -230,9 +228,9 @@ impl Server {
         request: &CancelRequest,
         decisions: &[(GoalId, CancelDecision)],
     ) -> Result<CancelAnswer, Memory>
-        ensures code { IfOk result (λ answer. answer.code ≡ code_of request.now decisions.now self.old.goals) }
-        ensures moved { IfOk result (λ answer. answer.moved ≡ map (λ goal. goal.id) (moved decisions.now self.old.goals)) }
-        ensures table { OnOk result (self.new ≡ record self.old { goals = table_after decisions.now self.old.goals }) }
+        ensures code { IfOk result (λ answer. answer.code ≡ code_of request.now decisions.now (records_of self.old.held)) }
+        ensures moved { IfOk result (λ answer. answer.moved ≡ map (λ goal. goal.id) (moved decisions.now (records_of self.old.held))) }
+        ensures table { OnOk result (self.new ≡ with_goals (table_after decisions.now) self.old) }
         ensures unchanged { OnErr result (self.new ≡ self.old) }
     {
         let answer = self.goals.answer(request, decisions)?;
@@ -242,9 +240,9 @@ impl Server {
     // What an action client is answered that asks for a goal's result. If the result comes later, the client is noted. If
     // memory is refused, the server doesn't change.
     pub(crate) fn ask(&mut self, id: GoalId, client: EntityNo) -> Result<Asked, Memory>
-        ensures told { IfOk result (λ told. told ≡ answer_of (asked_for id self.old.goals)) }
-        ensures noted { OnOk result (self.new ≡ record self.old { goals = after_asking id client self.old.goals }) }
-        ensures memory { OnErr result (asked_for id self.old.goals ≡ later) }
+        ensures told { IfOk result (λ told. told ≡ answer_of (asked_for id (records_of self.old.held))) }
+        ensures noted { OnOk result (self.new ≡ with_goals (after_asking id client) self.old) }
+        ensures memory { OnErr result (asked_for id (records_of self.old.held) ≡ later) }
         ensures unchanged { OnErr result (self.new ≡ self.old) }
     {
         let told = self.goals.ask_result(id, client)?;
@@ -253,8 +251,8 @@ impl Server {
 
     // Executes the oldest goal that is accepted and not executed yet. Answers its identifier, or `None` if there is none.
     pub(crate) fn execute_oldest(&mut self) -> Option<GoalId>
-        ensures found { result ≡ option_map (λ goal. goal.id) (find (λ goal. is_accepted goal.state) self.old.goals) }
-        ensures executed { self.new ≡ record self.old { goals = executed (find (λ goal. is_accepted goal.state) self.old.goals) self.old.goals } }
+        ensures found { result ≡ option_map (λ goal. goal.id) (find (λ goal. is_accepted goal.state) (records_of self.old.held)) }
+        ensures executed { self.new ≡ with_goals (executed (find (λ goal. is_accepted goal.state) (records_of self.old.held))) self.old }
     {
         let id = self.goals.oldest_accepted()?;
         let _state = self.goals.apply(id, Event::Execute);
@@ -270,8 +268,8 @@ impl Server {
         value: i64,
         moment: Moment,
     ) -> Option<State>
-        ensures reached { result ≡ end_state id event self.old.goals }
-        ensures ended { IfSome result (λ _. self.new ≡ record self.old { goals = change_first (has_id id) (after_end event value moment) self.old.goals }) }
+        ensures reached { result ≡ end_state id event (records_of self.old.held) }
+        ensures ended { IfSome result (λ _. self.new ≡ with_goals (change_first (has_id id) (after_end event value moment)) self.old) }
         ensures unchanged { IfNone result (self.new ≡ self.old) }
     {
         let Ok(reached) = self.goals.end(id, event, value, moment) else {
@@ -284,17 +282,17 @@ impl Server {
 // Adds work after what is kept, under a new identifier. There is room for it.
 fn insert_new(held: &mut IndexMap<GoalId, KeptWithGoal>, id: GoalId, new: KeptWithGoal)
     requires room { 0 < spare held.old }
-    requires new { list_any (is_for id) (held_goals_of held.old.entries) ≡ false }
-    ensures { held_goals_of held.new.entries ≡ held_goals_of held.old.entries ++ held_goal_of (id, new) ∷ [] }
+    requires new { list_any (is_kept_for id) (all_kept held.old.entries) ≡ false }
+    ensures { all_kept held.new.entries ≡ all_kept held.old.entries ++ kept_of (id, new) ∷ [] }
 {
     let _none = held.insert(id, new).unwrap();
 }
 
 // Drops what is kept under an identifier, if anything is, with the moment from which on it is awake.
 fn remove(held: &mut IndexMap<GoalId, KeptWithGoal>, wakes: &mut Vec<u64>, id: GoalId)
-    requires { wakes.old.items ≡ wakes_of (held_goals_of held.old.entries) }
-    ensures held { held_goals_of held.new.entries ≡ drop_first (is_for id) (held_goals_of held.old.entries) }
-    ensures wakes { wakes.new.items ≡ wakes_of (held_goals_of held.new.entries) }
+    requires { wakes.old.items ≡ wakes_of (all_kept held.old.entries) }
+    ensures held { all_kept held.new.entries ≡ drop_first (is_kept_for id) (all_kept held.old.entries) }
+    ensures wakes { wakes.new.items ≡ wakes_of (all_kept held.new.entries) }
 {
     if let Some(dropped) = held.shift_remove_full(&id) {
         let _wake = wakes.remove(dropped.0);

@@ -11,7 +11,7 @@ use Rattle.exec_task.specs.Task.{TaskState}
 use Rattle.exec_rules.specs.Calls.{polls_same_of, wakes}
 use Rattle.exec_rules.specs.Run.{variables_for, with_polled, with_variables_for, work_after, work_for}
 use Rattle.exec_script.specs.Script.{Variables}
-use Rattle.exec_rules.specs.World.{GoalWork, HeldGoal, ServerEntry, WorldState, is_for, is_server_at, with_work, work_at}
+use Rattle.exec_rules.specs.World.{GoalWork, HeldGoal, ServerEntry, WorldState, doing, is_for, is_server_at, standing, with_held, with_work, work_at}
 use Rattle.exec_rules.specs.declared.ready.Cause.{Cause}
 use Rattle.exec_rules.specs.declared.ready.Cause.TheVariants as cause
 use Rattle.exec_rules.specs.declared.ready.Ready.{Ready}
@@ -59,34 +59,28 @@ unchanged test (x ∷ xs) = by (test x) (unchanged test xs)
 
 -- ---- works of goals
 
-abbrev put_in : Option GoalWork → HeldGoal → HeldGoal
-put_in work held = record held { work = work }
-
-abbrev put_at : GoalId → Option GoalWork → ServerEntry → ServerEntry
-put_at id work entry = record entry { held = change_first (is_for id) (put_in work) entry.held }
-
 -- the works of two goals may be put in either order
 works_turned : (server : EntityNo) (id : GoalId) (work : Option GoalWork) (other_server : EntityNo) (other : GoalId) (another : Option GoalWork) (world : WorldState) → ((id == other) && (server == other_server)) ≡ false →
     with_work server id work (with_work other_server other another world) ≡ with_work other_server other another (with_work server id work world)
 works_turned server id work other_server other another world apart =
     ap (λ (servers : List ServerEntry). record world { servers = servers })
-    (changes_turned (is_server_at server) (is_server_at other_server) (put_at id work) (put_at other another) (λ x. refl) (λ x. refl)
+    (changes_turned (is_server_at server) (is_server_at other_server) (with_held id (doing work)) (with_held other (doing another)) (λ x. refl) (λ x. refl)
     (λ x one two. inside x (sym (eqb-true x.handler.entity server one) ∙ eqb-true x.handler.entity other_server two)) world.servers)
   where
-    differ : server ≡ other_server → (held : HeldGoal) → is_for id held ≡ true → is_for other held ≡ true → put_in work (put_in another held) ≡ put_in another (put_in work held)
+    differ : server ≡ other_server → (held : HeldGoal) → is_for id held ≡ true → is_for other held ≡ true → doing work (doing another held) ≡ doing another (doing work held)
     differ same held one two =
-        absurd (true≢false (sym (λ i. eq-eqb id other (sym (eqb-true held.id id one) ∙ eqb-true held.id other two) i && eq-eqb server other_server same i) ∙ apart))
+        absurd (true≢false (sym (λ i. eq-eqb id other (sym (eqb-true held.goal.id id one) ∙ eqb-true held.goal.id other two) i && eq-eqb server other_server same i) ∙ apart))
 
-    inside : (x : ServerEntry) → server ≡ other_server → put_at id work (put_at other another x) ≡ put_at other another (put_at id work x)
+    inside : (x : ServerEntry) → server ≡ other_server → with_held id (doing work) (with_held other (doing another) x) ≡ with_held other (doing another) (with_held id (doing work) x)
     inside x same =
-        ap (λ (held : List HeldGoal). record x { held = held }) (changes_turned (is_for id) (is_for other) (put_in work) (put_in another) (λ h. refl) (λ h. refl) (differ same) x.held)
+        ap (λ (held : List HeldGoal). record x { held = held }) (changes_turned (is_for id) (is_for other) (doing work) (doing another) (λ h. refl) (λ h. refl) (differ same) x.held)
 
 -- a work that is put in the place of another one
 pub work_twice : (server : EntityNo) (id : GoalId) (first work : Option GoalWork) (world : WorldState) → with_work server id work (with_work server id first world) ≡ with_work server id work world
 work_twice server id first work world =
     ap (λ (servers : List ServerEntry). record world { servers = servers })
-    (changed_twice (is_server_at server) (put_at id first) (put_at id work) (λ x. refl) world.servers
-    ∙ (λ i. change_first (is_server_at server) (λ (x : ServerEntry). record x { held = changed_twice (is_for id) (put_in first) (put_in work) (λ h. refl) x.held i }) world.servers))
+    (changed_twice (is_server_at server) (with_held id (doing first)) (with_held id (doing work)) (λ x. refl) world.servers
+    ∙ (λ i. change_first (is_server_at server) (λ (x : ServerEntry). record x { held = changed_twice (is_for id) (doing first) (doing work) (λ h. refl) x.held i }) world.servers))
 
 -- what a world has of a goal when a server is found
 work_found : (server : EntityNo) (id : GoalId) (world : WorldState) (entry : ServerEntry) → find (is_server_at server) world.servers ≡ Some entry → work_at server id world ≡ option_and_then (λ held. held.work) (find (is_for id) entry.held)
@@ -111,19 +105,19 @@ work_in id found = option_and_then (λ held. held.work) (find (is_for id) (optio
 abbrev work_held : Option HeldGoal → Option GoalWork
 work_held found = option_and_then (λ held. held.work) found
 
-apart_held : (id other : GoalId) (work : Option GoalWork) → (id == other) ≡ false → (xs : List HeldGoal) → work_held (find (is_for other) (change_first (is_for id) (put_in work) xs)) ≡ work_held (find (is_for other) xs)
+apart_held : (id other : GoalId) (work : Option GoalWork) → (id == other) ≡ false → (xs : List HeldGoal) → work_held (find (is_for other) (change_first (is_for id) (doing work) xs)) ≡ work_held (find (is_for other) xs)
 apart_held id other work apart xs =
-    found_apart (is_for other) (is_for id) (put_in work) work_held (λ x. refl)
-    (λ x one two. absurd (both_ways (id == other) apart (eq-eqb id other (sym (eqb-true x.id id one) ∙ eqb-true x.id other two)))) xs
+    found_apart (is_for other) (is_for id) (doing work) work_held (λ x. refl)
+    (λ x one two. absurd (both_ways (id == other) apart (eq-eqb id other (sym (eqb-true x.goal.id id one) ∙ eqb-true x.goal.id other two)))) xs
 
 -- the work of another goal stays
 pub apart_work : (server : EntityNo) (id : GoalId) (work : Option GoalWork) (other_server : EntityNo) (other : GoalId) (world : WorldState) → ((id == other) && (server == other_server)) ≡ false →
     work_at other_server other (with_work server id work world) ≡ work_at other_server other world
 apart_work server id work other_server other world apart =
-    found_apart (is_server_at other_server) (is_server_at server) (put_at id work) (work_in other) (λ x. refl)
+    found_apart (is_server_at other_server) (is_server_at server) (with_held id (doing work)) (work_in other) (λ x. refl)
     (λ x one two. by (eqb-true x.handler.entity server one) (eqb-true x.handler.entity other_server two) x) world.servers
   where
-    by : {here : ℕ} → here ≡ server → here ≡ other_server → (x : ServerEntry) → work_in other (Some (put_at id work x)) ≡ work_in other (Some x)
+    by : {here : ℕ} → here ≡ server → here ≡ other_server → (x : ServerEntry) → work_in other (Some (with_held id (doing work) x)) ≡ work_in other (Some x)
     by first second x = apart_held id other work (again (id == other) refl) x.held
       where
         again : (b : Bool) → (id == other) ≡ b → (id == other) ≡ false
@@ -135,24 +129,21 @@ pub polled_home : (server : EntityNo) (id : GoalId) (work : GoalWork) (task : Op
     with_work server id (Some (work_after task work)) world ≡ with_polled server (cause.Woke id value canceling) task world
 polled_home server id work None value canceling world is =
     ap (λ (servers : List ServerEntry). record world { servers = servers })
-    (changed_so (is_server_at server) (put_at id (Some work)) (λ x. x) world.servers
+    (changed_so (is_server_at server) (with_held id (doing (Some work))) (λ x. x) world.servers
     (λ x found.
     ap (λ (held : List HeldGoal). record x { held = held })
-    (changed_so (is_for id) (put_in (Some work)) (λ h. h) x.held
+    (changed_so (is_for id) (doing (Some work)) (λ h. h) x.held
     (λ h at. ap (λ (some : Option GoalWork). record h { work = some }) (sym is ∙ work_found server id world x found ∙ ap (λ (some : Option HeldGoal). option_and_then (λ (held : HeldGoal). held.work) some) at)) ∙ unchanged (is_for id) x.held))
     ∙ unchanged (is_server_at server) world.servers)
 polled_home server id work (Some task) value canceling world is =
     ap (λ (servers : List ServerEntry). record world { servers = servers })
-    (changed_so (is_server_at server) (put_at id (Some (record work { task = task }))) (λ x. record x { held = change_first (is_for id) polled x.held }) world.servers
+    (changed_so (is_server_at server) (with_held id (doing (Some (record work { task = task })))) (with_held id (standing task)) world.servers
     (λ x found.
     ap (λ (held : List HeldGoal). record x { held = held })
-    (changed_so (is_for id) (put_in (Some (record work { task = task }))) polled x.held
+    (changed_so (is_for id) (doing (Some (record work { task = task }))) (standing task) x.held
     (λ h at.
     ap (λ (some : Option GoalWork). record h { work = option_map (λ (one : GoalWork). record one { task = task }) some })
     (sym is ∙ work_found server id world x found ∙ ap (λ (some : Option HeldGoal). option_and_then (λ (held : HeldGoal). held.work) some) at)))))
-  where
-    polled : HeldGoal → HeldGoal
-    polled held = record held { work = option_map (λ (one : GoalWork). record one { task = task }) held.work }
 
 -- ---- the work of the goal that a callback polls
 

@@ -19,7 +19,7 @@ use Rattle.exec_msg.specs.declared.line.Line.{Line}
 use Rattle.exec_msg.specs.declared.line.Line.TheVariants as line
 use Rattle.exec_laws.proofs.Channels.{weigh}
 use Rattle.exec_rules.proofs.Identifiers.{Distinct, HasDistinct, Makes, OldOrNew, old_or_new, changing, tasking, distinct_kept, filter_all, goal_arriving}
-use Rattle.exec_rules.proofs.Keeping.{ids, Moves, publish_kept, moves_kept, anywhere, is_plain}
+use Rattle.exec_rules.proofs.Keeping.{Moves, publish_kept, moves_kept, anywhere, is_plain, ids_changed, ids_answered}
 use Rattle.exec_rules.proofs.Pairs.{all_weaker}
 use Rattle.exec_laws.proofs.Views.{turned}
 use Rattle.exec_rules.specs.Close.{accepted_lines, moved_lines, tell}
@@ -27,6 +27,7 @@ use Rattle.exec_laws.specs.Exchanges.{is_ask_taken, is_result_told, waiting_for,
 use Rattle.exec_rules.specs.World.{WorldState, ServerEntry, is_server_at, add_line, add_lines, drop_line, lost_by, queued, push, goals_at, with_call, goals_in, next_arrival}
 use Rattle.exec_rules.specs.declared.item.Item.{Item}
 use Rattle.exec_rules.specs.declared.item.Item.TheVariants as item
+use Rattle.exec_rules.proofs.Records.{ids}
 
 -- ---- lines
 
@@ -231,12 +232,12 @@ module _ (server : EntityNo) (id : GoalId) where
     execution_kept = λ other goal world found p. (
       (moves_kept distinct_kept.basic).execution_kept other goal world found p.0,
       others_balanced owed world.lines (line.State other goal.id (status_of (after_event event.Execute goal).state) ∷ []) _ ((refl, refl), tt)
-          (same_wait owed world.lines (goals_at server world) _ (served (changing (change_first (has_id goal.id) (after_event event.Execute))) other world (λ is. waiting_left goal.id (after_event event.Execute) (λ one. refl) executed_waits (goals_at server world))) p.1),
+          (same_wait owed world.lines (goals_at server world) _ (served (changing (change_first (has_id goal.id) (after_event event.Execute)) (ids_changed goal.id (after_event event.Execute) (λ one. refl))) other world (λ is. waiting_left goal.id (after_event event.Execute) (λ one. refl) executed_waits (goals_at server world))) p.1),
     );
     answer_kept = λ other decisions returned count world p. (
       (moves_kept distinct_kept.basic).answer_kept other decisions returned count world p.0,
       others_balanced owed world.lines (moved_lines other (moved decisions (goals_at other world)) ++ line.Code other returned count ∷ []) _ (moved_other other (moved decisions (goals_at other world)) (line.Code other returned count ∷ []) ((refl, refl), tt))
-          (same_wait owed world.lines (goals_at server world) _ (served (changing (table_after decisions)) other world (λ is. answered_waits decisions (goals_at server world))) p.1),
+          (same_wait owed world.lines (goals_at server world) _ (served (changing (table_after decisions) (ids_answered decisions)) other world (λ is. answered_waits decisions (goals_at server world))) p.1),
     );
     tasks_kept = λ other goal task world p. (distinct_kept.basic.tasks_kept other goal task world p.0, same_wait owed world.lines (goals_at server world) _ (served (tasking goal task) other world (λ is. refl)) p.1);
     arrivals_kept = λ other goal world p. (distinct_kept.basic.arrivals_kept other goal world p.0, same_wait owed world.lines (goals_at server world) _ (served (goal_arriving goal (next_arrival world)) other world (λ is. refl)) p.1);

@@ -33,7 +33,6 @@ use Rattle.exec_laws.proofs.Standing.{queue_stands}
 use Rattle.exec_laws.proofs.Accounts.{Accounts, HasQueues, of_ask, of_result}
 use Rattle.exec_laws.proofs.Told.{all_fair}
 use Rattle.exec_rules.proofs.Identifiers.{Distinct, distinct_ids}
-use Rattle.exec_rules.proofs.Keeping.{ids}
 use Rattle.exec_rules.proofs.OfKinds.{AreOfTheirKinds, IsOfItsKind, kinds_first, kinds_kept, same_kind}
 use Rattle.exec_rules.proofs.Pairs.{Pairs, all_unmapped, all_weaker}
 use Rattle.exec_rules.proofs.Running.{found_test, rounds_keep}
@@ -43,9 +42,10 @@ use Rattle.exec_rules.specs.Item.{taker_of}
 use Rattle.exec_rules.specs.Lines.{is_loss}
 use Rattle.exec_rules.specs.Shape.{action_client_shape, shape_of}
 use Rattle.exec_rules.specs.Transcript.{entity_at, as_entity, first_world, last_world, new_action_clients, server_of, takes_from_queue}
-use Rattle.exec_rules.specs.World.{WorldState, Queue, ServerEntry, ActionClientEntry, action_client_at, goals_in, goals_at, is_action_client_at, is_queue, is_server_at}
+use Rattle.exec_rules.specs.World.{WorldState, Queue, ServerEntry, ActionClientEntry, action_client_at, goals_in, goals_at, is_action_client_at, is_queue, is_server_at, records_of}
 use Rattle.exec_rules.specs.declared.item.Item.{Item}
 use Rattle.exec_rules.specs.declared.item.Item.TheVariants as item
+use Rattle.exec_rules.proofs.Records.{ids}
 
 -- ---- counts
 
@@ -273,7 +273,7 @@ module _ (plan : PlanData) (client : EntityNo) (id : GoalId) where
   noted_none : (servers : List ServerEntry) → AllByRecursion (λ n. n ≡ server → ⊥) (map (λ entry. entry.handler.entity) servers) → AllByRecursion (NotesItsClients plan) servers → noted_by client id servers ≡ 0
   noted_none [] p q = refl
   noted_none (entry ∷ servers) p q =
-      let first = unnoted entry.handler.entity p.0 entry.goals q.0 in
+      let first = unnoted entry.handler.entity p.0 (records_of entry.held) q.0 in
       let rest = noted_none servers p.1 q.1 in
       omega (arith, first, rest)
 
@@ -284,15 +284,15 @@ module _ (plan : PlanData) (client : EntityNo) (id : GoalId) where
       by : (b : Bool) → is_server_at server entry ≡ b → (Distinct (ids (goals_in server servers)) → noted_by client id servers ≡ among client (waiting_in id (goals_in server servers))) → noted_by client id (entry ∷ servers) ≡ among client (waiting_in id (goals_in server (entry ∷ servers)))
       by true e rest =
           let at : entry.handler.entity ≡ server = eqb-true entry.handler.entity server e in
-          let here : Distinct (ids entry.goals) = rw e at d in
-          let first = notes_here entry.goals here in
+          let here : Distinct (ids (records_of entry.held)) = rw e at d in
+          let first = notes_here (records_of entry.held) here in
           let none = noted_none servers (all_weaker (NumbersApart entry.handler.entity) (λ n. n ≡ server → ⊥) (λ n differ is. differ (is ∙ sym at)) _ p.0) q.1 in
           rw e (omega (arith, first, none))
       by false e rest =
           let behind : Distinct (ids (goals_in server servers)) = rw e at d in
           let more = rest behind in
           let differs : entry.handler.entity ≡ server → ⊥ = λ is. true≢false (sym (eq-eqb entry.handler.entity server is) ∙ e) in
-          let none = unnoted entry.handler.entity differs entry.goals q.0 in
+          let none = unnoted entry.handler.entity differs (records_of entry.held) q.0 in
           rw e (omega (arith, more, none))
 
 -- ---- what stands in a lawful graph

@@ -13,7 +13,7 @@ use Rattle.exec_msg.specs.declared.goal.Event.{Event}
 use Rattle.exec_msg.specs.declared.goal.Event.TheVariants as event
 use Rattle.exec_msg.specs.declared.line.Line.TheVariants as line
 use Rattle.exec_rules.proofs.Identifiers.{HasDistinct, Makes, OldOrNew, old_or_new, changing, tasking, accepting, distinct_kept, goal_arriving}
-use Rattle.exec_rules.proofs.Keeping.{Moves, Tells, publish_kept, moves_kept, tells_kept, state_said, anywhere}
+use Rattle.exec_rules.proofs.Keeping.{Moves, Tells, publish_kept, moves_kept, tells_kept, state_said, anywhere, ids_changed, ids_answered}
 use Rattle.exec_rules.proofs.Running.{ended, end_kept, ends_told, asks_told, run_keeps, unclosed_keeps}
 use Rattle.exec_laws.proofs.Statuses.{state_left, state_of_other, state_moved}
 use Rattle.exec_rules.specs.Close.{with_ended, goal_at}
@@ -132,11 +132,11 @@ module _ (server : EntityNo) (id : GoalId) (canceling : Bool) where
     action_clients_known = λ number client world found p. refl;
     execution_kept = λ other goal world found p. (
       (moves_kept distinct_kept.basic).execution_kept other goal world found p.0,
-      changed (changing (change_first (has_id goal.id) (after_event event.Execute))) other world p.1 (λ is. after_execution canceling id goal.id (goals_at server world) p.1),
+      changed (changing (change_first (has_id goal.id) (after_event event.Execute)) (ids_changed goal.id (after_event event.Execute) (λ one. refl))) other world p.1 (λ is. after_execution canceling id goal.id (goals_at server world) p.1),
     );
     answer_kept = λ other decisions returned count world p. (
       (moves_kept distinct_kept.basic).answer_kept other decisions returned count world p.0,
-      changed (changing (table_after decisions)) other world p.1 (λ is. after_answers canceling id decisions (goals_at server world) p.1),
+      changed (changing (table_after decisions) (ids_answered decisions)) other world p.1 (λ is. after_answers canceling id decisions (goals_at server world) p.1),
     );
     tasks_kept = λ other goal task world p. (distinct_kept.basic.tasks_kept other goal task world p.0, changed (tasking goal task) other world p.1 (λ is. p.1));
     arrivals_kept = λ other goal world p. (distinct_kept.basic.arrivals_kept other goal world p.0, changed (goal_arriving goal (next_arrival world)) other world p.1 (λ is. p.1));
@@ -149,7 +149,7 @@ module _ (server : EntityNo) (id : GoalId) (canceling : Bool) where
     results_kept = λ other goal status value client world p. p;
     notes_kept = λ other goal change world same unmoved p. (
       (tells_kept distinct_kept.basic).notes_kept other goal change world same unmoved p.0,
-      changed (changing (change_first (has_id goal) change)) other world p.1 (λ is. ap (λ (held : Option State). may_be_polled canceling held) (state_left change same id goal unmoved (goals_at server world)) ∙ p.1),
+      changed (changing (change_first (has_id goal) change) (ids_changed goal change same)) other world p.1 (λ is. ap (λ (held : Option State). may_be_polled canceling held) (state_left change same id goal unmoved (goals_at server world)) ∙ p.1),
     );
   }
 
@@ -165,7 +165,7 @@ module _ (server : EntityNo) (id : GoalId) (canceling : Bool) where
   ended_at_work one other goal value asked by result world same p = (
     end_kept distinct_kept.basic one.entity goal by result one.moment world p.0,
     said_at_work one.entity (goal_at one.entity goal (with_ended one.entity goal by result one.moment world)) (with_ended one.entity goal by result one.moment world)
-        (changed (changing (change_first (has_id goal) (after_end by result one.moment))) one.entity world p.1 (λ is. ap (λ (held : Option State). may_be_polled canceling held) (state_of_other (after_end by result one.moment) (λ record_of. refl) id goal (other goal value asked same is) (goals_at server world)) ∙ p.1)),
+        (changed (changing (change_first (has_id goal) (after_end by result one.moment)) (ids_changed goal (after_end by result one.moment) (λ one. refl))) one.entity world p.1 (λ is. ap (λ (held : Option State). may_be_polled canceling held) (state_of_other (after_end by result one.moment) (λ record_of. refl) id goal (other goal value asked same is) (goals_at server world)) ∙ p.1)),
   )
 
   -- so it stays at work while such callbacks run

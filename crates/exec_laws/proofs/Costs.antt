@@ -24,7 +24,7 @@ use Rattle.exec_rules.specs.Shape.{queue_shape, server_shape, shape_of, timer_sh
 use Rattle.exec_rules.specs.Ready.{all_ready, candidates_for, due_ready, is_goal_awake, item_ready, placed_from, poll_ready, queue_ready, rank_under, ready_for, ready_list, script_to_take, woken}
 use Rattle.exec_rules.specs.Sorting.{sorted_by}
 use Rattle.exec_rules.specs.Transcript.{first_world, new_queue, new_server, new_timer, takes_from_queue}
-use Rattle.exec_rules.specs.World.{Queue, ServerEntry, TimerEntry, WorldState, goals_at, has_room_for, is_server_at, goals_in}
+use Rattle.exec_rules.specs.World.{Queue, ServerEntry, TimerEntry, WorldState, goals_at, has_room_for, is_server_at, goals_in, HeldGoal}
 use Rattle.exec_rules.specs.declared.item.Item.{Item}
 use Rattle.exec_rules.specs.declared.item.Item.TheVariants as item
 use Rattle.exec_rules.specs.declared.ready.Ready.{Ready}
@@ -64,7 +64,7 @@ few_goals server [] p = omega arith
 few_goals server (entry ∷ servers) p = by (is_server_at server entry) refl (few_goals server servers p.1)
   where
     by : (b : Bool) → is_server_at server entry ≡ b → length (goals_in server servers) ≤ GOALS → length (goals_in server (entry ∷ servers)) ≤ GOALS
-    by true e rest = rw e p.0.goals
+    by true e rest = rw e (omega (arith, p.0.goals, length-map entry.held (λ (held : HeldGoal). held.goal)))
     by false e rest = rw e rest
 
 due_short : (moment : Moment) (entry : TimerEntry) → IsShort entry.handler.script → AllByRecursion IsShortReady (due_ready moment entry)
@@ -116,7 +116,7 @@ list_short moment world p =
     all_listed IsShortReady (λ position one q. q) moment world
     (all_flat_where (λ entry. IsShort entry.handler.script) IsShortReady (due_ready moment) (due_short moment) world.timers p.timers)
     (all_flat_where (λ queue. IsShort queue.handler.script) IsShortReady (queue_ready moment world) (item_short moment world) world.queues p.queues)
-    (all_flat_where IsSmallServer IsShortReady (poll_ready moment) (λ entry q. all_map IsShortReady _ (λ goal. q.script) (filter (is_goal_awake moment entry.held) entry.goals)) world.servers p.servers)
+    (all_flat_where IsSmallServer IsShortReady (poll_ready moment) (λ entry q. all_map IsShortReady _ (λ goal. q.script) (filter (is_goal_awake moment) entry.held)) world.servers p.servers)
 
 -- ---- how much they cost
 
@@ -148,12 +148,12 @@ item_cost moment world queue servers = by queue.items
     by [] = omega arith
     by (first ∷ items) = omega (arith, few_candidates first (goals_at queue.handler.entity world) (few_goals queue.handler.entity world.servers servers))
 
-poll_cost : (moment : Moment) (entry : ServerEntry) → length entry.goals ≤ GOALS → cost_of_all (poll_ready moment entry) ≤ of_polls
-poll_cost moment entry few = omega (arith, few, filter_less (is_goal_awake moment entry.held) entry.goals, each (filter (is_goal_awake moment entry.held) entry.goals))
+poll_cost : (moment : Moment) (entry : ServerEntry) → length entry.held ≤ GOALS → cost_of_all (poll_ready moment entry) ≤ of_polls
+poll_cost moment entry few = omega (arith, few, filter_less (is_goal_awake moment) entry.held, each (filter (is_goal_awake moment) entry.held))
   where
-    each : (goals : List GoalRecord) → cost_of_all (map (λ goal. ready_for moment entry.handler (woken goal) [] (Some entry.handler.script)) goals) ≡ length goals * of_script
+    each : (held : List HeldGoal) → cost_of_all (map (λ held. ready_for moment entry.handler (woken held.goal) [] (Some entry.handler.script)) held) ≡ length held * of_script
     each [] = refl
-    each (goal ∷ goals) = omega (arith, each goals)
+    each (one ∷ held) = omega (arith, each held)
 
 any : {A : Type 0} (all : List A) → AllByRecursion (λ one. Unit {0}) all
 any [] = tt

@@ -2,7 +2,7 @@
 -- told, so that those who wait for results are counted with the arrivals.
 use Rattle.std.proofs.Common.{◌≡◌, ℕ, suc, ℤ, ◌+◌, ◌*◌, ◌^◌, ◌<◌, ◌≤◌, Bool, true, false, if◌then◌else◌, ◌&&◌, ◌==◌, map, List, [], ◌∷◌, length, Option, None, Some, refl, arith}
 use Rattle.std.specs.List.{AllByRecursion, find, fold}
-use Rattle.std.specs.Option.{option_map, option_map_or}
+use Rattle.std.specs.Option.{option_map_or}
 use Rattle.exec_goal.specs.Calls.{askers_of, end_state}
 use Rattle.exec_goal.specs.Cancel.{Decided, table_after}
 use Rattle.exec_goal.specs.State.{after, status_of}
@@ -31,16 +31,19 @@ use Rattle.exec_laws.proofs.Costs.{few_entities, numbers_few}
 use Rattle.exec_laws.proofs.Increase.{RisesByOnes, run_of_plan}
 use Rattle.exec_laws.proofs.Waiting.{accepted_none, all_left, answered_less, asked_more, goals_changed, server_ended, servers_changed, waiting_at, waiting_for_all, waits_moved}
 use Rattle.exec_rules.proofs.Pairs.{all_map}
-use Rattle.exec_rules.specs.Close.{GoalRequest, accept_where, answer_ask, ask_where, cancel, close_cause, close_item, close_poll, end_in, goal_at, pend, respond, server_accepting, tell, tell_end, with_ended}
+use Rattle.exec_rules.specs.Close.{GoalRequest, accept_where, answer_ask, ask_where, cancel, close_cause, close_item, close_poll, end_in, goal_at, pend, respond, tell, tell_end, with_ended}
 use Rattle.exec_rules.specs.Give.{call_by, cancel_all_by, cancel_goal_by, execute_goal, give, give_feedback, oldest_accepted, publish, send_goal_by, sender_at}
 use Rattle.exec_rules.specs.Run.{with_polled, with_variables_for}
 use Rattle.exec_rules.specs.Transcript.{feed_one, first_world, new_server, new_topic, rounds, subscribes_to}
-use Rattle.exec_rules.specs.World.{ActionClientEntry, ClientEntry, GoalWork, TopicEntry, WorldState, action_client_at, add_line, arrived, change_goals, client_at, goals_at, is_for, is_server_at, next_in, push, push_any, subscribers_at, with_variables}
+use Rattle.exec_rules.specs.World.{ActionClientEntry, ClientEntry, TopicEntry, WorldState, action_client_at, add_line, change_goals, client_at, goals_at, is_server_at, next_in, push, push_any, subscribers_at, with_variables}
 use Rattle.exec_rules.specs.declared.item.Item.{Item}
 use Rattle.exec_rules.specs.declared.item.Item.TheVariants as item
 use Rattle.exec_rules.specs.declared.ready.Cause.{Cause}
 use Rattle.exec_rules.specs.declared.ready.Cause.TheVariants as cause
 use Rattle.exec_rules.specs.declared.ready.Ready.{Ready}
+use Rattle.exec_rules.proofs.Records.{ids}
+use Rattle.exec_rules.proofs.Identifiers.{changing, tasking, accepting, goal_arriving}
+use Rattle.exec_rules.proofs.Keeping.{ids_changed, ids_answered}
 
 -- ---- the count of a world
 
@@ -76,9 +79,9 @@ module _ (most : ℕ) where
   sent_any (Some client) new world p = sent_one client new world p
 
   -- goals that change so that no more wait for results than this
-  goals_kept : (server : EntityNo) (change : List GoalRecord → List GoalRecord) (more : ℕ) (world : WorldState) → ((goals : List GoalRecord) → waiting_for_all (change goals) ≤ waiting_for_all goals + more) → IsCounted most world → IsCounted (most + more) (change_goals server change world)
-  goals_kept server change more world few p =
-      (p.0, omega (arith, p.1, servers_changed (is_server_at server) (λ entry. record entry { goals = change entry.goals }) more (λ entry. few entry.goals) world.servers))
+  goals_kept : (server : EntityNo) (change : List GoalRecord → List GoalRecord) (more : ℕ) (world : WorldState) → ((goals : List GoalRecord) → ids (change goals) ≡ ids goals) → ((goals : List GoalRecord) → waiting_for_all (change goals) ≤ waiting_for_all goals + more) → IsCounted most world → IsCounted (most + more) (change_goals server change world)
+  goals_kept server change more world same few p =
+      (p.0, omega (arith, p.1, servers_changed (changing change same) (is_server_at server) more few world.servers))
 
 published : (most more : ℕ) (value : ℤ) (subscribers : List EntityNo) (world : WorldState) → most + length subscribers ≤ more → IsCounted most world → IsCounted more (fold (λ before subscriber. push subscriber (item.Message value) before) world subscribers)
 published most more value [] world grows p = counted_more most more world (omega (arith, grows)) p
@@ -125,7 +128,7 @@ module _ (most : ℕ) (world : WorldState) (p : IsCounted most world) where
   executed server None = as_many
   executed server (Some goal) =
       counted_more (most + 0) (most + 768) (execute_goal server (Some goal) world) (omega arith)
-      (goals_kept most server (change_first (has_id goal.id) (after_event event.Execute)) 0 world
+      (goals_kept most server (change_first (has_id goal.id) (after_event event.Execute)) 0 world (ids_changed goal.id (after_event event.Execute) (λ one. refl))
       (goals_changed (has_id goal.id) (after_event event.Execute) 0 (λ one. omega (arith, waits_moved event.Execute one.state (length one.askers)))) p)
 
   feedback_given : (server : EntityNo) (why : Cause) (value : ℤ) → IsCounted (most + 768) (give_feedback server why value world)
@@ -150,7 +153,7 @@ module _ (most : ℕ) (world : WorldState) (p : IsCounted most world) where
   accepted : (wanted : Option Acceptance) (server : EntityNo) (moment : Moment) (request : GoalRequest) → IsCounted (suc most) (accept_where wanted server moment request world)
   accepted None server moment request = counted_more most (suc most) world (omega arith) p
   accepted (Some how) server moment request =
-      (p.0, omega (arith, p.1, next_low world.order world.arrivals, servers_changed (is_server_at server) (server_accepting (next_in world.order world.arrivals) moment how request) 0 (λ entry. omega (arith, accepted_none entry.goals request.id request.value moment how)) world.servers))
+      (p.0, omega (arith, p.1, next_low world.order world.arrivals, servers_changed (accepting (next_in world.order world.arrivals) moment how request) (is_server_at server) 0 (λ some. omega (arith, accepted_none some request.id request.value moment how)) world.servers))
 
   asked : (b : Bool) (client : ActionClientEntry) (id : GoalId) → IsCounted (most + 768) (ask_where b client id world)
   asked true client id = (p.0, omega (arith, p.1, next_low world.order world.arrivals))
@@ -165,17 +168,17 @@ module _ (most : ℕ) (world : WorldState) (p : IsCounted most world) where
   answered server id client unknown = (p.0, omega (arith, p.1, next_low world.order world.arrivals))
   answered server id client later =
       counted_more (most + 1) (most + 768) (answer_ask server id client later world) (omega arith)
-      (goals_kept most server (change_first (has_id id) (asked_by client)) 1 world (goals_changed (has_id id) (asked_by client) 1 (asked_more client)) p)
+      (goals_kept most server (change_first (has_id id) (asked_by client)) 1 world (ids_changed id (asked_by client) (λ goal. refl)) (goals_changed (has_id id) (asked_by client) 1 (asked_more client)) p)
 
   pended : (under : Order) (server : EntityNo) (id : GoalId) → IsCounted (most + 768) (pend under server id world)
   pended order.Kind server id = as_many
   pended order.Arrival server id =
-      (p.0, omega (arith, p.1, next_low world.order world.arrivals, servers_changed (is_server_at server) (λ entry. record entry { held = change_first (is_for id) (arrived (next_in world.order world.arrivals)) entry.held }) 0 (λ entry. omega arith) world.servers))
+      (p.0, omega (arith, p.1, next_low world.order world.arrivals, servers_changed (goal_arriving id (next_in world.order world.arrivals)) (is_server_at server) 0 (λ some. omega arith) world.servers))
 
   canceled_by : (server : EntityNo) (request : _) (client : Option EntityNo) (decisions : List Decided) → IsCounted (most + 768) (cancel server request client decisions world)
   canceled_by server request client decisions =
       once (cancel server request client decisions world)
-      (sent_any most client _ _ (counted_more (most + 0) most (change_goals server (table_after decisions) world) (omega arith) (goals_kept most server (table_after decisions) 0 world (λ goals. omega (arith, answered_less decisions goals)) p)))
+      (sent_any most client _ _ (counted_more (most + 0) most (change_goals server (table_after decisions) world) (omega arith) (goals_kept most server (table_after decisions) 0 world (ids_answered decisions) (λ goals. omega (arith, answered_less decisions goals)) p)))
 
 end_told : (most : ℕ) (server : EntityNo) (goal : Option GoalRecord) (world : WorldState) → IsCounted most world → IsCounted (most + length (askers_of goal)) (tell_end server goal world)
 end_told most server None world p = counted_more most (most + 0) world (omega arith) p
@@ -232,7 +235,7 @@ module _ (most : ℕ) (world : WorldState) (p : IsCounted most world) where
   polled_so server (cause.Took taken) task = p
   polled_so server (cause.Woke id value canceling) None = p
   polled_so server (cause.Woke id value canceling) (Some task) =
-      (p.0, omega (arith, p.1, servers_changed (is_server_at server) (λ entry. record entry { held = change_first (is_for id) (λ held. record held { work = option_map (λ (work : GoalWork). record work { task = task }) held.work }) entry.held }) 0 (λ entry. omega arith) world.servers))
+      (p.0, omega (arith, p.1, servers_changed (tasking id task) (is_server_at server) 0 (λ some. omega arith) world.servers))
 
   left_so : (one : Ready) (variables : Variables) → IsCounted most (with_variables_for one variables world)
   left_so one variables = by one.exclusive

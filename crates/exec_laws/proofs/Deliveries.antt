@@ -37,7 +37,7 @@ use Rattle.exec_rules.specs.Shape.{shape_of}
 use Rattle.exec_rules.specs.Ready.{ready_list, run_line, take_inputs}
 use Rattle.exec_rules.specs.Run.{run}
 use Rattle.exec_rules.specs.Transcript.{first_world, expire_lines, expire, feed_one, feed, at_snapshot, run_all, round, rounds, pending_by, closing_lines, last_world}
-use Rattle.exec_rules.specs.World.{WorldState, Queue, add_line, add_lines, is_queue, drop_line, lost_by, push, subscribers_at, with_call}
+use Rattle.exec_rules.specs.World.{WorldState, Queue, add_line, add_lines, is_queue, drop_line, lost_by, push, subscribers_at, with_call, records_of}
 use Rattle.exec_rules.specs.declared.item.Item.{Item}
 use Rattle.exec_rules.specs.declared.item.Item.TheVariants as item
 use Rattle.exec_rules.specs.declared.ready.Ready.{Ready}
@@ -290,7 +290,7 @@ module _ (plan : PlanData) (topic subscription : EntityNo) (among : Contains (su
       settled (published world.lines ++ fed) [] _
       (all_fed (published world.lines) (published world.lines ++ fed) (fed_in number plan.feed) (expire moment started)
       (changed (published world.lines) [] (published world.lines ++ fed) started (expire moment started) (flat_map (expire_lines moment) started.servers) (kinds_kept.expiry_kept moment started d.base.0, shapes.expiry_kept moment started d.base.1) refl refl
-      (all_flat IsSilent (expire_lines moment) (λ entry. all_map IsSilent _ (λ goal. (refl, (refl, refl))) (expired moment entry.timeout entry.goals)) started.servers) sending))
+      (all_flat IsSilent (expire_lines moment) (λ entry. all_map IsSilent _ (λ goal. (refl, (refl, refl))) (expired moment entry.timeout (records_of entry.held))) started.servers) sending))
 
   taken_delivers : (moment : Moment) (world : WorldState) → Delivers [] world → Delivers (flat_map (handed subscription) (ready_list moment world)) (take_inputs moment world)
   taken_delivers moment world d =

@@ -40,7 +40,7 @@ use Rattle.exec_rules.specs.Ready.{all_ready, due_ready, item_ready, placed_from
 use Rattle.exec_rules.specs.Sorting.{sorted_by}
 use Rattle.exec_rules.specs.Run.{run}
 use Rattle.exec_rules.specs.Transcript.{takes_from_queue, first_world, expire_lines, expire, at_snapshot, run_all, round, rounds, pending_by, closing_lines, lines_of, new_queue}
-use Rattle.exec_rules.specs.World.{WorldState, Queue, TimerEntry, ServerEntry, ClientEntry, add_line, is_queue, drop_line, lost_by, push, goals_at, change_goals, add_lines, with_task, with_call, with_goal_sent, with_variables, next_arrival}
+use Rattle.exec_rules.specs.World.{WorldState, Queue, TimerEntry, ServerEntry, ClientEntry, add_line, is_queue, drop_line, lost_by, push, goals_at, change_goals, add_lines, with_task, with_call, with_goal_sent, with_variables, next_arrival, records_of}
 use Rattle.exec_rules.specs.declared.item.Item.{Item}
 use Rattle.exec_rules.specs.declared.item.Item.TheVariants as item
 use Rattle.exec_rules.specs.declared.ready.Ready.{Ready}
@@ -82,7 +82,7 @@ expired_lossless entity (goal ∷ goals) = expired_lossless entity goals
 
 expiry_lossless : (moment : Moment) (servers : List ServerEntry) → IsLossless (flat_map (expire_lines moment) servers)
 expiry_lossless moment [] = refl
-expiry_lossless moment (entry ∷ servers) = lossless_more (expire_lines moment entry) (flat_map (expire_lines moment) servers) (expired_lossless entry.handler.entity (expired moment entry.timeout entry.goals)) (expiry_lossless moment servers)
+expiry_lossless moment (entry ∷ servers) = lossless_more (expire_lines moment entry) (flat_map (expire_lines moment) servers) (expired_lossless entry.handler.entity (expired moment entry.timeout (records_of entry.held))) (expiry_lossless moment servers)
 
 pending_lossless : (client number : ℕ) → IsLossless (pending_by client number)
 pending_lossless client zero = refl

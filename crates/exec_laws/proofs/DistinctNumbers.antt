@@ -1,18 +1,17 @@
 -- Under the order of arrival no two items or goals of a world have one number, and each number is that of an arrival.
-use Rattle.std.proofs.Common.{◌≡◌, ℕ, zero, suc, ◌+◌, ◌-◌, ◌≤◌, ◌==◌, Bool, true, false, if◌then◌else◌, drop, map, List, [], ◌∷◌, ◌++◌, Option, None, Some, refl, ap, ◌∙◌, arith}
+use Rattle.std.proofs.Common.{◌≡◌, ℕ, zero, suc, ◌+◌, ◌-◌, ◌≤◌, ◌==◌, Bool, true, false, if◌then◌else◌, drop, map, List, [], ◌∷◌, ◌++◌, Option, None, Some, refl, ap, ◌∙◌, arith, not}
 use Rattle.std.specs.List.{All, AllByRecursion, IsDistinct, filter, flat_map}
 use Rattle.std.specs.Option.{option_map, unwrap_or}
 use Rattle.std.proofs.lemmas.Bool.{eqb-true, eq-eqb}
 use Rattle.std.proofs.lemmas.List.Elements.{All-from_recursion}
-use Rattle.exec_goal.specs.Table.{holds_id, unexpired}
+use Rattle.exec_goal.specs.Table.{GoalRecord, is_expired}
 use Rattle.exec_msg.specs.KeepLast.{excess, sent}
 use Rattle.exec_msg.specs.Lists.{change_first}
-use Rattle.exec_msg.specs.Numbers.{EntityNo, GoalId, Moment}
+use Rattle.exec_msg.specs.Numbers.{EntityNo, Moment}
 use Rattle.exec_plan.specs.Graph.{Waitable, entities_where, is_server, wait_set}
 use Rattle.exec_plan.specs.Plan.{PlanData}
 use Rattle.exec_plan.specs.declared.order.Order.{Order}
 use Rattle.exec_plan.specs.declared.order.Order.TheVariants as order
-use Rattle.exec_task.specs.Task.{TaskState}
 use Rattle.exec_laws.proofs.Called.{among, among_append}
 use Rattle.exec_laws.proofs.Channels.{weigh}
 use Rattle.exec_rules.proofs.Identifiers.{eq_turned}
@@ -21,9 +20,10 @@ use Rattle.exec_rules.specs.Close.{held_goal, server_accepting}
 use Rattle.exec_rules.specs.Item.{taker_of}
 use Rattle.exec_rules.specs.Ready.{queue_taken}
 use Rattle.exec_rules.specs.Transcript.{first_world, new_queue, new_server, rounds, server_expired, takes_from_queue}
-use Rattle.exec_rules.specs.World.{GoalWork, HeldGoal, Queue, ServerEntry, WorldState, arrived, is_for, is_queue, is_server_at, next_arrival, next_in, queue_after}
+use Rattle.exec_rules.specs.World.{HeldGoal, Queue, ServerEntry, WorldState, arrived, is_for, is_queue, is_server_at, next_arrival, next_in, queue_after, records_of, with_records, with_goals, with_held, standing}
 use Rattle.exec_rules.specs.declared.item.Item.{Item}
 use Rattle.exec_laws.specs.Arrivals.{IsArrival, all_numbers, numbers_at, numbers_in}
+use Rattle.exec_rules.proofs.Records.{ids, parts_put}
 
 -- ---- lists of numbers
 
@@ -134,6 +134,9 @@ module _ (n : ℕ) where
   held_more [] new = omega arith
   held_more (one ∷ held) new = omega (arith, held_more held new)
 
+  held_put : (goals : List GoalRecord) (held : List HeldGoal) → ids goals ≡ ids (records_of held) → in_held (with_records goals held) ≤ in_held held + 0
+  held_put goals held same = omega (arith, ap (λ (numbers : List ℕ). among n numbers) (parts_put (λ one. one.arrival) (λ goal one. refl) goals held same))
+
   held_kept : (test : HeldGoal → Bool) (held : List HeldGoal) → in_held (filter test held) ≤ in_held held
   held_kept test [] = omega arith
   held_kept test (one ∷ held) = by (test one) refl (held_kept test held)
@@ -152,7 +155,7 @@ module _ (n : ℕ) where
 
   all_expired : (moment : Moment) (servers : List ServerEntry) → at_servers (map (server_expired moment) servers) ≤ at_servers servers
   all_expired moment [] = omega arith
-  all_expired moment (entry ∷ servers) = omega (arith, held_kept (λ held. holds_id held.id (unexpired moment entry.timeout entry.goals)) entry.held, all_expired moment servers)
+  all_expired moment (entry ∷ servers) = omega (arith, held_kept (λ held. not (is_expired moment entry.timeout held.goal)) entry.held, all_expired moment servers)
 
 -- ---- worlds of the order of arrival
 
@@ -172,12 +175,12 @@ once_kept = record {
   basic = record {
     lines_kept = λ lines world p. p;
     queues_kept = λ entity new world p. (p.0, λ n. one_arrives world p.0 n _ (p.1 n) (omega (arith, all_sent n (is_queue entity (taker_of new)) (next_arrival world) new world.queues)));
-    goals_kept = λ server change world same p. (p.0, λ n. omega (arith, p.1 n, servers_changed n (is_server_at server) (λ entry. record entry { goals = change entry.goals }) 0 (λ entry. omega arith) world.servers));
-    tasks_kept = λ server id task world p. (p.0, λ n. omega (arith, p.1 n, servers_changed n (is_server_at server) (tasked id task) 0 (λ entry. held_changed n (is_for id) (held_tasked task) 0 (λ one. omega arith) entry.held) world.servers));
+    goals_kept = λ server change world same p. (p.0, λ n. omega (arith, p.1 n, servers_changed n (is_server_at server) (with_goals change) 0 (λ entry. held_put n (change (records_of entry.held)) entry.held (same (records_of entry.held))) world.servers));
+    tasks_kept = λ server id task world p. (p.0, λ n. omega (arith, p.1 n, servers_changed n (is_server_at server) (with_held id (standing task)) 0 (λ entry. held_changed n (is_for id) (standing task) 0 (λ one. omega arith) entry.held) world.servers));
     arrivals_kept = λ server id world p. (
       p.0,
       λ n. one_arrives world p.0 n _ (p.1 n)
-          (omega (arith, servers_changed n (is_server_at server) (goal_arriving id (next_arrival world)) (weigh (next_arrival world == n) 1) (λ entry. held_changed n (is_for id) (arrived (next_arrival world)) (weigh (next_arrival world == n) 1) (λ one. omega arith) entry.held) world.servers)),
+          (omega (arith, servers_changed n (is_server_at server) (with_held id (arrived (next_arrival world))) (weigh (next_arrival world == n) 1) (λ entry. held_changed n (is_for id) (arrived (next_arrival world)) (weigh (next_arrival world == n) 1) (λ one. omega arith) entry.held) world.servers)),
     );
     calls_kept = λ client world p. p;
     sending_kept = λ client world p. p;
@@ -186,20 +189,11 @@ once_kept = record {
   accepts_kept = λ server moment how request world room p. (
     p.0,
     λ n. one_arrives world p.0 n _ (p.1 n)
-        (omega (arith, servers_changed n (is_server_at server) (server_accepting (next_arrival world) moment how request) (weigh (next_arrival world == n) 1) (λ entry. held_more n entry.held (held_goal (next_arrival world) entry.handler.script request)) world.servers)),
+        (omega (arith, servers_changed n (is_server_at server) (server_accepting (next_arrival world) moment how request) (weigh (next_arrival world == n) 1) (λ entry. held_more n entry.held (held_goal (next_arrival world) moment how entry.handler.script request)) world.servers)),
   );
   expiry_kept = λ moment world p. (p.0, λ n. omega (arith, p.1 n, all_expired n moment world.servers));
   snapshot_kept = λ moment world p. (p.0, λ n. omega (arith, p.1 n, all_taken n world.queues));
 }
-  where
-    held_tasked : TaskState → HeldGoal → HeldGoal
-    held_tasked task held = record held { work = option_map (λ (work : GoalWork). record work { task = task }) held.work }
-
-    tasked : GoalId → TaskState → ServerEntry → ServerEntry
-    tasked id task entry = record entry { held = change_first (is_for id) (held_tasked task) entry.held }
-
-    goal_arriving : GoalId → ℕ → ServerEntry → ServerEntry
-    goal_arriving id number entry = record entry { held = change_first (is_for id) (arrived number) entry.held }
 
 -- ---- the first world
 

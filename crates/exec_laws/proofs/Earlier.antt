@@ -9,7 +9,7 @@ use Rattle.std.proofs.lemmas.List.Elements.{All-from_recursion, recursion_from_A
 use Rattle.exec_msg.specs.KeepLast.{excess, sent}
 use Rattle.exec_msg.specs.Kind.{ready_number}
 use Rattle.exec_msg.specs.Lists.{change_first}
-use Rattle.exec_msg.specs.Numbers.{EntityNo}
+use Rattle.exec_msg.specs.Numbers.{GoalId, EntityNo}
 use Rattle.exec_msg.specs.declared.kind.Kind.{Kind}
 use Rattle.exec_plan.specs.Plan.{PlanData}
 use Rattle.exec_plan.specs.declared.order.Order.{Order}
@@ -23,11 +23,13 @@ use Rattle.exec_rules.specs.Close.{held_goal, server_accepting}
 use Rattle.exec_rules.specs.Item.{taker_of}
 use Rattle.exec_rules.specs.Ready.{queue_taken, ready_list}
 use Rattle.exec_rules.specs.Transcript.{at_snapshot, first_world, rounds, server_expired}
-use Rattle.exec_rules.specs.World.{GoalWork, Handler, HeldGoal, Queue, ServerEntry, WorldState, arrived, held_at, held_in, is_for, is_queue, is_server_at, next_arrival, next_in, queue_after}
+use Rattle.exec_rules.specs.World.{Handler, HeldGoal, Queue, ServerEntry, WorldState, arrived, held_at, held_in, is_for, is_queue, is_server_at, next_arrival, next_in, queue_after, records_of, with_goals, with_held, standing}
 use Rattle.exec_rules.specs.declared.item.Item.{Item}
 use Rattle.exec_rules.specs.declared.ready.Ready.{Ready}
 use Rattle.exec_rules.specs.inner.Numbering.{IsNumbered}
 use Rattle.exec_laws.specs.Arrivals.{AreLeftOf, HadItsNumber, HasEarlierFirst, arrival_of, arrived_as, arrived_in, numbered_items, numbers_in}
+use Rattle.exec_rules.proofs.Records.{all_put}
+use Rattle.exec_goal.specs.Table.{GoalRecord}
 
 -- ---- numbers beside items
 
@@ -143,7 +145,7 @@ pub record IsServerLeft (last : ℕ) (old entry : ServerEntry) : Type 0 where
   pub goals : AllByRecursion (HadItsNumber last old.held) entry.held
 
 holds_itself : (more held : List HeldGoal) (one : HeldGoal) → list_any (arrived_as one) (more ++ one ∷ held) ≡ true
-holds_itself [] held one = rw (eq-eqb one.id one.id refl, eq-eqb one.arrival one.arrival refl) refl
+holds_itself [] held one = rw (eq-eqb one.goal.id one.goal.id refl, eq-eqb one.arrival one.arrival refl) refl
 holds_itself (other ∷ more) held one = by (arrived_as one other) (holds_itself more held one)
   where
     by : (b : Bool) → list_any (arrived_as one) (more ++ one ∷ held) ≡ true → b || list_any (arrived_as one) (more ++ one ∷ held) ≡ true
@@ -160,6 +162,10 @@ all_had last more (one ∷ held) = (
 -- a number above is no earlier one
 not_earlier : (last number : ℕ) → last < number → (before : List HeldGoal) (held : HeldGoal) → held.arrival ≡ number → HadItsNumber last before held
 not_earlier last number above before held is low = absurd (omega (arith, low, above, is))
+
+-- another record under its identifier leaves a goal its number
+record_put : (last : ℕ) (before : List HeldGoal) (goal : GoalRecord) (one : HeldGoal) → goal.id ≡ one.goal.id → HadItsNumber last before one → HadItsNumber last before (record one { goal = goal })
+record_put last before goal one same had = λ low. ap (λ (id : GoalId). list_any (λ (other : HeldGoal). (other.goal.id == id) && (other.arrival == one.arrival)) before) same ∙ had low
 
 -- ---- each beside the one that it was
 
@@ -236,20 +242,20 @@ module _ (last : ℕ) (first : WorldState) where
           let more = above world p.0 p.1 in
           (p.0, omega (arith, more), beside_changed (IsLeftOf last) (is_queue entity (taker_of new)) (queue_after (next_arrival world) new) (queue_sent last (next_arrival world) more new) first.queues world.queues p.2, p.3);
       goals_kept = λ server change world same p.
-          (p.0, p.1, p.2, servers_kept server (λ entry. record entry { goals = change entry.goals }) (λ old entry q. record { handler = q.handler; goals = q.goals }) world.servers p.3);
+          (p.0, p.1, p.2, servers_kept server (with_goals change) (λ old entry q. record { handler = q.handler; goals = all_put (HadItsNumber last old.held) (record_put last old.held) (change (records_of entry.held)) entry.held (same (records_of entry.held)) q.goals }) world.servers p.3);
       tasks_kept = λ server id task world p. (
         p.0,
         p.1,
         p.2,
-        servers_kept server (λ entry. record entry { held = change_first (is_for id) (λ held. record held { work = option_map (λ (work : GoalWork). record work { task = task }) held.work }) entry.held })
-            (λ old entry q. record { handler = q.handler; goals = all_changed (HadItsNumber last old.held) (is_for id) (λ held. record held { work = option_map (λ (work : GoalWork). record work { task = task }) held.work }) (λ held had. had) entry.held q.goals }) world.servers p.3,
+        servers_kept server (with_held id (standing task))
+            (λ old entry q. record { handler = q.handler; goals = all_changed (HadItsNumber last old.held) (is_for id) (standing task) (λ held had. had) entry.held q.goals }) world.servers p.3,
       );
       arrivals_kept = λ server id world p.
           let more = above world p.0 p.1 in (
             p.0,
             omega (arith, more),
             p.2,
-            servers_kept server (λ entry. record entry { held = change_first (is_for id) (arrived (next_arrival world)) entry.held })
+            servers_kept server (with_held id (arrived (next_arrival world)))
                 (λ old entry q. record { handler = q.handler; goals = all_changed (HadItsNumber last old.held) (is_for id) (arrived (next_arrival world)) (λ held had. not_earlier last (next_arrival world) more old.held (arrived (next_arrival world) held) refl) entry.held q.goals }) world.servers p.3,
           );
       calls_kept = λ client world p. p;
@@ -262,7 +268,7 @@ module _ (last : ℕ) (first : WorldState) where
           omega (arith, more),
           p.2,
           servers_kept server (server_accepting (next_arrival world) moment how request)
-              (λ old entry q. record { handler = q.handler; goals = all_append (HadItsNumber last old.held) entry.held (held_goal (next_arrival world) entry.handler.script request ∷ []) q.goals (not_earlier last (next_arrival world) more old.held (held_goal (next_arrival world) entry.handler.script request) refl, tt) }) world.servers p.3,
+              (λ old entry q. record { handler = q.handler; goals = all_append (HadItsNumber last old.held) entry.held (held_goal (next_arrival world) moment how entry.handler.script request ∷ []) q.goals (not_earlier last (next_arrival world) more old.held (held_goal (next_arrival world) moment how entry.handler.script request) refl, tt) }) world.servers p.3,
         );
     expiry_kept = λ moment world p.
         (p.0, p.1, p.2, beside_mapped (IsServerLeft last) (server_expired moment) (λ old entry q. record { handler = q.handler; goals = all_filter (HadItsNumber last old.held) _ entry.held q.goals }) first.servers world.servers p.3);

@@ -22,7 +22,7 @@ use Rattle.exec_msg.specs.declared.goal.ReturnCode.{ReturnCode}
 use Rattle.exec_msg.specs.declared.line.Line.{Line}
 use Rattle.exec_msg.specs.declared.line.Line.TheVariants as line
 use Rattle.exec_rules.proofs.Identifiers.{Distinct, Makes, changing, tasking, accepting, goals_apart, goals_here, expired_goals, first_goals, room_without, goal_arriving}
-use Rattle.exec_rules.proofs.Keeping.{ids_changed, Moves, Tells, publish_kept, canceled, state_said, feed_keeps, anywhere}
+use Rattle.exec_rules.proofs.Keeping.{ids_changed, Moves, Tells, publish_kept, canceled, state_said, feed_keeps, anywhere, ids_answered}
 use Rattle.exec_rules.proofs.ReadyLists.{IsListed, list_listed}
 use Rattle.exec_rules.proofs.Running.{ended, ends_told, asks_told, run_keeps, snapshot_keeps, round_keeps}
 use Rattle.exec_rules.proofs.OfKinds.{AreOfTheirKinds, kinds_kept, kinds_first}
@@ -38,7 +38,7 @@ use Rattle.exec_rules.specs.Lines.{statuses_of}
 use Rattle.exec_rules.specs.Ready.{kind_of, ready_list, run_line, take_inputs}
 use Rattle.exec_rules.specs.Run.{run}
 use Rattle.exec_rules.specs.Transcript.{takes_from_queue, first_world, server_expired, expire_lines, expire, at_snapshot, run_all, round, rounds, pending_by, closing_lines, lines_of}
-use Rattle.exec_rules.specs.World.{WorldState, drop_line, lost_by, queued, push, ServerEntry, ClientEntry, is_server_at, add_line, add_lines, goals_at, change_goals, has_room_for, with_call, goals_in, next_arrival}
+use Rattle.exec_rules.specs.World.{WorldState, drop_line, lost_by, queued, push, ServerEntry, ClientEntry, is_server_at, add_line, add_lines, goals_at, change_goals, has_room_for, with_call, goals_in, next_arrival, records_of}
 use Rattle.exec_rules.specs.declared.item.Item.{Item}
 use Rattle.exec_rules.specs.declared.item.Item.TheVariants as item
 use Rattle.exec_rules.specs.declared.ready.Cause.{Cause}
@@ -73,7 +73,7 @@ module _ (server : EntityNo) (id : GoalId) (listed : List EntityNo) where
 
   held_view : (other : EntityNo) (goal : GoalId) (change : GoalRecord → GoalRecord) (world : WorldState) → ((one : GoalRecord) → (change one).id ≡ one.id) → ((one : GoalRecord) → (change one).state ≡ one.state) → View world → View (change_goals other (change_first (has_id goal) change) world)
   held_view other goal change world same unmoved v =
-      changed (changing (change_first (has_id goal) change)) other world.lines world
+      changed (changing (change_first (has_id goal) change) (ids_changed goal change same)) other world.lines world
       (λ is. fits_left server id world.lines (goals_at server world) v.0 (change_first (has_id goal) change (goals_at server world)) (state_left change same id goal unmoved (goals_at server world))
       (subst (λ (some : List GoalId). Distinct some) (sym (ids_changed goal change same (goals_at server world))) v.0.distinct))
       (λ differs. v.0) (λ is. inr refl) v.1
@@ -81,7 +81,7 @@ module _ (server : EntityNo) (id : GoalId) (listed : List EntityNo) where
   execution_view : (other : EntityNo) (goal : GoalRecord) (world : WorldState) → oldest_accepted other world ≡ Some goal → View world → View (execute_goal other (Some goal) world)
   execution_view other goal world found v =
       let said : EntityNo → List Line = λ n. line.State n goal.id (status_of (after_event event.Execute goal).state) ∷ [] in
-      changed (changing (change_first (has_id goal.id) (after_event event.Execute))) other (world.lines ++ said other) world
+      changed (changing (change_first (has_id goal.id) (after_event event.Execute)) (ids_changed goal.id (after_event event.Execute) (λ one. refl))) other (world.lines ++ said other) world
       (λ is. subst (λ (n : EntityNo). Fits server id (world.lines ++ said n) (change_first (has_id goal.id) (after_event event.Execute) (goals_at server world))) (sym is)
       (fits_executed server id world.lines (goals_at server world) v.0 goal (ap (λ (n : EntityNo). oldest_accepted n world) (sym is) ∙ found)))
       (λ differs. elsewhere (said other) world (said_of_other_server server id other goal.id (status_of (after_event event.Execute goal).state) differs) v) (λ is. inr refl) v.1
@@ -89,7 +89,7 @@ module _ (server : EntityNo) (id : GoalId) (listed : List EntityNo) where
   answer_view : (other : EntityNo) (decisions : List Decided) (returned : ReturnCode) (count : ℕ) (world : WorldState) → View world → View (canceled other decisions returned count world)
   answer_view other decisions returned count world v =
       let said : EntityNo → List Line = λ n. moved_lines n (moved decisions (goals_at n world)) ++ line.Code n returned count ∷ [] in
-      changed (changing (table_after decisions)) other (world.lines ++ said other) world
+      changed (changing (table_after decisions) (ids_answered decisions)) other (world.lines ++ said other) world
       (λ is. subst (λ (n : EntityNo). Fits server id (world.lines ++ said n) (table_after decisions (goals_at server world))) (sym is) (fits_answered server id world.lines (goals_at server world) v.0 decisions returned count))
       (λ differs. elsewhere (said other) world
       (flat_map-append _ (moved_lines other (moved decisions (goals_at other world))) (line.Code other returned count ∷ [])
@@ -143,19 +143,19 @@ module _ (server : EntityNo) (id : GoalId) (listed : List EntityNo) where
 
   end_view : Leads → (other : EntityNo) (goal : GoalId) (by : Event) (value : ℤ) (moment : Moment) (reached : State) (world : WorldState) → end_state goal by (goals_at other world) ≡ Some reached → View world → View (ended other goal by value moment world)
   end_view moves other goal by value moment reached world leads v =
-      where_found (goal_at other goal (with_ended other goal by value moment world)) (ap (λ (some : List GoalRecord). find (has_id goal) some) (sym (goals_here (changing ending) other world.servers (inr refl))))
+      where_found (goal_at other goal (with_ended other goal by value moment world)) (ap (λ (some : List GoalRecord). find (has_id goal) some) (sym (goals_here (changing ending (ids_changed goal (after_end by value moment) (λ one. refl))) other world.servers (inr refl))))
     where
       ending : List GoalRecord → List GoalRecord
       ending goals = change_first (has_id goal) (after_end by value moment) goals
 
       where_found : (found : Option GoalRecord) → find (has_id goal) (ending (goals_at other world)) ≡ found → View (state_said other found (with_ended other goal by value moment world))
       where_found None none =
-          changed (changing ending) other world.lines world
+          changed (changing ending (ids_changed goal (after_end by value moment) (λ one. refl))) other world.lines world
           (λ is. absurd (ended_found (goals_at other world) goal by value moment reached leads none))
           (λ differs. v.0) (λ is. inr refl) v.1
       where_found (Some one) found =
           let said : EntityNo → List Line = λ n. line.State n one.id (status_of one.state) ∷ [] in
-          changed (changing ending) other (world.lines ++ said other) world
+          changed (changing ending (ids_changed goal (after_end by value moment) (λ one. refl))) other (world.lines ++ said other) world
           (λ is. subst (λ (n : EntityNo). Fits server id (world.lines ++ said n) (ending (goals_at server world))) (sym is)
           (fits_ended server id world.lines (goals_at server world) v.0 moves goal by value moment reached one
           (subst (λ (n : EntityNo). end_state goal by (goals_at n world) ≡ Some reached) is leads)
@@ -172,7 +172,7 @@ module _ (server : EntityNo) (id : GoalId) (listed : List EntityNo) where
   expiry_quiet moment [] = refl
   expiry_quiet moment (entry ∷ servers) =
       flat_map-append _ (expire_lines moment entry) (flat_map (expire_lines moment) servers)
-      ∙ ap (λ (some : List GoalStatus). some ++ statuses_of server id (flat_map (expire_lines moment) servers)) (expired_quiet entry.handler.entity (expired moment entry.timeout entry.goals))
+      ∙ ap (λ (some : List GoalStatus). some ++ statuses_of server id (flat_map (expire_lines moment) servers)) (expired_quiet entry.handler.entity (expired moment entry.timeout (records_of entry.held)))
       ∙ expiry_quiet moment servers
 
   expire_view : (moment : Moment) (world : WorldState) → View world → View (expire moment world)

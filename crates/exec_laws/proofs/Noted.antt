@@ -19,7 +19,8 @@ use Rattle.exec_laws.proofs.Results.{ends_active}
 use Rattle.exec_laws.proofs.Views.{forgotten_final}
 use Rattle.exec_laws.specs.Exchanges.{waiting_for}
 use Rattle.exec_rules.specs.Transcript.{server_expired}
-use Rattle.exec_rules.specs.World.{ServerEntry, is_server_at, goals_in}
+use Rattle.exec_rules.specs.World.{ServerEntry, is_server_at, goals_in, records_of}
+use Rattle.exec_rules.proofs.Records.{records_filtered}
 
 module _ (client : EntityNo) (id : GoalId) where
   -- how often the client waits for a goal, where that is of the identifier
@@ -33,7 +34,7 @@ module _ (client : EntityNo) (id : GoalId) where
   -- over all servers
   abbrev pub noted_by : List ServerEntry → ℕ
   noted_by [] = 0
-  noted_by (entry ∷ servers) = notes entry.goals + noted_by servers
+  noted_by (entry ∷ servers) = notes (records_of entry.held) + noted_by servers
 
   -- ---- goals
 
@@ -148,8 +149,8 @@ module _ (client : EntityNo) (id : GoalId) where
       by : (b : Bool) → is_server_at server entry ≡ b → (notes (goals (goals_in server servers)) + less ≡ notes (goals_in server servers) + more → noted_by (change_first (is_server_at server) change servers) + less ≡ noted_by servers + more) →
           noted_by (change_first (is_server_at server) change (entry ∷ servers)) + less ≡ noted_by (entry ∷ servers) + more
       by true e rest =
-          let here : notes (goals entry.goals) + less ≡ notes entry.goals + more = rw e at same in
-          let made : notes (change entry).goals ≡ notes (goals entry.goals) = ap (λ (some : List GoalRecord). notes some) (m.makes entry) in
+          let here : notes (goals (records_of entry.held)) + less ≡ notes (records_of entry.held) + more = rw e at same in
+          let made : notes (records_of (change entry).held) ≡ notes (goals (records_of entry.held)) = ap (λ (some : List GoalRecord). notes some) (m.makes entry) in
           rw e (omega (arith, here, made))
       by false e rest =
           let there : notes (goals (goals_in server servers)) + less ≡ notes (goals_in server servers) + more = rw e at same in
@@ -159,6 +160,7 @@ module _ (client : EntityNo) (id : GoalId) where
   pub noted_expired : (moment : Moment) (servers : List ServerEntry) → noted_by (map (server_expired moment) servers) ≡ noted_by servers
   noted_expired moment [] = refl
   noted_expired moment (entry ∷ servers) =
-      let first = notes_kept (λ goal. not (is_expired moment entry.timeout goal)) (forgotten_final moment entry.timeout) entry.goals in
+      let left = λ (goal : GoalRecord). not (is_expired moment entry.timeout goal) in
+      let first = ap notes (records_filtered left entry.held) ∙ notes_kept left (forgotten_final moment entry.timeout) (records_of entry.held) in
       let rest = noted_expired moment servers in
       omega (arith, first, rest)

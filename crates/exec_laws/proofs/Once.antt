@@ -48,7 +48,7 @@ use Rattle.exec_rules.specs.Ready.{ready_list, run_line, take_inputs}
 use Rattle.exec_rules.specs.Run.{outcome_in, run, unclosed, variables_for, with_polled, with_variables_for, work_for}
 use Rattle.exec_rules.specs.Transcript.{takes_from_queue, first_world, new_queue, expire_lines, expire, feed_one, at_snapshot, run_all, round, rounds, pending_by, closing_lines, lines_of}
 use Rattle.exec_script.specs.Script.{Variables}
-use Rattle.exec_rules.specs.World.{WorldState, Queue, ClientEntry, ActionClientEntry, add_line, drop_line, lost_by, goals_at, has_room_for, push, push_any, with_call, with_goal_sent, with_variables, client_at, action_client_at, is_action_client_at, next_arrival}
+use Rattle.exec_rules.specs.World.{WorldState, Queue, ClientEntry, ActionClientEntry, add_line, drop_line, lost_by, goals_at, has_room_for, push, push_any, with_call, with_goal_sent, with_variables, client_at, action_client_at, is_action_client_at, next_arrival, records_of}
 use Rattle.exec_rules.specs.declared.item.Item.{Item}
 use Rattle.exec_rules.specs.declared.item.Item.TheVariants as item
 use Rattle.exec_rules.specs.declared.ready.Cause.{Cause}
@@ -350,7 +350,7 @@ module _ (client : EntityNo) (id : GoalId) where
   expired_once : (moment : Moment) (world : WorldState) → IsOnce 0 world → IsOnce 0 (expire moment world)
   expired_once moment world p =
       more_lines 0 world.queues world.action_clients world.lines (flat_map (expire_lines moment) world.servers)
-      (all_flat (λ one. is_asked client id one ≡ false) (expire_lines moment) (λ entry. all_map (λ one. is_asked client id one ≡ false) _ (λ goal. refl) (expired moment entry.timeout entry.goals)) world.servers) p
+      (all_flat (λ one. is_asked client id one ≡ false) (expire_lines moment) (λ entry. all_map (λ one. is_asked client id one ≡ false) _ (λ goal. refl) (expired moment entry.timeout (records_of entry.held))) world.servers) p
 
   fed_once : (one : Fed) (world : WorldState) → IsOnce 0 world → IsOnce 0 (feed_one one world)
   fed_once (feeding.Message topic value) world p = published_once 0 topic value world p

@@ -30,12 +30,13 @@ use Rattle.exec_rules.specs.Ready.{due_ready, item_ready, poll_ready, queue_read
 use Rattle.exec_rules.specs.Run.{run}
 use Rattle.exec_rules.specs.Shape.{shape_of}
 use Rattle.exec_rules.specs.Transcript.{entity_at, first_world, new_server, server_expired, server_of, takes_from_queue, at_snapshot, last_world, run_all, round, rounds}
-use Rattle.exec_rules.specs.World.{WorldState, Queue, ServerEntry, TimerEntry, add_line, goals_at, is_server_at, push, next_arrival}
+use Rattle.exec_rules.specs.World.{WorldState, Queue, ServerEntry, TimerEntry, add_line, goals_at, is_server_at, push, next_arrival, records_of}
 use Rattle.exec_rules.specs.declared.item.Item.{Item}
 use Rattle.exec_rules.specs.declared.item.Item.TheVariants as item
 use Rattle.exec_rules.specs.declared.ready.Cause.{Cause}
 use Rattle.exec_rules.specs.declared.ready.Cause.TheVariants as cause
 use Rattle.exec_rules.specs.declared.ready.Ready.{Ready}
+use Rattle.exec_rules.proofs.Records.{records_filtered}
 
 module _ (plan : PlanData) where
   -- a server is the one that an action client asks
@@ -56,7 +57,7 @@ module _ (plan : PlanData) where
   AreItsClients server goal = AllByRecursion (IsItsServer server) goal.askers
 
   abbrev pub NotesItsClients : ServerEntry → Type 0
-  NotesItsClients entry = AllByRecursion (AreItsClients entry.handler.entity) entry.goals
+  NotesItsClients entry = AllByRecursion (AreItsClients entry.handler.entity) (records_of entry.held)
 
   -- of a world
   pub record AreOwned (world : WorldState) : Type 0 where
@@ -93,14 +94,18 @@ module _ (plan : PlanData) where
       by : (b : Bool) → is_server_at server entry ≡ b → AllByRecursion NotesItsClients (change_first (is_server_at server) change servers) → AllByRecursion NotesItsClients (change_first (is_server_at server) change (entry ∷ servers))
       by true e rest =
           let here : entry.handler.entity ≡ server = eqb-true entry.handler.entity server e in
-          let before : AllByRecursion (AreItsClients server) entry.goals = subst (λ (n : EntityNo). AllByRecursion (AreItsClients n) entry.goals) here p.0 in
-          let after : AllByRecursion (AreItsClients server) (change entry).goals = subst (λ (some : List GoalRecord). AllByRecursion (AreItsClients server) some) (sym (m.makes entry)) (still entry.goals before) in
-          rw e (subst (λ (n : EntityNo). AllByRecursion (AreItsClients n) (change entry).goals) (sym (m.stays entry ∙ here)) after, p.1)
+          let before : AllByRecursion (AreItsClients server) (records_of entry.held) = subst (λ (n : EntityNo). AllByRecursion (AreItsClients n) (records_of entry.held)) here p.0 in
+          let after : AllByRecursion (AreItsClients server) (records_of (change entry).held) = subst (λ (some : List GoalRecord). AllByRecursion (AreItsClients server) some) (sym (m.makes entry)) (still (records_of entry.held) before) in
+          rw e (subst (λ (n : EntityNo). AllByRecursion (AreItsClients n) (records_of (change entry).held)) (sym (m.stays entry ∙ here)) after, p.1)
       by false e rest = rw e (p.0, rest)
 
   expired_notes : (moment : Moment) (servers : List ServerEntry) → AllByRecursion NotesItsClients servers → AllByRecursion NotesItsClients (map (server_expired moment) servers)
   expired_notes moment [] p = tt
-  expired_notes moment (entry ∷ servers) p = (all_filter (AreItsClients entry.handler.entity) (λ goal. not (is_expired moment entry.timeout goal)) entry.goals p.0, expired_notes moment servers p.1)
+  expired_notes moment (entry ∷ servers) p =
+      let left = λ (goal : GoalRecord). not (is_expired moment entry.timeout goal) in (
+        subst (λ (goals : List GoalRecord). AllByRecursion (AreItsClients entry.handler.entity) goals) (sym (records_filtered left entry.held)) (all_filter (AreItsClients entry.handler.entity) left (records_of entry.held) p.0),
+        expired_notes moment servers p.1,
+      )
 
   -- ---- what is sent
 
@@ -142,12 +147,12 @@ module _ (plan : PlanData) where
     execution_kept = λ server goal world found p. record {
       shape = shapes.basic.goals_kept server _ world (ids_changed goal.id (after_event event.Execute) (λ one. refl)) p.shape;
       asks = p.asks;
-      notes = served (changing (change_first (has_id goal.id) (after_event event.Execute))) server (λ some q. changed_notes server goal.id (after_event event.Execute) (λ one r. r) some q) world.servers p.notes;
+      notes = served (changing (change_first (has_id goal.id) (after_event event.Execute)) (ids_changed goal.id (after_event event.Execute) (λ one. refl))) server (λ some q. changed_notes server goal.id (after_event event.Execute) (λ one r. r) some q) world.servers p.notes;
     };
     answer_kept = λ server decisions returned count world p. record {
       shape = shapes.basic.goals_kept server _ world (ids_answered decisions) p.shape;
       asks = p.asks;
-      notes = served (changing (table_after decisions)) server (λ some q. answered_notes server decisions some q) world.servers p.notes;
+      notes = served (changing (table_after decisions) (ids_answered decisions)) server (λ some q. answered_notes server decisions some q) world.servers p.notes;
     };
     tasks_kept = λ server goal task world p. record { shape = shapes.basic.tasks_kept server goal task world p.shape; asks = p.asks; notes = served (tasking goal task) server (λ some q. q) world.servers p.notes };
     arrivals_kept = λ server goal world p. record { shape = shapes.basic.arrivals_kept server goal world p.shape; asks = p.asks; notes = served (goal_arriving goal (next_arrival world)) server (λ some q. q) world.servers p.notes };
@@ -166,7 +171,7 @@ module _ (plan : PlanData) where
   own_answered server goal from later world its p = record {
     shape = shapes.basic.goals_kept server _ world (ids_changed goal (asked_by from) (λ one. refl)) p.shape;
     asks = p.asks;
-    notes = served (changing (change_first (has_id goal) (asked_by from))) server (λ some q. changed_notes server goal (asked_by from) (λ one r. all_append (IsItsServer server) one.askers (from ∷ []) r (its, tt)) some q) world.servers p.notes;
+    notes = served (changing (change_first (has_id goal) (asked_by from)) (ids_changed goal (asked_by from) (λ one. refl))) server (λ some q. changed_notes server goal (asked_by from) (λ one r. all_append (IsItsServer server) one.askers (from ∷ []) r (its, tt)) some q) world.servers p.notes;
   }
 
   own_end : (server : EntityNo) (goal : Option GoalRecord) (world : WorldState) → AreOwned world → AreOwned (tell_end server goal world)
@@ -179,7 +184,7 @@ module _ (plan : PlanData) where
   own_ended server goal by value moment world p = record {
     shape = shapes.basic.goals_kept server _ world (ids_changed goal (after_end by value moment) (λ one. refl)) p.shape;
     asks = p.asks;
-    notes = served (changing (change_first (has_id goal) (after_end by value moment))) server (λ some q. changed_notes server goal (after_end by value moment) (λ one r. r) some q) world.servers p.notes;
+    notes = served (changing (change_first (has_id goal) (after_end by value moment)) (ids_changed goal (after_end by value moment) (λ one. refl))) server (λ some q. changed_notes server goal (after_end by value moment) (λ one r. r) some q) world.servers p.notes;
   }
 
   run_owned : (one : Ready) (world : WorldState) → IsTakenThere one.entity one.cause → AreOwned world → AreOwned (run one world)

@@ -13,18 +13,18 @@ use Rattle.exec_msg.specs.Timer.{is_due}
 use Rattle.exec_msg.specs.declared.kind.Kind.TheVariants as kind
 use Rattle.exec_laws.proofs.AtWork.{AtWork}
 use Rattle.exec_rules.proofs.Identifiers.{Distinct, HasDistinct}
-use Rattle.exec_rules.proofs.Keeping.{ids}
-use Rattle.exec_rules.proofs.Pairs.{Pairs, all_append, all_both, all_filter, all_flat, all_flat_where, all_mapped, all_passed, all_weaker, pairs_all, pairs_append, pairs_filter, pairs_map, pairs_unmapped}
+use Rattle.exec_rules.proofs.Pairs.{Pairs, all_append, all_both, all_filter, all_flat, all_flat_where, all_mapped, all_passed, all_weaker, pairs_all, pairs_append, pairs_filter, pairs_map, pairs_unmapped, all_unmapped}
 use Rattle.exec_rules.proofs.ReadyLists.{IsOf, poll_of, all_placed, all_listed}
 use Rattle.exec_rules.proofs.Sorting.{pairs_sorted}
 use Rattle.exec_rules.proofs.Wiring.{NumbersApart, IsWired, numbers_apart}
 use Rattle.exec_laws.specs.Goals.{may_be_polled}
 use Rattle.exec_rules.specs.Ready.{all_ready, due_ready, is_goal_awake, item_ready, placed_from, poll_ready, queue_ready, rank_under, ready_list}
 use Rattle.exec_rules.specs.Sorting.{sorted_by}
-use Rattle.exec_rules.specs.World.{WorldState, Queue, TimerEntry, ServerEntry, goals_at, goals_in}
+use Rattle.exec_rules.specs.World.{WorldState, Queue, TimerEntry, ServerEntry, goals_at, goals_in, records_of, HeldGoal}
 use Rattle.exec_rules.specs.declared.item.Item.{Item}
 use Rattle.exec_rules.specs.declared.ready.Cause.TheVariants as cause
 use Rattle.exec_rules.specs.declared.ready.Ready.{Ready}
+use Rattle.exec_rules.proofs.Records.{ids}
 
 -- ---- what polls
 
@@ -72,15 +72,15 @@ apart_all some p = pairs_all NoPoll PollApart (λ one other none also id value c
 -- ---- the goals of an entry
 
 -- the goals of each server's entry are the server's, where no two entries have one number
-goals_here : (servers : List ServerEntry) → Pairs (λ one other. NumbersApart one.handler.entity other.handler.entity) servers → AllByRecursion (λ entry. goals_in entry.handler.entity servers ≡ entry.goals) servers
+goals_here : (servers : List ServerEntry) → Pairs (λ one other. NumbersApart one.handler.entity other.handler.entity) servers → AllByRecursion (λ entry. goals_in entry.handler.entity servers ≡ records_of entry.held) servers
 goals_here [] apart = tt
 goals_here (entry ∷ servers) apart = (
   rw (eq-eqb entry.handler.entity entry.handler.entity refl) refl,
-  all_both (λ other. NumbersApart entry.handler.entity other.handler.entity) (λ other. goals_in other.handler.entity servers ≡ other.goals) (λ other. goals_in other.handler.entity (entry ∷ servers) ≡ other.goals)
+  all_both (λ other. NumbersApart entry.handler.entity other.handler.entity) (λ other. goals_in other.handler.entity servers ≡ records_of other.held) (λ other. goals_in other.handler.entity (entry ∷ servers) ≡ records_of other.held)
       (λ other differs here. passed other differs here (entry.handler.entity == other.handler.entity) refl) servers apart.0 (goals_here servers apart.1),
 )
   where
-    passed : (other : ServerEntry) → NumbersApart entry.handler.entity other.handler.entity → goals_in other.handler.entity servers ≡ other.goals → (b : Bool) → entry.handler.entity == other.handler.entity ≡ b → goals_in other.handler.entity (entry ∷ servers) ≡ other.goals
+    passed : (other : ServerEntry) → NumbersApart entry.handler.entity other.handler.entity → goals_in other.handler.entity servers ≡ records_of other.held → (b : Bool) → entry.handler.entity == other.handler.entity ≡ b → goals_in other.handler.entity (entry ∷ servers) ≡ records_of other.held
     passed other differs here true e = absurd (differs (sym (eqb-true entry.handler.entity other.handler.entity e)))
     passed other differs here false e = rw e here
 
@@ -123,12 +123,12 @@ module _ (graph : GraphData) (moment : Moment) (world : WorldState) (wires : IsW
 
   -- an entry's goals are its server's, and no two have one identifier
   record IsOwn (entry : ServerEntry) : Type 0 where
-    own : goals_at entry.handler.entity world ≡ entry.goals
-    apart : Distinct (ids entry.goals)
+    own : goals_at entry.handler.entity world ≡ records_of entry.held
+    apart : Distinct (ids (records_of entry.held))
 
   all_own : AllByRecursion IsOwn world.servers
   all_own =
-      all_weaker (λ entry. goals_in entry.handler.entity world.servers ≡ entry.goals) IsOwn
+      all_weaker (λ entry. goals_in entry.handler.entity world.servers ≡ records_of entry.held) IsOwn
       (λ entry here. record { own = here; apart = subst (λ (goals : List GoalRecord). Distinct (ids goals)) here (distinct entry.handler.entity) })
       world.servers (goals_here world.servers servers_apart)
 
@@ -141,15 +141,16 @@ module _ (graph : GraphData) (moment : Moment) (world : WorldState) (wires : IsW
 
   entry_at_work : (entry : ServerEntry) → IsOwn entry → AllByRecursion PollsAtWork (poll_ready moment entry)
   entry_at_work entry own =
-      all_mapped (λ goal. (state_in goal.id entry.goals ≡ Some goal.state) × (is_goal_awake moment entry.held goal ≡ true)) PollsAtWork _
-      (λ goal is id value canceling same. polled goal is.0 (and_parts (is_worked_on goal.state) _ is.1).0 id value canceling same)
-      (filter (is_goal_awake moment entry.held) entry.goals)
-      (all_both (λ goal. state_in goal.id entry.goals ≡ Some goal.state) (λ goal. is_goal_awake moment entry.held goal ≡ true) _ (λ goal found awake. (found, awake))
-      (filter (is_goal_awake moment entry.held) entry.goals)
-      (all_filter (λ goal. state_in goal.id entry.goals ≡ Some goal.state) (is_goal_awake moment entry.held) entry.goals (each_found entry.goals own.apart))
-      (all_passed (is_goal_awake moment entry.held) entry.goals))
+      all_mapped (λ held. (state_in held.goal.id (records_of entry.held) ≡ Some held.goal.state) × (is_goal_awake moment held ≡ true)) PollsAtWork _
+      (λ held is id value canceling same. polled held.goal is.0 (and_parts (is_worked_on held.goal.state) _ is.1).0 id value canceling same)
+      (filter (is_goal_awake moment) entry.held)
+      (all_both (λ held. state_in held.goal.id (records_of entry.held) ≡ Some held.goal.state) (λ held. is_goal_awake moment held ≡ true) _ (λ held found awake. (found, awake))
+      (filter (is_goal_awake moment) entry.held)
+      (all_filter (λ held. state_in held.goal.id (records_of entry.held) ≡ Some held.goal.state) (is_goal_awake moment) entry.held
+      (all_unmapped (λ goal. state_in goal.id (records_of entry.held) ≡ Some goal.state) (λ (held : HeldGoal). held.goal) entry.held (each_found (records_of entry.held) own.apart)))
+      (all_passed (is_goal_awake moment) entry.held))
     where
-      polled : (goal : GoalRecord) → state_in goal.id entry.goals ≡ Some goal.state → is_worked_on goal.state ≡ true → (id : GoalId) (value : ℤ) (canceling : Bool) → cause.Woke goal.id goal.value (is_canceling goal.state) ≡ cause.Woke id value canceling → AtWork canceling id (goals_at entry.handler.entity world)
+      polled : (goal : GoalRecord) → state_in goal.id (records_of entry.held) ≡ Some goal.state → is_worked_on goal.state ≡ true → (id : GoalId) (value : ℤ) (canceling : Bool) → cause.Woke goal.id goal.value (is_canceling goal.state) ≡ cause.Woke id value canceling → AtWork canceling id (goals_at entry.handler.entity world)
       polled goal found works id value canceling same =
           let named : goal.id ≡ id = cc in
           let asked : is_canceling goal.state ≡ canceling = cc in
@@ -160,13 +161,14 @@ module _ (graph : GraphData) (moment : Moment) (world : WorldState) (wires : IsW
 
   entry_apart : (entry : ServerEntry) → IsOwn entry → Pairs PollApart (poll_ready moment entry)
   entry_apart entry own =
-      pairs_map (λ one other. one.id == other.id ≡ false) PollApart _
+      pairs_map (λ one other. one.goal.id == other.goal.id ≡ false) PollApart _
       (λ one other differs id value canceling goal sent asked same also at.
-      let here : one.id ≡ id = cc in
-      let there : other.id ≡ goal = cc in
-      subst (λ (n : GoalId). n == goal ≡ false) here (subst (λ (n : GoalId). one.id == n ≡ false) there differs))
-      (filter (is_goal_awake moment entry.held) entry.goals)
-      (pairs_filter (λ one other. one.id == other.id ≡ false) (is_goal_awake moment entry.held) entry.goals (goals_apart entry.goals own.apart))
+      let here : one.goal.id ≡ id = cc in
+      let there : other.goal.id ≡ goal = cc in
+      subst (λ (n : GoalId). n == goal ≡ false) here (subst (λ (n : GoalId). one.goal.id == n ≡ false) there differs))
+      (filter (is_goal_awake moment) entry.held)
+      (pairs_filter (λ one other. one.goal.id == other.goal.id ≡ false) (is_goal_awake moment) entry.held
+      (pairs_unmapped (λ one other. one.id == other.id ≡ false) (λ (held : HeldGoal). held.goal) entry.held (goals_apart (records_of entry.held) own.apart)))
 
   -- polls of two servers
   entries_apart : (one other : ServerEntry) → NumbersApart one.handler.entity other.handler.entity → AllByRecursion (λ x. AllByRecursion (PollApart x) (poll_ready moment other)) (poll_ready moment one)

@@ -37,7 +37,7 @@ use Rattle.exec_rules.specs.Ready.{ready_list, run_line, line_of, input_of, take
 use Rattle.exec_rules.specs.Shape.{shape_of}
 use Rattle.exec_rules.specs.Run.{run}
 use Rattle.exec_rules.specs.Transcript.{takes_from_queue, first_world, new_client, new_queue, expire_lines, expire, at_snapshot, run_all, round, rounds, pending_by, closing_lines, last_world, lines_of}
-use Rattle.exec_rules.specs.World.{WorldState, ClientEntry, add_line, client_at, is_client_at, goals_at}
+use Rattle.exec_rules.specs.World.{WorldState, ClientEntry, add_line, client_at, is_client_at, goals_at, records_of}
 use Rattle.exec_rules.specs.declared.item.Item.{Item}
 use Rattle.exec_rules.specs.declared.item.Item.TheVariants as item
 use Rattle.exec_rules.specs.declared.ready.Cause.{Cause}
@@ -164,7 +164,7 @@ module _ (client : EntityNo) where
       let started : WorldState = add_line (line.Round number moment) world in
       feed_keeps (moves [] (λ n. 0)) (publish_kept {P = KeepsIn client [] (λ n. 0)} (λ entity value before q. sent_freely client [] (λ n. 0) entity (item.Message value) before refl refl q)) (fed_in number plan.feed) (expire moment started)
       (more_lines client [] (λ n. 0) started.queues started.clients started.lines (flat_map (expire_lines moment) started.servers)
-      (all_flat (IsMute client) (expire_lines moment) (λ entry. all_map (IsMute client) _ (λ goal. (refl, refl)) (expired moment entry.timeout entry.goals)) started.servers)
+      (all_flat (IsMute client) (expire_lines moment) (λ entry. all_map (IsMute client) _ (λ goal. (refl, refl)) (expired moment entry.timeout (records_of entry.held))) started.servers)
       (more_lines client [] (λ n. 0) world.queues world.clients world.lines (line.Round number moment ∷ []) ((refl, refl), tt) k))
 
   taken_keeps : (graph : GraphData) (moment : Moment) (world : WorldState) → IsWired graph world → KeepsIn client [] (λ n. 0) world → KeepsIn client (flat_map (number_in client) (ready_list moment world)) (λ n. hands (of_request client n) (ready_list moment world)) (take_inputs moment world)

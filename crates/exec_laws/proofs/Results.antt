@@ -29,7 +29,7 @@ use Rattle.exec_laws.specs.Exchanges.{is_ask_taken, is_result_told, waiting_in}
 use Rattle.exec_rules.specs.Ready.{ready_list, run_line, line_of, input_of, take_inputs}
 use Rattle.exec_rules.specs.Run.{run}
 use Rattle.exec_rules.specs.Transcript.{first_world, expire_lines, expire, at_snapshot, round, rounds, pending_by, closing_lines, lines_of, last_world}
-use Rattle.exec_rules.specs.World.{WorldState, is_server_at, add_line, goals_at, has_room_for, goals_in, next_arrival}
+use Rattle.exec_rules.specs.World.{WorldState, is_server_at, add_line, goals_at, has_room_for, goals_in, next_arrival, records_of, with_goals}
 use Rattle.exec_rules.specs.declared.item.Item.{Item}
 use Rattle.exec_rules.specs.declared.item.Item.TheVariants as item
 use Rattle.exec_rules.specs.declared.ready.Cause.{Cause}
@@ -96,7 +96,7 @@ module _ (server : EntityNo) (id : GoalId) where
       noting : List GoalRecord → List GoalRecord
       noting goals = change_first (has_id goal) (asked_by client) goals
 
-      by : (b c : Bool) → other == server ≡ b → goal == id ≡ c → Balanced server id 0 world.lines (goals_in server (change_first (is_server_at other) (λ entry. record entry { goals = noting entry.goals }) world.servers))
+      by : (b c : Bool) → other == server ≡ b → goal == id ≡ c → Balanced server id 0 world.lines (goals_in server (change_first (is_server_at other) (with_goals noting) world.servers))
       by true true e f =
           let here : other ≡ server = eqb-true other server e in
           let found = comes_later server id (find (has_id goal) (goals_at other world)) is in
@@ -104,22 +104,22 @@ module _ (server : EntityNo) (id : GoalId) where
           let one_more = noted server id goal client (goals_at server world) found.0 at found.1.1 f in
           let owes : weigh (concerns server id other goal) 1 ≡ 1 = rw (e, f) refl in
           let balance = p.1 in
-          subst (λ (n : EntityNo). Balanced server id 0 world.lines (goals_in server (change_first (is_server_at n) (λ entry. record entry { goals = noting entry.goals }) world.servers))) (sym here)
-          (subst (λ (goals : List GoalRecord). Balanced server id 0 world.lines goals) (sym (goals_here (changing noting) server world.servers (inr refl)))
+          subst (λ (n : EntityNo). Balanced server id 0 world.lines (goals_in server (change_first (is_server_at n) (with_goals noting) world.servers))) (sym here)
+          (subst (λ (goals : List GoalRecord). Balanced server id 0 world.lines goals) (sym (goals_here (changing noting (ids_changed goal (asked_by client) (λ one. refl))) server world.servers (inr refl)))
           (omega (arith, one_more, owes, balance)))
       by true false e f =
           let owes : weigh (concerns server id other goal) 1 ≡ 0 = rw (e, f) refl in
           same_wait server id 0 world.lines (goals_at server world) _
-          (served server id (changing noting) other world (λ is_here. waiting_apart server id goal (asked_by client) (λ one. refl) f (goals_at server world)))
+          (served server id (changing noting (ids_changed goal (asked_by client) (λ one. refl))) other world (λ is_here. waiting_apart server id goal (asked_by client) (λ one. refl) f (goals_at server world)))
           (subst (λ (n : ℕ). Balanced server id n world.lines (goals_at server world)) owes p.1)
       by false c e f =
           let owes : weigh (concerns server id other goal) 1 ≡ 0 = rw e refl in
-          subst (λ (goals : List GoalRecord). Balanced server id 0 world.lines goals) (sym (goals_apart (changing noting) server other world.servers e))
+          subst (λ (goals : List GoalRecord). Balanced server id 0 world.lines goals) (sym (goals_apart (changing noting (ids_changed goal (asked_by client) (λ one. refl))) server other world.servers e))
           (subst (λ (n : ℕ). Balanced server id n world.lines (goals_at server world)) owes p.1)
 
   -- a goal ends: each that asked is told
   end_owes : (other : EntityNo) (goal : GoalId) (by : Event) (value : ℤ) (moment : Moment) (reached : State) (world : WorldState) → end_state goal by (goals_at other world) ≡ Some reached → Owing 0 world → Owing 0 (end_in (Some reached) other goal by value moment world)
-  end_owes other goal by value moment reached world leads p = where_found (goal_at other goal over) (ap (λ (goals : List GoalRecord). find (has_id goal) goals) (sym (goals_here (changing ending) other world.servers (inr refl))))
+  end_owes other goal by value moment reached world leads p = where_found (goal_at other goal over) (ap (λ (goals : List GoalRecord). find (has_id goal) goals) (sym (goals_here (changing ending (ids_changed goal (after_end by value moment) (λ one. refl))) other world.servers (inr refl))))
     where
       ending : List GoalRecord → List GoalRecord
       ending goals = change_first (has_id goal) (after_end by value moment) goals
@@ -148,18 +148,18 @@ module _ (server : EntityNo) (id : GoalId) where
               let before : length (waiting_in id (goals_at server world)) ≡ length one.askers = ap (λ (n : GoalId). length (waiting_in n (goals_at server world))) (sym same) ∙ ap (λ (n : EntityNo). length (waiting_in goal (goals_at n world))) (sym here) ∙ ap (λ (some : List EntityNo). length some) waits.0 in
               let behind : length (waiting_in id (goals_at server over)) ≡ 0 =
               ap (λ (n : EntityNo). length (waiting_in id (goals_at n over))) (sym here) ∙ ap (λ (n : GoalId). length (waiting_in n (goals_at other over))) (sym same)
-              ∙ ap (λ (goals : List GoalRecord). length (waiting_in goal goals)) (goals_here (changing ending) other world.servers (inr refl)) ∙ ap (λ (some : List EntityNo). length some) waits.1 in
+              ∙ ap (λ (goals : List GoalRecord). length (waiting_in goal goals)) (goals_here (changing ending (ids_changed goal (after_end by value moment) (λ one. refl))) other world.servers (inr refl)) ∙ ap (λ (some : List EntityNo). length some) waits.1 in
               let owes : weigh (concerns server id other goal) (length one.askers) ≡ length one.askers = rw (e, f) refl in
               let balance = p.1 in
               omega (arith, before, behind, owes, balance)
           balanced true false e f =
               let owes : weigh (concerns server id other goal) (length one.askers) ≡ 0 = rw (e, f) refl in
               same_wait server id (weigh (concerns server id other goal) (length one.askers)) world.lines (goals_at server world) _
-              (served server id (changing ending) other world (λ is_here. waiting_apart server id goal (after_end by value moment) (λ record_of. refl) f (goals_at server world)))
+              (served server id (changing ending (ids_changed goal (after_end by value moment) (λ one. refl))) other world (λ is_here. waiting_apart server id goal (after_end by value moment) (λ record_of. refl) f (goals_at server world)))
               (subst (λ (n : ℕ). Balanced server id n world.lines (goals_at server world)) (sym owes) p.1)
           balanced false c e f =
               let owes : weigh (concerns server id other goal) (length one.askers) ≡ 0 = rw e refl in
-              subst (λ (goals : List GoalRecord). Balanced server id (weigh (concerns server id other goal) (length one.askers)) world.lines goals) (sym (goals_apart (changing ending) server other world.servers e))
+              subst (λ (goals : List GoalRecord). Balanced server id (weigh (concerns server id other goal) (length one.askers)) world.lines goals) (sym (goals_apart (changing ending (ids_changed goal (after_end by value moment) (λ one. refl))) server other world.servers e))
               (subst (λ (n : ℕ). Balanced server id n world.lines (goals_at server world)) (sym owes) p.1)
 
   -- what a callback owes when it begins
@@ -235,7 +235,7 @@ module _ (server : EntityNo) (id : GoalId) where
       let left = expired_goals moment server world.servers in (
         distinct_kept.expiry_kept moment world p.0,
         others_balanced server id 0 world.lines (flat_map (expire_lines moment) world.servers) _
-            (all_flat (IsOther server id) (expire_lines moment) (λ entry. all_map (IsOther server id) _ (λ goal. (refl, refl)) (expired moment entry.timeout entry.goals)) world.servers)
+            (all_flat (IsOther server id) (expire_lines moment) (λ entry. all_map (IsOther server id) _ (λ goal. (refl, refl)) (expired moment entry.timeout (records_of entry.held))) world.servers)
             (same_wait server id 0 world.lines (goals_at server world) _
             (ap (λ (goals : List GoalRecord). waiting_in id goals) left.1 ∙ kept_waits server id (λ goal. not (is_expired moment left.0 goal)) (forgotten_final moment left.0) (goals_at server world) (p.0 server)) p.1),
       )

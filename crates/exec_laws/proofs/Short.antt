@@ -1,12 +1,12 @@
 -- How long scripts are, and how many goals servers hold, in any world of a lawful plan.
-use Rattle.std.proofs.Common.{◌≡◌, ℕ, zero, suc, ◌≤◌, ◌||◌, nat_le, Bool, true, false, not, List, [], ◌∷◌, ◌++◌, length, Option, None, Some, length-append, slice_index_or, refl, sym, ap, ◌∙◌, arith}
+use Rattle.std.proofs.Common.{◌≡◌, ℕ, zero, suc, ◌≤◌, ◌||◌, nat_le, Bool, true, false, not, List, [], ◌∷◌, ◌++◌, length, Option, None, Some, length-append, slice_index_or, refl, sym, ap, ◌∙◌, arith, if◌then◌else◌}
 use Rattle.std.specs.List.{AllByRecursion, filter}
 use Rattle.std.specs.Option.{option_map, unwrap_or}
 use Rattle.std.proofs.lemmas.Bool.{leb-false, or_parts, not-true}
 use Rattle.std.proofs.lemmas.List.{length-map}
 use Rattle.std.proofs.lemmas.List.Elements.{recursion_from_All}
 use Rattle.std.proofs.lemmas.List.Filters.{length-filter_both}
-use Rattle.exec_goal.specs.Table.{GoalRecord, holds_id, is_full, is_expired, new_goal}
+use Rattle.exec_goal.specs.Table.{GoalRecord, holds_id, is_full, is_expired}
 use Rattle.exec_msg.specs.declared.goal.Acceptance.{Acceptance}
 use Rattle.exec_msg.specs.Numbers.{EntityNo, GoalId, Moment}
 use Rattle.exec_script.specs.Instruction.{Script}
@@ -23,13 +23,13 @@ use Rattle.exec_msg.specs.Timer.{is_due}
 use Rattle.exec_msg.specs.declared.kind.Kind.{Kind}
 use Rattle.exec_msg.specs.declared.kind.Kind.TheVariants as kind
 use Rattle.exec_task.specs.Task.{TaskState}
-use Rattle.exec_rules.proofs.Keeping.{ids}
 use Rattle.exec_rules.proofs.Pairs.{all_append, all_filter, all_map, all_mapped, all_weaker}
 use Rattle.exec_rules.proofs.Running.{KeptByRounds}
 use Rattle.exec_rules.specs.Close.{GoalRequest, held_goal, server_accepting}
 use Rattle.exec_rules.specs.Ready.{queue_taken, timer_taken}
 use Rattle.exec_rules.specs.Transcript.{as_entity, entity_at, first_world, handler_for, new_queue, new_server, new_timer, server_expired, takes_from_queue}
-use Rattle.exec_rules.specs.World.{GoalWork, ServerEntry, TimerEntry, WorldState, has_room_for, is_for, is_server_at, goals_in, next_arrival}
+use Rattle.exec_rules.specs.World.{GoalWork, ServerEntry, TimerEntry, WorldState, has_room_for, is_for, is_server_at, goals_in, next_arrival, records_of, with_records, with_goals, with_held, standing, arrived, HeldGoal}
+use Rattle.exec_rules.proofs.Records.{ids, all_put, parts_put}
 
 -- a script of no more instructions than one may have
 abbrev pub IsShort : Script → Type 0
@@ -43,7 +43,7 @@ IsShortWork (Some work) = IsShort work.script
 -- a server's script is short, as its goals' are, and it holds no more goals than one may
 pub record IsSmallServer (entry : ServerEntry) : Type 0 where
   pub script : IsShort entry.handler.script
-  pub goals : length entry.goals ≤ GOALS
+  pub goals : length entry.held ≤ GOALS
   pub works : AllByRecursion (λ held. IsShortWork held.work) entry.held
 
 -- all scripts of a world are short, and no server holds more goals than it may
@@ -62,6 +62,14 @@ all_changed {A} P test change kept (one ∷ all) p = by (test one) refl (all_cha
     by true e rest = rw e (kept one p.0, p.1)
     by false e rest = rw e (p.0, rest)
 
+length_changed : {A : Type 0} (test : A → Bool) (change : A → A) (all : List A) → length (change_first test change all) ≡ length all
+length_changed test change [] = refl
+length_changed test change (one ∷ all) = by (test one) (length_changed test change all)
+  where
+    by : (b : Bool) → length (change_first test change all) ≡ length all → length (if b then change one ∷ all else one ∷ change_first test change all) ≡ suc (length all)
+    by true rest = refl
+    by false rest = ap suc rest
+
 pub filter_less : {A : Type 0} (test : A → Bool) (all : List A) → length (filter test all) ≤ length all
 filter_less test all = omega (arith, length-filter_both test (λ one. not (test one)) (λ one. refl) all)
 
@@ -71,25 +79,26 @@ work_tasked : (task : TaskState) (work : Option GoalWork) → IsShortWork work �
 work_tasked task None p = tt
 work_tasked task (Some work) p = p
 
-server_tasked : (id : GoalId) (task : TaskState) (entry : ServerEntry) → IsSmallServer entry → IsSmallServer (record entry { held = change_first (is_for id) (λ held. record held { work = option_map (λ (work : GoalWork). record work { task = task }) held.work }) entry.held })
+server_tasked : (id : GoalId) (task : TaskState) (entry : ServerEntry) → IsSmallServer entry → IsSmallServer (with_held id (standing task) entry)
 server_tasked id task entry p = record {
   script = p.script;
-  goals = p.goals;
+  goals = omega (arith, p.goals, length_changed (is_for id) (standing task) entry.held);
   works = all_changed (λ held. IsShortWork held.work) (is_for id) _ (λ held q. work_tasked task held.work q) entry.held p.works;
 }
 
-server_arrived : (id : GoalId) (number : ℕ) (entry : ServerEntry) → IsSmallServer entry → IsSmallServer (record entry { held = change_first (is_for id) (λ held. record held { arrival = number }) entry.held })
+server_arrived : (id : GoalId) (number : ℕ) (entry : ServerEntry) → IsSmallServer entry → IsSmallServer (with_held id (arrived number) entry)
 server_arrived id number entry p = record {
   script = p.script;
-  goals = p.goals;
+  goals = omega (arith, p.goals, length_changed (is_for id) (arrived number) entry.held);
   works = all_changed (λ held. IsShortWork held.work) (is_for id) _ (λ held q. q) entry.held p.works;
 }
 
-server_changed : (change : List GoalRecord → List GoalRecord) → ((goals : List GoalRecord) → ids (change goals) ≡ ids goals) → (entry : ServerEntry) → IsSmallServer entry → IsSmallServer (record entry { goals = change entry.goals })
+server_changed : (change : List GoalRecord → List GoalRecord) → ((goals : List GoalRecord) → ids (change goals) ≡ ids goals) → (entry : ServerEntry) → IsSmallServer entry → IsSmallServer (with_goals change entry)
 server_changed change same entry p =
-    let long : length (change entry.goals) ≡ length entry.goals =
-    sym (length-map (change entry.goals) (λ goal. goal.id)) ∙ ap (λ (some : List GoalId). length some) (same entry.goals) ∙ length-map entry.goals (λ goal. goal.id) in
-    record { script = p.script; goals = omega (arith, long, p.goals); works = p.works }
+    let after : List GoalRecord = change (records_of entry.held) in
+    let long : length (with_records after entry.held) ≡ length entry.held =
+    sym (length-map (with_records after entry.held) (λ (held : HeldGoal). held.work)) ∙ ap (λ (some : List (Option GoalWork)). length some) (parts_put (λ held. held.work) (λ goal held. refl) after entry.held (same (records_of entry.held))) ∙ length-map entry.held (λ (held : HeldGoal). held.work) in
+    record { script = p.script; goals = omega (arith, long, p.goals); works = all_put (λ held. IsShortWork held.work) (λ goal held is q. q) after entry.held (same (records_of entry.held)) p.works }
 
 -- a server accepts a goal where it has room for one more
 server_accepted : (server : EntityNo) (number : ℕ) (moment : Moment) (how : Acceptance) (request : GoalRequest) (servers : List ServerEntry) → has_room_for request.id (goals_in server servers) ≡ true → AllByRecursion IsSmallServer servers →
@@ -101,14 +110,14 @@ server_accepted server number moment how request (entry ∷ servers) room p = by
         (has_room_for request.id (goals_in server servers) ≡ true → AllByRecursion IsSmallServer servers → AllByRecursion IsSmallServer (change_first (is_server_at server) (server_accepting number moment how request) servers)) →
         AllByRecursion IsSmallServer (change_first (is_server_at server) (server_accepting number moment how request) (entry ∷ servers))
     by true e rest =
-        let here : has_room_for request.id entry.goals ≡ true = rw e at room in
-        let few : nat_le GOALS (length entry.goals) ≡ false = (or_parts (holds_id request.id entry.goals) (is_full entry.goals) (not-true (holds_id request.id entry.goals || is_full entry.goals) here)).1 in
-        let one_more : List GoalRecord = new_goal request.id request.value moment how ∷ [] in
-        let fits : length (entry.goals ++ one_more) ≤ GOALS = omega (arith, leb-false GOALS (length entry.goals) few, length-append entry.goals one_more) in
+        let here : has_room_for request.id (records_of entry.held) ≡ true = rw e at room in
+        let few : nat_le GOALS (length (records_of entry.held)) ≡ false = (or_parts (holds_id request.id (records_of entry.held)) (is_full (records_of entry.held)) (not-true (holds_id request.id (records_of entry.held) || is_full (records_of entry.held)) here)).1 in
+        let one_more : List HeldGoal = held_goal number moment how entry.handler.script request ∷ [] in
+        let fits : length (entry.held ++ one_more) ≤ GOALS = omega (arith, leb-false GOALS (length (records_of entry.held)) few, length-map entry.held (λ (held : HeldGoal). held.goal), length-append entry.held one_more) in
         let accepted : IsSmallServer (server_accepting number moment how request entry) = record {
           script = p.0.script;
           goals = fits;
-          works = all_append (λ held. IsShortWork held.work) entry.held (held_goal number entry.handler.script request ∷ []) p.0.works (p.0.script, tt);
+          works = all_append (λ held. IsShortWork held.work) entry.held one_more p.0.works (p.0.script, tt);
         } in
         rw e (accepted, p.1)
     by false e rest = let behind : has_room_for request.id (goals_in server servers) ≡ true = rw e at room in rw e (p.0, rest behind p.1)
@@ -116,7 +125,7 @@ server_accepted server number moment how request (entry ∷ servers) room p = by
 server_left : (moment : Moment) (entry : ServerEntry) → IsSmallServer entry → IsSmallServer (server_expired moment entry)
 server_left moment entry p = record {
   script = p.script;
-  goals = omega (arith, p.goals, filter_less (λ goal. not (is_expired moment entry.timeout goal)) entry.goals);
+  goals = omega (arith, p.goals, filter_less (λ (held : HeldGoal). not (is_expired moment entry.timeout held.goal)) entry.held);
   works = all_filter (λ held. IsShortWork held.work) _ entry.held p.works;
 }
 

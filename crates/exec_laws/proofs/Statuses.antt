@@ -13,10 +13,10 @@ use Rattle.exec_msg.specs.declared.goal.Event.{Event}
 use Rattle.exec_msg.specs.declared.goal.GoalStatus.{GoalStatus}
 use Rattle.exec_msg.specs.declared.goal.GoalStatus.TheVariants as status
 use Rattle.exec_rules.proofs.Identifiers.{Distinct}
-use Rattle.exec_rules.proofs.Keeping.{ids}
 use Rattle.exec_msg.specs.Numbers.{GoalId}
 use Rattle.exec_laws.specs.Goals.{IsFinal, MayCome, AreLawful}
 use Rattle.exec_rules.specs.World.{}
+use Rattle.exec_rules.proofs.Records.{ids}
 
 -- ---- statuses
 

@@ -58,12 +58,13 @@ use Rattle.exec_rules.specs.Run.{outcome_in, run, unclosed, variables_for, with_
 use Rattle.exec_rules.specs.Shape.{shape_of}
 use Rattle.exec_rules.specs.Transcript.{entity_at, takes_from_queue, first_world, new_queue, new_server, server_of, expire_lines, expire, feed_one, at_snapshot, run_all, round, rounds, pending_by, closing_lines, lines_of, last_world}
 use Rattle.exec_script.specs.Script.{Variables}
-use Rattle.exec_rules.specs.World.{WorldState, ClientEntry, ActionClientEntry, add_line, is_queue, goals_at, has_room_for, with_call, with_goal_sent, with_variables, change_goals, client_at, action_client_at, next_arrival}
+use Rattle.exec_rules.specs.World.{WorldState, ClientEntry, ActionClientEntry, add_line, is_queue, goals_at, has_room_for, with_call, with_goal_sent, with_variables, change_goals, client_at, action_client_at, next_arrival, records_of}
 use Rattle.exec_rules.specs.declared.item.Item.{Item}
 use Rattle.exec_rules.specs.declared.item.Item.TheVariants as item
 use Rattle.exec_rules.specs.declared.ready.Cause.{Cause}
 use Rattle.exec_rules.specs.declared.ready.Cause.TheVariants as cause
 use Rattle.exec_rules.specs.declared.ready.Ready.{Ready}
+use Rattle.exec_rules.proofs.Records.{ids}
 
 zero_more : (n : ℕ) → 0 + n ≡ n
 zero_more n = omega arith
@@ -73,11 +74,11 @@ module _ (plan : PlanData) (client : EntityNo) where
 
   -- goals are changed that nobody waits for anew, with lines
   goals_fair : (owed : GoalId → ℕ) (server : EntityNo) (change : List GoalRecord → List GoalRecord) (world : WorldState) → shape_of (change_goals server change world) ≡ shape_of (first_world plan) →
-      change [] ≡ [] → ((id : GoalId) (goals : List GoalRecord) → notes client id (change goals) ≡ notes client id goals) → IsFair plan client owed world → IsFair plan client owed (change_goals server change world)
-  goals_fair owed server change world shape none same p = (
+      ((goals : List GoalRecord) → ids (change goals) ≡ ids goals) → change [] ≡ [] → ((id : GoalId) (goals : List GoalRecord) → notes client id (change goals) ≡ notes client id goals) → IsFair plan client owed world → IsFair plan client owed (change_goals server change world)
+  goals_fair owed server change world shape stay none same p = (
     shape,
     renoted plan client owed owed world.queues world.servers _ world.lines
-        (λ id. noted_changed client id (changing change) (ap (λ (goals : List GoalRecord). notes client id goals) none) server world.servers (owed id) (owed id) (ap (λ (n : ℕ). n + owed id) (same id (goals_at server world)))) p.1,
+        (λ id. noted_changed client id (changing change stay) (ap (λ (goals : List GoalRecord). notes client id goals) none) server world.servers (owed id) (owed id) (ap (λ (n : ℕ). n + owed id) (same id (goals_at server world)))) p.1,
   )
 
   call_fair : (owed : GoalId → ℕ) (from : Option ClientEntry) (value : ℤ) (world : WorldState) → IsFair plan client owed world → IsFair plan client owed (call_by from value world)
@@ -109,7 +110,7 @@ module _ (plan : PlanData) (client : EntityNo) where
   execute_fair owed server None world p = p
   execute_fair owed server (Some goal) world p =
       line_fair plan client owed (line.State server goal.id (status_of (after_event event.Execute goal).state)) (change_goals server (change_first (has_id goal.id) (after_event event.Execute)) world) ((λ id. refl), ((λ id. refl), refl))
-      (goals_fair owed server (change_first (has_id goal.id) (after_event event.Execute)) world ((shapes plan client).basic.goals_kept server _ world (ids_changed goal.id (after_event event.Execute) (λ one. refl)) p.0) refl (λ id goals. notes_executed client id goal.id goals) p)
+      (goals_fair owed server (change_first (has_id goal.id) (after_event event.Execute)) world ((shapes plan client).basic.goals_kept server _ world (ids_changed goal.id (after_event event.Execute) (λ one. refl)) p.0) (ids_changed goal.id (after_event event.Execute) (λ one. refl)) refl (λ id goals. notes_executed client id goal.id goals) p)
 
   feedback_fair : (owed : GoalId → ℕ) (server : EntityNo) (why : Cause) (value : ℤ) (world : WorldState) → IsFair plan client owed world → IsFair plan client owed (give_feedback server why value world)
   feedback_fair owed server cause.Due value world p = p
@@ -168,14 +169,14 @@ module _ (plan : PlanData) (client : EntityNo) where
       let found = comes_later server goal (find (has_id goal) (goals_at server world)) is in (
         (shapes plan client).basic.goals_kept server _ world (ids_changed goal (asked_by asker) (λ one. refl)) p.0,
         renoted plan client (λ id. weigh ((asker == client) && (goal == id)) 1 + owed id) owed world.queues world.servers _ world.lines
-            (λ id. noted_changed client id (changing (change_first (has_id goal) (asked_by asker))) refl server world.servers (owed id) (weigh ((asker == client) && (goal == id)) 1 + owed id)
+            (λ id. noted_changed client id (changing (change_first (has_id goal) (asked_by asker)) (ids_changed goal (asked_by asker) (λ one. refl))) refl server world.servers (owed id) (weigh ((asker == client) && (goal == id)) 1 + owed id)
             (let more = notes_asked client id goal asker found.0 (goals_at server world) found.1.0 found.1.1 in omega (arith, more))) p.1,
       )
 
   -- a goal ends: those that are noted are told
   ended : (owed : GoalId → ℕ) (server : EntityNo) (goal : GoalId) (by : Event) (value : ℤ) (moment : Moment) (reached : Option State) (world : WorldState) → end_state goal by (goals_at server world) ≡ reached → IsFair plan client owed world → IsFair plan client owed (end_in reached server goal by value moment world)
   ended owed server goal by value moment None world leads p = p
-  ended owed server goal by value moment (Some reached) world leads p = where_found (goal_at server goal over) (ap (λ (goals : List GoalRecord). find (has_id goal) goals) (sym (goals_here (changing ending) server world.servers (inr refl))))
+  ended owed server goal by value moment (Some reached) world leads p = where_found (goal_at server goal over) (ap (λ (goals : List GoalRecord). find (has_id goal) goals) (sym (goals_here (changing ending (ids_changed goal (after_end by value moment) (λ one. refl))) server world.servers (inr refl))))
     where
       ending : List GoalRecord → List GoalRecord
       ending goals = change_first (has_id goal) (after_end by value moment) goals
@@ -193,7 +194,7 @@ module _ (plan : PlanData) (client : EntityNo) where
             subst (λ (n : GoalId). Accounts plan client (λ id. weigh (n == id) (among client one.askers) + owed id) over.queues over.servers over.lines) (sym named)
                 (renoted plan client owed (λ id. weigh (goal == id) (among client one.askers) + owed id) world.queues world.servers over.servers world.lines
                 (λ id. let gone = notes_ended client id goal by value moment reached one (goals_at server world) leads found in
-                noted_changed client id (changing ending) refl server world.servers (weigh (goal == id) (among client one.askers) + owed id) (owed id) (omega (arith, gone))) p.1),
+                noted_changed client id (changing ending (ids_changed goal (after_end by value moment) (λ one. refl))) refl server world.servers (weigh (goal == id) (among client one.askers) + owed id) (owed id) (omega (arith, gone))) p.1),
           ))
 
   pend_fair : (owed : GoalId → ℕ) (under : Order) (server : EntityNo) (goal : GoalId) (world : WorldState) → IsFair plan client owed world → IsFair plan client owed (pend under server goal world)
@@ -248,7 +249,7 @@ module _ (plan : PlanData) (client : EntityNo) where
       let goals : List GoalRecord = moved decisions (goals_at server world) in
       let returned : ReturnCode = code_of request decisions (goals_at server world) in
       let changed : IsFair plan client owed (change_goals server (table_after decisions) world) =
-      goals_fair owed server (table_after decisions) world ((shapes plan client).basic.goals_kept server _ world (ids_answered decisions) p.0) refl (λ id some. notes_answered client id decisions some) p in
+      goals_fair owed server (table_after decisions) world ((shapes plan client).basic.goals_kept server _ world (ids_answered decisions) p.0) (ids_answered decisions) refl (λ id some. notes_answered client id decisions some) p in
       freely_any plan client owed from (item.Code returned (length goals)) _ (λ to id. refl)
       (changed.0, more_lines plan client owed world.queues _ world.lines (moved_lines server goals ++ line.Code server returned (length goals) ∷ []) (moved_silent server goals (line.Code server returned (length goals) ∷ []) (((λ id. refl), ((λ id. refl), refl)), tt)) changed.1)
 
@@ -395,7 +396,7 @@ module _ (plan : PlanData) (client : EntityNo) where
   expired_fair moment world p = (
     (shapes plan client).expiry_kept moment world p.0,
     more_lines plan client (λ id. 0) world.queues _ world.lines (flat_map (expire_lines moment) world.servers)
-        (all_flat (IsSilent plan client) (expire_lines moment) (λ entry. all_map (IsSilent plan client) _ (λ goal. ((λ id. refl), ((λ id. refl), refl))) (expired moment entry.timeout entry.goals)) world.servers)
+        (all_flat (IsSilent plan client) (expire_lines moment) (λ entry. all_map (IsSilent plan client) _ (λ goal. ((λ id. refl), ((λ id. refl), refl))) (expired moment entry.timeout (records_of entry.held))) world.servers)
         (renoted plan client (λ id. 0) (λ id. 0) world.queues world.servers _ world.lines (λ id. ap (λ (n : ℕ). n + 0) (noted_expired client id moment world.servers)) p.1),
   )
 

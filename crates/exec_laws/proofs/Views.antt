@@ -22,12 +22,13 @@ use Rattle.exec_msg.specs.declared.goal.ReturnCode.{ReturnCode}
 use Rattle.exec_msg.specs.declared.line.Line.{Line}
 use Rattle.exec_msg.specs.declared.line.Line.TheVariants as line
 use Rattle.exec_rules.proofs.Identifiers.{Distinct, distinct_more, filter_all, filter_distinct}
-use Rattle.exec_rules.proofs.Keeping.{ids, ids_changed, ids_answered}
+use Rattle.exec_rules.proofs.Keeping.{ids_changed, ids_answered}
 use Rattle.exec_laws.proofs.Statuses.{Told, told_step, told_new, told_gone, state_of_other, state_moved, found_state, none_in, state_behind, state_before, EndsIn, ends_in}
 use Rattle.exec_rules.specs.Close.{GoalRequest, accepted_lines, moved_lines}
 use Rattle.exec_rules.specs.Lines.{statuses_of}
 use Rattle.exec_msg.specs.Numbers.{EntityNo, GoalId, Moment}
 use Rattle.exec_rules.proofs.Running.{found_test}
+use Rattle.exec_rules.proofs.Records.{ids}
 
 -- ---- one goal's statuses and state
 

@@ -1,5 +1,5 @@
 -- How many wait for the results of goals, and what changes that.
-use Rattle.std.proofs.Common.{◌≡◌, ℕ, ℤ, ◌+◌, ◌≤◌, Bool, true, false, not, if◌then◌else◌, map, List, [], ◌∷◌, ◌++◌, length, Some, refl, arith}
+use Rattle.std.proofs.Common.{◌≡◌, ℕ, ℤ, ◌+◌, ◌≤◌, Bool, true, false, not, if◌then◌else◌, map, List, [], ◌∷◌, ◌++◌, length, Some, refl, arith, ap}
 use Rattle.std.specs.List.{filter, find}
 use Rattle.std.specs.Option.{option_map_or}
 use Rattle.std.proofs.lemmas.List.{length_push}
@@ -15,7 +15,10 @@ use Rattle.exec_msg.specs.declared.goal.Acceptance.{Acceptance}
 use Rattle.exec_msg.specs.declared.goal.Event.{Event}
 use Rattle.exec_msg.specs.declared.goal.Event.TheVariants as event
 use Rattle.exec_rules.specs.Transcript.{server_expired}
-use Rattle.exec_rules.specs.World.{ServerEntry, is_server_at}
+use Rattle.exec_rules.specs.World.{ServerEntry, is_server_at, records_of, with_goals}
+use Rattle.exec_rules.proofs.Records.{records_filtered}
+use Rattle.exec_rules.proofs.Identifiers.{changing, Makes}
+use Rattle.exec_rules.proofs.Keeping.{ids_changed}
 
 -- ---- those who wait for results
 
@@ -31,7 +34,7 @@ waiting_for_all (goal ∷ goals) = wait_in goal.state (length goal.askers) + wai
 -- how many wait for the results of servers' goals
 abbrev pub waiting_at : List ServerEntry → ℕ
 waiting_at [] = 0
-waiting_at (entry ∷ servers) = waiting_for_all entry.goals + waiting_at servers
+waiting_at (entry ∷ servers) = waiting_for_all (records_of entry.held) + waiting_at servers
 
 waits_most : (reached : State) (many : ℕ) → wait_in reached many ≤ many
 waits_most reached many = by (is_terminal reached)
@@ -130,37 +133,40 @@ ended_less id does value moment reached (goal ∷ goals) leads = by (has_id id g
 
 -- ---- servers that change
 
-pub servers_changed : (test : ServerEntry → Bool) (change : ServerEntry → ServerEntry) (more : ℕ) → ((entry : ServerEntry) → waiting_for_all (change entry).goals ≤ waiting_for_all entry.goals + more) → (servers : List ServerEntry) → waiting_at (change_first test change servers) ≤ waiting_at servers + more
-servers_changed test change more few [] = omega arith
-servers_changed test change more few (entry ∷ servers) = by (test entry) (servers_changed test change more few servers)
+pub servers_changed : {change : ServerEntry → ServerEntry} {goals : List GoalRecord → List GoalRecord} → Makes change goals → (test : ServerEntry → Bool) (more : ℕ) → ((some : List GoalRecord) → waiting_for_all (goals some) ≤ waiting_for_all some + more) → (servers : List ServerEntry) → waiting_at (change_first test change servers) ≤ waiting_at servers + more
+servers_changed m test more few [] = omega arith
+servers_changed {change} {goals} m test more few (entry ∷ servers) = by (test entry) (servers_changed m test more few servers)
   where
-    by : (b : Bool) → waiting_at (change_first test change servers) ≤ waiting_at servers + more → waiting_at (if b then change entry ∷ servers else entry ∷ change_first test change servers) ≤ waiting_for_all entry.goals + waiting_at servers + more
-    by true rest = omega (arith, few entry)
+    by : (b : Bool) → waiting_at (change_first test change servers) ≤ waiting_at servers + more → waiting_at (if b then change entry ∷ servers else entry ∷ change_first test change servers) ≤ waiting_for_all (records_of entry.held) + waiting_at servers + more
+    by true rest = omega (arith, few (records_of entry.held), ap waiting_for_all (m.makes entry))
     by false rest = omega (arith, rest)
 
 pub all_left : (moment : Moment) (servers : List ServerEntry) → waiting_at (map (server_expired moment) servers) ≤ waiting_at servers
 all_left moment [] = omega arith
-all_left moment (entry ∷ servers) = omega (arith, kept_less (λ goal. not (is_expired moment entry.timeout goal)) entry.goals, all_left moment servers)
+all_left moment (entry ∷ servers) =
+    let left = λ (goal : GoalRecord). not (is_expired moment entry.timeout goal) in
+    omega (arith, kept_less left (records_of entry.held), ap waiting_for_all (records_filtered left entry.held), all_left moment servers)
 
 pub server_ended : (server : EntityNo) (id : GoalId) (does : Event) (value : ℤ) (moment : Moment) (reached : State) (servers : List ServerEntry) →
-    end_state id does (option_map_or (λ entry. entry.goals) (find (is_server_at server) servers) []) ≡ Some reached →
-    waiting_at (change_first (is_server_at server) (λ entry. record entry { goals = change_first (has_id id) (after_end does value moment) entry.goals }) servers)
-    + length (askers_of (find (has_id id) (option_map_or (λ entry. entry.goals) (find (is_server_at server) (change_first (is_server_at server) (λ entry. record entry { goals = change_first (has_id id) (after_end does value moment) entry.goals }) servers)) []))) ≤ waiting_at servers
+    end_state id does (option_map_or (λ entry. records_of entry.held) (find (is_server_at server) servers) []) ≡ Some reached →
+    waiting_at (change_first (is_server_at server) (with_goals (change_first (has_id id) (after_end does value moment))) servers)
+    + length (askers_of (find (has_id id) (option_map_or (λ entry. records_of entry.held) (find (is_server_at server) (change_first (is_server_at server) (with_goals (change_first (has_id id) (after_end does value moment))) servers)) []))) ≤ waiting_at servers
 server_ended server id does value moment reached [] leads = absurd cc
 server_ended server id does value moment reached (entry ∷ servers) leads = by (is_server_at server entry) refl (server_ended server id does value moment reached servers)
   where
     ending : ServerEntry → ServerEntry
-    ending entry = record entry { goals = change_first (has_id id) (after_end does value moment) entry.goals }
+    ending entry = with_goals (change_first (has_id id) (after_end does value moment)) entry
 
     by : (b : Bool) → is_server_at server entry ≡ b →
-        (end_state id does (option_map_or (λ entry. entry.goals) (find (is_server_at server) servers) []) ≡ Some reached →
-        waiting_at (change_first (is_server_at server) ending servers) + length (askers_of (find (has_id id) (option_map_or (λ entry. entry.goals) (find (is_server_at server) (change_first (is_server_at server) ending servers)) []))) ≤ waiting_at servers) →
-        waiting_at (change_first (is_server_at server) ending (entry ∷ servers)) + length (askers_of (find (has_id id) (option_map_or (λ entry. entry.goals) (find (is_server_at server) (change_first (is_server_at server) ending (entry ∷ servers))) []))) ≤ waiting_at (entry ∷ servers)
+        (end_state id does (option_map_or (λ entry. records_of entry.held) (find (is_server_at server) servers) []) ≡ Some reached →
+        waiting_at (change_first (is_server_at server) ending servers) + length (askers_of (find (has_id id) (option_map_or (λ entry. records_of entry.held) (find (is_server_at server) (change_first (is_server_at server) ending servers)) []))) ≤ waiting_at servers) →
+        waiting_at (change_first (is_server_at server) ending (entry ∷ servers)) + length (askers_of (find (has_id id) (option_map_or (λ entry. records_of entry.held) (find (is_server_at server) (change_first (is_server_at server) ending (entry ∷ servers))) []))) ≤ waiting_at (entry ∷ servers)
     by true e rest =
-        let here : end_state id does entry.goals ≡ Some reached = rw e at leads in
-        let few = ended_less id does value moment reached entry.goals here in
-        rw (e, e) (omega (arith, few))
+        let here : end_state id does (records_of entry.held) ≡ Some reached = rw e at leads in
+        let few = ended_less id does value moment reached (records_of entry.held) here in
+        let made = (changing (change_first (has_id id) (after_end does value moment)) (ids_changed id (after_end does value moment) (λ goal. refl))).makes entry in
+        rw (e, e) (omega (arith, few, ap waiting_for_all made, ap (λ (goals : List GoalRecord). length (askers_of (find (has_id id) goals))) made))
     by false e rest =
-        let there : end_state id does (option_map_or (λ entry. entry.goals) (find (is_server_at server) servers) []) ≡ Some reached = rw e at leads in
+        let there : end_state id does (option_map_or (λ entry. records_of entry.held) (find (is_server_at server) servers) []) ≡ Some reached = rw e at leads in
         let few = rest there in
         rw (e, e) (omega (arith, few))

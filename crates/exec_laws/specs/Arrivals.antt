@@ -54,7 +54,7 @@ pub record AreLeftOf (last : ℕ) (before after : List (ℕ × Item)) : Type 0 w
 
 -- whether a goal has the identifier and the number of this one
 abbrev pub arrived_as : HeldGoal → HeldGoal → Bool
-arrived_as held other = (other.id == held.id) && (other.arrival == held.arrival)
+arrived_as held other = (other.goal.id == held.goal.id) && (other.arrival == held.arrival)
 
 -- a goal of a server that held these before, after the arrival of this number: if it has no later number, it had its own before
 abbrev pub HadItsNumber : ℕ → List HeldGoal → HeldGoal → Type 0

@@ -1,7 +1,7 @@
 -- A callback's variables and its goal's task may come home before its effects are given.
-use Rattle.std.proofs.Common.{◌≡◌, ℕ, ◌+◌, ◌==◌, ℤ, Bool, true, false, if◌then◌else◌, List, [], ◌∷◌, map, Option, None, Some, refl, sym, ap, ◌∙◌}
+use Rattle.std.proofs.Common.{◌≡◌, ℕ, ◌+◌, ℤ, Bool, true, false, if◌then◌else◌, List, [], ◌∷◌, map, Option, None, Some, refl, sym, ap, ◌∙◌}
 use Rattle.std.specs.List.{find, fold}
-use Rattle.std.specs.Option.{option_map, option_map_or}
+use Rattle.std.specs.Option.{option_map_or}
 use Rattle.exec_goal.specs.Cancel.{CancelRequest}
 use Rattle.exec_goal.specs.State.{is_accepted, status_of}
 use Rattle.exec_goal.specs.Table.{GoalRecord, has_id, after_event}
@@ -14,7 +14,9 @@ use Rattle.exec_msg.specs.declared.line.Line.TheVariants as line
 use Rattle.exec_script.specs.declared.effects.Effect.{Effect}
 use Rattle.exec_script.specs.declared.effects.Effect.TheVariants as effect
 use Rattle.exec_task.specs.Task.{TaskState}
+use Rattle.exec_rules.proofs.Keeping.{ids_changed}
 use Rattle.exec_rules.proofs.Later.{callback_later}
+use Rattle.exec_rules.proofs.Records.{ids, put_changed, records_left}
 use Rattle.exec_rules.specs.Callback.{AfterCallback}
 use Rattle.exec_rules.specs.Close.{close_callback, goal_arrived}
 use Rattle.exec_rules.specs.Give.{publish, call_by, send_goal_by, send_cancel, cancel_all_by, cancel_goal_by, execute_goal, execute, sender_at, give_feedback, give, give_all}
@@ -22,7 +24,7 @@ use Rattle.exec_rules.specs.Item.{goal_id}
 use Rattle.exec_rules.specs.Ready.{run_line}
 use Rattle.exec_rules.specs.Run.{work_for, with_polled, variables_for, with_variables_for, brought_home, after_callback, run, apart, effects_of, commit}
 use Rattle.exec_script.specs.Script.{Variables}
-use Rattle.exec_rules.specs.World.{WorldState, TopicEntry, GoalWork, HeldGoal, Queue, ServerEntry, ClientEntry, ActionClientEntry, add_line, add_lines, drop_line, lost_by, queued, push, push_any, subscribers_at, is_server_at, goals_at, change_server, change_goals, is_for, next_arrival, with_task, client_at, with_call, action_client_at, with_goal_sent, with_variables}
+use Rattle.exec_rules.specs.World.{WorldState, TopicEntry, HeldGoal, Queue, ServerEntry, ClientEntry, ActionClientEntry, add_line, add_lines, drop_line, lost_by, queued, push, push_any, subscribers_at, is_server_at, goals_at, records_of, with_records, with_goals, change_goals, is_for, with_held, change_held, next_arrival, standing, with_task, client_at, with_call, action_client_at, with_goal_sent, with_variables}
 use Rattle.exec_rules.specs.declared.item.Item.{Item}
 use Rattle.exec_rules.specs.declared.item.Item.TheVariants as item
 use Rattle.exec_rules.specs.declared.ready.Cause.{Cause}
@@ -37,7 +39,7 @@ pub record StandsApart (home : WorldState → WorldState) : Type 0 where
   pub calls_apart : (client : EntityNo) (world : WorldState) → home (with_call client world) ≡ with_call client (home world)
   pub sending_apart : (client : EntityNo) (world : WorldState) → home (with_goal_sent client world) ≡ with_goal_sent client (home world)
   pub arrivals_apart : (server : EntityNo) (id : GoalId) (world : WorldState) → home (goal_arrived server id world) ≡ goal_arrived server id (home world)
-  pub goals_apart : (server : EntityNo) (change : List GoalRecord → List GoalRecord) (world : WorldState) → home (change_goals server change world) ≡ change_goals server change (home world)
+  pub goals_apart : (server : EntityNo) (change : List GoalRecord → List GoalRecord) (world : WorldState) → ((goals : List GoalRecord) → ids (change goals) ≡ ids goals) → home (change_goals server change world) ≡ change_goals server change (home world)
   pub order_same : (world : WorldState) → (home world).order ≡ world.order
   pub topics_same : (world : WorldState) → (home world).topics ≡ world.topics
   pub queues_same : (world : WorldState) → (home world).queues ≡ world.queues
@@ -108,7 +110,7 @@ module _ {home : WorldState → WorldState} (a : StandsApart home) where
   execute_goal_apart server (Some goal) world =
       let said : Line = line.State server goal.id (status_of (after_event event.Execute goal).state) in
       line_apart said (change_goals server (change_first (has_id goal.id) (after_event event.Execute)) world)
-      ∙ ap (λ (after : WorldState). add_line said after) (a.goals_apart server (change_first (has_id goal.id) (after_event event.Execute)) world)
+      ∙ ap (λ (after : WorldState). add_line said after) (a.goals_apart server (change_first (has_id goal.id) (after_event event.Execute)) world (ids_changed goal.id (after_event event.Execute) (λ one. refl)))
 
   execute_apart : (server : EntityNo) (world : WorldState) → home (execute server world) ≡ execute server (home world)
   execute_apart server world =
@@ -182,10 +184,19 @@ sender_found : (id : GoalId) (found : Option ServerEntry) → option_map_or (λ 
 sender_found id None = refl
 sender_found id (Some entry) = refl
 
--- what a server keeps beside a goal is changed, but not its identifier, its sender and the number of its arrival
-module _ (server : EntityNo) (goal : GoalId) (change : HeldGoal → HeldGoal) (id_same : (held : HeldGoal) → (change held).id ≡ held.id) (client_same : (held : HeldGoal) → (change held).client ≡ held.client) (arrival_apart : (number : ℕ) (held : HeldGoal) → change (record held { arrival = number }) ≡ record (change held) { arrival = number }) where
+-- a server's goal is changed, but not its record, its sender and the number of its arrival
+module _ (server : EntityNo) (goal : GoalId) (change : HeldGoal → HeldGoal) (goal_same : (held : HeldGoal) → (change held).goal ≡ held.goal) (record_apart : (goal : GoalRecord) (held : HeldGoal) → change (record held { goal = goal }) ≡ record (change held) { goal = goal }) (client_same : (held : HeldGoal) → (change held).client ≡ held.client) (arrival_apart : (number : ℕ) (held : HeldGoal) → change (record held { arrival = number }) ≡ record (change held) { arrival = number }) where
   abbrev pub held_changed : WorldState → WorldState
-  held_changed world = change_server server (λ entry. record entry { held = change_first (is_for goal) change entry.held }) world
+  held_changed world = change_held server goal change world
+
+  is_for_same : (id : GoalId) (held : HeldGoal) → is_for id (change held) ≡ is_for id held
+  is_for_same id held = ap (has_id id) (goal_same held)
+
+  goals_in_turn : (by : List GoalRecord → List GoalRecord) → ((goals : List GoalRecord) → ids (by goals) ≡ ids goals) → (entry : ServerEntry) → with_held goal change (with_goals by entry) ≡ with_goals by (with_held goal change entry)
+  goals_in_turn by same entry =
+      ap (λ (held : List HeldGoal). record entry { held = held })
+      (put_changed goal change goal_same record_apart (by (records_of entry.held)) entry.held (same (records_of entry.held))
+      ∙ ap (λ (goals : List GoalRecord). with_records (by goals) (change_first (is_for goal) change entry.held)) (sym (records_left goal change goal_same entry.held)))
 
   pub held_apart : StandsApart held_changed
   held_apart = record {
@@ -197,26 +208,26 @@ module _ (server : EntityNo) (goal : GoalId) (change : HeldGoal → HeldGoal) (i
         ap (λ (servers : List ServerEntry). record (goal_arrived other id world) { servers = servers })
         (changed_in_turn (is_server_at server) (is_server_at other) _ _ (λ entry. refl) (λ entry. refl)
         (λ entry. ap (λ (held : List HeldGoal). record entry { held = held })
-        (changed_in_turn (is_for goal) (is_for id) change (λ held. record held { arrival = next_arrival world }) (λ held. refl) (λ held. ap (λ (n : GoalId). n == id) (id_same held)) (arrival_apart (next_arrival world)) entry.held)) world.servers);
-    goals_apart = λ other by world.
+        (changed_in_turn (is_for goal) (is_for id) change (λ held. record held { arrival = next_arrival world }) (λ held. refl) (is_for_same id) (arrival_apart (next_arrival world)) entry.held)) world.servers);
+    goals_apart = λ other by world same.
         ap (λ (servers : List ServerEntry). record world { servers = servers })
-        (changed_in_turn (is_server_at server) (is_server_at other) _ _ (λ entry. refl) (λ entry. refl) (λ entry. refl) world.servers);
+        (changed_in_turn (is_server_at server) (is_server_at other) _ _ (λ entry. refl) (λ entry. refl) (goals_in_turn by same) world.servers);
     order_same = λ world. refl;
     topics_same = λ world. refl;
     queues_same = λ world. refl;
     clients_same = λ world. refl;
     action_clients_same = λ world. refl;
     goals_same = λ other world.
-        read_unchanged (λ entry. entry.goals) [] (is_server_at server) (is_server_at other) _ (λ entry. refl) (λ entry. refl) world.servers;
+        read_unchanged (λ entry. records_of entry.held) [] (is_server_at server) (is_server_at other) _ (λ entry. refl) (λ entry. records_left goal change goal_same entry.held) world.servers;
     senders_same = λ other id world.
         sender_found id (find (is_server_at other) (held_changed world).servers)
         ∙ read_unchanged (sender_in id) None (is_server_at server) (is_server_at other) _ (λ entry. refl)
-        (λ entry. read_unchanged (λ held. held.client) None (is_for goal) (is_for id) change (λ held. ap (λ (n : GoalId). n == id) (id_same held)) client_same entry.held) world.servers
+        (λ entry. read_unchanged (λ held. held.client) None (is_for goal) (is_for id) change (is_for_same id) client_same entry.held) world.servers
         ∙ sym (sender_found id (find (is_server_at other) world.servers));
   }
 
 task_apart : (server : EntityNo) (goal : GoalId) (task : TaskState) → StandsApart (λ world. with_task server goal task world)
-task_apart server goal task = held_apart server goal (λ held. record held { work = option_map (λ (work : GoalWork). record work { task = task }) held.work }) (λ held. refl) (λ held. refl) (λ number held. refl)
+task_apart server goal task = held_apart server goal (standing task) (λ held. refl) (λ goal held. refl) (λ held. refl) (λ number held. refl)
 
 pub variables_apart : (group : GroupNo) (variables : Variables) → StandsApart (λ world. with_variables group variables world)
 variables_apart group variables = record {
@@ -225,7 +236,7 @@ variables_apart group variables = record {
   calls_apart = λ client world. refl;
   sending_apart = λ client world. refl;
   arrivals_apart = λ server id world. refl;
-  goals_apart = λ server change world. refl;
+  goals_apart = λ server change world same. refl;
   order_same = λ world. refl;
   topics_same = λ world. refl;
   queues_same = λ world. refl;
@@ -242,7 +253,7 @@ nothing_apart = record {
   calls_apart = λ client world. refl;
   sending_apart = λ client world. refl;
   arrivals_apart = λ server id world. refl;
-  goals_apart = λ server change world. refl;
+  goals_apart = λ server change world same. refl;
   order_same = λ world. refl;
   topics_same = λ world. refl;
   queues_same = λ world. refl;
@@ -273,7 +284,7 @@ both_apart {first} {next} a b = record {
   calls_apart = λ client world. ap next (a.calls_apart client world) ∙ b.calls_apart client (first world);
   sending_apart = λ client world. ap next (a.sending_apart client world) ∙ b.sending_apart client (first world);
   arrivals_apart = λ server id world. ap next (a.arrivals_apart server id world) ∙ b.arrivals_apart server id (first world);
-  goals_apart = λ server change world. ap next (a.goals_apart server change world) ∙ b.goals_apart server change (first world);
+  goals_apart = λ server change world same. ap next (a.goals_apart server change world same) ∙ b.goals_apart server change (first world) same;
   order_same = λ world. b.order_same (first world) ∙ a.order_same world;
   topics_same = λ world. b.topics_same (first world) ∙ a.topics_same world;
   queues_same = λ world. b.queues_same (first world) ∙ a.queues_same world;

@@ -6,7 +6,7 @@ use Rattle.std.specs.Option.{option_and_then, option_map_or}
 use Rattle.exec_goal.specs.Calls.{end_state}
 use Rattle.exec_goal.specs.Cancel.{CancelRequest, Decided, code_of, moved, table_after}
 use Rattle.exec_goal.specs.State.{status_of}
-use Rattle.exec_goal.specs.Table.{Asked, GoalRecord, after_end, asked_by, asked_for, has_id, is_accepting, later, new_goal, told, unknown}
+use Rattle.exec_goal.specs.Table.{Asked, GoalRecord, after_end, asked_by, asked_for, has_id, is_accepting, later, told, unknown}
 use Rattle.exec_goal.specs.declared.state.State.{State}
 use Rattle.exec_msg.specs.Goal.{acceptance_of}
 use Rattle.exec_msg.specs.Numbers.{EntityNo, GoalId, Moment}
@@ -26,7 +26,8 @@ use Rattle.exec_script.specs.declared.effects.Close.{Close}
 use Rattle.exec_script.specs.declared.effects.Close.TheVariants as close
 use Rattle.exec_script.specs.declared.effects.Effects.{Effects}
 use Rattle.exec_rules.proofs.Apart.{StandsApart, effects_apart, held_apart, line_apart, push_any_apart, push_apart}
-use Rattle.exec_rules.proofs.Keeping.{Kept}
+use Rattle.exec_rules.proofs.Keeping.{Kept, ids_answered, ids_changed}
+use Rattle.exec_rules.proofs.Records.{any_put}
 use Rattle.exec_rules.proofs.Running.{KeptByAcceptance, commit_keeps, given_keeps}
 use Rattle.exec_rules.proofs.Pairs.{any_before}
 use Rattle.exec_rules.specs.Close.{GoalRequest, accept, accept_where, answer_ask, answer_cancel, answer_goal, ask, ask_where, cancel, close_callback, close_cause, close_item, close_poll, decide, decision_of_close, decisions_of_close, end, end_in, goal_at, held_goal, moved_lines, pend, reply_of_close, reply_to, respond, server_accepting, tell, tell_askers, tell_end, with_ended}
@@ -34,7 +35,7 @@ use Rattle.exec_rules.specs.Give.{give_all}
 use Rattle.exec_rules.specs.Ready.{run_line}
 use Rattle.exec_rules.specs.Run.{commit}
 use Rattle.exec_script.specs.Script.{Variables}
-use Rattle.exec_rules.specs.World.{ActionClientEntry, GoalWork, HeldGoal, ServerEntry, WorldState, action_client_at, add_line, add_lines, change_goals, change_server, goals_at, has_room_for, is_for, is_server_at, next_arrival, push, push_any, with_work, work_at}
+use Rattle.exec_rules.specs.World.{ActionClientEntry, GoalWork, HeldGoal, ServerEntry, WorldState, action_client_at, add_line, add_lines, change_goals, change_server, goals_at, has_room_for, is_for, records_of, is_server_at, next_arrival, push, push_any, with_work, work_at}
 use Rattle.exec_rules.specs.declared.item.Item.{Item}
 use Rattle.exec_rules.specs.declared.item.Item.TheVariants as item
 use Rattle.exec_rules.specs.declared.ready.Cause.{Cause}
@@ -72,7 +73,7 @@ module _ {P : WorldState → Type 0} {home : WorldState → WorldState} (s : Sta
   end_in_apart None server id by value moment world = refl
   end_in_apart (Some reached) server id by value moment world =
       let ended : WorldState = with_ended server id by value moment world in
-      let same : home ended ≡ with_ended server id by value moment (home world) = s.aside.goals_apart server (change_first (has_id id) (after_end by value moment)) world in
+      let same : home ended ≡ with_ended server id by value moment (home world) = s.aside.goals_apart server (change_first (has_id id) (after_end by value moment)) world (ids_changed id (after_end by value moment) (λ one. refl)) in
       tell_end_apart server (goal_at server id ended) ended
       ∙ ap (λ (goals : List GoalRecord). tell_end server (find (has_id id) goals) (home ended)) (sym (s.aside.goals_same server ended))
       ∙ ap (λ (after : WorldState). tell_end server (goal_at server id after) after) same
@@ -123,13 +124,13 @@ module _ {P : WorldState → Type 0} {home : WorldState → WorldState} (s : Sta
   cancel_apart : (server : EntityNo) (request : CancelRequest) (client : Option EntityNo) (decisions : List Decided) (world : WorldState) → home (cancel server request client decisions world) ≡ cancel server request client decisions (home world)
   cancel_apart server request client decisions world =
       answer_cancel_apart server client (code_of request decisions (goals_at server world)) (moved decisions (goals_at server world)) (change_goals server (table_after decisions) world)
-      ∙ ap (λ (after : WorldState). answer_cancel server client (code_of request decisions (goals_at server world)) (moved decisions (goals_at server world)) after) (s.aside.goals_apart server (table_after decisions) world)
+      ∙ ap (λ (after : WorldState). answer_cancel server client (code_of request decisions (goals_at server world)) (moved decisions (goals_at server world)) after) (s.aside.goals_apart server (table_after decisions) world (ids_answered decisions))
       ∙ ap (λ (goals : List GoalRecord). answer_cancel server client (code_of request decisions goals) (moved decisions goals) (change_goals server (table_after decisions) (home world))) (sym (s.aside.goals_same server world))
 
   answer_ask_apart : (server : EntityNo) (id : GoalId) (client : EntityNo) (asked : Asked) (world : WorldState) → home (answer_ask server id client asked world) ≡ answer_ask server id client asked (home world)
   answer_ask_apart server id client (told value result) world = tell_apart server id value result client world
   answer_ask_apart server id client unknown world = tell_apart server id status.Unknown (pos 0) client world
-  answer_ask_apart server id client later world = s.aside.goals_apart server (change_first (has_id id) (asked_by client)) world
+  answer_ask_apart server id client later world = s.aside.goals_apart server (change_first (has_id id) (asked_by client)) world (ids_changed id (asked_by client) (λ one. refl))
 
   ask_apart : (server : EntityNo) (id : GoalId) (client : EntityNo) (world : WorldState) → home (ask server id client world) ≡ ask server id client (home world)
   ask_apart server id client world =
@@ -221,7 +222,8 @@ module _ (server : EntityNo) (id : GoalId) where
   held_kept = record {
     lines_kept = λ lines world p. p;
     queues_kept = λ entity new world p. p;
-    goals_kept = λ other change world same p. read_kept (keeps id) (is_server_at other) (is_server_at server) _ (λ entry. refl) (λ entry q. q) world.servers p;
+    goals_kept = λ other change world same p.
+        read_kept (keeps id) (is_server_at other) (is_server_at server) _ (λ entry. refl) (λ entry q. any_put id (change (records_of entry.held)) entry.held (same (records_of entry.held)) ∙ q) world.servers p;
     arrivals_kept = λ other goal world p.
         read_kept (keeps id) (is_server_at other) (is_server_at server) _ (λ entry. refl) (λ entry q. any_changed (is_for goal) (is_for id) _ (λ held. refl) entry.held ∙ q) world.servers p;
     tasks_kept = λ other goal task world p.
@@ -234,9 +236,9 @@ module _ (server : EntityNo) (id : GoalId) where
   held_accepts : KeptByAcceptance (IsHeld server id)
   held_accepts other moment how request world room p =
       read_kept (keeps id) (is_server_at other) (is_server_at server) (server_accepting (next_arrival world) moment how request) (λ entry. refl)
-      (λ entry q. any_before (is_for id) entry.held (held_goal (next_arrival world) entry.handler.script request ∷ []) q) world.servers p
+      (λ entry q. any_before (is_for id) entry.held (held_goal (next_arrival world) moment how entry.handler.script request ∷ []) q) world.servers p
 
-  module _ (change : HeldGoal → HeldGoal) (id_same : (held : HeldGoal) → (change held).id ≡ held.id) (client_same : (held : HeldGoal) → (change held).client ≡ held.client) (arrival_apart : (number : ℕ) (held : HeldGoal) → change (record held { arrival = number }) ≡ record (change held) { arrival = number }) where
+  module _ (change : HeldGoal → HeldGoal) (goal_same : (held : HeldGoal) → (change held).goal ≡ held.goal) (record_apart : (goal : GoalRecord) (held : HeldGoal) → change (record held { goal = goal }) ≡ record (change held) { goal = goal }) (client_same : (held : HeldGoal) → (change held).client ≡ held.client) (arrival_apart : (number : ℕ) (held : HeldGoal) → change (record held { arrival = number }) ≡ record (change held) { arrival = number }) where
     abbrev changed : ServerEntry → ServerEntry
     changed entry = record entry { held = change_first (is_for id) change entry.held }
 
@@ -251,7 +253,7 @@ module _ (server : EntityNo) (id : GoalId) where
             change_first (is_server_at server) changed (change_first (is_server_at other) (server_accepting number moment how request) (entry ∷ servers)) ≡ change_first (is_server_at other) (server_accepting number moment how request) (change_first (is_server_at server) changed (entry ∷ servers))
         by true true e f p rest =
             let here : keeps id entry ≡ true = rw e at p in
-            rw (e, f, e) (ap (λ (held : List HeldGoal). record entry { goals = entry.goals ++ new_goal request.id request.value moment how ∷ []; held = held } ∷ servers) (changed_front (is_for id) change entry.held (held_goal number entry.handler.script request ∷ []) here))
+            rw (e, f, e) (ap (λ (held : List HeldGoal). record entry { held = held } ∷ servers) (changed_front (is_for id) change entry.held (held_goal number moment how entry.handler.script request ∷ []) here))
         by true false e f p rest = rw (e, f, e) refl
         by false true e f p rest = rw (e, f, e) refl
         by false false e f p rest =
@@ -260,7 +262,7 @@ module _ (server : EntityNo) (id : GoalId) where
 
     pub held_aside : StandsAside (IsHeld server id) (λ world. change_server server changed world)
     held_aside = record {
-      aside = held_apart server id change id_same client_same arrival_apart;
+      aside = held_apart server id change goal_same record_apart client_same arrival_apart;
       basic = held_kept;
       accepts = held_accepts;
       acceptance_apart = λ other moment how request world p.
@@ -292,7 +294,7 @@ set_aside variables = record {
     calls_apart = λ client world. refl;
     sending_apart = λ client world. refl;
     arrivals_apart = λ server id world. refl;
-    goals_apart = λ server change world. refl;
+    goals_apart = λ server change world same. refl;
     order_same = λ world. refl;
     topics_same = λ world. refl;
     queues_same = λ world. refl;
@@ -382,6 +384,6 @@ work_left server id work one effects world is =
     let there : IsHeld server id world = work_held server id work world is in
     let same : with_work server id (Some work) world ≡ world = ap (λ (servers : List ServerEntry). record world { servers = servers }) (put_back server id work world.servers is) in
     let after : with_work server id (Some work) (commit one effects world) ≡ commit one effects world =
-    commit_apart (held_aside server id put (λ held. refl) (λ held. refl) (λ number held. refl)) one effects world there ∙ ap (λ (before : WorldState). commit one effects before) same in
+    commit_apart (held_aside server id put (λ held. refl) (λ goal held. refl) (λ held. refl) (λ number held. refl)) one effects world there ∙ ap (λ (before : WorldState). commit one effects before) same in
     sym (ap (λ (state : WorldState). work_at server id state) after)
     ∙ work_put server id (Some work) (commit one effects world).servers (commit_keeps (held_kept server id) (held_accepts server id) one effects world there)

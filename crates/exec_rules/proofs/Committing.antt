@@ -13,7 +13,7 @@ use Rattle.exec_rules.specs.Callback.{AfterCallback}
 use Rattle.exec_rules.specs.Run.{all_apart, all_home, apart, apart_with, brought_home, commit, commit_all, effects_of, variables_for, with_polled, with_variables_for, work_for}
 use Rattle.exec_rules.specs.Transcript.{run_all}
 use Rattle.exec_script.specs.Script.{Variables}
-use Rattle.exec_rules.specs.World.{GoalWork, HeldGoal, ServerEntry, WorldState, is_for, is_server_at, with_task, with_variables, work_at}
+use Rattle.exec_rules.specs.World.{GoalWork, HeldGoal, ServerEntry, WorldState, is_for, is_server_at, standing, with_task, with_variables, work_at}
 use Rattle.exec_rules.specs.declared.ready.Cause.{Cause}
 use Rattle.exec_rules.specs.declared.ready.Cause.TheVariants as cause
 use Rattle.exec_rules.specs.declared.ready.Ready.{Ready}
@@ -42,7 +42,7 @@ module _ (one : Ready) (effects : Effects) where
   polled_in_turn server (cause.Took taken) task world home = refl
   polled_in_turn server (cause.Woke id value canceling) None world home = refl
   polled_in_turn server (cause.Woke id value canceling) (Some task) world home =
-      commit_apart (held_aside server id (λ held. record held { work = option_map (λ (work : GoalWork). record work { task = task }) held.work }) (λ held. refl) (λ held. refl) (λ number held. refl)) one effects world (work_held server id home.0 world home.1)
+      commit_apart (held_aside server id (standing task) (λ held. refl) (λ goal held. refl) (λ held. refl) (λ number held. refl)) one effects world (work_held server id home.0 world home.1)
 
   variables_in_turn : (other : Ready) (variables : Variables) (world : WorldState) → with_variables_for other variables (commit one effects world) ≡ commit one effects (with_variables_for other variables world)
   variables_in_turn other variables world = by other.exclusive

@@ -1,8 +1,8 @@
 -- The goals of a server where some server is changed: no two of them have one identifier.
 use Rattle.std.proofs.Common.{◌≡◌, ◌⊎◌, inl, inr, ℕ, Bool, true, false, ◌||◌, not, ◌==◌, List, [], ◌∷◌, ◌++◌, map, Option, None, refl, sym, ap, subst, ◌∙◌, true≢false}
 use Rattle.std.specs.List.{AllByRecursion, IsDistinct, filter, list_any}
-use Rattle.std.specs.Option.{option_map}
 use Rattle.std.proofs.lemmas.Bool.{eqb-true, eq-eqb, or_parts, not-true}
+use Rattle.std.proofs.lemmas.List.{map-append}
 use Rattle.exec_goal.specs.Table.{GoalRecord, holds_id, has_id, is_full, is_expired, new_goal, unexpired}
 use Rattle.exec_msg.specs.Numbers.{EntityNo, GoalId, Moment}
 use Rattle.exec_msg.specs.declared.goal.Acceptance.{Acceptance}
@@ -10,11 +10,11 @@ use Rattle.exec_plan.specs.Graph.{GraphData, entities_where, is_server}
 use Rattle.exec_plan.specs.Plan.{PlanData}
 use Rattle.exec_msg.specs.Lists.{change_first}
 use Rattle.exec_task.specs.Task.{TaskState}
-use Rattle.exec_rules.proofs.Keeping.{ids}
+use Rattle.exec_rules.proofs.Records.{ids, records_filtered, records_left, records_put}
 use Rattle.exec_rules.proofs.Running.{KeptByRounds, rounds_keep}
-use Rattle.exec_rules.specs.Close.{GoalRequest, server_accepting, accept}
+use Rattle.exec_rules.specs.Close.{GoalRequest, held_goal, server_accepting, accept}
 use Rattle.exec_rules.specs.Transcript.{server_expired, first_world, new_server, rounds}
-use Rattle.exec_rules.specs.World.{WorldState, GoalWork, ServerEntry, is_server_at, is_for, goals_in, goals_at, has_room_for, next_arrival}
+use Rattle.exec_rules.specs.World.{WorldState, HeldGoal, ServerEntry, is_server_at, records_of, goals_in, goals_at, has_room_for, with_goals, with_held, arrived, standing, next_arrival}
 
 -- ---- numbers
 
@@ -78,26 +78,20 @@ OldOrNew one server change goals servers =
 -- a change of a server leaves its number, and makes this of its goals
 pub record Makes (change : ServerEntry → ServerEntry) (goals : List GoalRecord → List GoalRecord) : Type 0 where
   pub stays : (entry : ServerEntry) → (change entry).handler.entity ≡ entry.handler.entity
-  pub makes : (entry : ServerEntry) → (change entry).goals ≡ goals entry.goals
+  pub makes : (entry : ServerEntry) → records_of (change entry).held ≡ goals (records_of entry.held)
 
 -- the records are changed, a task is put, a goal arrives anew, and a goal is accepted
-pub changing : (change : List GoalRecord → List GoalRecord) → Makes (λ entry. record entry { goals = change entry.goals }) change
-changing change = record { stays = λ entry. refl; makes = λ entry. refl }
+pub changing : (change : List GoalRecord → List GoalRecord) → ((goals : List GoalRecord) → ids (change goals) ≡ ids goals) → Makes (with_goals change) change
+changing change same = record { stays = λ entry. refl; makes = λ entry. records_put (change (records_of entry.held)) entry.held (same (records_of entry.held)) }
 
-abbrev tasked : GoalId → TaskState → ServerEntry → ServerEntry
-tasked id task entry = record entry { held = change_first (is_for id) (λ held. record held { work = option_map (λ (work : GoalWork). record work { task = task }) held.work }) entry.held }
+pub tasking : (id : GoalId) (task : TaskState) → Makes (with_held id (standing task)) (λ goals. goals)
+tasking id task = record { stays = λ entry. refl; makes = λ entry. records_left id (standing task) (λ one. refl) entry.held }
 
-pub tasking : (id : GoalId) (task : TaskState) → Makes (tasked id task) (λ goals. goals)
-tasking id task = record { stays = λ entry. refl; makes = λ entry. refl }
-
-abbrev arriving : GoalId → ℕ → ServerEntry → ServerEntry
-arriving id number entry = record entry { held = change_first (is_for id) (λ held. record held { arrival = number }) entry.held }
-
-pub goal_arriving : (id : GoalId) (number : ℕ) → Makes (arriving id number) (λ goals. goals)
-goal_arriving id number = record { stays = λ entry. refl; makes = λ entry. refl }
+pub goal_arriving : (id : GoalId) (number : ℕ) → Makes (with_held id (arrived number)) (λ goals. goals)
+goal_arriving id number = record { stays = λ entry. refl; makes = λ entry. records_left id (arrived number) (λ one. refl) entry.held }
 
 pub accepting : (number : ℕ) (moment : Moment) (how : Acceptance) (request : GoalRequest) → Makes (server_accepting number moment how request) (λ goals. goals ++ new_goal request.id request.value moment how ∷ [])
-accepting number moment how request = record { stays = λ entry. refl; makes = λ entry. refl }
+accepting number moment how request = record { stays = λ entry. refl; makes = λ entry. map-append (λ (one : HeldGoal). one.goal) entry.held (held_goal number moment how entry.handler.script request ∷ []) }
 
 module _ {change : ServerEntry → ServerEntry} {goals : List GoalRecord → List GoalRecord} (m : Makes change goals) where
   pub old_or_new : (one server : EntityNo) (servers : List ServerEntry) → OldOrNew one server change goals servers
@@ -144,7 +138,7 @@ expired_goals moment server [] = (None, refl)
 expired_goals moment server (entry ∷ servers) = by (is_server_at server entry) refl (expired_goals moment server servers)
   where
     by : (b : Bool) → is_server_at server entry ≡ b → ((timeout : Option ℕ) × (goals_in server (map (server_expired moment) servers) ≡ unexpired moment timeout (goals_in server servers))) → (timeout : Option ℕ) × (goals_in server (map (server_expired moment) (entry ∷ servers)) ≡ unexpired moment timeout (goals_in server (entry ∷ servers)))
-    by true e rest = (entry.timeout, rw e refl)
+    by true e rest = (entry.timeout, rw e (records_filtered (λ goal. not (is_expired moment entry.timeout goal)) entry.held))
     by false e rest = (rest.0, rw e rest.1)
 
 -- new servers have none
@@ -178,7 +172,7 @@ distinct_kept = record {
   basic = record {
     lines_kept = λ lines world p. p;
     queues_kept = λ entity new world p. p;
-    goals_kept = λ server change world same p one. subst (λ (some : List GoalId). Distinct some) (sym (ids_left (changing change) same one server world.servers)) (p one);
+    goals_kept = λ server change world same p one. subst (λ (some : List GoalId). Distinct some) (sym (ids_left (changing change same) same one server world.servers)) (p one);
     tasks_kept = λ server id task world p one. subst (λ (some : List GoalId). Distinct some) (sym (ids_left (tasking id task) (λ goals. refl) one server world.servers)) (p one);
     arrivals_kept = λ server id world p one. subst (λ (some : List GoalId). Distinct some) (sym (ids_left (goal_arriving id (next_arrival world)) (λ goals. refl) one server world.servers)) (p one);
     calls_kept = λ client world p. p;

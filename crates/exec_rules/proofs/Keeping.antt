@@ -29,6 +29,7 @@ use Rattle.exec_script.specs.declared.step.Step.TheVariants as step
 use Rattle.exec_script.specs.declared.step.Stop.TheVariants as stop
 use Rattle.exec_task.specs.Task.{TaskState, polled_where, is_awake, poll_input}
 use Rattle.exec_task.specs.declared.wait.Turn.{Turn}
+use Rattle.exec_rules.proofs.Records.{ids}
 use Rattle.exec_rules.specs.Callback.{CancelHandling, handle_cancel, call_in, take_item, poll, poll_where, act, callback, instructions_of, candidate_input}
 use Rattle.exec_rules.specs.Close.{tell, tell_end, moved_lines, answer_ask, goal_arrived}
 use Rattle.exec_rules.specs.Give.{publish, call_by, send_goal_by, send_cancel, cancel_all_by, cancel_goal_by, oldest_accepted, execute_goal, sender_at, give_feedback, give}
@@ -42,10 +43,6 @@ use Rattle.exec_rules.specs.declared.item.Item.TheVariants as item
 use Rattle.exec_rules.specs.declared.ready.Cause.{Cause}
 use Rattle.exec_rules.specs.declared.ready.Cause.TheVariants as cause
 use Rattle.exec_rules.specs.declared.ready.Ready.{Ready}
-
--- the identifiers of goals
-abbrev pub ids : List GoalRecord → List GoalId
-ids goals = map (λ goal. goal.id) goals
 
 -- each basic change but an acceptance keeps a property: lines, an item that is queued, goals that are changed under their
 -- identifiers, where a task stands, a goal that arrives anew, a call, a goal that is sent, and variables

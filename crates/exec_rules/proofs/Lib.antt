@@ -15,6 +15,7 @@ pub mod Pairs
 pub mod Placing
 pub mod PolledAlike
 pub mod ReadyLists
+pub mod Records
 pub mod Running
 pub mod Shapes
 pub mod Sorting

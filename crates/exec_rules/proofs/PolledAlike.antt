@@ -14,7 +14,7 @@ use Rattle.exec_rules.specs.Run.{after_callback, run, variables_for, work_for}
 use Rattle.exec_rules.specs.Transcript.{run_all}
 use Rattle.exec_msg.specs.Numbers.{Moment}
 use Rattle.exec_script.specs.Script.{Variables}
-use Rattle.exec_rules.specs.World.{GoalWork, ServerEntry, WorldState, add_line}
+use Rattle.exec_rules.specs.World.{GoalWork, HeldGoal, ServerEntry, WorldState, add_line}
 use Rattle.exec_rules.specs.declared.item.Item.{Item}
 use Rattle.exec_rules.specs.declared.item.Item.TheVariants as item
 use Rattle.exec_rules.specs.declared.ready.Cause.{Cause}
@@ -91,24 +91,24 @@ module _ (moment : Moment) where
       ap (λ (gives : Effect → WorldState → WorldState). after_callback one (poll gives (turn_at moment (is_canceling goal.state)) (work_for one.entity one.cause world) (variables_for one world) (add_line (run_line one) world)))
       (gives_alike one 0 (Some entry.handler.script))
 
-  goal_alike : (b : Bool) (entry : ServerEntry) (goal : GoalRecord) (goals : List GoalRecord) (world : WorldState) → is_goal_awake moment entry.held goal ≡ b
-      → ((after : WorldState) → run_all (map (λ one. ready_for moment entry.handler (woken one) [] (Some entry.handler.script)) (filter (is_goal_awake moment entry.held) goals)) after ≡ run_all (map (poll_at moment) (flat_map (goal_awake moment entry) goals)) after)
-      → run_all (map (λ one. ready_for moment entry.handler (woken one) [] (Some entry.handler.script)) (filter (is_goal_awake moment entry.held) (goal ∷ goals))) world ≡ run_all (map (poll_at moment) (flat_map (goal_awake moment entry) (goal ∷ goals))) world
-  goal_alike true entry goal goals world is rest =
-      rw is (ap (run_all (map (λ one. ready_for moment entry.handler (woken one) [] (Some entry.handler.script)) (filter (is_goal_awake moment entry.held) goals))) (poll_alike entry goal world) ∙ rest (run (poll_at moment (awake_goal entry.handler goal)) world))
-  goal_alike false entry goal goals world is rest = rw is (rest world)
+  goal_alike : (b : Bool) (entry : ServerEntry) (one : HeldGoal) (held : List HeldGoal) (world : WorldState) → is_goal_awake moment one ≡ b
+      → ((after : WorldState) → run_all (map (λ held. ready_for moment entry.handler (woken held.goal) [] (Some entry.handler.script)) (filter (is_goal_awake moment) held)) after ≡ run_all (map (poll_at moment) (flat_map (goal_awake moment entry.handler) held)) after)
+      → run_all (map (λ held. ready_for moment entry.handler (woken held.goal) [] (Some entry.handler.script)) (filter (is_goal_awake moment) (one ∷ held))) world ≡ run_all (map (poll_at moment) (flat_map (goal_awake moment entry.handler) (one ∷ held))) world
+  goal_alike true entry one held world is rest =
+      rw is (ap (run_all (map (λ held. ready_for moment entry.handler (woken held.goal) [] (Some entry.handler.script)) (filter (is_goal_awake moment) held))) (poll_alike entry one.goal world) ∙ rest (run (poll_at moment (awake_goal entry.handler one.goal)) world))
+  goal_alike false entry one held world is rest = rw is (rest world)
 
-  goals_alike : (entry : ServerEntry) (goals : List GoalRecord) (world : WorldState)
-      → run_all (map (λ one. ready_for moment entry.handler (woken one) [] (Some entry.handler.script)) (filter (is_goal_awake moment entry.held) goals)) world ≡ run_all (map (poll_at moment) (flat_map (goal_awake moment entry) goals)) world
+  goals_alike : (entry : ServerEntry) (held : List HeldGoal) (world : WorldState)
+      → run_all (map (λ held. ready_for moment entry.handler (woken held.goal) [] (Some entry.handler.script)) (filter (is_goal_awake moment) held)) world ≡ run_all (map (poll_at moment) (flat_map (goal_awake moment entry.handler) held)) world
   goals_alike entry [] world = refl
-  goals_alike entry (goal ∷ goals) world = goal_alike (is_goal_awake moment entry.held goal) entry goal goals world refl (goals_alike entry goals)
+  goals_alike entry (one ∷ held) world = goal_alike (is_goal_awake moment one) entry one held world refl (goals_alike entry held)
 
   polls_alike : (servers : List ServerEntry) (world : WorldState) → run_all (flat_map (poll_ready moment) servers) world ≡ run_all (map (poll_at moment) (flat_map (awake_goals moment) servers)) world
   polls_alike [] world = refl
   polls_alike (entry ∷ servers) world =
       run_both (poll_ready moment entry) (flat_map (poll_ready moment) servers) world
       ∙ polls_alike servers (run_all (poll_ready moment entry) world)
-      ∙ ap (run_all (map (poll_at moment) (flat_map (awake_goals moment) servers))) (goals_alike entry entry.goals world)
+      ∙ ap (run_all (map (poll_at moment) (flat_map (awake_goals moment) servers))) (goals_alike entry entry.held world)
       ∙ sym (run_both (map (poll_at moment) (awake_goals moment entry)) (map (poll_at moment) (flat_map (awake_goals moment) servers)) world)
       ∙ ap (λ (list : List Ready). run_all list world) (sym (map-append (poll_at moment) (awake_goals moment entry) (flat_map (awake_goals moment) servers)))
 

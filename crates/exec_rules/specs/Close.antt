@@ -4,7 +4,7 @@ use Rattle.std.specs.List.{find, fold}
 use Rattle.exec_goal.specs.Calls.{end_state}
 use Rattle.exec_goal.specs.Cancel.{CancelRequest, Decided, moved, table_after, code_of}
 use Rattle.exec_goal.specs.State.{status_of}
-use Rattle.exec_goal.specs.Table.{GoalRecord, Asked, told, later, unknown, has_id, is_accepting, with_accepted, after_end, asked_for, asked_by}
+use Rattle.exec_goal.specs.Table.{GoalRecord, Asked, told, later, unknown, has_id, is_accepting, new_goal, after_end, asked_for, asked_by}
 use Rattle.exec_goal.specs.declared.state.State.{State}
 use Rattle.exec_msg.specs.Goal.{acceptance_of}
 use Rattle.exec_msg.specs.Numbers.{EntityNo, GoalId, Moment}
@@ -25,8 +25,8 @@ use Rattle.exec_script.specs.declared.effects.Close.TheVariants as close
 use Rattle.exec_task.specs.Task.{new_task}
 use Rattle.exec_plan.specs.declared.order.Order.{Order}
 use Rattle.exec_plan.specs.declared.order.Order.TheVariants as order
-use Rattle.exec_rules.specs.World.{WorldState, HeldGoal, ServerEntry, ActionClientEntry, goals_at, has_room_for, is_for, action_client_at}
-use Rattle.exec_rules.specs.World.{add_line, add_lines, push, push_any, change_server, change_goals, arrived, next_arrival, with_arrival}
+use Rattle.exec_rules.specs.World.{WorldState, HeldGoal, ServerEntry, ActionClientEntry, goals_at, has_room_for, action_client_at}
+use Rattle.exec_rules.specs.World.{add_line, add_lines, push, push_any, change_server, change_goals, change_held, arrived, next_arrival, with_arrival}
 use Rattle.exec_rules.specs.declared.item.Item.{Item}
 use Rattle.exec_rules.specs.declared.item.Item.TheVariants as item
 use Rattle.exec_rules.specs.declared.ready.Cause.{Cause}
@@ -67,10 +67,10 @@ abbrev pub accepted_lines : EntityNo → GoalId → Acceptance → List Line
 accepted_lines server id acceptance.Execute = line.State server id status.Accepted ∷ line.State server id status.Executing ∷ []
 accepted_lines server id acceptance.Defer = line.State server id status.Accepted ∷ []
 
--- what a server keeps beside the record of a goal that it accepts, with the number of its arrival
-abbrev pub held_goal : ℕ → Script → GoalRequest → HeldGoal
-held_goal number script request = record {
-  id = request.id;
+-- a goal that a server accepts at a moment, with the number of its arrival
+abbrev pub held_goal : ℕ → Moment → Acceptance → Script → GoalRequest → HeldGoal
+held_goal number moment how script request = record {
+  goal = new_goal request.id request.value moment how;
   client = request.client;
   work = Some (record { script = script; value = request.value; task = new_task });
   arrival = number;
@@ -78,10 +78,8 @@ held_goal number script request = record {
 
 -- a server that holds one more goal, accepted at a moment
 abbrev pub server_accepting : ℕ → Moment → Acceptance → GoalRequest → ServerEntry → ServerEntry
-server_accepting number moment how request entry = record entry {
-  goals = with_accepted request.id request.value moment how entry.goals;
-  held = entry.held ++ held_goal number entry.handler.script request ∷ [];
-}
+server_accepting number moment how request entry =
+    record entry { held = entry.held ++ held_goal number moment how entry.handler.script request ∷ [] }
 
 -- a server accepts a goal at a moment: the goal arrives
 abbrev pub accept : EntityNo → Moment → Acceptance → GoalRequest → WorldState → WorldState
@@ -181,9 +179,7 @@ end server id by value moment world = end_in (end_state id by (goals_at server w
 
 -- a server's goal arrives anew
 abbrev pub goal_arrived : EntityNo → GoalId → WorldState → WorldState
-goal_arrived server id world =
-    change_server server (λ entry. record entry { held = change_first (is_for id) (arrived (next_arrival world)) entry.held })
-    (with_arrival world)
+goal_arrived server id world = change_held server id (arrived (next_arrival world)) (with_arrival world)
 
 -- a goal whose poll pends arrives anew, if the order asks for arrivals
 abbrev pub pend : Order → EntityNo → GoalId → WorldState → WorldState

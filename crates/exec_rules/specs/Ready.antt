@@ -23,8 +23,8 @@ use Rattle.exec_plan.specs.declared.order.Order.{Order}
 use Rattle.exec_plan.specs.declared.order.Order.TheVariants as order
 use Rattle.exec_rules.specs.Item.{taker_of, first_of, aux_of, id_of}
 use Rattle.exec_rules.specs.Sorting.{sorted_by}
-use Rattle.exec_rules.specs.World.{WorldState, Handler, TimerEntry, Queue, ServerEntry, ClientEntry, HeldGoal}
-use Rattle.exec_rules.specs.World.{goals_at, has_room_for, held_for, is_client_at, is_for, is_queue}
+use Rattle.exec_rules.specs.World.{WorldState, Handler, TimerEntry, Queue, GoalWork, HeldGoal, ServerEntry, ClientEntry}
+use Rattle.exec_rules.specs.World.{goals_at, has_room_for, held_for, is_client_at, is_queue}
 use Rattle.exec_rules.specs.declared.item.Item.{Item}
 use Rattle.exec_rules.specs.declared.item.Item.TheVariants as item
 use Rattle.exec_rules.specs.declared.ready.Cause.{Cause}
@@ -108,14 +108,13 @@ item_ready moment handler goals (first ∷ items) =
 abbrev pub queue_ready : Moment → WorldState → Queue → List Ready
 queue_ready moment world queue = item_ready moment queue.handler (goals_at queue.handler.entity world) queue.items
 
--- whether the task of a goal is awake in a turn; one that isn't there or is out never is
-abbrev pub is_task_awake : Turn → Option HeldGoal → Bool
-is_task_awake turn None = false
-is_task_awake turn (Some held) = option_map_or (λ work. is_awake work.task turn) held.work false
+-- whether the task of a goal's work is awake in a turn; one that is out never is
+abbrev pub is_task_awake : Turn → Option GoalWork → Bool
+is_task_awake turn work = option_map_or (λ work. is_awake work.task turn) work false
 
--- whether a goal is awake at a moment, where its server keeps this beside its goals
-abbrev pub is_goal_awake : Moment → List HeldGoal → GoalRecord → Bool
-is_goal_awake moment held goal = is_worked_on goal.state && is_task_awake (turn_at moment (is_canceling goal.state)) (find (is_for goal.id) held)
+-- whether a goal is awake at a moment
+abbrev pub is_goal_awake : Moment → HeldGoal → Bool
+is_goal_awake moment held = is_worked_on held.goal.state && is_task_awake (turn_at moment (is_canceling held.goal.state)) held.work
 
 -- the poll of a goal
 abbrev pub woken : GoalRecord → Cause
@@ -124,7 +123,7 @@ woken goal = cause.Woke goal.id goal.value (is_canceling goal.state)
 -- a server's polls, in order of acceptance
 abbrev pub poll_ready : Moment → ServerEntry → List Ready
 poll_ready moment entry =
-    map (λ goal. ready_for moment entry.handler (woken goal) [] (Some entry.handler.script)) (filter (is_goal_awake moment entry.held) entry.goals)
+    map (λ held. ready_for moment entry.handler (woken held.goal) [] (Some entry.handler.script)) (filter (is_goal_awake moment) entry.held)
 
 -- ready callbacks at their places, the first of which is this
 abbrev pub placed_from : ℕ → List Ready → List Ready

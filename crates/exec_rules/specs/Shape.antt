@@ -16,7 +16,7 @@ abbrev pub queue_shape : Queue → Queue
 queue_shape queue = record queue { items = []; arrivals = numbers_shape queue.arrivals }
 
 abbrev pub server_shape : ServerEntry → ServerEntry
-server_shape entry = record entry { goals = []; held = [] }
+server_shape entry = record entry { held = [] }
 
 abbrev pub client_shape : ClientEntry → ClientEntry
 client_shape entry = record entry { calls = 0; pending = [] }

@@ -1,8 +1,8 @@
 -- The rounds of a plan on one thread, and their transcript.
-use Rattle.std.specs.Prelude.{ℕ, zero, suc, List, [], ◌∷◌, ◌++◌, length, map, replicate, Bool, is_some, ◌==◌, Option, None, Some, true, false}
+use Rattle.std.specs.Prelude.{ℕ, zero, suc, List, [], ◌∷◌, ◌++◌, length, map, replicate, Bool, not, is_some, ◌==◌, Option, None, Some, true, false}
 use Rattle.std.specs.List.{filter, flat_map, fold}
 use Rattle.std.specs.Option.{unwrap_or}
-use Rattle.exec_goal.specs.Table.{GoalRecord, holds_id, expired, unexpired}
+use Rattle.exec_goal.specs.Table.{is_expired, expired}
 use Rattle.exec_msg.specs.Numbers.{EntityNo, Moment}
 use Rattle.exec_plan.specs.Entity.{Resolved, queue_depth}
 use Rattle.exec_plan.specs.Feeding.{fed_in}
@@ -23,7 +23,7 @@ use Rattle.exec_script.specs.Zeros.{zeros}
 use Rattle.exec_rules.specs.Give.{publish}
 use Rattle.exec_rules.specs.Ready.{ready_list, take_inputs}
 use Rattle.exec_rules.specs.Run.{run}
-use Rattle.exec_rules.specs.World.{WorldState, Handler, TopicEntry, TimerEntry, Queue, ServerEntry, ClientEntry, ActionClientEntry, add_line, add_lines, push}
+use Rattle.exec_rules.specs.World.{WorldState, Handler, TopicEntry, TimerEntry, Queue, ServerEntry, ClientEntry, ActionClientEntry, add_line, add_lines, push, records_of}
 use Rattle.exec_rules.specs.declared.item.Item.TheVariants as item
 use Rattle.exec_rules.specs.declared.ready.Ready.{Ready}
 
@@ -104,7 +104,7 @@ timeout_of _ = None
 -- a server without goals
 abbrev pub server_for : GraphData → EntityNo → GraphEntity → ServerEntry
 server_for graph number entity =
-    record { handler = handler_for graph kind.Poll number entity; timeout = timeout_of entity.is; goals = []; held = [] }
+    record { handler = handler_for graph kind.Poll number entity; timeout = timeout_of entity.is; held = [] }
 
 -- the action server that a graph has at a number, before it accepts a goal
 abbrev pub new_server : GraphData → EntityNo → ServerEntry
@@ -167,15 +167,11 @@ first_world plan = record {
 
 -- the lines of the goals that a server forgets, in order of acceptance
 abbrev pub expire_lines : Moment → ServerEntry → List Line
-expire_lines moment entry = map (λ goal. line.Expire entry.handler.entity goal.id) (expired moment entry.timeout entry.goals)
-
--- a server that keeps these goals alone
-abbrev pub keeping : List GoalRecord → ServerEntry → ServerEntry
-keeping goals entry = record entry { goals = goals; held = filter (λ held. holds_id held.id goals) entry.held }
+expire_lines moment entry = map (λ goal. line.Expire entry.handler.entity goal.id) (expired moment entry.timeout (records_of entry.held))
 
 -- a server without the goals that it forgets
 abbrev pub server_expired : Moment → ServerEntry → ServerEntry
-server_expired moment entry = keeping (unexpired moment entry.timeout entry.goals) entry
+server_expired moment entry = record entry { held = filter (λ held. not (is_expired moment entry.timeout held.goal)) entry.held }
 
 -- the world after expiry at a moment
 abbrev pub expire : Moment → WorldState → WorldState

@@ -2,7 +2,7 @@
 use Rattle.std.specs.Prelude.{ℕ, ◌+◌, ℤ, List, [], ◌∷◌, ◌++◌, map, Bool, not, ◌&&◌, ◌||◌, ◌==◌, Option, None, Some, slice_index_or, slice_set}
 use Rattle.std.specs.List.{find}
 use Rattle.std.specs.Option.{option_and_then, option_map, option_map_or}
-use Rattle.exec_goal.specs.Table.{GoalRecord, holds_id, is_full}
+use Rattle.exec_goal.specs.Table.{GoalRecord, has_id, holds_id, is_full}
 use Rattle.exec_msg.specs.Numbers.{EntityNo, GoalId}
 use Rattle.exec_script.specs.Instruction.{Script}
 use Rattle.exec_plan.specs.Graph.{GroupNo}
@@ -58,20 +58,19 @@ pub record GoalWork : Type 0 where
 abbrev pub work_of : GoalTaskState → GoalWork
 work_of task = record { script = task.script; value = task.value; task = task.task }
 
--- what a server keeps beside a goal's record, by identifier: the action client that sent the goal (none where it was fed),
--- the goal's work (none while its task is out), and the number of the goal's last arrival
+-- a goal that a server holds: its record, the action client that sent it (none where it was fed), its work (none while its
+-- task is out), and the number of its last arrival
 pub record HeldGoal : Type 0 where
-  pub id : GoalId
+  pub goal : GoalRecord
   pub client : Option EntityNo
   pub work : Option GoalWork
   pub arrival : ℕ
 
--- a server: the callback that polls its goals, for how many ticks it keeps a result (without end where there is none), the
--- records of its goals in order of acceptance, and what it keeps beside each
+-- a server: the callback that polls its goals, for how many ticks it keeps a result (without end where there is none), and
+-- the goals that it holds, in order of acceptance
 pub record ServerEntry : Type 0 where
   pub handler : Handler
   pub timeout : Option ℕ
-  pub goals : List GoalRecord
   pub held : List HeldGoal
 
 -- a service client: its service, the number of its last call, and the numbers of those without a reply
@@ -140,7 +139,7 @@ next_arrival world = next_in world.order world.arrivals
 abbrev pub with_arrival : WorldState → WorldState
 with_arrival world = record world { arrivals = next_arrival world }
 
--- what is held of a goal that arrived with this number
+-- a goal that arrived with this number
 abbrev pub arrived : ℕ → HeldGoal → HeldGoal
 arrived number held = record held { arrival = number }
 
@@ -192,9 +191,21 @@ subscribers_at topic world = option_map_or (λ entry. entry.subscribers) (find (
 abbrev pub is_server_at : EntityNo → ServerEntry → Bool
 is_server_at server entry = entry.handler.entity == server
 
--- the records of the goals of the server of a number; one that isn't there has none
+-- the records of goals
+abbrev pub records_of : List HeldGoal → List GoalRecord
+records_of held = map (λ one. one.goal) held
+
+-- the goals that the server of a number holds; one that isn't there holds none
+abbrev pub held_in : EntityNo → List ServerEntry → List HeldGoal
+held_in server servers = option_map_or (λ entry. entry.held) (find (is_server_at server) servers) []
+
+-- the goals that a server holds
+abbrev pub held_at : EntityNo → WorldState → List HeldGoal
+held_at server world = held_in server world.servers
+
+-- the records of the goals of the server of a number
 abbrev pub goals_in : EntityNo → List ServerEntry → List GoalRecord
-goals_in server servers = option_map_or (λ entry. entry.goals) (find (is_server_at server) servers) []
+goals_in server servers = option_map_or (λ entry. records_of entry.held) (find (is_server_at server) servers) []
 
 -- the records of a server's goals
 abbrev pub goals_at : EntityNo → WorldState → List GoalRecord
@@ -204,27 +215,36 @@ goals_at server world = goals_in server world.servers
 abbrev pub has_room_for : GoalId → List GoalRecord → Bool
 has_room_for id goals = not (holds_id id goals || is_full goals)
 
--- what the server of a number keeps beside them
-abbrev pub held_in : EntityNo → List ServerEntry → List HeldGoal
-held_in server servers = option_map_or (λ entry. entry.held) (find (is_server_at server) servers) []
-
--- what a server keeps beside them
-abbrev pub held_at : EntityNo → WorldState → List HeldGoal
-held_at server world = held_in server world.servers
-
 -- the world in which a server is changed
 abbrev pub change_server : EntityNo → (ServerEntry → ServerEntry) → WorldState → WorldState
 change_server server change world = record world { servers = change_first (is_server_at server) change world.servers }
 
+-- goals of which each has the record at its place
+abbrev pub with_records : List GoalRecord → List HeldGoal → List HeldGoal
+with_records (goal ∷ goals) (one ∷ held) = record one { goal = goal } ∷ with_records goals held
+with_records _ _ = []
+
+-- a server of whose goals the records are changed
+abbrev pub with_goals : (List GoalRecord → List GoalRecord) → ServerEntry → ServerEntry
+with_goals change entry = record entry { held = with_records (change (records_of entry.held)) entry.held }
+
 -- the world in which the records of a server's goals are changed
 abbrev pub change_goals : EntityNo → (List GoalRecord → List GoalRecord) → WorldState → WorldState
-change_goals server change world = change_server server (λ entry. record entry { goals = change entry.goals }) world
+change_goals server change world = change_server server (with_goals change) world
 
--- whether what a server keeps is kept for the goal of an identifier
+-- whether a goal has this identifier
 abbrev pub is_for : GoalId → HeldGoal → Bool
-is_for id held = held.id == id
+is_for id held = has_id id held.goal
 
--- what a server keeps beside the goal of an identifier
+-- a server whose goal of an identifier is changed
+abbrev pub with_held : GoalId → (HeldGoal → HeldGoal) → ServerEntry → ServerEntry
+with_held id change entry = record entry { held = change_first (is_for id) change entry.held }
+
+-- the world in which it is changed
+abbrev pub change_held : EntityNo → GoalId → (HeldGoal → HeldGoal) → WorldState → WorldState
+change_held server id change world = change_server server (with_held id change) world
+
+-- a server's goal of an identifier
 abbrev pub held_for : EntityNo → GoalId → WorldState → Option HeldGoal
 held_for server id world = find (is_for id) (held_at server world)
 
@@ -236,15 +256,21 @@ work_in server id servers = option_and_then (λ held. held.work) (find (is_for i
 abbrev pub work_at : EntityNo → GoalId → WorldState → Option GoalWork
 work_at server id world = work_in server id world.servers
 
--- the world in which this is put in the place of that work; where it is none, the goal's task is out
+-- a goal with this in the place of its work; where it is none, the goal's task is out
+abbrev pub doing : Option GoalWork → HeldGoal → HeldGoal
+doing work held = record held { work = work }
+
+-- the world in which a server's goal does this work
 abbrev pub with_work : EntityNo → GoalId → Option GoalWork → WorldState → WorldState
-with_work server id work world =
-    change_server server (λ entry. record entry { held = change_first (is_for id) (λ held. record held { work = work }) entry.held }) world
+with_work server id work world = change_held server id (doing work) world
+
+-- a goal whose task stands so, if it isn't out
+abbrev pub standing : TaskState → HeldGoal → HeldGoal
+standing task held = doing (option_map (λ (work : GoalWork). record work { task = task }) held.work) held
 
 -- the world in which the task of a server's goal stands so, if it isn't out
 abbrev pub with_task : EntityNo → GoalId → TaskState → WorldState → WorldState
-with_task server id task world =
-    change_server server (λ entry. record entry { held = change_first (is_for id) (λ held. record held { work = option_map (λ (work : GoalWork). record work { task = task }) held.work }) entry.held }) world
+with_task server id task world = change_held server id (standing task) world
 
 -- ---- clients
 

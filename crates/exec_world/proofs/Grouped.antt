@@ -91,7 +91,7 @@ taken_below groups moment world queue below = by queue.items
     by (first ∷ items) = (below, tt)
 
 polls_below : (groups : ℕ) (moment : Moment) (entry : ServerEntry) → IsBelow groups entry.handler → AllByRecursion (IsReadyBelow groups) (poll_ready moment entry)
-polls_below groups moment entry below = all_map (IsReadyBelow groups) _ (λ goal. below) (filter (is_goal_awake moment entry.held) entry.goals)
+polls_below groups moment entry below = all_map (IsReadyBelow groups) _ (λ goal. below) (filter (is_goal_awake moment) entry.held)
 
 listed_below : (groups : ℕ) (moment : Moment) (world : WorldState) → AreBelow groups world → AllByRecursion (IsReadyBelow groups) (ready_list moment world)
 listed_below groups moment world below =

@@ -6,7 +6,6 @@ use Rattle.std.proofs.lemmas.List.Sums.{fold_more}
 use Rattle.std.proofs.lemmas.Option.{slice_get_past}
 use Rattle.exec_plan.proofs.Positions.{slice_get-behind}
 use Rattle.std.proofs.lemmas.List.{append-nil, drop-map, length-map, map-append, take-append-drop, take-map}
-use Rattle.exec_goal.specs.Table.{GoalRecord}
 use Rattle.exec_msg.specs.Numbers.{EntityNo, Moment}
 use Rattle.exec_plan.specs.Graph.{GraphData}
 use Rattle.exec_plan.specs.declared.order.Order.{Order}
@@ -16,7 +15,7 @@ use Rattle.exec_rules.specs.Ready.{arrival_for, goal_arrival, is_goal_awake, pla
 use Rattle.exec_rules.specs.Run.{run}
 use Rattle.exec_rules.specs.Sorting.{inserted_by, sorted_by}
 use Rattle.exec_rules.specs.Transcript.{run_all}
-use Rattle.exec_rules.specs.World.{ClientEntry, ServerEntry, TimerEntry, WorldState}
+use Rattle.exec_rules.specs.World.{ClientEntry, ServerEntry, TimerEntry, WorldState, HeldGoal}
 use Rattle.exec_rules.specs.declared.ready.AwakeGoal.{AwakeGoal}
 use Rattle.exec_rules.specs.declared.ready.Cause.{Cause}
 use Rattle.exec_rules.specs.declared.ready.Cause.TheVariants as cause
@@ -189,22 +188,22 @@ module _ (moment : Moment) (world : WorldState) where
   abbrev number_of : Ready → ℕ
   number_of = rank_under order.Arrival world
 
-  goals_zip : (entry : ServerEntry) (goals : List GoalRecord) → AllZip (Alike number_of) (map (poll_at moment) (flat_map (goal_awake moment entry) goals))
-      (map (λ one. ready_for moment entry.handler (woken one) [] (Some entry.handler.script)) (filter (is_goal_awake moment entry.held) goals))
+  goals_zip : (entry : ServerEntry) (held : List HeldGoal) → AllZip (Alike number_of) (map (poll_at moment) (flat_map (goal_awake moment entry.handler) held))
+      (map (λ held. ready_for moment entry.handler (woken held.goal) [] (Some entry.handler.script)) (filter (is_goal_awake moment) held))
   goals_zip entry [] = tt
-  goals_zip entry (goal ∷ goals) = by (is_goal_awake moment entry.held goal) refl (goals_zip entry goals)
+  goals_zip entry (one ∷ held) = by (is_goal_awake moment one) refl (goals_zip entry held)
     where
-      by : (b : Bool) → is_goal_awake moment entry.held goal ≡ b
-          → AllZip (Alike number_of) (map (poll_at moment) (flat_map (goal_awake moment entry) goals)) (map (λ one. ready_for moment entry.handler (woken one) [] (Some entry.handler.script)) (filter (is_goal_awake moment entry.held) goals))
-          → AllZip (Alike number_of) (map (poll_at moment) (flat_map (goal_awake moment entry) (goal ∷ goals))) (map (λ one. ready_for moment entry.handler (woken one) [] (Some entry.handler.script)) (filter (is_goal_awake moment entry.held) (goal ∷ goals)))
-      by true is rest = rw is ((refl, λ before. sym (poll_alike moment entry goal before)), rest)
+      by : (b : Bool) → is_goal_awake moment one ≡ b
+          → AllZip (Alike number_of) (map (poll_at moment) (flat_map (goal_awake moment entry.handler) held)) (map (λ held. ready_for moment entry.handler (woken held.goal) [] (Some entry.handler.script)) (filter (is_goal_awake moment) held))
+          → AllZip (Alike number_of) (map (poll_at moment) (flat_map (goal_awake moment entry.handler) (one ∷ held))) (map (λ held. ready_for moment entry.handler (woken held.goal) [] (Some entry.handler.script)) (filter (is_goal_awake moment) (one ∷ held)))
+      by true is rest = rw is ((refl, λ before. sym (poll_alike moment entry one.goal before)), rest)
       by false is rest = rw is rest
 
   polls_zip : (servers : List ServerEntry) → AllZip (Alike number_of) (map (poll_at moment) (flat_map (awake_goals moment) servers)) (flat_map (poll_ready moment) servers)
   polls_zip [] = tt
   polls_zip (entry ∷ servers) =
       subst (λ (list : List Ready). AllZip (Alike number_of) list (flat_map (poll_ready moment) (entry ∷ servers))) (sym (map-append (poll_at moment) (awake_goals moment entry) (flat_map (awake_goals moment) servers)))
-      (zip_append (Alike number_of) (map (poll_at moment) (awake_goals moment entry)) (map (poll_at moment) (flat_map (awake_goals moment) servers)) (poll_ready moment entry) (flat_map (poll_ready moment) servers) (goals_zip entry entry.goals) (polls_zip servers))
+      (zip_append (Alike number_of) (map (poll_at moment) (awake_goals moment entry)) (map (poll_at moment) (flat_map (awake_goals moment) servers)) (poll_ready moment entry) (flat_map (poll_ready moment) servers) (goals_zip entry entry.held) (polls_zip servers))
 
   parts_zip : (list : List Ready) (goals : List AwakeGoal) (split position : ℕ) → take split list ≡ placed_from 1 (ready_before moment world) → drop split list ≡ placed_from position (ready_behind moment world)
       → goals ≡ flat_map (awake_goals moment) world.servers → AllZip (Alike number_of) (list ++ map (poll_at moment) goals) (ready_in_parts moment world)

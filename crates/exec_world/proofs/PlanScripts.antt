@@ -20,7 +20,7 @@ use Rattle.exec_rules.specs.Item.{taker_of}
 use Rattle.exec_rules.specs.Ready.{candidates_for, due_ready, is_goal_awake, item_ready, placed_from, poll_ready, queue_ready, ready_for, script_to_take, woken}
 use Rattle.exec_rules.specs.Shape.{queue_shape, server_shape, timer_shape}
 use Rattle.exec_rules.specs.Transcript.{as_entity, entity_at, new_queue, new_server, new_timer, takes_from_queue}
-use Rattle.exec_rules.specs.World.{Queue, ServerEntry, TimerEntry, WorldState, goals_at, has_room_for}
+use Rattle.exec_rules.specs.World.{Queue, ServerEntry, TimerEntry, WorldState, goals_at, has_room_for, HeldGoal}
 use Rattle.exec_rules.specs.declared.item.Item.{Item}
 use Rattle.exec_rules.specs.declared.item.Item.TheVariants as item
 use Rattle.exec_rules.specs.declared.ready.Cause.TheVariants as cause
@@ -130,11 +130,11 @@ module _ (graph : GraphData) (moment : Moment) where
           )
 
   poll_scripts : (entry : ServerEntry) → HasServerScript graph entry → map (scripted_poll graph moment) (awake_goals moment entry) ≡ poll_ready moment entry
-  poll_scripts entry has = ap (map (scripted_poll graph moment)) (awake_are moment entry) ∙ by (filter (is_goal_awake moment entry.held) entry.goals)
+  poll_scripts entry has = ap (map (scripted_poll graph moment)) (awake_are moment entry) ∙ by (filter (is_goal_awake moment) entry.held)
     where
-      by : (goals : List GoalRecord) → map (scripted_poll graph moment) (map (awake_goal entry.handler) goals) ≡ map (λ goal. ready_for moment entry.handler (woken goal) [] (Some entry.handler.script)) goals
+      by : (held : List HeldGoal) → map (scripted_poll graph moment) (map (λ held. awake_goal entry.handler held.goal) held) ≡ map (λ held. ready_for moment entry.handler (woken held.goal) [] (Some entry.handler.script)) held
       by [] = refl
-      by (goal ∷ goals) = λ i. ready_for moment entry.handler (woken goal) [] (Some (sym has i)) ∷ by goals i
+      by (one ∷ held) = λ i. ready_for moment entry.handler (woken one.goal) [] (Some (sym has i)) ∷ by held i
 
   server_scripts : (servers : List ServerEntry) → AllByRecursion (HasServerScript graph) servers → map (scripted_poll graph moment) (flat_map (awake_goals moment) servers) ≡ flat_map (poll_ready moment) servers
   server_scripts [] has = refl

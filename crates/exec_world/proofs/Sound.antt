@@ -11,13 +11,13 @@ use Rattle.exec_goal.specs.Table.{GoalRecord}
 use Rattle.exec_msg.specs.Numbers.{EntityNo, GoalId, Moment}
 use Rattle.exec_plan.specs.Graph.{is_server, wait_set}
 use Rattle.exec_plan.specs.Plan.{PlanData}
-use Rattle.exec_msg.specs.Lists.{change_first}
 use Rattle.exec_msg.specs.Timer.{is_due}
 use Rattle.exec_msg.specs.declared.line.Line.TheVariants as line
 use Rattle.exec_rules.proofs.ByKind.{QueuesRise, listed, queues_rise, split_by, taken}
 use Rattle.exec_rules.proofs.Identifiers.{HasDistinct, eq_turned, Makes, distinct_kept, first_distinct, ids_left}
-use Rattle.exec_rules.proofs.Keeping.{Kept, feed_keeps, ids, moves_kept, publish_kept, push_kept}
-use Rattle.exec_rules.proofs.Pairs.{Pairs, across, all_append, all_flat, all_mapped, all_weaker, all_passed, pairs_append, pairs_all, pairs_filter, pairs_map, pairs_unmapped}
+use Rattle.exec_rules.proofs.Records.{ids, records_left}
+use Rattle.exec_rules.proofs.Keeping.{Kept, feed_keeps, moves_kept, publish_kept, push_kept}
+use Rattle.exec_rules.proofs.Pairs.{Pairs, across, all_append, all_both, all_filter, all_flat, all_unmapped, all_mapped, all_weaker, all_passed, pairs_append, pairs_all, pairs_filter, pairs_map, pairs_unmapped}
 use Rattle.exec_rules.proofs.OfKinds.{kinds_first, kinds_kept}
 use Rattle.exec_rules.proofs.ReadyLists.{all_listed}
 use Rattle.exec_rules.proofs.Sorting.{pairs_sorted}
@@ -29,7 +29,7 @@ use Rattle.exec_rules.specs.Shape.{server_shape, shape_of}
 use Rattle.exec_rules.specs.Ready.{all_ready, due_ready, is_goal_awake, is_task_awake, item_ready, poll_ready, placed_from, queue_ready, rank_under, ready_for, ready_list, take_inputs, turn_at, woken}
 use Rattle.exec_rules.specs.Sorting.{sorted_by}
 use Rattle.exec_rules.specs.Transcript.{first_world, run_all, snapshot_and_run, takes_from_queue}
-use Rattle.exec_rules.specs.World.{GoalWork, HeldGoal, Queue, ServerEntry, TimerEntry, WorldState, goals_at, is_for, is_server_at, with_work}
+use Rattle.exec_rules.specs.World.{GoalWork, HeldGoal, Queue, ServerEntry, TimerEntry, WorldState, doing, goals_at, is_for, is_server_at, records_of, with_held, with_work}
 use Rattle.exec_rules.specs.declared.item.Item.{Item}
 use Rattle.exec_rules.specs.declared.item.Item.TheVariants as item
 use Rattle.exec_rules.specs.declared.ready.Cause.{Cause}
@@ -74,8 +74,8 @@ module _ (plan : PlanData) where
   pub first_sound : IsSound plan (first_world plan)
   first_sound = record { shape = refl; kinds = kinds_first plan.order plan.graph (filter (λ waitable. takes_from_queue waitable.kind) (wait_set plan.graph)); identifiers = first_distinct plan }
 
-  lending : (id : GoalId) (work : Option GoalWork) → Makes (λ entry. record entry { held = change_first (is_for id) (λ held. record held { work = work }) entry.held }) (λ goals. goals)
-  lending id work = record { stays = λ entry. refl; makes = λ entry. refl }
+  lending : (id : GoalId) (work : Option GoalWork) → Makes (with_held id (doing work)) (λ goals. goals)
+  lending id work = record { stays = λ entry. refl; makes = λ entry. records_left id (doing work) (λ held. refl) entry.held }
 
   -- a task that goes out or comes home keeps it
   pub lent_sound : (server : EntityNo) (id : GoalId) (work : Option GoalWork) (world : WorldState) → IsSound plan world → IsSound plan (with_work server id work world)
@@ -194,45 +194,54 @@ taken_none moment world queue = by queue.items
 
 -- ---- the polls of a server
 
+-- among goals of different identifiers each is the one of its identifier
+each_found : (held : List HeldGoal) → Pairs (λ one other. one == other ≡ false) (ids (records_of held)) → AllByRecursion (λ one. find (is_for one.goal.id) held ≡ Some one) held
+each_found [] distinct = tt
+each_found (one ∷ held) distinct = (
+  rw (eq-eqb one.goal.id one.goal.id refl) refl,
+  all_both (λ other. one.goal.id == other.goal.id ≡ false) (λ other. find (is_for other.goal.id) held ≡ Some other) (λ other. find (is_for other.goal.id) (one ∷ held) ≡ Some other) (λ other differs here. rw differs here) held
+      (all_unmapped (λ other. one.goal.id == other.id ≡ false) (λ (held : HeldGoal). held.goal) held (all_unmapped (λ other. one.goal.id == other ≡ false) (λ (goal : GoalRecord). goal.id) (records_of held) distinct.0)) (each_found held distinct.1),
+)
+
 module _ (moment : Moment) (world : WorldState) where
   abbrev HasHome : Ready → Type 0
   HasHome one = IsHomeFor one.entity one.cause world
 
-  task_there : (entry : ServerEntry) (goal : GoalRecord) → IsFound world.servers entry → is_goal_awake moment entry.held goal ≡ true → IsHomeFor entry.handler.entity (woken goal) world
-  task_there entry goal found awake =
-      by (find (is_for goal.id) entry.held) refl (and_parts (is_worked_on goal.state) (is_task_awake (turn_at moment (is_canceling goal.state)) (find (is_for goal.id) entry.held)) awake).1
-    where
-      by_work : (held : HeldGoal) (work : Option GoalWork) → held.work ≡ work → find (is_for goal.id) entry.held ≡ Some held → is_task_awake (turn_at moment (is_canceling goal.state)) (Some held) ≡ true → IsHomeFor entry.handler.entity (woken goal) world
-      by_work held None e is awake = absurd (true≢false (sym awake ∙ rw e refl))
-      by_work held (Some work) e is awake = (work, rw (found, is) e)
-
-      by : (held : Option HeldGoal) → find (is_for goal.id) entry.held ≡ held → is_task_awake (turn_at moment (is_canceling goal.state)) held ≡ true → IsHomeFor entry.handler.entity (woken goal) world
-      by None is awake = absurd (true≢false (sym awake))
-      by (Some held) is awake = by_work held held.work refl is awake
-
-  polls_home : (entry : ServerEntry) → IsFound world.servers entry → AllByRecursion HasHome (poll_ready moment entry)
-  polls_home entry found =
-      all_mapped (λ goal. is_goal_awake moment entry.held goal ≡ true) HasHome _ (λ goal awake. task_there entry goal found awake) (filter (is_goal_awake moment entry.held) entry.goals)
-      (all_passed (is_goal_awake moment entry.held) entry.goals)
-
-  all_home : (servers : List ServerEntry) → AllByRecursion (IsFound world.servers) servers → AllByRecursion HasHome (flat_map (poll_ready moment) servers)
-  all_home [] found = tt
-  all_home (entry ∷ servers) found = all_append HasHome (poll_ready moment entry) (flat_map (poll_ready moment) servers) (polls_home entry found.0) (all_home servers found.1)
-
-  polls_apart : (entry : ServerEntry) → Pairs (λ one other. one == other ≡ false) (ids entry.goals) → Pairs Apart (poll_ready moment entry)
-  polls_apart entry distinct =
-      pairs_map (λ one other. one.id == other.id ≡ false) Apart _ (λ one other apart. rw apart refl) _
-      (pairs_filter (λ one other. one.id == other.id ≡ false) (is_goal_awake moment entry.held) entry.goals
-      (pairs_unmapped (λ one other. one == other ≡ false) (λ goal. goal.id) entry.goals distinct))
-
+  -- no two goals of a server have one identifier
   abbrev HasOwn : ServerEntry → Type 0
-  HasOwn entry = Pairs (λ one other. one == other ≡ false) (ids entry.goals)
+  HasOwn entry = Pairs (λ one other. one == other ≡ false) (ids (records_of entry.held))
+
+  task_there : (entry : ServerEntry) (held : HeldGoal) → IsFound world.servers entry → find (is_for held.goal.id) entry.held ≡ Some held → is_goal_awake moment held ≡ true → IsHomeFor entry.handler.entity (woken held.goal) world
+  task_there entry held found own awake =
+      by held.work refl (and_parts (is_worked_on held.goal.state) (is_task_awake (turn_at moment (is_canceling held.goal.state)) held.work) awake).1
+    where
+      by : (work : Option GoalWork) → held.work ≡ work → is_task_awake (turn_at moment (is_canceling held.goal.state)) work ≡ true → IsHomeFor entry.handler.entity (woken held.goal) world
+      by None e awake = absurd (true≢false (sym awake))
+      by (Some work) e awake = (work, rw (found, own) e)
+
+  polls_home : (entry : ServerEntry) → IsFound world.servers entry → HasOwn entry → AllByRecursion HasHome (poll_ready moment entry)
+  polls_home entry found own =
+      all_mapped (λ held. (find (is_for held.goal.id) entry.held ≡ Some held) × (is_goal_awake moment held ≡ true)) HasHome _ (λ held there. task_there entry held found there.0 there.1) (filter (is_goal_awake moment) entry.held)
+      (all_both (λ held. find (is_for held.goal.id) entry.held ≡ Some held) (λ held. is_goal_awake moment held ≡ true) _ (λ held there awake. (there, awake)) (filter (is_goal_awake moment) entry.held)
+      (all_filter (λ held. find (is_for held.goal.id) entry.held ≡ Some held) (is_goal_awake moment) entry.held (each_found entry.held own))
+      (all_passed (is_goal_awake moment) entry.held))
+
+  all_home : (servers : List ServerEntry) → AllByRecursion (IsFound world.servers) servers → AllByRecursion HasOwn servers → AllByRecursion HasHome (flat_map (poll_ready moment) servers)
+  all_home [] found own = tt
+  all_home (entry ∷ servers) found own = all_append HasHome (poll_ready moment entry) (flat_map (poll_ready moment) servers) (polls_home entry found.0 own.0) (all_home servers found.1 own.1)
+
+  polls_apart : (entry : ServerEntry) → HasOwn entry → Pairs Apart (poll_ready moment entry)
+  polls_apart entry distinct =
+      pairs_map (λ one other. one.goal.id == other.goal.id ≡ false) Apart _ (λ one other apart. rw apart refl) _
+      (pairs_filter (λ one other. one.goal.id == other.goal.id ≡ false) (is_goal_awake moment) entry.held
+      (pairs_unmapped (λ one other. one.id == other.id ≡ false) (λ (held : HeldGoal). held.goal) entry.held
+      (pairs_unmapped (λ one other. one == other ≡ false) (λ (goal : GoalRecord). goal.id) (records_of entry.held) distinct)))
 
   goals_own : (servers : List ServerEntry) → HasDistinct world → AllByRecursion (IsFound world.servers) servers → AllByRecursion HasOwn servers
   unfolding IsDistinct
   goals_own [] distinct found = tt
   goals_own (entry ∷ servers) distinct found =
-      (own (ids entry.goals) (subst (λ (some : Option ServerEntry). IsDistinct (λ one other. one == other) (ids (option_map_or (λ one. one.goals) some []))) found.0 (distinct entry.handler.entity)), goals_own servers distinct found.1)
+      (own (ids (records_of entry.held)) (subst (λ (some : Option ServerEntry). IsDistinct (λ one other. one == other) (ids (option_map_or (λ one. records_of one.held) some []))) found.0 (distinct entry.handler.entity)), goals_own servers distinct found.1)
     where
       own : (some : List GoalId) → IsDistinct (λ one other. one == other) some → Pairs (λ one other. one == other ≡ false) some
       own [] p = tt
@@ -241,11 +250,11 @@ module _ (moment : Moment) (world : WorldState) where
   -- polls of different servers
   between : (one other : ServerEntry) → ServersApart one other → AllByRecursion (λ x. AllByRecursion (Apart x) (poll_ready moment other)) (poll_ready moment one)
   between one other apart =
-      all_mapped (λ goal. is_goal_awake moment one.held goal ≡ true) (λ x. AllByRecursion (Apart x) (poll_ready moment other)) _
-      (λ goal awake.
-      all_mapped (λ another. is_goal_awake moment other.held another ≡ true) (Apart (ready_for moment one.handler (woken goal) [] (Some one.handler.script))) _
-      (λ another awake_too. second_false (goal.id == another.id) (not_one one.handler.entity other.handler.entity apart)) _ (all_passed (is_goal_awake moment other.held) other.goals)) _
-      (all_passed (is_goal_awake moment one.held) one.goals)
+      all_mapped (λ held. is_goal_awake moment held ≡ true) (λ x. AllByRecursion (Apart x) (poll_ready moment other)) _
+      (λ held awake.
+      all_mapped (λ another. is_goal_awake moment another ≡ true) (Apart (ready_for moment one.handler (woken held.goal) [] (Some one.handler.script))) _
+      (λ another awake_too. second_false (held.goal.id == another.goal.id) (not_one one.handler.entity other.handler.entity apart)) _ (all_passed (is_goal_awake moment) other.held)) _
+      (all_passed (is_goal_awake moment) one.held)
     where
       second_false : (b : Bool) {c : Bool} → c ≡ false → b && c ≡ false
       second_false true e = e
@@ -322,7 +331,7 @@ snapshot_home plan moment world p =
     let homes : (list : List Ready) → AllByRecursion PollsNone list → AllByRecursion (HasHome moment world) list = λ list p. all_weaker PollsNone (HasHome moment world) (home_without world) list p in
     record {
       home = all_weaker (HasHome moment world) (HasHome moment (take_inputs moment world)) (λ one home. home_taken moment world one.entity one.cause home) (ready_list moment world)
-          (all_listed (HasHome moment world) (λ place one q. q) moment world (homes timers none_due) (homes took none_taken) (all_home moment world world.servers found));
+          (all_listed (HasHome moment world) (λ place one q. q) moment world (homes timers none_due) (homes took none_taken) (all_home moment world world.servers found (goals_own moment world world.servers p.identifiers found)));
       apart = distinct_of (ready_list moment world) (placed_apart 1 (sorted_by (rank_under world.order world) (timers ++ took ++ polls))
           (pairs_sorted Apart (rank_under world.order world) (timers ++ took ++ polls) apart_turned
           (pairs_append Apart (timers ++ took) polls (pairs_all PollsNone Apart (λ one other q r. none_with one other q) (timers ++ took) none)

@@ -3,7 +3,7 @@ ghost use Rattle.std.specs.Prelude.{◌≡◌, [], None, Some, if◌then◌else�
 ghost use Rattle.std.specs.Option.{option_copied, option_map_or};
 ghost use Rattle.exec_script.specs.Instruction.{Script};
 ghost use Rattle.exec_rules.specs.Ready.{candidates_for, ready_for, script_to_take};
-ghost use Rattle.exec_rules.specs.World.{has_room_for};
+ghost use Rattle.exec_rules.specs.World.{has_room_for, records_of};
 ghost use Rattle.exec_rules.specs.declared.ready.Cause.TheVariants as cause;
 ghost use Rattle.exec_rules.specs.inner.Listing.{as_listed};
 
@@ -23,8 +23,8 @@ pub(crate) fn listed_for_item(
     item: Item,
 ) -> Result<Listed, Memory>
     ensures { IfOk result (λ listed. listed ≡ as_listed (ready_for moment handler.now (cause.Took item)
-        (candidates_for item (option_map_or (λ entry. entry.goals) (option_copied server.entry) []))
-        (script_to_take item (option_map_or (λ entry. entry.goals) (option_copied server.entry) []) handler.now.script))) }
+        (candidates_for item (option_map_or (λ entry. records_of entry.held) (option_copied server.entry) []))
+        (script_to_take item (option_map_or (λ entry. records_of entry.held) (option_copied server.entry) []) handler.now.script))) }
 {
     let runs = runs_script(&item, server);
     let candidates = candidates_for(alloc, &item, server)?;
@@ -37,7 +37,7 @@ fn candidates_for(
     item: &Item,
     server: Option<&Server>,
 ) -> Result<Elements<GoalInfo>, Memory>
-    ensures { IfOk result (λ infos. infos ≡ candidates_for item.now (option_map_or (λ entry. entry.goals) (option_copied server.entry) [])) }
+    ensures { IfOk result (λ infos. infos ≡ candidates_for item.now (option_map_or (λ entry. records_of entry.held) (option_copied server.entry) [])) }
 {
     match (item, server) {
         (Item::Cancel { request, .. }, Some(server)) => server.candidates(request),
@@ -49,7 +49,7 @@ fn candidates_for(
 #[inline(always)]
 fn runs_script(item: &Item, server: Option<&Server>) -> bool
     ensures { (script : Script)
-        → script_to_take item.now (option_map_or (λ entry. entry.goals) (option_copied server.entry) []) script ≡ (if result then Some script else None) }
+        → script_to_take item.now (option_map_or (λ entry. records_of entry.held) (option_copied server.entry) []) script ≡ (if result then Some script else None) }
 {
     match item {
         Item::Ask { .. } => false,
@@ -59,7 +59,7 @@ fn runs_script(item: &Item, server: Option<&Server>) -> bool
 }
 
 fn has_room_for(server: Option<&Server>, id: GoalId) -> bool
-    ensures { result ≡ has_room_for id (option_map_or (λ entry. entry.goals) (option_copied server.entry) []) }
+    ensures { result ≡ has_room_for id (option_map_or (λ entry. records_of entry.held) (option_copied server.entry) []) }
 {
     match server {
         Some(server) => server.has_room_for(id),

@@ -4,11 +4,7 @@ use Rattle.exec_goal.specs.Table.{GoalRecord, Asked, told, later, unknown, has_i
 use Rattle.exec_msg.specs.Numbers.{EntityNo, GoalId}
 use Rattle.exec_msg.specs.Lists.{change_first}
 use Rattle.exec_msg.specs.declared.goal.Event.TheVariants as event
-use Rattle.exec_rules.specs.World.{ServerEntry, is_server_at}
-
--- a server whose goals are changed so
-abbrev pub with_goals : (List GoalRecord → List GoalRecord) → ServerEntry → ServerEntry
-with_goals change entry = record entry { goals = change entry.goals }
+use Rattle.exec_rules.specs.World.{ServerEntry, is_server_at, with_goals}
 
 -- servers of which one executes this goal, if there is one
 abbrev pub executed_in : EntityNo → Option GoalRecord → List ServerEntry → List ServerEntry

@@ -3,7 +3,7 @@ ghost use Rattle.std.specs.Prelude.{◌≡◌, ◌≤◌, ◌++◌, map, length,
 ghost use Rattle.std.specs.List.{flat_map};
 ghost use Rattle.exec_goal.specs.Table.{holds_id};
 ghost use Rattle.exec_rules.specs.Transcript.{expire_lines, server_expired};
-ghost use Rattle.exec_entity.specs.inner.Server.{held_goals_of};
+ghost use Rattle.exec_entity.specs.inner.Server.{all_kept};
 ghost use Rattle.exec_entity.specs.inner.Waking.{wakes_of};
 
 use super::polling::wake_in;
@@ -22,12 +22,13 @@ impl Server {
     ghost use Rattle.std.specs.Option.{option_map};
     ghost use Rattle.exec_goal.specs.Table.{GoalRecord, is_expired, expired};
     ghost use Rattle.exec_rules.specs.Transcript.{server_expired};
+    ghost use Rattle.exec_rules.specs.World.{records_of};
 
     // Forgets the first goal, in the order of acceptance, whose result the server keeps no longer at a moment. Answers its
     // identifier, or `None` if there is none.
     pub(crate) fn expire(&mut self, moment: Moment) -> Option<GoalId>
-        ensures first { result ≡ option_map (λ goal. goal.id) (slice_get (expired moment self.old.timeout self.old.goals) 0) }
-        ensures left { expired moment self.new.timeout self.new.goals ≡ drop 1 (expired moment self.old.timeout self.old.goals) }
+        ensures first { result ≡ option_map (λ goal. goal.id) (slice_get (expired moment self.old.timeout (records_of self.old.held)) 0) }
+        ensures left { expired moment self.new.timeout (records_of self.new.held) ≡ drop 1 (expired moment self.old.timeout (records_of self.old.held)) }
         ensures kept { server_expired moment self.new ≡ server_expired moment self.old }
         ensures settled { IfNone result (self.new ≡ server_expired moment self.old) }
     {
@@ -39,7 +40,7 @@ impl Server {
 
     // Whether there is a goal whose result the server keeps no longer at a moment. No goal is looked at while none can be.
     fn has_expired(&mut self, moment: Moment) -> bool
-        ensures found { result ≡ list_any (is_expired moment self.old.timeout) self.old.goals }
+        ensures found { result ≡ list_any (is_expired moment self.old.timeout) (records_of self.old.held) }
         ensures same { self.new ≡ self.old }
         ensures settled { result ≡ false → server_expired moment self.old ≡ self.old }
     {
@@ -51,8 +52,8 @@ impl Server {
 
     // Whether the server keeps the result of the goal at this place no longer at a moment.
     fn is_expired_at(&self, index: usize, moment: Moment) -> bool
-        requires { index < length self.now.goals }
-        ensures { (d : GoalRecord) → result ≡ is_expired moment self.now.timeout (slice_index_or self.now.goals index d) }
+        requires { index < length self.now.held }
+        ensures { (d : GoalRecord) → result ≡ is_expired moment self.now.timeout (slice_index_or (records_of self.now.held) index d) }
     {
         match self.timeout {
             None => false,
@@ -75,7 +76,7 @@ impl Server {
 
 // Drops what is kept of goals that a server no longer holds.
 fn keep_held(held: &mut IndexMap<GoalId, KeptWithGoal>, goals: &Goals)
-    ensures { held_goals_of held.new.entries ≡ filter (λ one. holds_id one.id goals.now) (held_goals_of held.old.entries) }
+    ensures { all_kept held.new.entries ≡ filter (λ one. holds_id one.id goals.now) (all_kept held.old.entries) }
 {
     held.retain(
         |id: &GoalId, kept: &mut KeptWithGoal| -> bool
@@ -87,7 +88,7 @@ fn keep_held(held: &mut IndexMap<GoalId, KeptWithGoal>, goals: &Goals)
 // Writes from when on each task is awake if its goal isn't being canceled, over the moments of more tasks.
 fn note_wakes(held: &IndexMap<GoalId, KeptWithGoal>, wakes: &mut Vec<u64>)
     requires { length held.now.entries ≤ length wakes.old.items }
-    ensures { wakes.new.items ≡ wakes_of (held_goals_of held.now.entries) }
+    ensures { wakes.new.items ≡ wakes_of (all_kept held.now.entries) }
 {
     for place in 0..held.len() {
         let (_id, kept) = held.get_index(place).unwrap();

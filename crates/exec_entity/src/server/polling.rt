@@ -17,38 +17,37 @@ use futures::task::Context;
 use std::mem;
 
 impl Server {
-    ghost use Rattle.std.specs.Prelude.{ℕ, ◌<◌, ◌∷◌, ◌++◌, true, None, length, map, filter, find, slice_get, IfNone, IfSome};
+    ghost use Rattle.std.specs.Prelude.{ℕ, ◌<◌, ◌∷◌, ◌++◌, true, None, length, map, filter, find, slice_get, slice_index_or, IfNone, IfSome};
     ghost use Rattle.std.specs.Option.{option_and_then};
     ghost use Rattle.exec_goal.specs.Info.{info_of};
-    ghost use Rattle.exec_goal.specs.declared.info.GoalInfo.{GoalInfo};
     ghost use Rattle.exec_goal.specs.State.{is_canceling};
     ghost use Rattle.exec_goal.specs.Table.{GoalRecord, working};
     ghost use Rattle.exec_rules.specs.Ready.{is_goal_awake, is_task_awake};
-    ghost use Rattle.exec_rules.specs.World.{is_for};
+    ghost use Rattle.exec_rules.specs.World.{HeldGoal, arrived, doing, is_for, records_of, with_held};
     ghost use Rattle.exec_rules.specs.inner.Awake.{awake_goal, awake_goals, goal_awake};
     ghost use Rattle.exec_entity.specs.inner.Keeping.{IsFor};
-    ghost use Rattle.exec_entity.specs.inner.Polling.{goal_polled, server_arrived, server_polled, server_with_work};
+    ghost use Rattle.exec_entity.specs.inner.Polling.{goal_polled, server_polled};
 
     // How many goals the server works on. If it works on none, none is awake. It looks at no goal.
     pub(crate) fn count_working(&self) -> usize
-        ensures working { result ≡ working self.now.goals }
-        ensures idle { result ≡ 0 → (moment : ℕ) → filter (is_goal_awake moment self.now.held) self.now.goals ≡ [] }
+        ensures working { result ≡ working (records_of self.now.held) }
+        ensures idle { result ≡ 0 → (moment : ℕ) → filter (is_goal_awake moment) self.now.held ≡ [] }
     {
         self.goals.count_working()
     }
 
     // Whether the goal at this place is awake at a moment. `info` is what is known of it.
     fn is_goal_awake(&self, index: usize, info: &GoalInfo, moment: Moment) -> bool
-        requires { slice_get (map info_of self.now.goals) index ≡ Some info.now }
-        ensures { (goal : GoalRecord) → info.now ≡ info_of goal → result ≡ is_goal_awake moment self.now.held goal }
+        requires { slice_get (map info_of (records_of self.now.held)) index ≡ Some info.now }
+        ensures { (d : HeldGoal) → result ≡ is_goal_awake moment (slice_index_or self.now.held index d) }
     {
         info.state.is_worked_on() && self.is_task_awake(index, info, moment)
     }
 
     // If a goal isn't being canceled, one moment decides it, and its task isn't looked at.
     fn is_task_awake(&self, index: usize, goal: &GoalInfo, moment: Moment) -> bool
-        requires { slice_get (map info_of self.now.goals) index ≡ Some goal.now }
-        ensures { result ≡ is_task_awake (turn_at moment (is_canceling goal.now.state)) (find (is_for goal.now.id) self.now.held) }
+        requires { index < length self.now.held }
+        ensures { (d : HeldGoal) → result ≡ is_task_awake (turn_at moment (is_canceling goal.now.state)) (slice_index_or self.now.held index d).work }
     {
         if goal.state.is_canceling() {
             self.is_canceling_awake(index, moment)
@@ -60,9 +59,8 @@ impl Server {
     // Whether the task of the goal at this place is awake, if the goal isn't being canceled.
     #[inline(always)]
     fn has_woken(&self, index: usize, moment: Moment) -> bool
-        requires { index < length self.now.goals }
-        ensures { (info : GoalInfo) → slice_get (map info_of self.now.goals) index ≡ Some info
-            → result ≡ is_task_awake (turn_at moment false) (find (is_for info.id) self.now.held) }
+        requires { index < length self.now.held }
+        ensures { (d : HeldGoal) → result ≡ is_task_awake (turn_at moment false) (slice_index_or self.now.held index d).work }
     {
         self.wakes[index] <= moment.ticks()
     }
@@ -71,9 +69,8 @@ impl Server {
     // in the order of the goals, so that it is found by its place.
     #[inline(never)]
     fn is_canceling_awake(&self, index: usize, moment: Moment) -> bool
-        requires { index < length self.now.goals }
-        ensures { (info : GoalInfo) → slice_get (map info_of self.now.goals) index ≡ Some info
-            → result ≡ is_task_awake (turn_at moment true) (find (is_for info.id) self.now.held) }
+        requires { index < length self.now.held }
+        ensures { (d : HeldGoal) → result ≡ is_task_awake (turn_at moment true) (slice_index_or self.now.held index d).work }
     {
         let entry = self.held.get_index(index).unwrap();
         is_any_awake(&entry.1.task, moment)
@@ -108,8 +105,8 @@ impl Server {
         info: &GoalInfo,
         goals: &mut Vec<AwakeGoal>,
     ) -> Result<(), Memory>
-        requires { slice_get (map info_of self.now.goals) index ≡ Some info.now }
-        ensures { OnOk result ((goal : GoalRecord) → info.now ≡ info_of goal → goals.new.items ≡ goals.old.items ++ goal_awake moment self.now goal) }
+        requires { slice_get (map info_of (records_of self.now.held)) index ≡ Some info.now }
+        ensures { OnOk result ((d : HeldGoal) → goals.new.items ≡ goals.old.items ++ goal_awake moment self.now.handler (slice_index_or self.now.held index d)) }
     {
         if self.is_goal_awake(index, info, moment) {
             goals.push(self.awake_goal(info))?;
@@ -192,21 +189,21 @@ impl Server {
     // Takes the task of a goal out, and answers `None` if no such goal is held or its task is out.
     pub(crate) fn take_task(&mut self, id: GoalId) -> Option<GoalTask>
         ensures taken { option_map work_of result ≡ option_and_then (λ held. held.work) (find (is_for id) self.old.held) }
-        ensures out { self.new ≡ server_with_work id None self.old }
+        ensures out { self.new ≡ with_held id (doing None) self.old }
     {
         self.exchange_task(id, None)
     }
 
     // Puts a goal's task in its place. If no such goal is held, nothing changes.
     pub(crate) fn put_task(&mut self, id: GoalId, task: GoalTask)
-        ensures { self.new ≡ server_with_work id (Some (work_of task)) self.old }
+        ensures { self.new ≡ with_held id (doing (Some (work_of task))) self.old }
     {
         let _replaced = self.exchange_task(id, Some(task));
     }
 
     // Gives a goal the number of its new arrival. If no such goal is held, nothing changes.
     pub(crate) fn goal_arrives(&mut self, id: GoalId, number: u64)
-        ensures { self.new ≡ server_arrived id number self.old }
+        ensures { self.new ≡ with_held id (arrived number) self.old }
     {
         let Some(place) = self.place_of(id) else {
             return;
@@ -218,7 +215,7 @@ impl Server {
     // Puts a task, or none, in the place of a goal's task, and answers that. If no such goal is held, nothing changes.
     fn exchange_task(&mut self, id: GoalId, task: Option<GoalTask>) -> Option<GoalTask>
         ensures taken { option_map work_of result ≡ option_and_then (λ held. held.work) (find (is_for id) self.old.held) }
-        ensures put { self.new ≡ server_with_work id (option_map work_of task) self.old }
+        ensures put { self.new ≡ with_held id (doing (option_map work_of task)) self.old }
     {
         let place = self.place_of(id)?;
         let held = self.held.get_index_mut(place).unwrap();

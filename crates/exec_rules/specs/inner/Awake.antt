@@ -5,7 +5,7 @@ use Rattle.exec_goal.specs.State.{is_canceling}
 use Rattle.exec_goal.specs.Table.{GoalRecord}
 use Rattle.exec_rules.specs.Ready.{is_goal_awake}
 use Rattle.exec_msg.specs.Numbers.{Moment}
-use Rattle.exec_rules.specs.World.{Handler, ServerEntry}
+use Rattle.exec_rules.specs.World.{Handler, HeldGoal, ServerEntry}
 use Rattle.exec_rules.specs.declared.ready.AwakeGoal.{AwakeGoal}
 use Rattle.exec_rules.specs.declared.ready.Cause.TheVariants as cause
 use Rattle.exec_rules.specs.declared.ready.Ready.{Ready}
@@ -35,9 +35,9 @@ awake_goal handler goal = record {
 }
 
 -- the same where a server's goal is awake at a moment
-abbrev pub goal_awake : Moment → ServerEntry → GoalRecord → List AwakeGoal
-goal_awake moment entry goal = if is_goal_awake moment entry.held goal then awake_goal entry.handler goal ∷ [] else []
+abbrev pub goal_awake : Moment → Handler → HeldGoal → List AwakeGoal
+goal_awake moment handler held = if is_goal_awake moment held then awake_goal handler held.goal ∷ [] else []
 
 -- a server's goals that are awake at a moment, in order of acceptance
 abbrev pub awake_goals : Moment → ServerEntry → List AwakeGoal
-awake_goals moment entry = flat_map (goal_awake moment entry) entry.goals
+awake_goals moment entry = flat_map (goal_awake moment entry.handler) entry.held

@@ -5,4 +5,4 @@ use Rattle.exec_entity.proofs.server.Server.add_each_awake.Given as goal
 
 -- the goals so far that are awake are added
 abbrev pub invariant-loop-index : goal.invariant-loop-index
-invariant-loop-index l = l.goals.items ≡ l.initial.goals.items ++ flat_map (goal_awake l.moment l.self) (take l.index l.self.goals)
+invariant-loop-index l = l.goals.items ≡ l.initial.goals.items ++ flat_map (goal_awake l.moment l.self.handler) (take l.index l.self.held)

@@ -1,46 +1,67 @@
-use Rattle.std.proofs.Common.{◌≡◌, List, None, Some, ap, sym, subst, ◌∙◌, refl, rules, drop, slice_get}
+use Rattle.std.proofs.Common.{◌≡◌, List, None, Some, ap, sym, ◌∙◌, rules, drop, slice_get}
+use Rattle.std.specs.List.{find}
 use Rattle.std.specs.Option.{option_map}
-use Rattle.exec_goal.specs.Table.{GoalRecord, is_expired}
-use Rattle.exec_entity.proofs.Expiring.{never-expired, lasting-in, settled, settled-in, on_none, undropped-goals, kept-dropped, expired-dropped-in}
+use Rattle.exec_goal.specs.Table.{GoalRecord, expired, is_expired}
+use Rattle.exec_entity.proofs.Expiring.{never-expired, lasting-in, settled, settled-in, on_none, undropped-goals, kept-dropped, forgets-dropped}
+use Rattle.exec_entity.proofs.Joined.{goals-now, records-joined}
 use Rattle.exec_rules.specs.Transcript.{server_expired}
-use Rattle.exec_rules.specs.World.{ServerEntry}
-use Rattle.exec_entity.specs.inner.Keeping.{AreKept}
-use Rattle.exec_entity.specs.inner.Server.{held_goals_of}
+use Rattle.exec_rules.specs.World.{ServerEntry, records_of}
+use Rattle.exec_entity.specs.inner.Server.{all_joined, all_kept}
 use Rattle.exec_entity.proofs.server.Server.expire.Goals as goal
 
 pub returns-in_err-timeout-clause-first : goal.returns-in_err-timeout-clause-first
 returns-in_err-timeout-clause-first c =
     let none : c.self.inside.timeout ≡ None = search rules in
-    c.from_residual.ensures ∙ sym (ap (λ (goals : List GoalRecord). option_map (λ goal. goal.id) (slice_get goals 0)) (never-expired c.args.moment c.args.self.now.timeout c.args.self.now.goals (sym (ap (λ (server : ServerEntry). server.timeout) c.self.view_is) ∙ none)))
+    c.from_residual.ensures
+    ∙ sym (ap (λ (goals : List GoalRecord). option_map (λ goal. goal.id) (slice_get goals 0)) (never-expired c.args.moment c.args.self.now.timeout (records_of c.args.self.now.held) (sym (ap (λ (server : ServerEntry). server.timeout) c.self.view_is) ∙ none)))
 
 pub returns-in_err-timeout-clause-left : goal.returns-in_err-timeout-clause-left
 returns-in_err-timeout-clause-left c =
     let none : c.self.inside.timeout ≡ None = search rules in
-    let never = never-expired c.args.moment c.args.self.now.timeout c.args.self.now.goals (sym (ap (λ (server : ServerEntry). server.timeout) c.self.view_is) ∙ none) in
+    let never = never-expired c.args.moment c.args.self.now.timeout (records_of c.args.self.now.held) (sym (ap (λ (server : ServerEntry). server.timeout) c.self.view_is) ∙ none) in
     never ∙ sym (ap (drop 1) never)
 
 pub returns-in_err-timeout-clause-settled : goal.returns-in_err-timeout-clause-settled
 returns-in_err-timeout-clause-settled c =
     let none : c.self.inside.timeout ≡ None = search rules in
-    let kept = subst (λ (server : ServerEntry). AreKept server.goals server.held) c.self.view_is c.self.invariant.0 in
-    on_none c.from_residual.result (sym (settled c.args.moment c.args.self.now kept (lasting-in c.args.moment c.args.self.now.timeout c.args.self.now.goals (sym (ap (λ (server : ServerEntry). server.timeout) c.self.view_is) ∙ none))))
+    on_none c.from_residual.result (sym (settled c.args.moment c.args.self.now (lasting-in c.args.moment c.args.self.now.timeout (records_of c.args.self.now.held) (sym (ap (λ (server : ServerEntry). server.timeout) c.self.view_is) ∙ none))))
 
 pub invariant_of-self : goal.invariant_of-self
 invariant_of-self c =
     let same : c.expire.new.self ≡ c.self.inside.goals = undropped-goals (is_expired c.args.moment (Some c.in_ok-timeout.timeout)) c.self.inside.goals c.expire.new.self c.in_err-id.ensures.found c.in_err-id.ensures.table in
     (rw same c.self.invariant.0, c.self.invariant.1)
 
+pub returns-in_err-id-clause-first : goal.returns-in_err-id-clause-first
+returns-in_err-id-clause-first c =
+    let some : c.self.inside.timeout ≡ Some c.in_ok-timeout.timeout = search rules in
+    let lasts : Some c.in_ok-timeout.timeout ≡ c.args.self.now.timeout = sym some ∙ ap (λ (server : ServerEntry). server.timeout) c.self.view_is in
+    c.from_residual-in_err-id.ensures ∙ c.in_err-id.ensures.first ∙ (λ i. option_map (λ (goal : GoalRecord). goal.id) (slice_get (expired c.args.moment (lasts i) (goals-now c.self.invariant.0 c.self.view_is i)) 0))
+
+pub returns-in_err-id-clause-left : goal.returns-in_err-id-clause-left
+returns-in_err-id-clause-left c =
+    let some : c.self.inside.timeout ≡ Some c.in_ok-timeout.timeout = search rules in
+    let lasts : Some c.in_ok-timeout.timeout ≡ c.args.self.now.timeout = sym some ∙ ap (λ (server : ServerEntry). server.timeout) c.self.view_is in
+    (λ i. expired c.args.moment (some i) (records-joined c.expire.new.self (all_kept c.self.inside.held.entries) (invariant_of-self c).0.same i))
+    ∙ c.in_err-id.ensures.left ∙ ap (drop 1) (λ i. expired c.args.moment (lasts i) (goals-now c.self.invariant.0 c.self.view_is i))
+
+pub returns-in_err-id-clause-kept : goal.returns-in_err-id-clause-kept
+returns-in_err-id-clause-kept c =
+    let same : c.expire.new.self ≡ c.self.inside.goals = undropped-goals (is_expired c.args.moment (Some c.in_ok-timeout.timeout)) c.self.inside.goals c.expire.new.self c.in_err-id.ensures.found c.in_err-id.ensures.table in
+    ap (server_expired c.args.moment) (ap (λ (goals : List GoalRecord). record { handler = c.self.inside.handler; timeout = c.self.inside.timeout; held = all_joined goals (all_kept c.self.inside.held.entries) }) same ∙ c.self.view_is)
+
 pub returns-in_err-id-clause-settled : goal.returns-in_err-id-clause-settled
 returns-in_err-id-clause-settled c =
     let same : c.expire.new.self ≡ c.self.inside.goals = undropped-goals (is_expired c.args.moment (Some c.in_ok-timeout.timeout)) c.self.inside.goals c.expire.new.self c.in_err-id.ensures.found c.in_err-id.ensures.table in
     let some : c.self.inside.timeout ≡ Some c.in_ok-timeout.timeout = search rules in
-    let entry : ServerEntry = record { handler = c.self.inside.handler; timeout = c.self.inside.timeout; goals = c.self.inside.goals; held = held_goals_of c.self.inside.held.entries } in
-    let done = settled-in c.args.moment entry (Some c.in_ok-timeout.timeout) some c.self.invariant.0 c.in_err-id.ensures.found in
-    on_none c.from_residual-in_err-id.result ((λ i. record entry { goals = same i }) ∙ sym done ∙ (λ i. server_expired c.args.moment (c.self.view_is i)))
+    let lasts : c.args.self.now.timeout ≡ Some c.in_ok-timeout.timeout = sym (ap (λ (server : ServerEntry). server.timeout) c.self.view_is) ∙ some in
+    let none = c.in_err-id.ensures.found ∙ ap (λ (goals : List GoalRecord). option_map (λ goal. goal.id) (find (is_expired c.args.moment (Some c.in_ok-timeout.timeout)) goals)) (goals-now c.self.invariant.0 c.self.view_is) in
+    on_none c.from_residual-in_err-id.result
+    (ap (λ (goals : List GoalRecord). record { handler = c.self.inside.handler; timeout = c.self.inside.timeout; held = all_joined goals (all_kept c.self.inside.held.entries) }) same
+    ∙ c.self.view_is ∙ sym (settled-in c.args.moment c.args.self.now (Some c.in_ok-timeout.timeout) lasts none))
 
 pub invariant_of-self-2 : goal.invariant_of-self-2
 invariant_of-self-2 c = (
-  kept-dropped (is_expired c.args.moment (Some c.in_ok-timeout.timeout)) c.self.inside.goals c.expire.new.self (held_goals_of c.self.inside.held.entries) (held_goals_of c.remove.new.held.entries)
+  kept-dropped (is_expired c.args.moment (Some c.in_ok-timeout.timeout)) c.self.inside.goals c.expire.new.self (all_kept c.self.inside.held.entries) (all_kept c.remove.new.held.entries)
       c.in_ok-id.id c.in_ok-id.ensures.found c.in_ok-id.ensures.table c.remove.ensures.held c.self.invariant.0,
   c.remove.ensures.wakes,
 )
@@ -48,7 +69,19 @@ invariant_of-self-2 c = (
 pub returns-clause-kept : goal.returns-clause-kept
 returns-clause-kept c =
     let some : c.self.inside.timeout ≡ Some c.in_ok-timeout.timeout = search rules in
-    let entry : ServerEntry = record { handler = c.self.inside.handler; timeout = c.self.inside.timeout; goals = c.self.inside.goals; held = held_goals_of c.self.inside.held.entries } in
-    let left : ServerEntry = record entry { goals = c.expire.new.self; held = held_goals_of c.remove.new.held.entries } in
-    expired-dropped-in c.args.moment entry left c.in_ok-id.id (Some c.in_ok-timeout.timeout) some c.in_ok-id.ensures.found c.self.invariant.0.distinct c.in_ok-id.ensures.kept c.remove.ensures.held refl refl
-    ∙ (λ i. server_expired c.args.moment (c.self.view_is i))
+    forgets-dropped c.args.moment c.self.inside.handler c.self.inside.timeout c.self.inside.goals c.expire.new.self (all_kept c.self.inside.held.entries) (all_kept c.remove.new.held.entries)
+    c.in_ok-id.id c.in_ok-timeout.timeout some c.in_ok-id.ensures.found c.in_ok-id.ensures.table c.remove.ensures.held c.self.invariant.0
+    ∙ ap (server_expired c.args.moment) c.self.view_is
+
+pub returns-clause-first : goal.returns-clause-first
+returns-clause-first c =
+    let some : c.self.inside.timeout ≡ Some c.in_ok-timeout.timeout = search rules in
+    let lasts : Some c.in_ok-timeout.timeout ≡ c.args.self.now.timeout = sym some ∙ ap (λ (server : ServerEntry). server.timeout) c.self.view_is in
+    c.in_ok-id.ensures.first ∙ (λ i. option_map (λ (goal : GoalRecord). goal.id) (slice_get (expired c.args.moment (lasts i) (goals-now c.self.invariant.0 c.self.view_is i)) 0))
+
+pub returns-clause-left : goal.returns-clause-left
+returns-clause-left c =
+    let some : c.self.inside.timeout ≡ Some c.in_ok-timeout.timeout = search rules in
+    let lasts : Some c.in_ok-timeout.timeout ≡ c.args.self.now.timeout = sym some ∙ ap (λ (server : ServerEntry). server.timeout) c.self.view_is in
+    (λ i. expired c.args.moment (some i) (records-joined c.expire.new.self (all_kept c.remove.new.held.entries) (invariant_of-self-2 c).0.same i))
+    ∙ c.in_ok-id.ensures.left ∙ ap (drop 1) (λ i. expired c.args.moment (lasts i) (goals-now c.self.invariant.0 c.self.view_is i))

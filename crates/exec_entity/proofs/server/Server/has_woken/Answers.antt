@@ -1,14 +1,24 @@
-use Rattle.std.proofs.Common.{◌<◌, ◌-◌, ◌^◌, List, ℕ, nat_le, slice_index_or, ap, sym, subst, ◌∙◌, arith}
+use Rattle.std.proofs.Common.{◌<◌, ◌-◌, ◌^◌, List, ℕ, length, nat_le, slice_index_or, ap, sym, subst, ◌∙◌, arith, false}
+use Rattle.exec_rules.specs.Ready.{is_task_awake, turn_at}
 use Rattle.exec_rules.specs.World.{ServerEntry}
+use Rattle.std.proofs.lemmas.List.{length-map}
+use Rattle.exec_entity.proofs.Joined.{length-kept}
 use Rattle.exec_entity.proofs.Wakes.{told-by-wake}
-use Rattle.exec_entity.specs.inner.Keeping.{AreKept}
-use Rattle.exec_entity.specs.inner.Waking.{wakes_of}
+use Rattle.exec_entity.specs.inner.Server.{Kept, all_joined, all_kept}
+use Rattle.exec_entity.specs.inner.Waking.{wake_in}
 use Rattle.exec_entity.proofs.server.Server.has_woken.Goals as goal
 
+pub index-requires : goal.index-requires
+index-requires c =
+    let kept = all_kept c.self.inside.held.entries in
+    omega (arith, c.requires, ap length c.self.invariant.1, length-map kept (λ (one : Kept). wake_in one.work), length-kept c.self.invariant.0 c.self.view_is)
+
 pub returns : goal.returns
-returns c = λ info told.
-    let kept = subst (λ (server : ServerEntry). AreKept server.goals server.held) c.self.view_is c.self.invariant.0 in
+returns c = λ d.
+    let kept = all_kept c.self.inside.held.entries in
     let before : c.args.moment < 2 ^ 64 - 1 = omega (arith, c.ticks.ensures.bound, c.ticks.ensures.value) in
-    let wake = c.index.ensures ∙ ap (λ (wakes : List ℕ). slice_index_or wakes c.args.index c.index.result.now) (c.self.invariant.1 ∙ ap (λ (server : ServerEntry). wakes_of server.held) c.self.view_is) in
-    ap (λ (moment : ℕ). nat_le c.index.result.now moment) c.ticks.ensures.value ∙ ap (λ (wake : ℕ). nat_le wake c.args.moment) wake
-    ∙ sym (told-by-wake c.args.moment c.args.self.now.goals c.args.self.now.held c.args.index c.index.result.now info before kept told)
+    let within : c.args.index < length (all_joined c.self.inside.goals kept) = subst (λ (server : ServerEntry). c.args.index < length server.held) (sym c.self.view_is) c.requires in
+    ap (λ (moment : ℕ). nat_le c.index.result.now moment) c.ticks.ensures.value
+    ∙ ap (λ (wake : ℕ). nat_le wake c.args.moment) (c.index.ensures ∙ ap (λ (wakes : List ℕ). slice_index_or wakes c.args.index c.index.result.now) c.self.invariant.1)
+    ∙ sym (told-by-wake c.args.moment before c.self.inside.goals kept c.args.index c.index.result.now d c.self.invariant.0.same within)
+    ∙ ap (λ (server : ServerEntry). is_task_awake (turn_at c.args.moment false) (slice_index_or server.held c.args.index d).work) c.self.view_is

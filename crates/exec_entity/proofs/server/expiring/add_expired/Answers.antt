@@ -5,16 +5,18 @@ use Rattle.exec_goal.specs.Table.{GoalRecord, is_expired}
 use Rattle.exec_goal.specs.declared.info.GoalInfo.{GoalInfo}
 use Rattle.exec_msg.specs.declared.line.Line.{Line}
 use Rattle.exec_msg.specs.declared.line.Line.TheVariants as line
+use Rattle.exec_rules.specs.World.{HeldGoal, records_of}
+use Rattle.std.proofs.lemmas.List.{length-map}
 use Rattle.exec_entity.proofs.server.expiring.add_expired.Goals.{then-is_expired_at+in_ok-add, else-is_expired_at}
 use Rattle.exec_entity.proofs.server.expiring.add_expired.Goals as goal
 
 pub loop-index-preserved : goal.loop-index-preserved
 loop-index-preserved g c =
-    let goals = c.args.server.now.goals in
+    let goals = records_of c.args.server.now.held in
     let index = c.loop-index.index in
     let test = is_expired c.args.moment c.args.server.now.timeout in
     let told : GoalRecord → Line = λ goal. line.Expire c.args.server.now.handler.entity goal.id in
-    let within : index < length goals = omega (arith, c.loop-index-test.true, c.len-index-end.ensures) in
+    let within : index < length goals = omega (arith, c.loop-index-test.true, c.len-index-end.ensures, length-map c.args.server.now.held (λ (one : HeldGoal). one.goal)) in
     let left = map told (filter test (drop (index + 1) goals)) in
     elim c.if-is_expired_at.branch [
       | then-is_expired_at+in_ok-add w ↦

@@ -1,9 +1,8 @@
 use Rattle.std.proofs.Common.{rules, sym, ap}
 use Rattle.std.specs.Option.{unwrap_or}
 use Rattle.exec_entity.proofs.Changed.{changed-none, changed_ok, on_unwrapped}
-use Rattle.exec_entity.specs.inner.Servers.{with_goals}
 use Rattle.exec_goal.specs.Cancel.{table_after}
-use Rattle.exec_rules.specs.World.{is_server_at}
+use Rattle.exec_rules.specs.World.{is_server_at, with_goals}
 use Rattle.exec_entity.proofs.server.found.ByNumber+Server.cancel.Goals as goal
 
 pub returns-in-Some-clause-table : goal.returns-in-Some-clause-table

@@ -1,9 +1,8 @@
 use Rattle.std.proofs.Common.{rules}
 use Rattle.exec_entity.proofs.Changed.{changed_if}
-use Rattle.exec_entity.specs.inner.Servers.{with_goals}
 use Rattle.exec_goal.specs.Table.{after_end, has_id}
 use Rattle.exec_msg.specs.Lists.{change_first}
-use Rattle.exec_rules.specs.World.{is_server_at}
+use Rattle.exec_rules.specs.World.{is_server_at, with_goals}
 use Rattle.exec_entity.proofs.server.found.ByNumber+Server.end.Goals as goal
 
 pub returns-clause-ended : goal.returns-clause-ended

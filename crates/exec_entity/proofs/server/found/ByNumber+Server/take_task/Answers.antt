@@ -1,8 +1,7 @@
 use Rattle.std.proofs.Common.{None, rules}
 use Rattle.exec_entity.proofs.Changed.{changed}
-use Rattle.exec_entity.specs.inner.Polling.{server_with_work}
-use Rattle.exec_rules.specs.World.{is_server_at}
+use Rattle.exec_rules.specs.World.{doing, is_server_at, with_held}
 use Rattle.exec_entity.proofs.server.found.ByNumber+Server.take_task.Goals as goal
 
 pub returns-clause-out : goal.returns-clause-out
-returns-clause-out c = changed _ (is_server_at c.args.server) (server_with_work c.args.id None) c.args.self.now c.change.new.self c.change.result c.change.ensures (λ made entry now found p. search rules)
+returns-clause-out c = changed _ (is_server_at c.args.server) (with_held c.args.id (doing None)) c.args.self.now c.change.new.self c.change.result c.change.ensures (λ made entry now found p. search rules)
