@@ -1,6 +1,6 @@
 -- What is found in a list of servers, and what changes there.
 use Rattle.std.proofs.Common.{◌≡◌, ℕ, true, false, List, [], ◌∷◌, Option, None, Some, length, find, nat_lt, get_or, slice_set, refl, sym, ap, ◌∙◌}
-use Rattle.std.specs.Option.{option_and_then, option_map_or}
+use Rattle.std.specs.Option.{option_map, option_map_or}
 use Rattle.exec_goal.specs.Calls.{noted}
 use Rattle.exec_goal.specs.Table.{GoalRecord, Asked, told, later, unknown}
 use Rattle.exec_msg.specs.Lists.{change_first}
@@ -27,7 +27,7 @@ module _ (server : ℕ) (xs held : List ServerEntry) (i : ℕ) (same : xs ≡ he
   -- ---- a server that isn't there
 
   pub work_absent : (id : GoalId) → false ≡ nat_lt i (length xs) → work_in server id held ≡ None
-  work_absent id past = ap (λ (found : Option ServerEntry). option_and_then (λ (kept : HeldGoal). kept.work) (find (is_for id) (option_map_or (λ entry. entry.held) found []))) (unfound (is_server_at server) xs held i same at past)
+  work_absent id past = ap (λ (found : Option ServerEntry). option_map (λ (kept : HeldGoal). kept.work) (find (is_for id) (option_map_or (λ entry. entry.held) found []))) (unfound (is_server_at server) xs held i same at past)
 
   -- ---- one that is
 
@@ -35,11 +35,11 @@ module _ (server : ℕ) (xs held : List ServerEntry) (i : ℕ) (same : xs ≡ he
     found : find (is_server_at server) held ≡ Some entry
     found = found_at (is_server_at server) xs held i same at entry within reads
 
-    pub work_found : (id : GoalId) → work_in server id held ≡ option_and_then (λ (kept : HeldGoal). kept.work) (find (is_for id) entry.held)
-    work_found id = ap (λ (one : Option ServerEntry). option_and_then (λ (kept : HeldGoal). kept.work) (find (is_for id) (option_map_or (λ entry. entry.held) one []))) found
+    pub work_found : (id : GoalId) → work_in server id held ≡ option_map (λ (kept : HeldGoal). kept.work) (find (is_for id) entry.held)
+    work_found id = ap (λ (one : Option ServerEntry). option_map (λ (kept : HeldGoal). kept.work) (find (is_for id) (option_map_or (λ entry. entry.held) one []))) found
 
     -- it polls a goal
-    pub polls : (id : GoalId) (task : Option GoalWork → Option TaskState) (after : ServerEntry) → after ≡ server_polled id (task (option_and_then (λ (kept : HeldGoal). kept.work) (find (is_for id) entry.held))) entry
+    pub polls : (id : GoalId) (task : Option GoalWork → Option TaskState) (after : ServerEntry) → after ≡ server_polled id (task (option_map (λ (kept : HeldGoal). kept.work) (find (is_for id) entry.held))) entry
         → slice_set xs i after ≡ change_first (is_server_at server) (server_polled id (task (work_in server id held))) held
     polls id task after is = changed_at (is_server_at server) xs held i same at (server_polled id (task (work_in server id held))) entry after within reads (is ∙ ap (λ (work : Option GoalWork). server_polled id (task work) entry) (sym (work_found id)))
 

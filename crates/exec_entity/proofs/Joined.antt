@@ -1,7 +1,7 @@
 -- The goals that a server holds, of their records and what is kept beside each.
 use Rattle.std.proofs.Common.{◌≡◌, ℕ, suc, ◌<◌, ◌==◌, List, [], ◌∷◌, ◌++◌, map, length, drop, get_or, Bool, true, false, Option, None, Some, IfNone, refl, ap, sym, ◌∙◌, arith}
 use Rattle.std.specs.List.{find}
-use Rattle.std.specs.Option.{option_and_then, option_map_or}
+use Rattle.std.specs.Option.{option_map, option_map_or}
 use Rattle.std.proofs.lemmas.List.{length-map}
 use Rattle.std.proofs.lemmas.Option.{slice_get_within}
 use Rattle.exec_goal.specs.Table.{GoalRecord, has_id}
@@ -75,14 +75,14 @@ module _ (id : GoalId) where
       at false e rest = rw (e, alike goal goals one kept same ∙ e) rest
 
   -- its work
-  pub work-joined : (goals : List GoalRecord) (kept : List Kept) → goal_ids goals ≡ kept_ids kept → option_and_then (λ held. held.work) (find (is_for id) (all_joined goals kept)) ≡ option_and_then (λ (one : Kept). one.work) (find (is_kept_for id) kept)
+  pub work-joined : (goals : List GoalRecord) (kept : List Kept) → goal_ids goals ≡ kept_ids kept → option_map (λ held. held.work) (find (is_for id) (all_joined goals kept)) ≡ option_map (λ (one : Kept). one.work) (find (is_kept_for id) kept)
   work-joined [] [] same = refl
   work-joined [] (one ∷ kept) same = absurd cc
   work-joined (goal ∷ goals) [] same = absurd cc
   work-joined (goal ∷ goals) (one ∷ kept) same = at (is_kept_for id one) refl (work-joined goals kept (ap (drop 1) same))
     where
-      at : (b : Bool) → is_kept_for id one ≡ b → option_and_then (λ held. held.work) (find (is_for id) (all_joined goals kept)) ≡ option_and_then (λ (one : Kept). one.work) (find (is_kept_for id) kept) →
-          option_and_then (λ held. held.work) (find (is_for id) (all_joined (goal ∷ goals) (one ∷ kept))) ≡ option_and_then (λ (one : Kept). one.work) (find (is_kept_for id) (one ∷ kept))
+      at : (b : Bool) → is_kept_for id one ≡ b → option_map (λ held. held.work) (find (is_for id) (all_joined goals kept)) ≡ option_map (λ (one : Kept). one.work) (find (is_kept_for id) kept) →
+          option_map (λ held. held.work) (find (is_for id) (all_joined (goal ∷ goals) (one ∷ kept))) ≡ option_map (λ (one : Kept). one.work) (find (is_kept_for id) (one ∷ kept))
       at true e rest = rw (e, alike goal goals one kept same ∙ e) refl
       at false e rest = rw (e, alike goal goals one kept same ∙ e) rest
 
@@ -156,8 +156,8 @@ module _ {goals : List GoalRecord} {kept : List Kept} {handler : Handler} {timeo
   read-now part own none reads id = sym (read-joined id part own none reads goals kept all.same) ∙ ap (λ (server : ServerEntry). option_map_or part (find (is_for id) server.held) none) is
 
   -- its work
-  pub work-now : (id : GoalId) → option_and_then (λ (one : Kept). one.work) (find (is_kept_for id) kept) ≡ option_and_then (λ held. held.work) (find (is_for id) now.held)
-  work-now id = sym (work-joined id goals kept all.same) ∙ ap (λ (server : ServerEntry). option_and_then (λ held. held.work) (find (is_for id) server.held)) is
+  pub work-now : (id : GoalId) → option_map (λ (one : Kept). one.work) (find (is_kept_for id) kept) ≡ option_map (λ held. held.work) (find (is_for id) now.held)
+  work-now id = sym (work-joined id goals kept all.same) ∙ ap (λ (server : ServerEntry). option_map (λ held. held.work) (find (is_for id) server.held)) is
 
 -- what follows where there is no value holds there
 pub if_none_weaker : {A P Q : Type 0} (found : Option A) → (P → Q) → IfNone found P → IfNone found Q

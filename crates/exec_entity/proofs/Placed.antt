@@ -2,19 +2,19 @@
 use Rattle.std.proofs.Common.{◌≡◌, ℕ, zero, suc, ◌==◌, ◌<◌, ◌||◌, List, [], ◌∷◌, length, map, Bool, true, false, cond, if◌then◌else◌, Option, None, Some, IfSome, slice_get, get_or, is_some, IfNone, refl, ap, sym, subst, ◌∙◌, arith}
 use Rattle.std.specs.List.{find, position}
 use Rattle.std.specs.Map.{keys_of, values_of, lookup}
-use Rattle.std.specs.Option.{option_and_then, option_map}
+use Rattle.std.specs.Option.{option_map}
 use Rattle.std.proofs.lemmas.Bool.{eqb-true, eq-eqb}
 use Rattle.std.proofs.lemmas.List.Quantifiers.{position-Some}
 use Rattle.indexmap.specs.IndexMap.{set_value_at}
 use Rattle.exec_goal.specs.inner.Ids.{is_among}
 use Rattle.exec_goal.specs.Table.{GoalRecord}
 use Rattle.exec_msg.specs.Lists.{change_first}
-use Rattle.exec_rules.specs.World.{Handler, HeldGoal, ServerEntry, is_for, work_of}
+use Rattle.exec_rules.specs.World.{Handler, HeldGoal, ServerEntry, is_for}
 use Rattle.exec_entity.proofs.HeldEntries.{find-lookup}
 use Rattle.exec_entity.proofs.Joined.{ids-joined, work-now}
 use Rattle.exec_entity.proofs.Serving.{kept_ids}
 use Rattle.exec_entity.specs.inner.Keeping.{AreDistinct, AreKept, IsFor}
-use Rattle.exec_entity.specs.inner.Server.{Kept, all_joined, all_kept, is_kept_for, kept_of}
+use Rattle.exec_entity.specs.inner.Server.{Kept, all_joined, all_kept, is_kept_for, kept_of, work_there}
 use Rattle.exec_entity.specs.declared.server.KeptWithGoal.{KeptWithGoal}
 
 -- what is kept at a place, from 0, is for this goal
@@ -73,8 +73,8 @@ found-at id held (entry ∷ entries) (suc place) at =
 
 -- and is the work of the server's goal
 pub work-placed : {id : ℕ} {held : KeptWithGoal} {entries : List (ℕ × KeptWithGoal)} {place : ℕ} {goals : List GoalRecord} {handler : Handler} {timeout : Option ℕ} {now : ServerEntry} → KeptAt id held entries place → AreKept goals (all_kept entries)
-    → record { handler = handler; timeout = timeout; held = all_joined goals (all_kept entries) } ≡ now → option_and_then (λ held. held.work) (find (is_for id) now.held) ≡ option_map work_of held.task
-work-placed {id} {held} {entries} {place} at all is = sym (work-now all is id) ∙ ap (λ (found : Option Kept). option_and_then (λ one. one.work) found) (found-at id held entries place at)
+    → record { handler = handler; timeout = timeout; held = all_joined goals (all_kept entries) } ≡ now → option_map (λ held. held.work) (find (is_for id) now.held) ≡ Some (work_there held.task)
+work-placed {id} {held} {entries} {place} at all is = sym (work-now all is id) ∙ ap (λ (found : Option Kept). option_map (λ one. one.work) found) (found-at id held entries place at)
 
 -- and a change of it is a change of what is kept for the goal
 pub changed-at : {id : ℕ} {held : KeptWithGoal} {entries : List (ℕ × KeptWithGoal)} {place : ℕ} → KeptAt id held entries place → (after : KeptWithGoal) (change : Kept → Kept) → kept_of (id, after) ≡ change (kept_of (id, held))

@@ -1,5 +1,5 @@
 -- All lanes of a ready list come home as its callbacks do that run one after another.
-use Rattle.std.proofs.Common.{◌≡◌, Bool, true, false, if◌then◌else◌, List, [], ◌∷◌, ◌++◌, length, map, Option, None, Some, refl, sym, ap, subst, ◌∙◌, arith}
+use Rattle.std.proofs.Common.{◌≡◌, Bool, true, false, if◌then◌else◌, List, [], ◌∷◌, ◌++◌, length, map, Option, refl, sym, ap, subst, ◌∙◌, arith}
 use Rattle.std.specs.Prelude.{IsPermutation}
 use Rattle.std.specs.List.{AllByRecursion, IsDistinct, flat_map, fold}
 use Rattle.std.specs.Option.{option_map}
@@ -13,7 +13,7 @@ use Rattle.exec_lane.specs.Lane.{AreFinished, IsFinished, Lane, LaneCallback, La
 use Rattle.exec_lane.specs.declared.gathering.Ran.{Ran}
 use Rattle.exec_script.specs.declared.effects.Effect.{Effect}
 use Rattle.exec_rules.specs.Callback.{AfterCallback}
-use Rattle.exec_rules.specs.Calls.{AreHome, HaveVariables, IsHomeFor, polls_same}
+use Rattle.exec_rules.specs.Calls.{AreHome, HaveVariables, IsHomeFor, polls_same, away}
 use Rattle.exec_rules.specs.Run.{all_apart, all_home, apart, apart_with, brought_home, effects_of, variables_for, with_polled, with_variables_for, work_after, work_for}
 use Rattle.exec_script.specs.Script.{Variables}
 use Rattle.exec_rules.specs.World.{GoalWork, WorldState, with_variables, with_work}
@@ -27,7 +27,7 @@ use Rattle.exec_rules.specs.declared.ready.Ready.{Ready}
 pub home_there : (server : EntityNo) (of : Cause) (first world : WorldState) → work_for server of world ≡ work_for server of first → IsHomeFor server of first → IsHomeFor server of world
 home_there server cause.Due first world same home = tt
 home_there server (cause.Took item) first world same home = tt
-home_there server (cause.Woke id value canceling) first world same home = (home.0, same ∙ home.1)
+home_there server (cause.Woke id value canceling) first world same home = (home.0, same ∙ home.1, home.2)
 
 pub work_beside : (server : EntityNo) (of : Cause) (one : Ready) (variables : Variables) (world : WorldState) → work_for server of (with_variables_for one variables world) ≡ work_for server of world
 work_beside server of one variables world = by of one.exclusive
@@ -40,24 +40,24 @@ work_beside server of one variables world = by of one.exclusive
 
 -- what comes home of a callback whose task was out, comes home as if the task had been there
 pub brought : (one : Ready) (work : Option GoalWork) (outcome : AfterCallback (List Effect)) (world : WorldState) → work_for one.entity one.cause world ≡ work → IsHomeFor one.entity one.cause world →
-    task_home one.entity one.cause (option_map (work_after outcome.task) work) (with_variables_for one outcome.variables (task_put one.entity one.cause None world)) ≡ brought_home one outcome world
+    task_home one.entity one.cause (option_map (work_after outcome.task) work) (with_variables_for one outcome.variables (task_put one.entity one.cause away world)) ≡ brought_home one outcome world
 brought one work outcome world is home = by one.cause refl is home
   where
     after : WorldState
     after = with_variables_for one outcome.variables world
 
     by : (why : Cause) → one.cause ≡ why → work_for one.entity why world ≡ work → IsHomeFor one.entity why world →
-        task_home one.entity why (option_map (work_after outcome.task) work) (with_variables_for one outcome.variables (task_put one.entity why None world)) ≡ with_polled one.entity why outcome.task after
+        task_home one.entity why (option_map (work_after outcome.task) work) (with_variables_for one outcome.variables (task_put one.entity why away world)) ≡ with_polled one.entity why outcome.task after
     by cause.Due e is home = refl
     by (cause.Took item) e is home = refl
     by (cause.Woke id value canceling) e is home =
-        ap (λ (some : Option GoalWork). task_home one.entity (cause.Woke id value canceling) (option_map (work_after outcome.task) some) (with_variables_for one outcome.variables (with_work one.entity id None world))) (sym is ∙ home.1)
-        ∙ ap (with_work one.entity id (Some (work_after outcome.task home.0)))
-        (ap (λ (of : Cause). with_variables_for one outcome.variables (task_put one.entity of None world)) (sym e) ∙ put_beside one None one outcome.variables world ∙ ap (λ (of : Cause). task_put one.entity of None after) e)
-        ∙ work_twice one.entity id None (Some (work_after outcome.task home.0)) after
+        ap (λ (some : Option GoalWork). task_home one.entity (cause.Woke id value canceling) (option_map (work_after outcome.task) some) (with_variables_for one outcome.variables (with_work one.entity id away world))) (sym is ∙ home.1)
+        ∙ ap (with_work one.entity id (work_after outcome.task home.0))
+        (ap (λ (of : Cause). with_variables_for one outcome.variables (task_put one.entity of away world)) (sym e) ∙ put_beside one away one outcome.variables world ∙ ap (λ (of : Cause). task_put one.entity of away after) e)
+        ∙ work_twice one.entity id away (work_after outcome.task home.0) after
         ∙ polled_home one.entity id home.0 outcome.task value canceling after (work_beside one.entity (cause.Woke id value canceling) one outcome.variables world ∙ home.1)
 
-pub variables_out : (server : EntityNo) (of : Cause) (world : WorldState) → (task_put server of None world).variables ≡ world.variables
+pub variables_out : (server : EntityNo) (of : Cause) (world : WorldState) → (task_put server of away world).variables ≡ world.variables
 variables_out server cause.Due world = refl
 variables_out server (cause.Took item) world = refl
 variables_out server (cause.Woke id value canceling) world = refl
@@ -93,16 +93,16 @@ all_tails one rest [] apart = tt
 all_tails one rest (lane ∷ lanes) apart = (tails one rest lane apart.0, all_tails one rest lanes apart.1)
 
 -- the works of goals that a callback doesn't poll stay behind it
-works_left : (first : WorldState) (one : Ready) (rest : List Ready) (variables : Variables) (world after : WorldState) → after ≡ home_after first one variables (task_put one.entity one.cause None world) → AllByRecursion (λ other. polls_same one other ≡ false) rest →
+works_left : (first : WorldState) (one : Ready) (rest : List Ready) (variables : Variables) (world after : WorldState) → after ≡ home_after first one variables (task_put one.entity one.cause away world) → AllByRecursion (λ other. polls_same one other ≡ false) rest →
     AllByRecursion (λ other. work_for other.entity other.cause world ≡ work_for other.entity other.cause first) rest → AllByRecursion (λ other. work_for other.entity other.cause after ≡ work_for other.entity other.cause first) rest
 works_left first one [] variables world after is apart works = tt
 works_left first one (other ∷ rest) variables world after is apart works =
-    let out : WorldState = task_put one.entity one.cause None world in
+    let out : WorldState = task_put one.entity one.cause away world in
     let did : AfterCallback (List Effect) = did_with first one variables in (
       ap (work_for other.entity other.cause) is
           ∙ left_by_home one.entity one.cause (option_map (work_after did.task) (work_for one.entity one.cause first)) other (with_variables_for one did.variables out) apart.0
           ∙ work_beside other.entity other.cause one did.variables out
-          ∙ left_by_put one.entity one.cause None other world apart.0
+          ∙ left_by_put one.entity one.cause away other world apart.0
           ∙ works.0,
       works_left first one rest variables world after is apart.1 works.1,
     )
@@ -120,12 +120,12 @@ came first (one ∷ rest) lanes world may =
     let out : WorldState = without_task one.entity one.cause world in
     let here : WorldState = homes_of first lanes world in
     let polls : AllByRecursion (NonePolls one) lanes = all_heads one rest lanes may.polls in
-    let taken : homes_of first lanes out ≡ task_put one.entity one.cause None here = ap (homes_of first lanes) (out_is one.entity one.cause world) ∙ lanes_past first lanes one None world polls in
+    let taken : homes_of first lanes out ≡ task_put one.entity one.cause away here = ap (homes_of first lanes) (out_is one.entity one.cause world) ∙ lanes_past first lanes one away world polls in
     let same : out.variables ≡ first.variables = ap (λ (some : WorldState). some.variables) (out_is one.entity one.cause world) ∙ variables_out one.entity one.cause world ∙ may.same in
     let behind : ComesBehind first one lanes (with_callback lanes one) out = comes_behind first one lanes out may.lanes_apart polls same may.within.0 in
-    let found : variables_for one (homes_of first lanes out) ≡ variables_for one here = ap (variables_for one) taken ∙ same_for one here (task_put one.entity one.cause None here) (variables_out one.entity one.cause here) in
+    let found : variables_for one (homes_of first lanes out) ≡ variables_for one here = ap (variables_for one) taken ∙ same_for one here (task_put one.entity one.cause away here) (variables_out one.entity one.cause here) in
     let did : did_with first one (variables_for one here) ≡ apart one here = ap (λ (work : Option GoalWork). apart_with one work (variables_for one here)) (sym may.works.0) in
-    let after : homes_of first (with_callback lanes one) out ≡ home_after first one (variables_for one here) (task_put one.entity one.cause None here) =
+    let after : homes_of first (with_callback lanes one) out ≡ home_after first one (variables_for one here) (task_put one.entity one.cause away here) =
     behind.home ∙ (λ i. home_after first one (found i) (taken i)) in
     let next : homes_of first (with_callback lanes one) out ≡ brought_home one (apart one here) here =
     after

@@ -69,7 +69,7 @@ task_beside server (cause.Took item) work one variables world = refl
 task_beside server (cause.Woke id value canceling) None one variables world = refl
 task_beside server (cause.Woke id value canceling) (Some work) one variables world = by one.exclusive
   where
-    by : (b : Bool) → with_work server id (Some work) (if b then with_variables one.group variables world else world) ≡ (if b then with_variables one.group variables (with_work server id (Some work) world) else with_work server id (Some work) world)
+    by : (b : Bool) → with_work server id work (if b then with_variables one.group variables world else world) ≡ (if b then with_variables one.group variables (with_work server id work world) else with_work server id work world)
     by true = refl
     by false = refl
 
@@ -86,7 +86,7 @@ tasks_beside (entry ∷ entries) (did ∷ done) one variables world =
 abbrev pub NonePolls : Ready → List Ready → Type 0
 NonePolls one lane = AllByRecursion (λ other. polls_same other one ≡ false) lane
 
-tasks_past : (first : WorldState) (lane : List Ready) (done : List LeftByCallback) (one : Ready) (work : Option GoalWork) (world : WorldState) → NonePolls one lane →
+tasks_past : (first : WorldState) (lane : List Ready) (done : List LeftByCallback) (one : Ready) (work : GoalWork) (world : WorldState) → NonePolls one lane →
     tasks_home (map (entry_in first) lane) done (task_put one.entity one.cause work world) ≡ task_put one.entity one.cause work (tasks_home (map (entry_in first) lane) done world)
 tasks_past first [] done one work world apart = refl
 tasks_past first (other ∷ lane) [] one work world apart =
@@ -96,7 +96,7 @@ tasks_past first (other ∷ lane) (did ∷ done) one work world apart =
     ap (tasks_home (map (entry_in first) lane) done) (put_past other.entity other.cause did.work one work world apart.0)
     ∙ tasks_past first lane done one work (task_home other.entity other.cause did.work world) apart.1
 
-pub put_beside : (one : Ready) (work : Option GoalWork) (other : Ready) (variables : Variables) (world : WorldState) →
+pub put_beside : (one : Ready) (work : GoalWork) (other : Ready) (variables : Variables) (world : WorldState) →
     with_variables_for other variables (task_put one.entity one.cause work world) ≡ task_put one.entity one.cause work (with_variables_for other variables world)
 put_beside one work other variables world = by one.cause other.exclusive
   where
@@ -109,14 +109,14 @@ put_beside one work other variables world = by one.cause other.exclusive
     by (cause.Woke id value canceling) true = refl
     by (cause.Woke id value canceling) false = refl
 
-lane_past : (first : WorldState) (lane : List Ready) (one : Ready) (work : Option GoalWork) (world : WorldState) → NonePolls one lane →
+lane_past : (first : WorldState) (lane : List Ready) (one : Ready) (work : GoalWork) (world : WorldState) → NonePolls one lane →
     home_of first (task_put one.entity one.cause work world) lane ≡ task_put one.entity one.cause work (home_of first world lane)
 lane_past first [] one work world apart = refl
 lane_past first (other ∷ lane) one work world apart =
     ap (tasks_home (map (entry_in first) (other ∷ lane)) (left_of first (other ∷ lane)).left) (put_beside one work other (left_of first (other ∷ lane)).variables world)
     ∙ tasks_past first (other ∷ lane) (left_of first (other ∷ lane)).left one work (with_variables_for other (left_of first (other ∷ lane)).variables world) apart
 
-pub lanes_past : (first : WorldState) (lanes : List (List Ready)) (one : Ready) (work : Option GoalWork) (world : WorldState) → AllByRecursion (NonePolls one) lanes →
+pub lanes_past : (first : WorldState) (lanes : List (List Ready)) (one : Ready) (work : GoalWork) (world : WorldState) → AllByRecursion (NonePolls one) lanes →
     homes_of first lanes (task_put one.entity one.cause work world) ≡ task_put one.entity one.cause work (homes_of first lanes world)
 lanes_past first [] one work world apart = refl
 lanes_past first (lane ∷ lanes) one work world apart =
@@ -291,10 +291,10 @@ task_past first lanes one work began after polls came = by work one.cause refl
     by work (cause.Took item) e = came
     by None (cause.Woke id value canceling) e = came
     by (Some work) (cause.Woke id value canceling) e =
-        ap (λ (why : Cause). homes_of first lanes (task_put one.entity why (Some work) began)) (sym e)
-        ∙ lanes_past first lanes one (Some work) began polls
-        ∙ ap (λ (why : Cause). task_put one.entity why (Some work) (homes_of first lanes began)) e
-        ∙ ap (with_work one.entity id (Some work)) came
+        ap (λ (why : Cause). homes_of first lanes (task_put one.entity why work began)) (sym e)
+        ∙ lanes_past first lanes one work began polls
+        ∙ ap (λ (why : Cause). task_put one.entity why work (homes_of first lanes began)) e
+        ∙ ap (with_work one.entity id work) came
 
 home_past : (first : WorldState) (lanes : List (List Ready)) (one : Ready) (variables : Variables) (world : WorldState) → AllByRecursion (TakesNot one) lanes → AllByRecursion (NonePolls one) lanes →
     homes_of first lanes (home_after first one variables world) ≡ home_after first one variables (homes_of first lanes world)

@@ -10,7 +10,7 @@ use Rattle.exec_lane.specs.Portions.{AreOfGroups, AreWhole, HasRun, HasVariables
 use Rattle.exec_msg.specs.Numbers.{EntityNo}
 use Rattle.exec_plan.specs.Graph.{GroupNo}
 use Rattle.exec_rules.specs.Callback.{AfterCallback}
-use Rattle.exec_rules.specs.Calls.{AreHome, HaveVariables, IsHomeFor, polls_same}
+use Rattle.exec_rules.specs.Calls.{AreHome, HaveVariables, IsHomeFor, polls_same, away}
 use Rattle.exec_rules.specs.Run.{apart, apart_with, brought_home, effects_of, variables_for, with_polled, with_variables_for, work_after, work_for}
 use Rattle.exec_rules.specs.World.{GoalWork, WorldState}
 use Rattle.exec_rules.specs.declared.ready.Cause.{Cause}
@@ -77,11 +77,11 @@ pub work_stays : (one other : Ready) (outcome : AfterCallback (List Effect)) (wo
     work_for other.entity other.cause (brought_home one outcome world) ≡ work_for other.entity other.cause world
 work_stays one other outcome world home apart =
     let work : Option GoalWork = work_for one.entity one.cause world in
-    let out : WorldState = task_put one.entity one.cause None world in
+    let out : WorldState = task_put one.entity one.cause away world in
     ap (work_for other.entity other.cause) (sym (brought one work outcome world refl home))
     ∙ left_by_home one.entity one.cause (option_map (work_after outcome.task) work) other (with_variables_for one outcome.variables out) apart
     ∙ work_beside other.entity other.cause one outcome.variables out
-    ∙ left_by_put one.entity one.cause None other world apart
+    ∙ left_by_put one.entity one.cause away other world apart
 
 -- variables that are left so are found by a callback of the same group, and by no other
 left_found : (one other : Ready) (variables : Variables) (all : List Variables) → one.exclusive ≡ true → one.group ≡ other.group → other.group < length all →
@@ -110,7 +110,7 @@ Suits _ work = work ≡ None
 pub suits_home : (server : EntityNo) (why : Cause) (world : WorldState) → IsHomeFor server why world → Suits why (work_for server why world)
 suits_home server cause.Due world home = refl
 suits_home server (cause.Took item) world home = refl
-suits_home server (cause.Woke id value canceling) world home = home
+suits_home server (cause.Woke id value canceling) world home = (home.0, home.1)
 
 pub suits_changed : (why : Cause) (change : GoalWork → GoalWork) (work : Option GoalWork) → Suits why work → Suits why (option_map change work)
 suits_changed cause.Due change work suits = ap (option_map change) suits

@@ -1,5 +1,5 @@
 -- What workers are given, callback by callback, is what a world has for their callbacks.
-use Rattle.std.proofs.Common.{◌≡◌, ℕ, zero, suc, ◌+◌, ◌-◌, ◌<◌, ◌≤◌, Bool, true, false, ◌==◌, List, [], ◌∷◌, ◌++◌, length, slice_index_or, Option, None, refl, sym, ap, subst, ◌∙◌, arith}
+use Rattle.std.proofs.Common.{◌≡◌, ℕ, zero, suc, ◌+◌, ◌-◌, ◌<◌, ◌≤◌, Bool, true, false, ◌==◌, List, [], ◌∷◌, ◌++◌, length, slice_index_or, Option, refl, sym, ap, subst, ◌∙◌, arith}
 use Rattle.std.specs.Prelude.{replicate}
 use Rattle.std.specs.List.{AllByRecursion, IsDistinct}
 use Rattle.std.specs.Option.{option_to_list}
@@ -13,7 +13,7 @@ use Rattle.exec_lane.proofs.Putting.{left_by_put, not_equal, out_is}
 use Rattle.exec_lane.specs.Lane.{without_task}
 use Rattle.exec_lane.specs.Portions.{AreWorkers, ForEach, HasVariables, IsGiven, PortionState, nothing, of_owner, owned, variables_in, works_in}
 use Rattle.exec_lane.specs.inner.Dealing.{given, given_each, portion_at, with_changed, with_given}
-use Rattle.exec_rules.specs.Calls.{IsHomeFor, polls_same}
+use Rattle.exec_rules.specs.Calls.{IsHomeFor, polls_same, away}
 use Rattle.exec_rules.specs.Run.{variables_for, work_for}
 use Rattle.exec_rules.specs.World.{GoalWork, WorldState}
 use Rattle.exec_rules.specs.declared.ready.Ready.{Ready}
@@ -135,7 +135,7 @@ groups_turned one [] world portion has = tt
 groups_turned one (other ∷ mine) world portion has = (group_turned one other world portion has.0, groups_turned one mine world portion has.1)
 
 work_out : (one other : Ready) (world : WorldState) → polls_same one other ≡ false → work_for other.entity other.cause (without_task one.entity one.cause world) ≡ work_for other.entity other.cause world
-work_out one other world apart = ap (work_for other.entity other.cause) (out_is one.entity one.cause world) ∙ left_by_put one.entity one.cause None other world apart
+work_out one other world apart = ap (work_for other.entity other.cause) (out_is one.entity one.cause world) ∙ left_by_put one.entity one.cause away other world apart
 
 works_out : (one : Ready) (mine : List Ready) (world : WorldState) → AllByRecursion (λ other. polls_same one other ≡ false) mine → works_in (without_task one.entity one.cause world) mine ≡ works_in world mine
 works_out one [] world apart = refl

@@ -1,5 +1,5 @@
 -- What workers bring home in ready order is what one thread brings home, and so is what they commit.
-use Rattle.std.proofs.Common.{◌≡◌, ℕ, zero, suc, ◌<◌, ◌||◌, Bool, true, false, ◌==◌, if◌then◌else◌, List, [], ◌∷◌, ◌++◌, drop, length, slice_index_or, slice_set, Option, None, refl, sym, ap, subst, ◌∙◌, true≢false, arith}
+use Rattle.std.proofs.Common.{◌≡◌, ℕ, zero, suc, ◌<◌, ◌||◌, Bool, true, false, ◌==◌, if◌then◌else◌, List, [], ◌∷◌, ◌++◌, drop, length, slice_index_or, slice_set, Option, refl, sym, ap, subst, ◌∙◌, true≢false, arith}
 use Rattle.std.specs.List.{AllByRecursion, IsDistinct, fold, list_any}
 use Rattle.std.specs.Option.{option_map, option_to_list}
 use Rattle.std.proofs.lemmas.Bool.{eq-eqb, eqb-true}
@@ -14,7 +14,7 @@ use Rattle.exec_lane.specs.Portions.{AreWorkers, ForEach, HaveRun, PortionState,
 use Rattle.exec_lane.specs.declared.gathering.Ran.{Ran}
 use Rattle.exec_lane.specs.inner.Dealing.{commit_first, commits_of, homes_of, portion_at, with_changed, without_did, without_homes}
 use Rattle.exec_rules.specs.Callback.{AfterCallback}
-use Rattle.exec_rules.specs.Calls.{AreHome, IsHomeFor, WorldData, after_commit, polls_same}
+use Rattle.exec_rules.specs.Calls.{AreHome, IsHomeFor, WorldData, after_commit, polls_same, away}
 use Rattle.exec_rules.specs.Run.{all_apart, all_home, apart, brought_home, effects_of, with_variables_for, work_after, work_for}
 use Rattle.exec_rules.specs.World.{GoalWork, WorldState}
 use Rattle.exec_rules.specs.declared.ready.Ready.{Ready}
@@ -74,8 +74,8 @@ home_past one work variables (other ∷ list) world apart =
     home_past one work variables list (without_task other.entity other.cause world) apart.1
     ∙ ap (tasks_out list)
     (ap (λ (out : WorldState). task_home one.entity one.cause work (with_variables_for one variables out)) (out_is other.entity other.cause world)
-    ∙ ap (task_home one.entity one.cause work) (put_beside other None one variables world)
-    ∙ put_past one.entity one.cause work other None (with_variables_for one variables world) apart.0
+    ∙ ap (task_home one.entity one.cause work) (put_beside other away one variables world)
+    ∙ put_past one.entity one.cause work other away (with_variables_for one variables world) apart.0
     ∙ sym (out_is other.entity other.cause (task_home one.entity one.cause work (with_variables_for one variables world))))
 
 -- what a worker has of a callback that it owns comes home as the callback brings it

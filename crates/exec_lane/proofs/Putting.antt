@@ -1,6 +1,6 @@
 -- Works and variables that are put into a world, one after another.
 use Rattle.std.proofs.Common.{◌≡◌, ◌≢◌, ℕ, ◌<◌, ◌&&◌, ◌==◌, Bool, true, false, if◌then◌else◌, List, [], ◌∷◌, Option, None, Some, find, length, refl, sym, ap, ◌∙◌, true≢false}
-use Rattle.std.specs.Option.{option_and_then, option_map, option_map_or}
+use Rattle.std.specs.Option.{option_map, option_map_or}
 use Rattle.std.proofs.lemmas.Bool.{both_ways, eqb-true, eq-eqb}
 use Rattle.std.proofs.lemmas.List.{get_or-set_other, get_or-set_same, set-set, set_comm}
 use Rattle.exec_msg.specs.Numbers.{EntityNo, GoalId}
@@ -8,7 +8,7 @@ use Rattle.exec_lane.specs.Lane.{is_beside, task_home, without_task}
 use Rattle.exec_msg.specs.Lists.{change_first}
 use Rattle.exec_script.specs.Zeros.{zeros}
 use Rattle.exec_task.specs.Task.{TaskState}
-use Rattle.exec_rules.specs.Calls.{polls_same_of, wakes}
+use Rattle.exec_rules.specs.Calls.{polls_same_of, wakes, away}
 use Rattle.exec_rules.specs.Run.{variables_for, with_polled, with_variables_for, work_after, work_for}
 use Rattle.exec_script.specs.Script.{Variables}
 use Rattle.exec_rules.specs.World.{GoalWork, HeldGoal, ServerEntry, WorldState, doing, is_for, is_server_at, standing, with_held, with_work, work_at}
@@ -60,7 +60,7 @@ unchanged test (x ∷ xs) = by (test x) (unchanged test xs)
 -- ---- works of goals
 
 -- the works of two goals may be put in either order
-works_turned : (server : EntityNo) (id : GoalId) (work : Option GoalWork) (other_server : EntityNo) (other : GoalId) (another : Option GoalWork) (world : WorldState) → ((id == other) && (server == other_server)) ≡ false →
+works_turned : (server : EntityNo) (id : GoalId) (work : GoalWork) (other_server : EntityNo) (other : GoalId) (another : GoalWork) (world : WorldState) → ((id == other) && (server == other_server)) ≡ false →
     with_work server id work (with_work other_server other another world) ≡ with_work other_server other another (with_work server id work world)
 works_turned server id work other_server other another world apart =
     ap (λ (servers : List ServerEntry). record world { servers = servers })
@@ -76,16 +76,16 @@ works_turned server id work other_server other another world apart =
         ap (λ (held : List HeldGoal). record x { held = held }) (changes_turned (is_for id) (is_for other) (doing work) (doing another) (λ h. refl) (λ h. refl) (differ same) x.held)
 
 -- a work that is put in the place of another one
-pub work_twice : (server : EntityNo) (id : GoalId) (first work : Option GoalWork) (world : WorldState) → with_work server id work (with_work server id first world) ≡ with_work server id work world
+pub work_twice : (server : EntityNo) (id : GoalId) (first work : GoalWork) (world : WorldState) → with_work server id work (with_work server id first world) ≡ with_work server id work world
 work_twice server id first work world =
     ap (λ (servers : List ServerEntry). record world { servers = servers })
     (changed_twice (is_server_at server) (with_held id (doing first)) (with_held id (doing work)) (λ x. refl) world.servers
     ∙ (λ i. change_first (is_server_at server) (λ (x : ServerEntry). record x { held = changed_twice (is_for id) (doing first) (doing work) (λ h. refl) x.held i }) world.servers))
 
 -- what a world has of a goal when a server is found
-work_found : (server : EntityNo) (id : GoalId) (world : WorldState) (entry : ServerEntry) → find (is_server_at server) world.servers ≡ Some entry → work_at server id world ≡ option_and_then (λ held. held.work) (find (is_for id) entry.held)
+work_found : (server : EntityNo) (id : GoalId) (world : WorldState) (entry : ServerEntry) → find (is_server_at server) world.servers ≡ Some entry → work_at server id world ≡ option_map (λ held. held.work) (find (is_for id) entry.held)
 work_found server id world entry found =
-    ap (λ (some : Option ServerEntry). option_and_then (λ (held : HeldGoal). held.work) (find (is_for id) (option_map_or (λ one. one.held) some []))) found
+    ap (λ (some : Option ServerEntry). option_map (λ (held : HeldGoal). held.work) (find (is_for id) (option_map_or (λ one. one.held) some []))) found
 
 -- what is found where something else is changed
 found_apart : {A B : Type 0} (test other : A → Bool) (change : A → A) (read : Option A → B) → ((x : A) → test (change x) ≡ test x) → ((x : A) → other x ≡ true → test x ≡ true → read (Some (change x)) ≡ read (Some x)) →
@@ -100,18 +100,18 @@ found_apart test other change read keeps same (x ∷ xs) = by (other x) refl (te
     by false e false f rest = rw (e, f) rest
 
 abbrev work_in : GoalId → Option ServerEntry → Option GoalWork
-work_in id found = option_and_then (λ held. held.work) (find (is_for id) (option_map_or (λ entry. entry.held) found []))
+work_in id found = option_map (λ held. held.work) (find (is_for id) (option_map_or (λ entry. entry.held) found []))
 
 abbrev work_held : Option HeldGoal → Option GoalWork
-work_held found = option_and_then (λ held. held.work) found
+work_held found = option_map (λ held. held.work) found
 
-apart_held : (id other : GoalId) (work : Option GoalWork) → (id == other) ≡ false → (xs : List HeldGoal) → work_held (find (is_for other) (change_first (is_for id) (doing work) xs)) ≡ work_held (find (is_for other) xs)
+apart_held : (id other : GoalId) (work : GoalWork) → (id == other) ≡ false → (xs : List HeldGoal) → work_held (find (is_for other) (change_first (is_for id) (doing work) xs)) ≡ work_held (find (is_for other) xs)
 apart_held id other work apart xs =
     found_apart (is_for other) (is_for id) (doing work) work_held (λ x. refl)
     (λ x one two. absurd (both_ways (id == other) apart (eq-eqb id other (sym (eqb-true x.goal.id id one) ∙ eqb-true x.goal.id other two)))) xs
 
 -- the work of another goal stays
-pub apart_work : (server : EntityNo) (id : GoalId) (work : Option GoalWork) (other_server : EntityNo) (other : GoalId) (world : WorldState) → ((id == other) && (server == other_server)) ≡ false →
+pub apart_work : (server : EntityNo) (id : GoalId) (work : GoalWork) (other_server : EntityNo) (other : GoalId) (world : WorldState) → ((id == other) && (server == other_server)) ≡ false →
     work_at other_server other (with_work server id work world) ≡ work_at other_server other world
 apart_work server id work other_server other world apart =
     found_apart (is_server_at other_server) (is_server_at server) (with_held id (doing work)) (work_in other) (λ x. refl)
@@ -124,55 +124,58 @@ apart_work server id work other_server other world apart =
         again false e = e
         again true e = absurd (true≢false (sym (λ i. e i && eq-eqb server other_server (sym first ∙ second) i) ∙ apart))
 
+-- the work that a world has of a goal is the found goal's
+its_work : (server : EntityNo) (id : GoalId) (work : GoalWork) (world : WorldState) (entry : ServerEntry) (held : HeldGoal) → work_at server id world ≡ Some work → find (is_server_at server) world.servers ≡ Some entry → find (is_for id) entry.held ≡ Some held → work ≡ held.work
+its_work server id work world entry held is found at =
+    let same : Some work ≡ Some held.work = sym is ∙ work_found server id world entry found ∙ ap (λ (some : Option HeldGoal). option_map (λ (held : HeldGoal). held.work) some) at in
+    cc
+
 -- a goal's work that comes home as a poll left it, comes home as the poll brings it
 pub polled_home : (server : EntityNo) (id : GoalId) (work : GoalWork) (task : Option TaskState) (value : _) (canceling : Bool) (world : WorldState) → work_at server id world ≡ Some work →
-    with_work server id (Some (work_after task work)) world ≡ with_polled server (cause.Woke id value canceling) task world
+    with_work server id (work_after task work) world ≡ with_polled server (cause.Woke id value canceling) task world
 polled_home server id work None value canceling world is =
     ap (λ (servers : List ServerEntry). record world { servers = servers })
-    (changed_so (is_server_at server) (with_held id (doing (Some work))) (λ x. x) world.servers
+    (changed_so (is_server_at server) (with_held id (doing work)) (λ x. x) world.servers
     (λ x found.
     ap (λ (held : List HeldGoal). record x { held = held })
-    (changed_so (is_for id) (doing (Some work)) (λ h. h) x.held
-    (λ h at. ap (λ (some : Option GoalWork). record h { work = some }) (sym is ∙ work_found server id world x found ∙ ap (λ (some : Option HeldGoal). option_and_then (λ (held : HeldGoal). held.work) some) at)) ∙ unchanged (is_for id) x.held))
+    (changed_so (is_for id) (doing work) (λ h. h) x.held (λ h at. ap (λ (some : GoalWork). doing some h) (its_work server id work world x h is found at)) ∙ unchanged (is_for id) x.held))
     ∙ unchanged (is_server_at server) world.servers)
 polled_home server id work (Some task) value canceling world is =
     ap (λ (servers : List ServerEntry). record world { servers = servers })
-    (changed_so (is_server_at server) (with_held id (doing (Some (record work { task = task })))) (with_held id (standing task)) world.servers
+    (changed_so (is_server_at server) (with_held id (doing (record work { task = task }))) (with_held id (standing task)) world.servers
     (λ x found.
     ap (λ (held : List HeldGoal). record x { held = held })
-    (changed_so (is_for id) (doing (Some (record work { task = task }))) (standing task) x.held
-    (λ h at.
-    ap (λ (some : Option GoalWork). record h { work = option_map (λ (one : GoalWork). record one { task = task }) some })
-    (sym is ∙ work_found server id world x found ∙ ap (λ (some : Option HeldGoal). option_and_then (λ (held : HeldGoal). held.work) some) at)))))
+    (changed_so (is_for id) (doing (record work { task = task })) (standing task) x.held
+    (λ h at. ap (λ (some : GoalWork). doing (record some { task = task }) h) (its_work server id work world x h is found at)))))
 
 -- ---- the work of the goal that a callback polls
 
 -- it is put so, if the callback polls one
-abbrev pub task_put : EntityNo → Cause → Option GoalWork → WorldState → WorldState
+abbrev pub task_put : EntityNo → Cause → GoalWork → WorldState → WorldState
 task_put server (cause.Woke id value canceling) work world = with_work server id work world
 task_put server _ work world = world
 
 -- and may be put before or behind what comes home of another goal
-pub put_past : (server : EntityNo) (of : Cause) (home : Option GoalWork) (one : Ready) (work : Option GoalWork) (world : WorldState) → polls_same_of server of one ≡ false →
+pub put_past : (server : EntityNo) (of : Cause) (home : Option GoalWork) (one : Ready) (work : GoalWork) (world : WorldState) → polls_same_of server of one ≡ false →
     task_home server of home (task_put one.entity one.cause work world) ≡ task_put one.entity one.cause work (task_home server of home world)
 put_past server cause.Due home one work world apart = refl
 put_past server (cause.Took item) home one work world apart = refl
 put_past server (cause.Woke id value canceling) None one work world apart = refl
 put_past server (cause.Woke id value canceling) (Some home) one work world apart = by one.entity one.cause apart
   where
-    by : (at : EntityNo) (why : Cause) → (wakes id why && (server == at)) ≡ false → with_work server id (Some home) (task_put at why work world) ≡ task_put at why work (with_work server id (Some home) world)
+    by : (at : EntityNo) (why : Cause) → (wakes id why && (server == at)) ≡ false → with_work server id home (task_put at why work world) ≡ task_put at why work (with_work server id home world)
     by at cause.Due apart = refl
     by at (cause.Took item) apart = refl
-    by at (cause.Woke other value canceling) apart = works_turned server id (Some home) at other work world apart
+    by at (cause.Woke other value canceling) apart = works_turned server id home at other work world apart
 
--- what is taken out is no work that is put in
-pub out_is : (server : EntityNo) (of : Cause) (world : WorldState) → without_task server of world ≡ task_put server of None world
+-- what is taken out leaves another work in its place
+pub out_is : (server : EntityNo) (of : Cause) (world : WorldState) → without_task server of world ≡ task_put server of away world
 out_is server cause.Due world = refl
 out_is server (cause.Took item) world = refl
 out_is server (cause.Woke id value canceling) world = refl
 
 -- another goal's work stays where it is put, and where it comes home
-pub left_by_put : (server : EntityNo) (of : Cause) (work : Option GoalWork) (other : Ready) (world : WorldState) → polls_same_of server of other ≡ false →
+pub left_by_put : (server : EntityNo) (of : Cause) (work : GoalWork) (other : Ready) (world : WorldState) → polls_same_of server of other ≡ false →
     work_for other.entity other.cause (task_put server of work world) ≡ work_for other.entity other.cause world
 left_by_put server cause.Due work other world apart = refl
 left_by_put server (cause.Took item) work other world apart = refl
@@ -188,7 +191,7 @@ pub left_by_home : (server : EntityNo) (of : Cause) (work : Option GoalWork) (ot
 left_by_home server cause.Due work other world apart = refl
 left_by_home server (cause.Took item) work other world apart = refl
 left_by_home server (cause.Woke id value canceling) None other world apart = refl
-left_by_home server (cause.Woke id value canceling) (Some work) other world apart = left_by_put server (cause.Woke id value canceling) (Some work) other world apart
+left_by_home server (cause.Woke id value canceling) (Some work) other world apart = left_by_put server (cause.Woke id value canceling) work other world apart
 
 -- ---- the variables of the group that a callback is of
 

@@ -9,7 +9,7 @@ use Rattle.exec_lane.specs.inner.Cuts.{callbacks_of, cut_from, lane_with, opened
 use Rattle.exec_lane.specs.inner.Slots.{SlotState, entries_of}
 use Rattle.exec_msg.specs.Lists.{change_first}
 use Rattle.exec_script.specs.Zeros.{zeros}
-use Rattle.exec_rules.specs.Calls.{WorldData, AreHome, IsHomeFor, polls_same, polls_same_of, wakes}
+use Rattle.exec_rules.specs.Calls.{WorldData, AreHome, IsHomeFor, polls_same, polls_same_of, wakes, away}
 use Rattle.exec_rules.specs.Run.{work_for}
 use Rattle.exec_script.specs.Script.{Variables}
 use Rattle.exec_rules.specs.World.{WorldState, with_work}
@@ -21,7 +21,7 @@ use Rattle.exec_rules.specs.declared.ready.Ready.{Ready}
 
 work_stays : (server : EntityNo) (of : Cause) (other : Ready) (world : WorldState) → polls_same_of server of other ≡ false →
     work_for other.entity other.cause (without_task server of world) ≡ work_for other.entity other.cause world
-work_stays server of other world apart = ap (work_for other.entity other.cause) (out_is server of world) ∙ left_by_put server of None other world apart
+work_stays server of other world apart = ap (work_for other.entity other.cause) (out_is server of world) ∙ left_by_put server of away other world apart
 
 slots_stay : (one : Ready) (list : List Ready) (world : WorldState) → AllByRecursion (λ other. polls_same one other ≡ false) list →
     map (slot_in (without_task one.entity one.cause world)) list ≡ map (slot_in world) list
@@ -123,10 +123,10 @@ opened_are list world home =
 
 -- ---- what is left to take stays at home
 
-home_by : (server : EntityNo) (id : GoalId) (entity : EntityNo) (of : Cause) (world : WorldState) → (wakes id of && (server == entity)) ≡ false → IsHomeFor entity of world → IsHomeFor entity of (with_work server id None world)
+home_by : (server : EntityNo) (id : GoalId) (entity : EntityNo) (of : Cause) (world : WorldState) → (wakes id of && (server == entity)) ≡ false → IsHomeFor entity of world → IsHomeFor entity of (with_work server id away world)
 home_by server id entity cause.Due world apart home = tt
 home_by server id entity (cause.Took item) world apart home = tt
-home_by server id entity (cause.Woke other value canceling) world apart home = (home.0, apart_work server id None entity other world apart ∙ home.1)
+home_by server id entity (cause.Woke other value canceling) world apart home = (home.0, apart_work server id away entity other world apart ∙ home.1, home.2)
 
 home_stays : (server : EntityNo) (of : Cause) (other : Ready) (world : WorldState) → polls_same_of server of other ≡ false → IsHomeFor other.entity other.cause world → IsHomeFor other.entity other.cause (without_task server of world)
 home_stays server cause.Due other world apart home = home

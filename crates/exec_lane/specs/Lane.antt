@@ -1,5 +1,5 @@
 -- Lanes: which of a round's ready callbacks run one after another, and what they do apart from the world.
-use Rattle.std.specs.Prelude.{◌≡◌, ⊤, ℕ, List, [], ◌∷◌, ◌++◌, length, map, take, Bool, false, ◌&&◌, ◌==◌, if◌then◌else◌, Option, None, Some}
+use Rattle.std.specs.Prelude.{◌≡◌, ⊤, ℕ, List, [], ◌∷◌, ◌++◌, length, map, take, Bool, false, ◌&&◌, ◌==◌, if◌then◌else◌, Option, Some}
 use Rattle.std.specs.List.{fold, list_any}
 use Rattle.std.specs.Option.{option_map}
 use Rattle.exec_msg.specs.Numbers.{EntityNo}
@@ -11,6 +11,7 @@ use Rattle.exec_script.specs.declared.effects.Effects.{Effects}
 use Rattle.exec_rules.specs.Callback.{AfterCallback}
 use Rattle.exec_rules.specs.Run.{apart_with, effects_of, variables_for, with_variables_for, work_after, work_for}
 use Rattle.exec_script.specs.Script.{Variables}
+use Rattle.exec_rules.specs.Calls.{away}
 use Rattle.exec_rules.specs.World.{GoalWork, WorldState, with_work}
 use Rattle.exec_rules.specs.declared.ready.Cause.{Cause}
 use Rattle.exec_rules.specs.declared.ready.Cause.TheVariants as cause
@@ -116,7 +117,7 @@ opened_lanes list world = map (opened world) (lanes_of list)
 
 -- the world without the task of the goal that a callback polls, if it polls one
 abbrev pub without_task : EntityNo → Cause → WorldState → WorldState
-without_task server (cause.Woke id value canceling) world = with_work server id None world
+without_task server (cause.Woke id value canceling) world = with_work server id away world
 without_task server _ world = world
 
 -- the world from which the tasks of the goals that callbacks poll are taken
@@ -127,7 +128,7 @@ tasks_out list world = fold (λ before one. without_task one.entity one.cause be
 
 -- the world in which the work of the goal that a callback polled is home
 abbrev pub task_home : EntityNo → Cause → Option GoalWork → WorldState → WorldState
-task_home server (cause.Woke id value canceling) (Some work) world = with_work server id (Some work) world
+task_home server (cause.Woke id value canceling) (Some work) world = with_work server id work world
 task_home server _ _ world = world
 
 -- the world in which the works of a lane's goals are home, as their callbacks left them, or as they were where these didn't run

@@ -2,7 +2,7 @@
 -- at most.
 use Rattle.std.proofs.Common.{◌≡◌, ℕ, zero, suc, ℤ, ◌+◌, ◌*◌, ◌≤◌, Bool, true, false, ◌==◌, List, [], ◌∷◌, length, drop, Option, None, Some, length-drop, refl, arith}
 use Rattle.std.specs.List.{AllByRecursion, find, fold}
-use Rattle.std.specs.Option.{option_and_then, option_map_or}
+use Rattle.std.specs.Option.{option_map, option_map_or}
 use Rattle.exec_goal.specs.Cancel.{moved}
 use Rattle.exec_goal.specs.declared.info.GoalInfo.{GoalInfo}
 use Rattle.exec_msg.specs.Numbers.{EntityNo, GoalId, Moment}
@@ -27,7 +27,7 @@ use Rattle.exec_task.specs.declared.wait.Turn.{Turn}
 use Rattle.exec_laws.proofs.Costs.{IsShortReady, cost_of, cost_of_all, few_steps, list_short, of_list}
 use Rattle.exec_rules.proofs.Running.{one_keeps, round_keeps, snapshot_keeps}
 use Rattle.exec_rules.proofs.Shapes.{shape_kept}
-use Rattle.exec_laws.proofs.Short.{IsShort, IsShortWork, IsSmall, IsSmallServer, first_small, small_kept, filter_less}
+use Rattle.exec_laws.proofs.Short.{IsShort, IsSmall, IsSmallServer, first_small, small_kept, filter_less}
 use Rattle.exec_rules.specs.Callback.{AfterCallback, CancelHandling, act, call_in, candidate_input, handle_cancel, instructions_of, poll, poll_where, take_item}
 use Rattle.exec_rules.specs.Close.{close_cause}
 use Rattle.exec_rules.specs.Give.{give}
@@ -55,6 +55,11 @@ pub record RisesByOnes (Made : ℕ → WorldState → Type 0) : Type 0 where
   pub left : (most : ℕ) (one : Ready) (variables : Variables) (world : WorldState) → Made most world → Made most (with_variables_for one variables world)
   pub expired : (most : ℕ) (moment : Moment) (world : WorldState) → Made most world → Made most (expire moment world)
   pub taken : (most : ℕ) (moment : Moment) (world : WorldState) → Made most world → Made most (take_inputs moment world)
+
+-- a goal's work, if there is one, has a short script
+abbrev pub IsShortWork : Option GoalWork → Type 0
+IsShortWork None = Unit {0}
+IsShortWork (Some work) = IsShort work.script
 
 -- ---- a script raises it by one an instruction at most
 
@@ -124,20 +129,20 @@ module _ {Made : ℕ → WorldState → Type 0} (r : RisesByOnes Made) (one : Re
 
 -- ---- a callback that runs
 
-short_held : (id : GoalId) (held : List HeldGoal) → AllByRecursion (λ one. IsShortWork one.work) held → IsShortWork (option_and_then (λ one. one.work) (find (is_for id) held))
+short_held : (id : GoalId) (held : List HeldGoal) → AllByRecursion (λ one. IsShort one.work.script) held → IsShortWork (option_map (λ one. one.work) (find (is_for id) held))
 short_held id [] p = tt
 short_held id (one ∷ held) p = by (is_for id one) refl (short_held id held p.1)
   where
-    by : (b : Bool) → is_for id one ≡ b → IsShortWork (option_and_then (λ one. one.work) (find (is_for id) held)) → IsShortWork (option_and_then (λ one. one.work) (find (is_for id) (one ∷ held)))
+    by : (b : Bool) → is_for id one ≡ b → IsShortWork (option_map (λ one. one.work) (find (is_for id) held)) → IsShortWork (option_map (λ one. one.work) (find (is_for id) (one ∷ held)))
     by true e rest = rw e p.0
     by false e rest = rw e rest
 
-short_works : (server : EntityNo) (id : GoalId) (servers : List ServerEntry) → AllByRecursion IsSmallServer servers → IsShortWork (option_and_then (λ held. held.work) (find (is_for id) (option_map_or (λ entry. entry.held) (find (is_server_at server) servers) [])))
+short_works : (server : EntityNo) (id : GoalId) (servers : List ServerEntry) → AllByRecursion IsSmallServer servers → IsShortWork (option_map (λ held. held.work) (find (is_for id) (option_map_or (λ entry. entry.held) (find (is_server_at server) servers) [])))
 short_works server id [] p = tt
 short_works server id (entry ∷ servers) p = by (is_server_at server entry) refl (short_works server id servers p.1)
   where
-    by : (b : Bool) → is_server_at server entry ≡ b → IsShortWork (option_and_then (λ held. held.work) (find (is_for id) (option_map_or (λ entry. entry.held) (find (is_server_at server) servers) []))) →
-        IsShortWork (option_and_then (λ held. held.work) (find (is_for id) (option_map_or (λ entry. entry.held) (find (is_server_at server) (entry ∷ servers)) [])))
+    by : (b : Bool) → is_server_at server entry ≡ b → IsShortWork (option_map (λ held. held.work) (find (is_for id) (option_map_or (λ entry. entry.held) (find (is_server_at server) servers) []))) →
+        IsShortWork (option_map (λ held. held.work) (find (is_for id) (option_map_or (λ entry. entry.held) (find (is_server_at server) (entry ∷ servers)) [])))
     by true e rest = rw e (short_held id entry.held p.0.works)
     by false e rest = rw e rest
 

@@ -1,7 +1,7 @@
 -- How long scripts are, and how many goals servers hold, in any world of a lawful plan.
 use Rattle.std.proofs.Common.{◌≡◌, ℕ, zero, suc, ◌≤◌, ◌||◌, nat_le, Bool, true, false, not, List, [], ◌∷◌, ◌++◌, length, Option, None, Some, length-append, slice_index_or, refl, sym, ap, ◌∙◌, arith, if◌then◌else◌}
 use Rattle.std.specs.List.{AllByRecursion, filter}
-use Rattle.std.specs.Option.{option_map, unwrap_or}
+use Rattle.std.specs.Option.{unwrap_or}
 use Rattle.std.proofs.lemmas.Bool.{leb-false, or_parts, not-true}
 use Rattle.std.proofs.lemmas.List.{length-map}
 use Rattle.std.proofs.lemmas.List.Elements.{recursion_from_All}
@@ -35,16 +35,11 @@ use Rattle.exec_rules.proofs.Records.{ids, all_put, parts_put}
 abbrev pub IsShort : Script → Type 0
 IsShort script = length script ≤ INSTRUCTIONS
 
--- a goal's work, if it is at home, has such a script
-abbrev pub IsShortWork : Option GoalWork → Type 0
-IsShortWork None = Unit {0}
-IsShortWork (Some work) = IsShort work.script
-
 -- a server's script is short, as its goals' are, and it holds no more goals than one may
 pub record IsSmallServer (entry : ServerEntry) : Type 0 where
   pub script : IsShort entry.handler.script
   pub goals : length entry.held ≤ GOALS
-  pub works : AllByRecursion (λ held. IsShortWork held.work) entry.held
+  pub works : AllByRecursion (λ held. IsShort held.work.script) entry.held
 
 -- all scripts of a world are short, and no server holds more goals than it may
 pub record IsSmall (world : WorldState) : Type 0 where
@@ -75,30 +70,26 @@ filter_less test all = omega (arith, length-filter_both test (λ one. not (test 
 
 -- ---- rounds
 
-work_tasked : (task : TaskState) (work : Option GoalWork) → IsShortWork work → IsShortWork (option_map (λ (work : GoalWork). record work { task = task }) work)
-work_tasked task None p = tt
-work_tasked task (Some work) p = p
-
 server_tasked : (id : GoalId) (task : TaskState) (entry : ServerEntry) → IsSmallServer entry → IsSmallServer (with_held id (standing task) entry)
 server_tasked id task entry p = record {
   script = p.script;
   goals = omega (arith, p.goals, length_changed (is_for id) (standing task) entry.held);
-  works = all_changed (λ held. IsShortWork held.work) (is_for id) _ (λ held q. work_tasked task held.work q) entry.held p.works;
+  works = all_changed (λ held. IsShort held.work.script) (is_for id) _ (λ held q. q) entry.held p.works;
 }
 
 server_arrived : (id : GoalId) (number : ℕ) (entry : ServerEntry) → IsSmallServer entry → IsSmallServer (with_held id (arrived number) entry)
 server_arrived id number entry p = record {
   script = p.script;
   goals = omega (arith, p.goals, length_changed (is_for id) (arrived number) entry.held);
-  works = all_changed (λ held. IsShortWork held.work) (is_for id) _ (λ held q. q) entry.held p.works;
+  works = all_changed (λ held. IsShort held.work.script) (is_for id) _ (λ held q. q) entry.held p.works;
 }
 
 server_changed : (change : List GoalRecord → List GoalRecord) → ((goals : List GoalRecord) → ids (change goals) ≡ ids goals) → (entry : ServerEntry) → IsSmallServer entry → IsSmallServer (with_goals change entry)
 server_changed change same entry p =
     let after : List GoalRecord = change (records_of entry.held) in
     let long : length (with_records after entry.held) ≡ length entry.held =
-    sym (length-map (with_records after entry.held) (λ (held : HeldGoal). held.work)) ∙ ap (λ (some : List (Option GoalWork)). length some) (parts_put (λ held. held.work) (λ goal held. refl) after entry.held (same (records_of entry.held))) ∙ length-map entry.held (λ (held : HeldGoal). held.work) in
-    record { script = p.script; goals = omega (arith, long, p.goals); works = all_put (λ held. IsShortWork held.work) (λ goal held is q. q) after entry.held (same (records_of entry.held)) p.works }
+    sym (length-map (with_records after entry.held) (λ (held : HeldGoal). held.work)) ∙ ap (λ (some : List GoalWork). length some) (parts_put (λ held. held.work) (λ goal held. refl) after entry.held (same (records_of entry.held))) ∙ length-map entry.held (λ (held : HeldGoal). held.work) in
+    record { script = p.script; goals = omega (arith, long, p.goals); works = all_put (λ held. IsShort held.work.script) (λ goal held is q. q) after entry.held (same (records_of entry.held)) p.works }
 
 -- a server accepts a goal where it has room for one more
 server_accepted : (server : EntityNo) (number : ℕ) (moment : Moment) (how : Acceptance) (request : GoalRequest) (servers : List ServerEntry) → has_room_for request.id (goals_in server servers) ≡ true → AllByRecursion IsSmallServer servers →
@@ -117,7 +108,7 @@ server_accepted server number moment how request (entry ∷ servers) room p = by
         let accepted : IsSmallServer (server_accepting number moment how request entry) = record {
           script = p.0.script;
           goals = fits;
-          works = all_append (λ held. IsShortWork held.work) entry.held one_more p.0.works (p.0.script, tt);
+          works = all_append (λ held. IsShort held.work.script) entry.held one_more p.0.works (p.0.script, tt);
         } in
         rw e (accepted, p.1)
     by false e rest = let behind : has_room_for request.id (goals_in server servers) ≡ true = rw e at room in rw e (p.0, rest behind p.1)
@@ -126,7 +117,7 @@ server_left : (moment : Moment) (entry : ServerEntry) → IsSmallServer entry �
 server_left moment entry p = record {
   script = p.script;
   goals = omega (arith, p.goals, filter_less (λ (held : HeldGoal). not (is_expired moment entry.timeout held.goal)) entry.held);
-  works = all_filter (λ held. IsShortWork held.work) _ entry.held p.works;
+  works = all_filter (λ held. IsShort held.work.script) _ entry.held p.works;
 }
 
 timer_called : (moment : Moment) (entry : TimerEntry) → IsShort entry.handler.script → IsShort (timer_taken moment entry).handler.script

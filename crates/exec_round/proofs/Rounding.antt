@@ -1,20 +1,35 @@
 -- Lanes that ran, gathered and committed, are a round.
 use Rattle.std.proofs.Common.{◌≡◌, ℕ, suc, ◌-◌, ◌<◌, ◌≤◌, ◌==◌, List, [], ◌∷◌, length, map, refl, sym, ap, subst, ◌∙◌, arith, IsPermutation, false, true≢false}
-use Rattle.std.specs.List.{flat_map}
+use Rattle.std.specs.List.{AllByRecursion, flat_map}
 use Rattle.std.specs.Prelude.{Bool, if◌then◌else◌}
 use Rattle.std.proofs.lemmas.Bool.{ne_eqb}
 use Rattle.std.proofs.lemmas.List.Sorted.{IsPermutation-sym, IsPermutation-trans}
+use Rattle.exec_msg.specs.Numbers.{EntityNo}
 use Rattle.exec_lane.specs.Gather.{AreGathered, all_ran, ran_in}
 use Rattle.exec_lane.specs.Lane.{Lane, lanes_home, tasks_out}
 use Rattle.exec_lane.specs.declared.gathering.Ran.{Ran}
 use Rattle.exec_round.proofs.InOrder.{RiseFrom, sorted_is}
 use Rattle.exec_round.specs.inner.Commits.{after_commits, committed}
-use Rattle.exec_rules.specs.Calls.{WorldData, after_round, after_snapshot, moment_of, ready_in, state_at, with_uncommitted}
+use Rattle.exec_rules.proofs.Pairs.{all_weaker}
+use Rattle.exec_rules.specs.Calls.{IsHeldFor, IsHomeFor, WorldData, after_round, after_snapshot, moment_of, ready_in, state_at, with_uncommitted}
 use Rattle.exec_rules.specs.Ready.{placed_from, take_inputs}
 use Rattle.exec_rules.specs.Run.{all_apart, all_home, apart, brought_home, commit, commit_all, effects_of}
 use Rattle.exec_rules.specs.Transcript.{run_all}
 use Rattle.exec_rules.specs.World.{WorldState}
+use Rattle.exec_rules.specs.declared.ready.Cause.{Cause}
+use Rattle.exec_rules.specs.declared.ready.Cause.TheVariants as cause
 use Rattle.exec_rules.specs.declared.ready.Ready.{Ready}
+
+-- ---- goals
+
+held : (server : EntityNo) (why : Cause) (world : WorldState) → IsHomeFor server why world → IsHeldFor server why world
+held server cause.Due world home = tt
+held server (cause.Took taken) world home = tt
+held server (cause.Woke id value canceling) world home = (home.0, home.1)
+
+-- goals whose tasks are at home are held
+pub all_held : (list : List Ready) (world : WorldState) → AllByRecursion (λ one. IsHomeFor one.entity one.cause world) list → AllByRecursion (λ one. IsHeldFor one.entity one.cause world) list
+all_held list world home = all_weaker (λ one. IsHomeFor one.entity one.cause world) (λ one. IsHeldFor one.entity one.cause world) (λ one. held one.entity one.cause world) list home
 
 -- ---- all of a round
 

@@ -2,7 +2,7 @@
 use Rattle.std.proofs.Common.{◌≡◌, ℕ, ℤ, pos, Bool, true, false, is_some, ◌&&◌, ◌||◌, if◌then◌else◌, List, [], ◌∷◌, ◌++◌, length, Option, None, Some, refl, sym, ap, ◌∙◌, true≢false}
 use Rattle.std.specs.Prelude.{⊤}
 use Rattle.std.specs.List.{find, fold, list_any}
-use Rattle.std.specs.Option.{option_and_then, option_map_or}
+use Rattle.std.specs.Option.{option_map, option_map_or}
 use Rattle.exec_goal.specs.Calls.{end_state}
 use Rattle.exec_goal.specs.Cancel.{CancelRequest, Decided, code_of, moved, table_after}
 use Rattle.exec_goal.specs.State.{status_of}
@@ -35,7 +35,7 @@ use Rattle.exec_rules.specs.Give.{give_all}
 use Rattle.exec_rules.specs.Ready.{run_line}
 use Rattle.exec_rules.specs.Run.{commit}
 use Rattle.exec_script.specs.Script.{Variables}
-use Rattle.exec_rules.specs.World.{ActionClientEntry, GoalWork, HeldGoal, ServerEntry, WorldState, action_client_at, add_line, add_lines, change_goals, change_server, goals_at, has_room_for, is_for, records_of, is_server_at, next_arrival, push, push_any, with_work, work_at}
+use Rattle.exec_rules.specs.World.{ActionClientEntry, GoalWork, HeldGoal, ServerEntry, WorldState, action_client_at, add_line, add_lines, change_goals, change_server, goals_at, has_room_for, is_for, records_of, is_server_at, next_arrival, push, push_any, with_work, work_at, doing, with_held, work_in}
 use Rattle.exec_rules.specs.declared.item.Item.{Item}
 use Rattle.exec_rules.specs.declared.item.Item.TheVariants as item
 use Rattle.exec_rules.specs.declared.ready.Cause.{Cause}
@@ -218,7 +218,7 @@ changed_front {A} test change (x ∷ xs) ys p = by (test x) refl (changed_front 
     by false e rest = let behind : list_any test xs ≡ true = rw e at p in rw e (ap (λ (others : List A). x ∷ others) (rest behind))
 
 module _ (server : EntityNo) (id : GoalId) where
-  held_kept : Kept (IsHeld server id)
+  pub held_kept : Kept (IsHeld server id)
   held_kept = record {
     lines_kept = λ lines world p. p;
     queues_kept = λ entity new world p. p;
@@ -314,76 +314,94 @@ variables_left one effects world = sym (ap (λ (after : WorldState). after.varia
 
 -- ---- works of goals
 
-put_same : (id : GoalId) (work : GoalWork) (held : List HeldGoal) → option_and_then (λ one. one.work) (find (is_for id) held) ≡ Some work → change_first (is_for id) (λ one. record one { work = Some work }) held ≡ held
+put_same : (id : GoalId) (work : GoalWork) (held : List HeldGoal) → option_map (λ one. one.work) (find (is_for id) held) ≡ Some work → change_first (is_for id) (doing work) held ≡ held
 put_same id work [] is = refl
 put_same id work (one ∷ held) is = by (is_for id one) refl is (put_same id work held)
   where
-    by : (b : Bool) → is_for id one ≡ b → option_and_then (λ one. one.work) (find (is_for id) (one ∷ held)) ≡ Some work → (option_and_then (λ one. one.work) (find (is_for id) held) ≡ Some work → change_first (is_for id) (λ one. record one { work = Some work }) held ≡ held) →
-        change_first (is_for id) (λ one. record one { work = Some work }) (one ∷ held) ≡ one ∷ held
+    by : (b : Bool) → is_for id one ≡ b → option_map (λ one. one.work) (find (is_for id) (one ∷ held)) ≡ Some work → (option_map (λ one. one.work) (find (is_for id) held) ≡ Some work → change_first (is_for id) (doing work) held ≡ held) →
+        change_first (is_for id) (doing work) (one ∷ held) ≡ one ∷ held
     by true e is rest =
-        let here : one.work ≡ Some work = rw e at is in
-        rw e (ap (λ (some : Option GoalWork). record one { work = some } ∷ held) (sym here))
-    by false e is rest = let behind : option_and_then (λ one. one.work) (find (is_for id) held) ≡ Some work = rw e at is in rw e (ap (λ (others : List HeldGoal). one ∷ others) (rest behind))
+        let here : Some one.work ≡ Some work = rw e at is in
+        let same : one.work ≡ work = cc in
+        rw e (ap (λ (some : GoalWork). doing some one ∷ held) (sym same))
+    by false e is rest = let behind : option_map (λ one. one.work) (find (is_for id) held) ≡ Some work = rw e at is in rw e (ap (λ (others : List HeldGoal). one ∷ others) (rest behind))
 
-abbrev work_in_entries : EntityNo → GoalId → List ServerEntry → Option GoalWork
-work_in_entries server id servers = option_and_then (λ one. one.work) (find (is_for id) (option_map_or (λ entry. entry.held) (find (is_server_at server) servers) []))
-
-put_back : (server : EntityNo) (id : GoalId) (work : GoalWork) (servers : List ServerEntry) → work_in_entries server id servers ≡ Some work →
-    change_first (is_server_at server) (λ entry. record entry { held = change_first (is_for id) (λ held. record held { work = Some work }) entry.held }) servers ≡ servers
+put_back : (server : EntityNo) (id : GoalId) (work : GoalWork) (servers : List ServerEntry) → work_in server id servers ≡ Some work → change_first (is_server_at server) (with_held id (doing work)) servers ≡ servers
 put_back server id work [] is = refl
 put_back server id work (entry ∷ servers) is = by (is_server_at server entry) refl is (put_back server id work servers)
   where
-    by : (b : Bool) → is_server_at server entry ≡ b → work_in_entries server id (entry ∷ servers) ≡ Some work →
-        (work_in_entries server id servers ≡ Some work → change_first (is_server_at server) (λ entry. record entry { held = change_first (is_for id) (λ held. record held { work = Some work }) entry.held }) servers ≡ servers) →
-        change_first (is_server_at server) (λ entry. record entry { held = change_first (is_for id) (λ held. record held { work = Some work }) entry.held }) (entry ∷ servers) ≡ entry ∷ servers
+    by : (b : Bool) → is_server_at server entry ≡ b → work_in server id (entry ∷ servers) ≡ Some work → (work_in server id servers ≡ Some work → change_first (is_server_at server) (with_held id (doing work)) servers ≡ servers) →
+        change_first (is_server_at server) (with_held id (doing work)) (entry ∷ servers) ≡ entry ∷ servers
     by true e is rest =
-        let here : option_and_then (λ one. one.work) (find (is_for id) entry.held) ≡ Some work = rw e at is in
+        let here : option_map (λ one. one.work) (find (is_for id) entry.held) ≡ Some work = rw e at is in
         rw e (ap (λ (held : List HeldGoal). record entry { held = held } ∷ servers) (put_same id work entry.held here))
-    by false e is rest = let behind : work_in_entries server id servers ≡ Some work = rw e at is in rw e (ap (λ (others : List ServerEntry). entry ∷ others) (rest behind))
+    by false e is rest = let behind : work_in server id servers ≡ Some work = rw e at is in rw e (ap (λ (others : List ServerEntry). entry ∷ others) (rest behind))
 
-read_put : (id : GoalId) (work : Option GoalWork) (held : List HeldGoal) → list_any (is_for id) held ≡ true → option_and_then (λ one. one.work) (find (is_for id) (change_first (is_for id) (λ one. record one { work = work }) held)) ≡ work
+read_put : (id : GoalId) (work : GoalWork) (held : List HeldGoal) → list_any (is_for id) held ≡ true → option_map (λ one. one.work) (find (is_for id) (change_first (is_for id) (doing work) held)) ≡ Some work
 read_put id work [] p = absurd (true≢false (sym p))
 read_put id work (one ∷ held) p = by (is_for id one) refl p (read_put id work held)
   where
-    by : (b : Bool) → is_for id one ≡ b → list_any (is_for id) (one ∷ held) ≡ true → (list_any (is_for id) held ≡ true → option_and_then (λ one. one.work) (find (is_for id) (change_first (is_for id) (λ one. record one { work = work }) held)) ≡ work) →
-        option_and_then (λ one. one.work) (find (is_for id) (change_first (is_for id) (λ one. record one { work = work }) (one ∷ held))) ≡ work
+    by : (b : Bool) → is_for id one ≡ b → list_any (is_for id) (one ∷ held) ≡ true → (list_any (is_for id) held ≡ true → option_map (λ one. one.work) (find (is_for id) (change_first (is_for id) (doing work) held)) ≡ Some work) →
+        option_map (λ one. one.work) (find (is_for id) (change_first (is_for id) (doing work) (one ∷ held))) ≡ Some work
     by true e p rest = rw (e, e) refl
     by false e p rest = let behind : list_any (is_for id) held ≡ true = rw e at p in rw (e, e) (rest behind)
 
-work_put : (server : EntityNo) (id : GoalId) (work : Option GoalWork) (servers : List ServerEntry) → option_map_or (keeps id) (find (is_server_at server) servers) false ≡ true →
-    work_in_entries server id (change_first (is_server_at server) (λ entry. record entry { held = change_first (is_for id) (λ held. record held { work = work }) entry.held }) servers) ≡ work
+work_put : (server : EntityNo) (id : GoalId) (work : GoalWork) (servers : List ServerEntry) → option_map_or (keeps id) (find (is_server_at server) servers) false ≡ true →
+    work_in server id (change_first (is_server_at server) (with_held id (doing work)) servers) ≡ Some work
 work_put server id work [] p = absurd (true≢false (sym p))
 work_put server id work (entry ∷ servers) p = by (is_server_at server entry) refl p (work_put server id work servers)
   where
     by : (b : Bool) → is_server_at server entry ≡ b → option_map_or (keeps id) (find (is_server_at server) (entry ∷ servers)) false ≡ true →
-        (option_map_or (keeps id) (find (is_server_at server) servers) false ≡ true → work_in_entries server id (change_first (is_server_at server) (λ entry. record entry { held = change_first (is_for id) (λ held. record held { work = work }) entry.held }) servers) ≡ work) →
-        work_in_entries server id (change_first (is_server_at server) (λ entry. record entry { held = change_first (is_for id) (λ held. record held { work = work }) entry.held }) (entry ∷ servers)) ≡ work
+        (option_map_or (keeps id) (find (is_server_at server) servers) false ≡ true → work_in server id (change_first (is_server_at server) (with_held id (doing work)) servers) ≡ Some work) →
+        work_in server id (change_first (is_server_at server) (with_held id (doing work)) (entry ∷ servers)) ≡ Some work
     by true e p rest = let here : keeps id entry ≡ true = rw e at p in rw (e, e) (read_put id work entry.held here)
     by false e p rest = let behind : option_map_or (keeps id) (find (is_server_at server) servers) false ≡ true = rw e at p in rw (e, e) (rest behind)
 
 -- a goal whose work is there is held
-found_held : (id : GoalId) (work : GoalWork) (held : List HeldGoal) → option_and_then (λ one. one.work) (find (is_for id) held) ≡ Some work → list_any (is_for id) held ≡ true
+found_held : (id : GoalId) (work : GoalWork) (held : List HeldGoal) → option_map (λ one. one.work) (find (is_for id) held) ≡ Some work → list_any (is_for id) held ≡ true
 found_held id work [] is = absurd (true≢false (sym (ap (λ (some : Option GoalWork). is_some some) is)))
 found_held id work (one ∷ held) is = by (is_for id one) refl (found_held id work held)
   where
-    by : (b : Bool) → is_for id one ≡ b → (option_and_then (λ one. one.work) (find (is_for id) held) ≡ Some work → list_any (is_for id) held ≡ true) → list_any (is_for id) (one ∷ held) ≡ true
+    by : (b : Bool) → is_for id one ≡ b → (option_map (λ one. one.work) (find (is_for id) held) ≡ Some work → list_any (is_for id) held ≡ true) → list_any (is_for id) (one ∷ held) ≡ true
     by true e rest = rw e refl
-    by false e rest = let behind : option_and_then (λ one. one.work) (find (is_for id) held) ≡ Some work = rw e at is in rw e (rest behind)
+    by false e rest = let behind : option_map (λ one. one.work) (find (is_for id) held) ≡ Some work = rw e at is in rw e (rest behind)
+
+-- and the work of one that is held is there
+found_work : (id : GoalId) (held : List HeldGoal) → list_any (is_for id) held ≡ true → (work : GoalWork) × (option_map (λ one. one.work) (find (is_for id) held) ≡ Some work)
+found_work id [] p = absurd (true≢false (sym p))
+found_work id (one ∷ held) p = by (is_for id one) refl p (found_work id held)
+  where
+    by : (b : Bool) → is_for id one ≡ b → list_any (is_for id) (one ∷ held) ≡ true → (list_any (is_for id) held ≡ true → (work : GoalWork) × (option_map (λ one. one.work) (find (is_for id) held) ≡ Some work)) →
+        (work : GoalWork) × (option_map (λ one. one.work) (find (is_for id) (one ∷ held)) ≡ Some work)
+    by true e p rest = (one.work, rw e refl)
+    by false e p rest =
+        let there : list_any (is_for id) held ≡ true = rw e at p in
+        let behind = rest there in
+        (behind.0, rw e behind.1)
+
+pub held_work : (server : EntityNo) (id : GoalId) (world : WorldState) → IsHeld server id world → (work : GoalWork) × (work_at server id world ≡ Some work)
+held_work server id world p = by (find (is_server_at server) world.servers) refl
+  where
+    by : (found : Option ServerEntry) → find (is_server_at server) world.servers ≡ found → (work : GoalWork) × (work_at server id world ≡ Some work)
+    by None e = let none : false ≡ true = rw e at p in absurd (true≢false (sym none))
+    by (Some entry) e =
+        let there : keeps id entry ≡ true = rw e at p in
+        let work = found_work id entry.held there in
+        (work.0, rw e work.1)
 
 pub work_held : (server : EntityNo) (id : GoalId) (work : GoalWork) (world : WorldState) → work_at server id world ≡ Some work → IsHeld server id world
 work_held server id work world is = by (find (is_server_at server) world.servers) refl
   where
     by : (found : Option ServerEntry) → find (is_server_at server) world.servers ≡ found → option_map_or (keeps id) (find (is_server_at server) world.servers) false ≡ true
     by None e = let none : None ≡ Some work = rw e at is in absurd (true≢false (sym (ap (λ (some : Option GoalWork). is_some some) none)))
-    by (Some entry) e = let here : option_and_then (λ one. one.work) (find (is_for id) entry.held) ≡ Some work = rw e at is in rw e (found_held id work entry.held here)
+    by (Some entry) e = let here : option_map (λ one. one.work) (find (is_for id) entry.held) ≡ Some work = rw e at is in rw e (found_held id work entry.held here)
 
 -- what is committed leaves the work of a goal that is held
 pub work_left : (server : EntityNo) (id : GoalId) (work : GoalWork) (one : Ready) (effects : Effects) (world : WorldState) → work_at server id world ≡ Some work → work_at server id (commit one effects world) ≡ Some work
 work_left server id work one effects world is =
-    let put : HeldGoal → HeldGoal = λ held. record held { work = Some work } in
     let there : IsHeld server id world = work_held server id work world is in
-    let same : with_work server id (Some work) world ≡ world = ap (λ (servers : List ServerEntry). record world { servers = servers }) (put_back server id work world.servers is) in
-    let after : with_work server id (Some work) (commit one effects world) ≡ commit one effects world =
-    commit_apart (held_aside server id put (λ held. refl) (λ goal held. refl) (λ held. refl) (λ number held. refl)) one effects world there ∙ ap (λ (before : WorldState). commit one effects before) same in
+    let same : with_work server id work world ≡ world = ap (λ (servers : List ServerEntry). record world { servers = servers }) (put_back server id work world.servers is) in
+    let after : with_work server id work (commit one effects world) ≡ commit one effects world =
+    commit_apart (held_aside server id (doing work) (λ held. refl) (λ goal held. refl) (λ held. refl) (λ number held. refl)) one effects world there ∙ ap (λ (before : WorldState). commit one effects before) same in
     sym (ap (λ (state : WorldState). work_at server id state) after)
-    ∙ work_put server id (Some work) (commit one effects world).servers (commit_keeps (held_kept server id) (held_accepts server id) one effects world there)
+    ∙ work_put server id work (commit one effects world).servers (commit_keeps (held_kept server id) (held_accepts server id) one effects world there)

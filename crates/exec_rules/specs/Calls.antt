@@ -1,9 +1,11 @@
 -- A world as its calls see it.
-use Rattle.std.specs.Prelude.{◌≡◌, ⊤, ℕ, suc, ◌+◌, ◌-◌, ◌<◌, ◌≤◌, List, length, Bool, true, false, ◌&&◌, ◌==◌, if◌then◌else◌, Some, slice_index_or, take}
+use Rattle.std.specs.Prelude.{◌≡◌, ◌≢◌, ⊤, ℕ, suc, ◌+◌, ◌-◌, ◌<◌, ◌≤◌, pos, List, [], length, Bool, true, false, ◌&&◌, ◌==◌, if◌then◌else◌, Some, slice_index_or, take}
 use Rattle.std.specs.List.{AllByRecursion, IsDistinct}
 use Rattle.exec_msg.specs.Numbers.{EntityNo, GoalId, Moment}
+use Rattle.exec_msg.specs.declared.goal.Event.TheVariants as event
 use Rattle.exec_plan.specs.Plan.{PlanData}
 use Rattle.exec_script.specs.declared.effects.Effects.{Effects}
+use Rattle.exec_task.specs.Task.{new_task}
 use Rattle.exec_rules.specs.Ready.{ready_list, take_inputs}
 use Rattle.exec_rules.specs.Run.{commit}
 use Rattle.exec_rules.specs.Transcript.{at_snapshot, first_world, finish, round, rounds, run_all}
@@ -71,9 +73,19 @@ polls_same_of server _ other = false
 abbrev pub polls_same : Ready → Ready → Bool
 polls_same one other = polls_same_of one.entity one.cause other
 
+-- the goal that a callback of this server polls is held
+abbrev pub IsHeldFor : EntityNo → Cause → WorldState → Type 0
+IsHeldFor server (cause.Woke id value canceling) world = (work : GoalWork) × (work_at server id world ≡ Some work)
+IsHeldFor server _ world = ⊤
+
+-- what stands in the place of a goal's work while its task is out: a task that has ended. No goal's own work comes to be this,
+-- because an empty script never ends
+abbrev pub away : GoalWork
+away = record { script = []; value = pos 0; task = record new_task { ending = Some (record { event = event.Abort; value = pos 0 }) } }
+
 -- the goal that a callback of this server polls is held, and its task is at home
 abbrev pub IsHomeFor : EntityNo → Cause → WorldState → Type 0
-IsHomeFor server (cause.Woke id value canceling) world = (work : GoalWork) × (work_at server id world ≡ Some work)
+IsHomeFor server (cause.Woke id value canceling) world = (work : GoalWork) × (work_at server id world ≡ Some work) × (work ≢ away)
 IsHomeFor server _ world = ⊤
 
 -- the task of each goal that callbacks poll is at home, and no two of them poll one goal

@@ -72,7 +72,7 @@ abbrev pub held_goal : ℕ → Moment → Acceptance → Script → GoalRequest 
 held_goal number moment how script request = record {
   goal = new_goal request.id request.value moment how;
   client = request.client;
-  work = Some (record { script = script; value = request.value; task = new_task });
+  work = record { script = script; value = request.value; task = new_task };
   arrival = number;
 }
 

@@ -1,5 +1,5 @@
 -- The callbacks that are ready at a snapshot, and what the snapshot takes.
-use Rattle.std.specs.Prelude.{ℕ, suc, pos, List, [], ◌∷◌, ◌++◌, length, map, drop, get_or, Bool, false, ◌&&◌, ◌==◌, if◌then◌else◌, Option, None, Some}
+use Rattle.std.specs.Prelude.{ℕ, suc, pos, List, [], ◌∷◌, ◌++◌, length, map, drop, get_or, Bool, ◌&&◌, ◌==◌, if◌then◌else◌, Option, None, Some}
 use Rattle.std.specs.List.{filter, find, flat_map, fold}
 use Rattle.std.specs.Option.{option_map, option_map_or}
 use Rattle.exec_goal.specs.Cancel.{candidates}
@@ -23,7 +23,7 @@ use Rattle.exec_plan.specs.declared.order.Order.{Order}
 use Rattle.exec_plan.specs.declared.order.Order.TheVariants as order
 use Rattle.exec_rules.specs.Item.{taker_of, first_of, aux_of, id_of}
 use Rattle.exec_rules.specs.Sorting.{sorted_by}
-use Rattle.exec_rules.specs.World.{WorldState, Handler, TimerEntry, Queue, GoalWork, HeldGoal, ServerEntry, ClientEntry}
+use Rattle.exec_rules.specs.World.{WorldState, Handler, TimerEntry, Queue, HeldGoal, ServerEntry, ClientEntry}
 use Rattle.exec_rules.specs.World.{goals_at, has_room_for, held_for, is_client_at, is_queue}
 use Rattle.exec_rules.specs.declared.item.Item.{Item}
 use Rattle.exec_rules.specs.declared.item.Item.TheVariants as item
@@ -108,13 +108,9 @@ item_ready moment handler goals (first ∷ items) =
 abbrev pub queue_ready : Moment → WorldState → Queue → List Ready
 queue_ready moment world queue = item_ready moment queue.handler (goals_at queue.handler.entity world) queue.items
 
--- whether the task of a goal's work is awake in a turn; one that is out never is
-abbrev pub is_task_awake : Turn → Option GoalWork → Bool
-is_task_awake turn work = option_map_or (λ work. is_awake work.task turn) work false
-
 -- whether a goal is awake at a moment
 abbrev pub is_goal_awake : Moment → HeldGoal → Bool
-is_goal_awake moment held = is_worked_on held.goal.state && is_task_awake (turn_at moment (is_canceling held.goal.state)) held.work
+is_goal_awake moment held = is_worked_on held.goal.state && is_awake held.work.task (turn_at moment (is_canceling held.goal.state))
 
 -- the poll of a goal
 abbrev pub woken : GoalRecord → Cause

@@ -1,7 +1,7 @@
 -- The world: what changes while a plan is run.
 use Rattle.std.specs.Prelude.{ℕ, ◌+◌, ℤ, List, [], ◌∷◌, ◌++◌, map, Bool, not, ◌&&◌, ◌||◌, ◌==◌, Option, None, Some, slice_index_or, slice_set}
 use Rattle.std.specs.List.{find}
-use Rattle.std.specs.Option.{option_and_then, option_map, option_map_or}
+use Rattle.std.specs.Option.{option_map, option_map_or}
 use Rattle.exec_goal.specs.Table.{GoalRecord, has_id, holds_id, is_full}
 use Rattle.exec_msg.specs.Numbers.{EntityNo, GoalId}
 use Rattle.exec_script.specs.Instruction.{Script}
@@ -58,12 +58,12 @@ pub record GoalWork : Type 0 where
 abbrev pub work_of : GoalTaskState → GoalWork
 work_of task = record { script = task.script; value = task.value; task = task.task }
 
--- a goal that a server holds: its record, the action client that sent it (none where it was fed), its work (none while its
--- task is out), and the number of its last arrival
+-- a goal that a server holds: its record, the action client that sent it (none where it was fed), its work, and the number of
+-- its last arrival
 pub record HeldGoal : Type 0 where
   pub goal : GoalRecord
   pub client : Option EntityNo
-  pub work : Option GoalWork
+  pub work : GoalWork
   pub arrival : ℕ
 
 -- a server: the callback that polls its goals, for how many ticks it keeps a result (without end where there is none), and
@@ -248,27 +248,27 @@ change_held server id change world = change_server server (with_held id change) 
 abbrev pub held_for : EntityNo → GoalId → WorldState → Option HeldGoal
 held_for server id world = find (is_for id) (held_at server world)
 
--- the work of the goal of an identifier of the server of a number, if it holds the goal and its task isn't out
+-- the work of the goal of an identifier of the server of a number, if it holds the goal
 abbrev pub work_in : EntityNo → GoalId → List ServerEntry → Option GoalWork
-work_in server id servers = option_and_then (λ held. held.work) (find (is_for id) (held_in server servers))
+work_in server id servers = option_map (λ held. held.work) (find (is_for id) (held_in server servers))
 
 -- the work of a server's goal
 abbrev pub work_at : EntityNo → GoalId → WorldState → Option GoalWork
 work_at server id world = work_in server id world.servers
 
--- a goal with this in the place of its work; where it is none, the goal's task is out
-abbrev pub doing : Option GoalWork → HeldGoal → HeldGoal
+-- a goal that does this work
+abbrev pub doing : GoalWork → HeldGoal → HeldGoal
 doing work held = record held { work = work }
 
 -- the world in which a server's goal does this work
-abbrev pub with_work : EntityNo → GoalId → Option GoalWork → WorldState → WorldState
+abbrev pub with_work : EntityNo → GoalId → GoalWork → WorldState → WorldState
 with_work server id work world = change_held server id (doing work) world
 
--- a goal whose task stands so, if it isn't out
+-- a goal whose task stands so
 abbrev pub standing : TaskState → HeldGoal → HeldGoal
-standing task held = doing (option_map (λ (work : GoalWork). record work { task = task }) held.work) held
+standing task held = doing (record held.work { task = task }) held
 
--- the world in which the task of a server's goal stands so, if it isn't out
+-- the world in which the task of a server's goal stands so
 abbrev pub with_task : EntityNo → GoalId → TaskState → WorldState → WorldState
 with_task server id task world = change_held server id (standing task) world
 

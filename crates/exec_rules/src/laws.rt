@@ -5,7 +5,7 @@ ghost use Rattle.std.specs.List.Sorted.{IsNonDecreasingBy};
 ghost use Rattle.exec_plan.specs.Plan.{PlanData};
 ghost use Rattle.exec_msg.specs.declared.kind.Kind.{Kind};
 ghost use Rattle.exec_msg.specs.declared.kind.Kind.TheVariants as kind;
-ghost use Rattle.exec_rules.specs.Calls.{IsHomeFor, after_finish, after_round, world_after};
+ghost use Rattle.exec_rules.specs.Calls.{IsHeldFor, after_finish, after_round, world_after};
 ghost use Rattle.exec_rules.specs.Ready.{is_callback_of};
 ghost use Rattle.exec_rules.specs.Ready.{arrival_for, due_ready, placed_from, poll_ready, queue_ready, ready_list};
 ghost use Rattle.exec_rules.specs.Sorting.{sorted_by};
@@ -24,9 +24,9 @@ pub fn callbacks_may_run_apart()
 {}
 
 /// The callbacks of a round may all run apart from the world, one after another, and be committed in their order after the last
-/// of them. If the tasks of the goals that they poll are at home, the world is as if each callback had run in it.
+/// of them. If the goals that they poll are held, the world is as if each callback had run in it.
 pub fn callbacks_may_be_committed_behind()
-    ensures { (list : List Ready) (world : WorldState) → AllByRecursion (λ one. IsHomeFor one.entity one.cause world) list →
+    ensures { (list : List Ready) (world : WorldState) → AllByRecursion (λ one. IsHeldFor one.entity one.cause world) list →
         run_all list world ≡ commit_all list (all_apart list world) (all_home list world) }
 {}
 

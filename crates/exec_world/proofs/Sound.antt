@@ -1,5 +1,5 @@
 -- What every world keeps, and what follows for the goals that callbacks poll.
-use Rattle.std.proofs.Common.{◌≡◌, ℕ, suc, Bool, true, false, ◌==◌, ◌&&◌, List, [], ◌∷◌, ◌++◌, Option, None, Some, refl, sym, ap, ap₂, append_assoc, subst, ◌∙◌, true≢false}
+use Rattle.std.proofs.Common.{◌≡◌, ℕ, suc, Bool, true, false, ◌==◌, ◌&&◌, List, [], ◌∷◌, ◌++◌, Option, Some, refl, sym, ap, ap₂, append_assoc, subst, ◌∙◌, true≢false}
 use Rattle.std.specs.List.{AllByRecursion, IsDistinct, filter, find, flat_map}
 use Rattle.std.specs.Option.{option_map_or}
 use Rattle.std.specs.Result.{OnOk, is_err}
@@ -26,7 +26,9 @@ use Rattle.exec_rules.proofs.Shapes.{part_changed, shape_kept}
 use Rattle.exec_rules.proofs.Wiring.{NumbersApart, numbers_apart, wired}
 use Rattle.exec_rules.specs.Calls.{AreHome, IsHomeFor, polls_same, polls_same_of, wakes}
 use Rattle.exec_rules.specs.Shape.{server_shape, shape_of}
-use Rattle.exec_rules.specs.Ready.{all_ready, due_ready, is_goal_awake, is_task_awake, item_ready, poll_ready, placed_from, queue_ready, rank_under, ready_for, ready_list, take_inputs, turn_at, woken}
+use Rattle.exec_task.specs.Task.{is_awake}
+use Rattle.exec_task.specs.declared.wait.Turn.{Turn}
+use Rattle.exec_rules.specs.Ready.{all_ready, due_ready, is_goal_awake, item_ready, poll_ready, placed_from, queue_ready, rank_under, ready_for, ready_list, take_inputs, turn_at, woken}
 use Rattle.exec_rules.specs.Sorting.{sorted_by}
 use Rattle.exec_rules.specs.Transcript.{first_world, run_all, snapshot_and_run, takes_from_queue}
 use Rattle.exec_rules.specs.World.{GoalWork, HeldGoal, Queue, ServerEntry, TimerEntry, WorldState, doing, goals_at, is_for, is_server_at, records_of, with_held, with_work}
@@ -74,11 +76,11 @@ module _ (plan : PlanData) where
   pub first_sound : IsSound plan (first_world plan)
   first_sound = record { shape = refl; kinds = kinds_first plan.order plan.graph (filter (λ waitable. takes_from_queue waitable.kind) (wait_set plan.graph)); identifiers = first_distinct plan }
 
-  lending : (id : GoalId) (work : Option GoalWork) → Makes (with_held id (doing work)) (λ goals. goals)
+  lending : (id : GoalId) (work : GoalWork) → Makes (with_held id (doing work)) (λ goals. goals)
   lending id work = record { stays = λ entry. refl; makes = λ entry. records_left id (doing work) (λ held. refl) entry.held }
 
   -- a task that goes out or comes home keeps it
-  pub lent_sound : (server : EntityNo) (id : GoalId) (work : Option GoalWork) (world : WorldState) → IsSound plan world → IsSound plan (with_work server id work world)
+  pub lent_sound : (server : EntityNo) (id : GoalId) (work : GoalWork) (world : WorldState) → IsSound plan world → IsSound plan (with_work server id work world)
   lent_sound server id work world p = record {
     shape = ap (λ (servers : List ServerEntry). record (shape_of world) { servers = servers }) (part_changed server_shape (is_server_at server) _ (λ entry. refl) world.servers) ∙ p.shape;
     kinds = p.kinds;
@@ -161,14 +163,6 @@ none_with one other none = by one.cause refl
     by (cause.Took taken) e = refl
     by (cause.Woke id value canceling) e = absurd (true≢false (sym (eq-eqb id id refl) ∙ sym (ap (λ (c : Cause). wakes id c) e) ∙ none id))
 
-with_none : (one other : Ready) → PollsNone other → Apart one other
-with_none one other none = by one.cause
-  where
-    by : (why : Cause) → polls_same_of one.entity why other ≡ false
-    by cause.Due = refl
-    by (cause.Took taken) = refl
-    by (cause.Woke id value canceling) = rw (none id) refl
-
 -- what holds of a callback that polls none
 home_without : (world : WorldState) (one : Ready) → PollsNone one → IsHomeFor one.entity one.cause world
 home_without world one none = by one.cause refl
@@ -213,11 +207,9 @@ module _ (moment : Moment) (world : WorldState) where
 
   task_there : (entry : ServerEntry) (held : HeldGoal) → IsFound world.servers entry → find (is_for held.goal.id) entry.held ≡ Some held → is_goal_awake moment held ≡ true → IsHomeFor entry.handler.entity (woken held.goal) world
   task_there entry held found own awake =
-      by held.work refl (and_parts (is_worked_on held.goal.state) (is_task_awake (turn_at moment (is_canceling held.goal.state)) held.work) awake).1
-    where
-      by : (work : Option GoalWork) → held.work ≡ work → is_task_awake (turn_at moment (is_canceling held.goal.state)) work ≡ true → IsHomeFor entry.handler.entity (woken held.goal) world
-      by None e awake = absurd (true≢false (sym awake))
-      by (Some work) e awake = (work, rw (found, own) e)
+      let turn : Turn = turn_at moment (is_canceling held.goal.state) in
+      let there = (and_parts (is_worked_on held.goal.state) (is_awake held.work.task turn) awake).1 in
+      (held.work, rw (found, own) refl, λ out. true≢false (sym there ∙ ap (λ (work : GoalWork). is_awake work.task turn) out))
 
   polls_home : (entry : ServerEntry) → IsFound world.servers entry → HasOwn entry → AllByRecursion HasHome (poll_ready moment entry)
   polls_home entry found own =
@@ -285,10 +277,6 @@ distinct_of : (list : List Ready) → Pairs Apart list → IsDistinct polls_same
 unfolding IsDistinct
 distinct_of [] p = tt
 distinct_of (one ∷ list) p = (p.0, distinct_of list p.1)
-
-all_against : (P : Ready → Type 0) (some more : List Ready) → ((one other : Ready) → P other → Apart one other) → AllByRecursion P more → AllByRecursion (λ one. AllByRecursion (Apart one) more) some
-all_against P [] more apart p = tt
-all_against P (one ∷ some) more apart p = (all_weaker P (Apart one) (apart one) more p, all_against P some more apart p)
 
 none_against : (some more : List Ready) → AllByRecursion PollsNone some → AllByRecursion (λ one. AllByRecursion (Apart one) more) some
 none_against [] more p = tt

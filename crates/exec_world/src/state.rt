@@ -56,9 +56,10 @@ impl<L: Lines> Model for WorldBody<L> {
 }
 
 impl<L: Lines> WorldBody<L> {
-    ghost use Rattle.std.specs.Option.{option_map};
-    ghost use Rattle.std.specs.Prelude.{◌≡◌, [], None, Some, IfOk, OnOk};
+    ghost use Rattle.std.specs.Prelude.{◌≡◌, [], IfOk, OnOk};
     ghost use Rattle.exec_rules.specs.Transcript.{first_world};
+    ghost use Rattle.exec_entity.specs.inner.Polling.{IsTaken};
+    ghost use Rattle.exec_rules.specs.Calls.{away};
     ghost use Rattle.exec_rules.specs.World.{add_line, variables_at, with_variables, with_work, work_at, work_of};
 
     // The world of a plan before its first round. It has no lines yet.
@@ -118,15 +119,15 @@ impl<L: Lines> WorldBody<L> {
 
     // Takes the task of a server's goal out of the world, and answers `None` if no such goal is held or its task is out.
     pub(crate) fn take_task(&mut self, server: EntityNo, id: GoalId) -> Option<GoalTask>
-        ensures taken { option_map work_of result ≡ work_at server id self.old }
-        ensures out { self.new ≡ with_work server id None self.old }
+        ensures taken { IsTaken (work_at server id self.old) result }
+        ensures out { self.new ≡ with_work server id away self.old }
     {
         self.servers.take_task(server, id)
     }
 
     // Puts the task of a server's goal in its place. If no such goal is held, nothing changes.
     pub(crate) fn put_task(&mut self, server: EntityNo, id: GoalId, task: GoalTask)
-        ensures { self.new ≡ with_work server id (Some (work_of task)) self.old }
+        ensures { self.new ≡ with_work server id (work_of task) self.old }
     {
         self.servers.put_task(server, id, task);
     }

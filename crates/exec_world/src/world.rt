@@ -81,11 +81,11 @@ impl World<LineList> {
 }
 
 impl<L: Lines> World<L> {
-    ghost use Rattle.std.specs.Prelude.{◌≡◌, ◌↔◌, ◌<◌, [], length, true, false, None, Some, IfOk, IfErr, OnOk};
+    ghost use Rattle.std.specs.Prelude.{◌≡◌, ◌≢◌, ◌↔◌, ◌<◌, [], length, true, false, Some, IfOk, IfErr, OnOk};
     ghost use Rattle.std.specs.Arc.{arc_value};
     ghost use Rattle.exec_world.specs.Faults.{HasFailed};
     ghost use Rattle.exec_world.specs.Heavy.{IsBegun};
-    ghost use Rattle.exec_rules.specs.Calls.{AreHome, HaveVariables, IsNext, ready_in};
+    ghost use Rattle.exec_rules.specs.Calls.{AreHome, HaveVariables, IsNext, away, ready_in};
     ghost use Rattle.exec_rules.specs.Calls.{after_all, after_commit, after_finish, after_round, after_snapshot, new_world, world_after};
     ghost use Rattle.exec_world.specs.declared.fault.WorldFault.TheVariants as fault;
     ghost use Rattle.exec_rules.specs.World.{GoalWork, variables_at, with_variables, with_work, work_at, work_of};
@@ -310,16 +310,16 @@ impl<L: Lines> World<L> {
     /// Takes the task of a goal out. The server holds the goal, and its task isn't out. [`put_task`](World::put_task) brings it
     /// home.
     pub fn take_task(&mut self, server: EntityNo, id: GoalId) -> GoalTask
-        requires { (work : GoalWork) × (work_at server id self.old.state ≡ Some work) }
+        requires { (work : GoalWork) × (work_at server id self.old.state ≡ Some work) × (work ≢ away) }
         ensures task { Some (work_of result) ≡ work_at server id self.old.state }
-        ensures out { self.new ≡ record self.old { state = with_work server id None self.old.state } }
+        ensures out { self.new ≡ record self.old { state = with_work server id away self.old.state } }
     {
         self.state.take_task(server, id).unwrap()
     }
 
     /// Brings the task of a goal home. If the server holds no such goal, nothing changes.
     pub fn put_task(&mut self, server: EntityNo, id: GoalId, task: GoalTask)
-        ensures { self.new ≡ record self.old { state = with_work server id (Some (work_of task)) self.old.state } }
+        ensures { self.new ≡ record self.old { state = with_work server id (work_of task) self.old.state } }
     {
         self.state.put_task(server, id, task);
     }

@@ -1,16 +1,18 @@
 -- What a poll makes of a server.
-use Rattle.std.specs.Prelude.{List, Option, None, Some}
+use Rattle.std.specs.Prelude.{◌≡◌, List, Option, None, Some}
 use Rattle.std.specs.List.{find}
-use Rattle.std.specs.Option.{option_and_then}
+use Rattle.std.specs.Option.{option_map}
 use Rattle.exec_msg.specs.Numbers.{EntityNo, GoalId}
 use Rattle.exec_msg.specs.Lists.{change_first}
 use Rattle.exec_script.specs.declared.effects.Effect.{Effect}
+use Rattle.exec_task.specs.Goal.{GoalTaskState}
 use Rattle.exec_task.specs.Task.{TaskState}
 use Rattle.exec_task.specs.declared.wait.Turn.{Turn}
 use Rattle.exec_entity.specs.declared.server.GoalTurn.{GoalTurn}
+use Rattle.exec_entity.specs.inner.Server.{work_there}
 use Rattle.exec_rules.specs.Callback.{AfterCallback, poll_listed}
 use Rattle.exec_script.specs.Script.{Variables}
-use Rattle.exec_rules.specs.World.{ServerEntry, is_for, is_server_at, standing, with_held, work_in}
+use Rattle.exec_rules.specs.World.{GoalWork, ServerEntry, is_for, is_server_at, standing, with_held, work_in}
 use Rattle.exec_rules.specs.declared.ready.Cause.{Cause}
 use Rattle.exec_rules.specs.declared.ready.Cause.TheVariants as cause
 
@@ -26,7 +28,12 @@ polled_by server _ task servers = servers
 
 -- a poll of a server's goal
 abbrev pub goal_polled : Turn → GoalId → ServerEntry → Variables → AfterCallback (List Effect)
-goal_polled turn id entry variables = poll_listed turn (option_and_then (λ held. held.work) (find (is_for id) entry.held)) variables
+goal_polled turn id entry variables = poll_listed turn (option_map (λ held. held.work) (find (is_for id) entry.held)) variables
+
+-- what is taken of a goal that does this work, if it is held: its task, or none where that is out
+abbrev pub IsTaken : Option GoalWork → Option GoalTaskState → Type 0
+IsTaken None task = task ≡ None
+IsTaken (Some work) task = work ≡ work_there task
 
 -- a poll of a goal in its turn
 abbrev pub polled_in : GoalTurn → List ServerEntry → Variables → AfterCallback (List Effect)

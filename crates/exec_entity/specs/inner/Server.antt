@@ -1,8 +1,9 @@
 -- What the body of a server keeps.
-use Rattle.std.specs.Prelude.{◌==◌, ℕ, Bool, List, [], ◌∷◌, map, Option}
-use Rattle.std.specs.Option.{option_map}
+use Rattle.std.specs.Prelude.{◌==◌, ℕ, Bool, List, [], ◌∷◌, map, Option, None, Some}
 use Rattle.exec_goal.specs.Table.{GoalRecord}
 use Rattle.exec_msg.specs.Numbers.{EntityNo, GoalId}
+use Rattle.exec_task.specs.Goal.{GoalTaskState}
+use Rattle.exec_rules.specs.Calls.{away}
 use Rattle.exec_rules.specs.World.{GoalWork, HeldGoal, work_of}
 use Rattle.exec_entity.specs.declared.server.KeptWithGoal.{KeptWithGoal}
 
@@ -10,15 +11,20 @@ use Rattle.exec_entity.specs.declared.server.KeptWithGoal.{KeptWithGoal}
 pub record Kept : Type 0 where
   pub id : GoalId
   pub client : Option EntityNo
-  pub work : Option GoalWork
+  pub work : GoalWork
   pub arrival : ℕ
+
+-- the work of a goal's task; while that is out, `away`
+abbrev pub work_there : Option GoalTaskState → GoalWork
+work_there None = away
+work_there (Some task) = work_of task
 
 -- what an entry of the map stands for: its key is the goal's identifier
 abbrev pub kept_of : ℕ × KeptWithGoal → Kept
 kept_of entry = record {
   id = entry.0;
   client = entry.1.client;
-  work = option_map work_of entry.1.task;
+  work = work_there entry.1.task;
   arrival = entry.1.arrival;
 }
 

@@ -28,10 +28,11 @@ impl ByNumber<Server> {
     ghost use Rattle.exec_goal.specs.Table.{after_end, asked_for, has_id, later};
     ghost use Rattle.exec_msg.specs.Lists.{change_first};
     ghost use Rattle.exec_task.specs.Task.{is_awake};
+    ghost use Rattle.exec_rules.specs.Calls.{away};
     ghost use Rattle.exec_rules.specs.Close.{server_accepting};
     ghost use Rattle.exec_rules.specs.World.{arrived, doing, goals_in, has_room_for, held_in, is_for, is_server_at, with_goals, with_held, work_in, work_of};
     ghost use Rattle.exec_rules.specs.inner.Awake.{awake_goals};
-    ghost use Rattle.exec_entity.specs.inner.Polling.{polled_in, server_polled};
+    ghost use Rattle.exec_entity.specs.inner.Polling.{IsTaken, polled_in, server_polled};
     ghost use Rattle.exec_entity.specs.inner.Servers.{asked_in, executed_in};
 
     /// Whether a server can hold one more goal of an identifier.
@@ -191,15 +192,15 @@ impl ByNumber<Server> {
 
     /// Takes the task of a server's goal out. Answers `None` if no such goal is held or its task is out.
     pub fn take_task(&mut self, server: EntityNo, id: GoalId) -> Option<GoalTask>
-        ensures taken { option_map work_of result ≡ work_in server id self.old }
-        ensures out { self.new ≡ change_first (is_server_at server) (with_held id (doing None)) self.old }
+        ensures taken { IsTaken (work_in server id self.old) result }
+        ensures out { self.new ≡ change_first (is_server_at server) (with_held id (doing away)) self.old }
     {
         self.change(server, |entry| entry.take_task(id)).flatten()
     }
 
     /// Puts the task of a server's goal in its place. If no such goal is held, nothing changes.
     pub fn put_task(&mut self, server: EntityNo, id: GoalId, task: GoalTask)
-        ensures { self.new ≡ change_first (is_server_at server) (with_held id (doing (Some (work_of task)))) self.old }
+        ensures { self.new ≡ change_first (is_server_at server) (with_held id (doing (work_of task))) self.old }
     {
         let _put = self.change(server, |entry| entry.put_task(id, task));
     }

@@ -1,11 +1,11 @@
 //! Polls of a server's goals.
 ghost use Rattle.std.specs.Prelude.{◌≡◌, [], true, false, Some, IfOk, IsSomeAnd, OnErr, OnOk};
-ghost use Rattle.std.specs.Option.{option_map, option_map_or};
 ghost use Rattle.exec_script.specs.declared.effects.Close.TheVariants as close;
 ghost use Rattle.exec_task.specs.Task.{is_awake};
 ghost use Rattle.exec_rules.specs.Ready.{turn_at};
 ghost use Rattle.exec_rules.specs.World.{work_of};
-ghost use Rattle.exec_entity.specs.inner.Waking.{wake_in};
+ghost use Rattle.exec_task.specs.Waking.{wake_of};
+ghost use Rattle.exec_entity.specs.inner.Server.{work_there};
 
 use super::{GoalTurn, KeptWithGoal, Server};
 use exec_goal::GoalInfo;
@@ -17,16 +17,17 @@ use futures::task::Context;
 use std::mem;
 
 impl Server {
-    ghost use Rattle.std.specs.Prelude.{ℕ, ◌<◌, ◌∷◌, ◌++◌, true, None, length, map, filter, find, slice_get, slice_index_or, IfNone, IfSome};
-    ghost use Rattle.std.specs.Option.{option_and_then};
+    ghost use Rattle.std.specs.Prelude.{ℕ, ◌<◌, ◌++◌, true, None, length, map, filter, find, slice_get, slice_index_or, IfNone, IfSome};
+    ghost use Rattle.std.specs.Option.{option_map};
     ghost use Rattle.exec_goal.specs.Info.{info_of};
     ghost use Rattle.exec_goal.specs.State.{is_canceling};
     ghost use Rattle.exec_goal.specs.Table.{GoalRecord, working};
-    ghost use Rattle.exec_rules.specs.Ready.{is_goal_awake, is_task_awake};
+    ghost use Rattle.exec_rules.specs.Ready.{is_goal_awake};
+    ghost use Rattle.exec_rules.specs.Calls.{away};
     ghost use Rattle.exec_rules.specs.World.{HeldGoal, arrived, doing, is_for, records_of, with_held};
     ghost use Rattle.exec_rules.specs.inner.Awake.{awake_goal, awake_goals, goal_awake};
     ghost use Rattle.exec_entity.specs.inner.Keeping.{IsFor};
-    ghost use Rattle.exec_entity.specs.inner.Polling.{goal_polled, server_polled};
+    ghost use Rattle.exec_entity.specs.inner.Polling.{IsTaken, goal_polled, server_polled};
 
     // How many goals the server works on. If it works on none, none is awake. It looks at no goal.
     pub(crate) fn count_working(&self) -> usize
@@ -47,7 +48,7 @@ impl Server {
     // If a goal isn't being canceled, one moment decides it, and its task isn't looked at.
     fn is_task_awake(&self, index: usize, goal: &GoalInfo, moment: Moment) -> bool
         requires { index < length self.now.held }
-        ensures { (d : HeldGoal) → result ≡ is_task_awake (turn_at moment (is_canceling goal.now.state)) (slice_index_or self.now.held index d).work }
+        ensures { (d : HeldGoal) → result ≡ is_awake (slice_index_or self.now.held index d).work.task (turn_at moment (is_canceling goal.now.state)) }
     {
         if goal.state.is_canceling() {
             self.is_canceling_awake(index, moment)
@@ -60,7 +61,7 @@ impl Server {
     #[inline(always)]
     fn has_woken(&self, index: usize, moment: Moment) -> bool
         requires { index < length self.now.held }
-        ensures { (d : HeldGoal) → result ≡ is_task_awake (turn_at moment false) (slice_index_or self.now.held index d).work }
+        ensures { (d : HeldGoal) → result ≡ is_awake (slice_index_or self.now.held index d).work.task (turn_at moment false) }
     {
         self.wakes[index] <= moment.ticks()
     }
@@ -70,7 +71,7 @@ impl Server {
     #[inline(never)]
     fn is_canceling_awake(&self, index: usize, moment: Moment) -> bool
         requires { index < length self.now.held }
-        ensures { (d : HeldGoal) → result ≡ is_task_awake (turn_at moment true) (slice_index_or self.now.held index d).work }
+        ensures { (d : HeldGoal) → result ≡ is_awake (slice_index_or self.now.held index d).work.task (turn_at moment true) }
     {
         let entry = self.held.get_index(index).unwrap();
         is_any_awake(&entry.1.task, moment)
@@ -142,7 +143,7 @@ impl Server {
         ensures close { IfOk result (λ close. close ≡ (goal_polled goal.now.turn goal.now.id self.old bank.old).close) }
         ensures variables { OnOk result (bank.new ≡ (goal_polled goal.now.turn goal.now.id self.old bank.old).variables) }
         ensures task { OnOk result (self.new ≡ server_polled goal.now.id (goal_polled goal.now.turn goal.now.id self.old bank.old).task self.old) }
-        ensures memory { OnErr result (IsSomeAnd (option_and_then (λ held. held.work) (find (is_for goal.now.id) self.old.held))
+        ensures memory { OnErr result (IsSomeAnd (option_map (λ held. held.work) (find (is_for goal.now.id) self.old.held))
             (λ work. is_awake work.task goal.now.turn ≡ true)) }
         ensures unchanged { OnErr result (self.new ≡ self.old) }
         ensures unchanged_variables { OnErr result (bank.new ≡ bank.old) }
@@ -188,15 +189,15 @@ impl Server {
 
     // Takes the task of a goal out, and answers `None` if no such goal is held or its task is out.
     pub(crate) fn take_task(&mut self, id: GoalId) -> Option<GoalTask>
-        ensures taken { option_map work_of result ≡ option_and_then (λ held. held.work) (find (is_for id) self.old.held) }
-        ensures out { self.new ≡ with_held id (doing None) self.old }
+        ensures taken { IsTaken (option_map (λ held. held.work) (find (is_for id) self.old.held)) result }
+        ensures out { self.new ≡ with_held id (doing away) self.old }
     {
         self.exchange_task(id, None)
     }
 
     // Puts a goal's task in its place. If no such goal is held, nothing changes.
     pub(crate) fn put_task(&mut self, id: GoalId, task: GoalTask)
-        ensures { self.new ≡ with_held id (doing (Some (work_of task))) self.old }
+        ensures { self.new ≡ with_held id (doing (work_of task)) self.old }
     {
         let _replaced = self.exchange_task(id, Some(task));
     }
@@ -214,8 +215,8 @@ impl Server {
 
     // Puts a task, or none, in the place of a goal's task, and answers that. If no such goal is held, nothing changes.
     fn exchange_task(&mut self, id: GoalId, task: Option<GoalTask>) -> Option<GoalTask>
-        ensures taken { option_map work_of result ≡ option_and_then (λ held. held.work) (find (is_for id) self.old.held) }
-        ensures put { self.new ≡ with_held id (doing (option_map work_of task)) self.old }
+        ensures taken { IsTaken (option_map (λ held. held.work) (find (is_for id) self.old.held)) result }
+        ensures put { self.new ≡ with_held id (doing (work_there task)) self.old }
     {
         let place = self.place_of(id)?;
         let held = self.held.get_index_mut(place).unwrap();
@@ -240,7 +241,7 @@ fn replace_task(held: &mut KeptWithGoal, task: Option<GoalTask>) -> Option<GoalT
 
 // Whether a task is awake if its goal is being canceled. A task that is out never is.
 fn is_any_awake(task: &Option<GoalTask>, moment: Moment) -> bool
-    ensures { result ≡ option_map_or (λ work. is_awake work.task (turn_at moment true)) (option_map work_of task.now) false }
+    ensures { result ≡ is_awake (work_there task.now).task (turn_at moment true) }
 {
     match task {
         None => false,
@@ -251,7 +252,7 @@ fn is_any_awake(task: &Option<GoalTask>, moment: Moment) -> bool
 // The moment from which on a task is awake if its goal isn't being canceled, in ticks. A task that is out never is.
 #[inline(always)]
 pub(super) fn wake_in(task: &Option<GoalTask>) -> u64
-    ensures { result ≡ wake_in (option_map work_of task.now) }
+    ensures { result ≡ wake_of (work_there task.now).task }
 {
     match task {
         None => u64::MAX,

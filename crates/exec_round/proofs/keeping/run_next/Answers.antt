@@ -1,7 +1,7 @@
-use Rattle.std.proofs.Common.{◌≡◌, ◌==◌, ℕ, List, Option, vec_len, sym, ap, subst, ◌∙◌}
+use Rattle.std.proofs.Common.{◌==◌, ℕ, List, Option, vec_len, sym, ap, subst}
 use Rattle.std.proofs.lemmas.Result.{on_ok_weaker}
 use Rattle.exec_round.proofs.DealtRounds.{dealt_is}
-use Rattle.exec_round.proofs.Rounding.{some_ready}
+use Rattle.exec_round.proofs.Rounding.{all_held, some_ready}
 use Rattle.exec_rules.specs.declared.ready.Ready.{Ready}
 use Rattle.exec_world.specs.Heavy.{IsBegun}
 use Rattle.exec_world.specs.declared.weighing.Heavy.{Heavy}
@@ -14,4 +14,4 @@ returns g c =
     on_ok_weaker c.run_pooled.result
     (λ done.
     dealt_is c.args.round c.args.world.now c.run_if_light.new.self c.run_pooled.new.world list begun.0 (some_ready list (vec_len c.in-Some.heavy.list == 0) (ap (λ (n : ℕ). n == 0) c.in-Some.heavy.list.ok.0) (sym c.if-is_empty.ensures)) begun.1 done
-    (c.callbacks_may_be_committed_behind.ensures list c.run_if_light.new.self.state begun.2.home)) c.run_pooled.ensures.world
+    (c.callbacks_may_be_committed_behind.ensures list c.run_if_light.new.self.state (all_held list c.run_if_light.new.self.state begun.2.home))) c.run_pooled.ensures.world

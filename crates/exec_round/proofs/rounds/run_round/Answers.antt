@@ -1,6 +1,6 @@
 use Rattle.std.proofs.Common.{List, Option, vec_len, subst}
 use Rattle.exec_lane.specs.Lane.{AreFinished, Lane}
-use Rattle.exec_round.proofs.Rounding.{all_left, round_is}
+use Rattle.exec_round.proofs.Rounding.{all_held, all_left, round_is}
 use Rattle.exec_round.specs.declared.rounds.Begun.{Begun}
 use Rattle.exec_round.specs.inner.Begun.{HasBegun}
 use Rattle.exec_round.proofs.rounds.run_round.Goals as goal
@@ -26,4 +26,4 @@ returns g c =
     has.1 c.in_ok-lanes.ensures.out c.in_ok-all.ensures.home c.in_ok-all.ensures.gathered c.in_ok-commit_each.ensures
     (c.lanes_come_home_as_one_thread_leaves_them.ensures.home c.in-Some.begun.list.items c.begin.new.world.state c.in_ok-ran.ran.items home has.3 finished)
     (c.lanes_come_home_as_one_thread_leaves_them.ensures.ran c.in-Some.begun.list.items c.begin.new.world.state c.in_ok-ran.ran.items home has.3 finished)
-    (c.callbacks_may_be_committed_behind.ensures c.in-Some.begun.list.items c.begin.new.world.state home.home)
+    (c.callbacks_may_be_committed_behind.ensures c.in-Some.begun.list.items c.begin.new.world.state (all_held c.in-Some.begun.list.items c.begin.new.world.state home.home))

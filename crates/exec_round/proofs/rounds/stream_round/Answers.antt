@@ -4,7 +4,7 @@ use Rattle.std.proofs.lemmas.List.{length-map}
 use Rattle.exec_lane.specs.Gather.{outcome_of}
 use Rattle.exec_lane.specs.Lane.{AreFinished, Lane}
 use Rattle.exec_lane.specs.declared.gathering.Ran.{Ran}
-use Rattle.exec_round.proofs.Rounding.{all_left, round_is}
+use Rattle.exec_round.proofs.Rounding.{all_held, all_left, round_is}
 use Rattle.exec_round.proofs.Sends.{none_ran, own_effects, sent_is}
 use Rattle.exec_round.specs.inner.Commits.{after_commits, with_effects_of}
 use Rattle.exec_round.specs.inner.Streams.{AreUnrun}
@@ -48,4 +48,4 @@ returns g c =
     (committed ∙ ap (λ (all : List Ran). after_commits all c.gather.new.world) (ap (with_effects_of c.in_ok-all.all.items) sent ∙ own_effects c.in_ok-all.all.items))
     (c.lanes_come_home_as_one_thread_leaves_them.ensures.home c.in-Some.begun.list.items c.begin.new.world.state c.in_ok-ran.ran.items home has.3 finished)
     ran
-    (c.callbacks_may_be_committed_behind.ensures c.in-Some.begun.list.items c.begin.new.world.state home.home)) c.commit_sent.ensures
+    (c.callbacks_may_be_committed_behind.ensures c.in-Some.begun.list.items c.begin.new.world.state (all_held c.in-Some.begun.list.items c.begin.new.world.state home.home))) c.commit_sent.ensures

@@ -38,5 +38,5 @@ returns-clause-accepted c =
     (λ i. record { script = c.in_ok-task.ensures.script i; value = value i; task = c.in_ok-task.ensures.task i }) in
     accepted-now c.self.invariant.0 c.self.view_is goal (kept_of (c.request.inside.id, own)) c.accept.new.self (all_kept c.insert_new.new.held.entries)
     accepted (c.insert_new.ensures ∙ ap (λ entries. all_kept entries ++ kept_of (c.request.inside.id, own) ∷ []) c.in_ok-reserve.ensures.entries)
-    ∙ ap (λ (work : GoalWork). record c.args.self.now { held = c.args.self.now.held ++ record { goal = goal; client = c.request.inside.client; work = Some work; arrival = c.args.number } ∷ [] }) work
+    ∙ ap (λ (work : GoalWork). record c.args.self.now { held = c.args.self.now.held ++ record { goal = goal; client = c.request.inside.client; work = work; arrival = c.args.number } ∷ [] }) work
     ∙ ap (λ (request : GoalRequest). server_accepting c.args.number c.args.moment c.args.how request c.args.self.now) c.request.view_is

@@ -5,7 +5,7 @@ use Rattle.exec_entity.proofs.Expiring.{lasting-in, settled, kept-filtered, forg
 use Rattle.exec_goal.specs.Table.{holds_id, is_expired}
 use Rattle.exec_rules.specs.World.{ServerEntry, records_of}
 use Rattle.exec_entity.specs.inner.Server.{Kept, all_kept, kept_of}
-use Rattle.exec_entity.specs.inner.Waking.{wake_in}
+use Rattle.exec_task.specs.Waking.{wake_of}
 use Rattle.exec_rules.specs.Transcript.{server_expired}
 use Rattle.exec_entity.proofs.server.Server.forget_expired.Goals as goal
 
@@ -17,7 +17,7 @@ returns-in_default c =
 pub note_wakes-requires : goal.note_wakes-requires
 note_wakes-requires c =
     let kept : List Kept = all_kept c.self.inside.held.entries in
-    omega (arith, length-map c.keep_held.new.held.entries kept_of, ap length c.keep_held.ensures, length-filter_both (λ (one : Kept). holds_id one.id c.forget_expired.new.self) (λ one. not (holds_id one.id c.forget_expired.new.self)) (λ one. refl) kept, ap length c.self.invariant.1, length-map kept (λ (one : Kept). wake_in one.work))
+    omega (arith, length-map c.keep_held.new.held.entries kept_of, ap length c.keep_held.ensures, length-filter_both (λ (one : Kept). holds_id one.id c.forget_expired.new.self) (λ one. not (holds_id one.id c.forget_expired.new.self)) (λ one. refl) kept, ap length c.self.invariant.1, length-map kept (λ (one : Kept). wake_of one.work.task))
 
 pub invariant_of-self : goal.invariant_of-self
 invariant_of-self c =

@@ -9,7 +9,8 @@ use Rattle.exec_entity.proofs.Placed.{kept-at, changed-at}
 use Rattle.exec_entity.proofs.Serving.{kept-same, changed-ids, kept_ids}
 use Rattle.exec_rules.specs.World.{HeldGoal, ServerEntry, arrived, is_for}
 use Rattle.exec_entity.specs.inner.Server.{Kept, all_kept, is_kept_for, kept_of}
-use Rattle.exec_entity.specs.inner.Waking.{wake_in, wakes_of}
+use Rattle.exec_entity.specs.inner.Waking.{wakes_of}
+use Rattle.exec_task.specs.Waking.{wake_of}
 use Rattle.exec_entity.specs.declared.server.KeptWithGoal.{KeptWithGoal}
 use Rattle.exec_entity.proofs.server.Server.goal_arrives.Goals as goal
 
@@ -32,7 +33,7 @@ invariant_of-self c =
       kept-same c.self.inside.goals c.self.inside.goals (all_kept entries) (all_kept (set_value_at entries c.in-Some.place c.note_arrival.new.held)) refl
           (ap kept_ids moved ∙ changed-ids (λ (one : Kept). one.id) (is_kept_for c.args.id) by (λ one. refl) (all_kept entries)) c.self.invariant.0,
       c.self.invariant.1
-          ∙ sym (ap wakes_of moved ∙ changed-ids (λ (one : Kept). wake_in one.work) (is_kept_for c.args.id) by (λ one. refl) (all_kept entries)),
+          ∙ sym (ap wakes_of moved ∙ changed-ids (λ (one : Kept). wake_of one.work.task) (is_kept_for c.args.id) by (λ one. refl) (all_kept entries)),
     )
 
 pub returns : goal.returns

@@ -1,7 +1,8 @@
 use Rattle.std.proofs.Common.{ap, sym, ◌∙◌, true, arith}
 use Rattle.std.specs.Prelude.{slice_index_or}
-use Rattle.exec_rules.specs.Ready.{is_task_awake, turn_at}
-use Rattle.exec_rules.specs.World.{ServerEntry}
+use Rattle.exec_rules.specs.Ready.{turn_at}
+use Rattle.exec_task.specs.Task.{is_awake}
+use Rattle.exec_rules.specs.World.{GoalWork, ServerEntry}
 use Rattle.std.proofs.lemmas.List.{length-map}
 use Rattle.exec_entity.proofs.Joined.{length-kept}
 use Rattle.exec_entity.specs.inner.Server.{kept_of}
@@ -15,5 +16,5 @@ pub returns : goal.returns
 returns c = λ d.
     let there = rw c.unwrap-entry.ensures at c.get_index.ensures.entry in
     c.is_any_awake.ensures
-    ∙ sym (ap (is_task_awake (turn_at c.args.moment true))
+    ∙ sym (ap (λ (work : GoalWork). is_awake work.task (turn_at c.args.moment true))
     (ap (λ (server : ServerEntry). (slice_index_or server.held c.args.index d).work) (sym c.self.view_is) ∙ work-there c.self.inside.goals c.self.inside.held.entries c.args.index _ d c.self.invariant.0.same there))

@@ -1,23 +1,24 @@
 use Rattle.std.proofs.Common.{◌≡◌, ℕ, List, Option, IsSomeAnd, Some, true, slice_get, slice_set, ap, sym, subst, ◌∙◌, refl, rules, arith}
 use Rattle.std.specs.Map.{values_of}
-use Rattle.std.specs.Option.{option_map}
 use Rattle.std.proofs.lemmas.List.{length-map}
 use Rattle.indexmap.specs.IndexMap.{set_value_at}
 use Rattle.exec_goal.proofs.Entries.{on_err}
 use Rattle.exec_msg.specs.Lists.{change_first}
 use Rattle.exec_task.specs.Task.{TaskState, is_awake}
-use Rattle.exec_entity.proofs.Awake.{held_polled, kept_polled, server-polled}
+use Rattle.exec_entity.proofs.Awake.{held_polled, kept_polled, left_there, polled_there, same_there, server-polled, some_there}
 use Rattle.exec_entity.proofs.Changed.{unchanged_first}
 use Rattle.exec_entity.proofs.Joined.{change-now, place-now}
 use Rattle.exec_entity.proofs.Placed.{kept-at, changed-at, work-placed}
 use Rattle.exec_entity.proofs.Serving.{kept-same, changed-ids, kept_ids}
 use Rattle.exec_entity.proofs.Wakes.{wake-set}
-use Rattle.exec_rules.specs.Callback.{poll_listed}
-use Rattle.exec_rules.specs.World.{GoalWork, ServerEntry, work_of}
+use Rattle.exec_rules.specs.Callback.{AfterCallback, poll_listed}
+use Rattle.exec_script.specs.declared.effects.Effect.{Effect}
+use Rattle.exec_task.specs.Waking.{wake_of}
+use Rattle.exec_rules.specs.World.{GoalWork, ServerEntry}
 use Rattle.exec_entity.specs.inner.Keeping.{AreKept}
 use Rattle.exec_entity.specs.inner.Polling.{server_polled}
-use Rattle.exec_entity.specs.inner.Server.{Kept, all_joined, all_kept, is_kept_for, kept_of}
-use Rattle.exec_entity.specs.inner.Waking.{wake_in, wakes_of}
+use Rattle.exec_entity.specs.inner.Server.{Kept, all_joined, all_kept, is_kept_for, kept_of, work_there}
+use Rattle.exec_entity.specs.inner.Waking.{wakes_of}
 use Rattle.exec_entity.specs.declared.server.KeptWithGoal.{KeptWithGoal}
 use Rattle.exec_entity.proofs.server.Server.poll.Goals as goal
 
@@ -31,7 +32,7 @@ invariant_of-self c =
     let kept : Some one ≡ slice_get (values_of entries) c.in-Some.place = search rules in
     let at = kept-at c.args.goal.now.id one c.self.inside.goals entries c.args.self.now.held c.in-Some.place (ap (λ (server : ServerEntry). server.held) c.self.view_is) c.self.invariant.0 c.in-Some.ensures.at kept in
     let after : KeptWithGoal = record { task = c.poll_any.new.task; client = one.client; arrival = one.arrival } in
-    let changes : kept_of (c.args.goal.now.id, after) ≡ kept_of (c.args.goal.now.id, one) = ap (λ (work : Option GoalWork). record (kept_of (c.args.goal.now.id, one)) { work = work }) c.in_err-close.ensures.unchanged in
+    let changes : kept_of (c.args.goal.now.id, after) ≡ kept_of (c.args.goal.now.id, one) = ap (λ (work : GoalWork). record (kept_of (c.args.goal.now.id, one)) { work = work }) (same_there one.task c.poll_any.new.task c.in_err-close.ensures.unchanged) in
     let stays : all_kept (set_value_at entries c.in-Some.place after) ≡ all_kept entries = changed-at at after (λ (one : Kept). one) changes ∙ unchanged_first (is_kept_for c.args.goal.now.id) (all_kept entries) in
     (subst (AreKept c.self.inside.goals) (sym stays) c.self.invariant.0, c.self.invariant.1 ∙ ap wakes_of (sym stays))
 
@@ -42,7 +43,7 @@ returns-in_err-close-clause-unchanged c =
     let kept : Some one ≡ slice_get (values_of entries) c.in-Some.place = search rules in
     let at = kept-at c.args.goal.now.id one c.self.inside.goals entries c.args.self.now.held c.in-Some.place (ap (λ (server : ServerEntry). server.held) c.self.view_is) c.self.invariant.0 c.in-Some.ensures.at kept in
     let after : KeptWithGoal = record { task = c.poll_any.new.task; client = one.client; arrival = one.arrival } in
-    let changes : kept_of (c.args.goal.now.id, after) ≡ kept_of (c.args.goal.now.id, one) = ap (λ (work : Option GoalWork). record (kept_of (c.args.goal.now.id, one)) { work = work }) c.in_err-close.ensures.unchanged in
+    let changes : kept_of (c.args.goal.now.id, after) ≡ kept_of (c.args.goal.now.id, one) = ap (λ (work : GoalWork). record (kept_of (c.args.goal.now.id, one)) { work = work }) (same_there one.task c.poll_any.new.task c.in_err-close.ensures.unchanged) in
     let stays : all_kept (set_value_at entries c.in-Some.place after) ≡ all_kept entries = changed-at at after (λ (one : Kept). one) changes ∙ unchanged_first (is_kept_for c.args.goal.now.id) (all_kept entries) in
     on_err c.from_residual.result
     (ap (λ (kept : List Kept). record { handler = c.self.inside.handler; timeout = c.self.inside.timeout; held = all_joined c.self.inside.goals kept }) stays ∙ c.self.view_is)
@@ -54,10 +55,10 @@ invariant_of-self-2 c =
     let kept : Some one ≡ slice_get (values_of entries) c.in-Some.place = search rules in
     let at = kept-at c.args.goal.now.id one c.self.inside.goals entries c.args.self.now.held c.in-Some.place (ap (λ (server : ServerEntry). server.held) c.self.view_is) c.self.invariant.0 c.in-Some.ensures.at kept in
     let after : KeptWithGoal = record { task = c.poll_any.new.task; client = one.client; arrival = one.arrival } in
-    let task : Option TaskState = (poll_listed c.args.goal.now.turn (option_map work_of one.task) c.args.bank.now).task in
-    let changes : kept_of (c.args.goal.now.id, after) ≡ kept_polled task (kept_of (c.args.goal.now.id, one)) = ap (λ (work : Option GoalWork). record (kept_of (c.args.goal.now.id, one)) { work = work }) c.in_ok-close.ensures.task in
+    let task : Option TaskState = (poll_listed c.args.goal.now.turn (Some (work_there one.task)) c.args.bank.now).task in
+    let changes : kept_of (c.args.goal.now.id, after) ≡ kept_polled task (kept_of (c.args.goal.now.id, one)) = ap (λ (work : GoalWork). record (kept_of (c.args.goal.now.id, one)) { work = work }) (left_there c.args.goal.now.turn one.task c.poll_any.new.task c.args.bank.now c.in_ok-close.ensures.task) in
     let moved : all_kept (set_value_at entries c.in-Some.place after) ≡ change_first (is_kept_for c.args.goal.now.id) (kept_polled task) (all_kept entries) = changed-at at after (kept_polled task) changes in
-    let set = ap (λ (wakes : List ℕ). slice_set wakes c.in-Some.place (wake_in (option_map work_of c.poll_any.new.task))) c.self.invariant.1 ∙ sym (wake-set entries c.in-Some.place after) in (
+    let set = ap (λ (wakes : List ℕ). slice_set wakes c.in-Some.place (wake_of (work_there c.poll_any.new.task).task)) c.self.invariant.1 ∙ sym (wake-set entries c.in-Some.place after) in (
       kept-same c.self.inside.goals c.self.inside.goals (all_kept entries) (all_kept (set_value_at entries c.in-Some.place after)) refl
           (ap kept_ids moved ∙ changed-ids (λ (one : Kept). one.id) (is_kept_for c.args.goal.now.id) (kept_polled task) (λ one. refl) (all_kept entries)) c.self.invariant.0,
       ap (λ (wake : ℕ). slice_set c.self.inside.wakes.items c.in-Some.place wake) c.wake_in.ensures ∙ set,
@@ -70,7 +71,7 @@ returns-clause-effects c =
     let kept : Some one ≡ slice_get (values_of entries) c.in-Some.place = search rules in
     let at = kept-at c.args.goal.now.id one c.self.inside.goals entries c.args.self.now.held c.in-Some.place (ap (λ (server : ServerEntry). server.held) c.self.view_is) c.self.invariant.0 c.in-Some.ensures.at kept in
     let work = work-placed at c.self.invariant.0 c.self.view_is in
-    c.in_ok-close.ensures.effects ∙ sym (ap (λ (work : Option GoalWork). (poll_listed c.args.goal.now.turn work c.args.bank.now).given) work)
+    c.in_ok-close.ensures.effects ∙ ap (λ (done : AfterCallback (List Effect)). done.given) (polled_there c.args.goal.now.turn one.task c.args.bank.now) ∙ sym (ap (λ (work : Option GoalWork). (poll_listed c.args.goal.now.turn work c.args.bank.now).given) work)
 
 pub returns-clause-close : goal.returns-clause-close
 returns-clause-close c =
@@ -79,7 +80,7 @@ returns-clause-close c =
     let kept : Some one ≡ slice_get (values_of entries) c.in-Some.place = search rules in
     let at = kept-at c.args.goal.now.id one c.self.inside.goals entries c.args.self.now.held c.in-Some.place (ap (λ (server : ServerEntry). server.held) c.self.view_is) c.self.invariant.0 c.in-Some.ensures.at kept in
     let work = work-placed at c.self.invariant.0 c.self.view_is in
-    c.in_ok-close.ensures.close ∙ sym (ap (λ (work : Option GoalWork). (poll_listed c.args.goal.now.turn work c.args.bank.now).close) work)
+    c.in_ok-close.ensures.close ∙ ap (λ (done : AfterCallback (List Effect)). done.close) (polled_there c.args.goal.now.turn one.task c.args.bank.now) ∙ sym (ap (λ (work : Option GoalWork). (poll_listed c.args.goal.now.turn work c.args.bank.now).close) work)
 
 pub returns-clause-variables : goal.returns-clause-variables
 returns-clause-variables c =
@@ -88,7 +89,7 @@ returns-clause-variables c =
     let kept : Some one ≡ slice_get (values_of entries) c.in-Some.place = search rules in
     let at = kept-at c.args.goal.now.id one c.self.inside.goals entries c.args.self.now.held c.in-Some.place (ap (λ (server : ServerEntry). server.held) c.self.view_is) c.self.invariant.0 c.in-Some.ensures.at kept in
     let work = work-placed at c.self.invariant.0 c.self.view_is in
-    c.in_ok-close.ensures.variables ∙ sym (ap (λ (work : Option GoalWork). (poll_listed c.args.goal.now.turn work c.args.bank.now).variables) work)
+    c.in_ok-close.ensures.variables ∙ ap (λ (done : AfterCallback (List Effect)). done.variables) (polled_there c.args.goal.now.turn one.task c.args.bank.now) ∙ sym (ap (λ (work : Option GoalWork). (poll_listed c.args.goal.now.turn work c.args.bank.now).variables) work)
 
 pub returns-clause-task : goal.returns-clause-task
 returns-clause-task c =
@@ -98,8 +99,8 @@ returns-clause-task c =
     let at = kept-at c.args.goal.now.id one c.self.inside.goals entries c.args.self.now.held c.in-Some.place (ap (λ (server : ServerEntry). server.held) c.self.view_is) c.self.invariant.0 c.in-Some.ensures.at kept in
     let work = work-placed at c.self.invariant.0 c.self.view_is in
     let after : KeptWithGoal = record { task = c.poll_any.new.task; client = one.client; arrival = one.arrival } in
-    let task : Option TaskState = (poll_listed c.args.goal.now.turn (option_map work_of one.task) c.args.bank.now).task in
-    let changes : kept_of (c.args.goal.now.id, after) ≡ kept_polled task (kept_of (c.args.goal.now.id, one)) = ap (λ (work : Option GoalWork). record (kept_of (c.args.goal.now.id, one)) { work = work }) c.in_ok-close.ensures.task in
+    let task : Option TaskState = (poll_listed c.args.goal.now.turn (Some (work_there one.task)) c.args.bank.now).task in
+    let changes : kept_of (c.args.goal.now.id, after) ≡ kept_polled task (kept_of (c.args.goal.now.id, one)) = ap (λ (work : GoalWork). record (kept_of (c.args.goal.now.id, one)) { work = work }) (left_there c.args.goal.now.turn one.task c.poll_any.new.task c.args.bank.now c.in_ok-close.ensures.task) in
     let moved : all_kept (set_value_at entries c.in-Some.place after) ≡ change_first (is_kept_for c.args.goal.now.id) (kept_polled task) (all_kept entries) = changed-at at after (kept_polled task) changes in
     change-now c.self.invariant.0 c.self.view_is c.args.goal.now.id (kept_polled task) (held_polled task) (λ goal one. refl) (all_kept (set_value_at entries c.in-Some.place after)) moved
     ∙ server-polled c.args.goal.now.id task c.args.self.now
@@ -112,4 +113,4 @@ returns-in_err-close-clause-memory c =
     let kept : Some one ≡ slice_get (values_of entries) c.in-Some.place = search rules in
     let at = kept-at c.args.goal.now.id one c.self.inside.goals entries c.args.self.now.held c.in-Some.place (ap (λ (server : ServerEntry). server.held) c.self.view_is) c.self.invariant.0 c.in-Some.ensures.at kept in
     let work = work-placed at c.self.invariant.0 c.self.view_is in
-    on_err c.from_residual.result (subst (λ (one : Option GoalWork). IsSomeAnd one (λ work. is_awake work.task c.args.goal.now.turn ≡ true)) (sym work) c.in_err-close.ensures.memory)
+    on_err c.from_residual.result (subst (λ (one : Option GoalWork). IsSomeAnd one (λ work. is_awake work.task c.args.goal.now.turn ≡ true)) (sym work) (some_there c.args.goal.now.turn one.task c.in_err-close.ensures.memory))

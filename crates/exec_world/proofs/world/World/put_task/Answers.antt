@@ -1,4 +1,4 @@
-use Rattle.std.proofs.Common.{Some, subst, sym}
+use Rattle.std.proofs.Common.{subst, sym}
 use Rattle.std.specs.Arc.{arc_value}
 use Rattle.exec_world.proofs.Sound.{lent_sound}
 use Rattle.exec_rules.specs.World.{WorldState, work_of}
@@ -11,5 +11,5 @@ invariant_of-self g c =
       c.self.invariant.0,
       c.self.invariant.1,
       c.self.invariant.2,
-      λ unfailed. subst (λ (state : WorldState). IsSound plan state) (sym c.put_task.ensures) (lent_sound plan c.args.server c.args.id (Some (work_of c.args.task)) c.self.inside.state (c.self.invariant.3 unfailed)),
+      λ unfailed. subst (λ (state : WorldState). IsSound plan state) (sym c.put_task.ensures) (lent_sound plan c.args.server c.args.id (work_of c.args.task) c.self.inside.state (c.self.invariant.3 unfailed)),
     )
