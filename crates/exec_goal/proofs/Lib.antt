@@ -7,4 +7,5 @@ pub mod Filtering
 pub mod Looping
 pub mod Moving
 pub mod ReturnCodes
+pub mod Searching
 pub mod Tallying

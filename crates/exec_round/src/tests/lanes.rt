@@ -1,6 +1,7 @@
 // Calls of lanes on one thread.
 use super::fixture::have_run;
-use super::{first_lines, world_of};
+use super::transcripts::first_lines;
+use super::world_of;
 use exec_doc::Refused;
 use exec_lane::{Gate, Gathered, LaneBox, Open, Ran, gather, split};
 use exec_msg::{Line, Memory};

@@ -1,5 +1,6 @@
 use Rattle.std.proofs.Common.{◌∙◌, ◌<◌, ℕ, length, sym, subst, arith}
-use Rattle.exec_goal.proofs.Tallying.{before-next, before-within}
+use Rattle.exec_goal.proofs.Searching.{before-next}
+use Rattle.exec_goal.proofs.Tallying.{before-within}
 use Rattle.exec_goal.specs.State.{is_terminal}
 use Rattle.exec_goal.specs.inner.Tally.{NoneBefore}
 use Rattle.exec_goal.proofs.goals.Goals.first_ended.Goals as goal

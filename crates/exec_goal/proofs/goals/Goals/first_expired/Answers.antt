@@ -2,7 +2,7 @@ use Rattle.std.proofs.Common.{◌≡◌, ◌<◌, ◌+◌, ◌∙◌, ℕ, get_o
 use Rattle.std.proofs.lemmas.List.Folds.{list_any_none}
 use Rattle.exec_goal.proofs.Filtering.{filter-none}
 use Rattle.exec_goal.proofs.Looping.{known-next}
-use Rattle.exec_goal.proofs.Tallying.{next-ends, all-ends, before-idle, ends-idle, unexpired-idle}
+use Rattle.exec_goal.proofs.Searching.{next-ends, all-ends, before-idle, ends-idle, unexpired-idle}
 use Rattle.exec_goal.specs.State.{is_terminal}
 use Rattle.exec_goal.specs.Table.{GoalRecord, is_expired}
 use Rattle.exec_goal.specs.inner.Tally.{EndsFrom}

@@ -1,7 +1,8 @@
 use Rattle.std.proofs.Common.{◌∙◌, ◌<◌, ℕ, length, ap, sym, subst, arith}
 use Rattle.std.proofs.lemmas.List.{get_or_default}
 use Rattle.exec_goal.proofs.Looping.{told-at}
-use Rattle.exec_goal.proofs.Tallying.{before-next, before-within}
+use Rattle.exec_goal.proofs.Searching.{before-next}
+use Rattle.exec_goal.proofs.Tallying.{before-within}
 use Rattle.exec_goal.specs.State.{is_accepted}
 use Rattle.exec_goal.specs.Table.{GoalRecord}
 use Rattle.exec_goal.specs.declared.info.GoalInfo.{GoalInfo}

@@ -1,6 +1,6 @@
 use Rattle.std.proofs.Common.{◌∙◌, sym, subst, List}
 use Rattle.std.specs.List.{AllByRecursion}
-use Rattle.exec_goal.proofs.Tallying.{none-expired}
+use Rattle.exec_goal.proofs.Searching.{none-expired}
 use Rattle.exec_goal.specs.Table.{GoalRecord}
 use Rattle.exec_goal.specs.inner.Tally.{EndsFrom}
 use Rattle.exec_goal.proofs.goals.Goals.next_expired.Goals as goal

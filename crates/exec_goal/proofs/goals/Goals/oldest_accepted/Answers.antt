@@ -1,7 +1,7 @@
 use Rattle.std.proofs.Common.{◌∙◌, ◌<◌, ◌≤◌, List, Some, length, map, slice_get, ap, sym, arith}
 use Rattle.std.specs.Option.{option_map}
 use Rattle.exec_goal.proofs.Looping.{told-at}
-use Rattle.exec_goal.proofs.Tallying.{waiting-found, waiting-none}
+use Rattle.exec_goal.proofs.Searching.{waiting-found, waiting-none}
 use Rattle.exec_goal.specs.Info.{info_of}
 use Rattle.exec_goal.specs.Table.{GoalRecord}
 use Rattle.exec_goal.specs.declared.info.GoalInfo.{GoalInfo}
