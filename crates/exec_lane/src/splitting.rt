@@ -9,14 +9,14 @@ ghost use Rattle.exec_rules.specs.World.{work_of};
 
 use crate::cut::Cut;
 use crate::lane_box::{CallbackSlot, LaneBox};
-use exec_msg::{EntityNo, GoalId, Lines, Memory};
+use exec_msg::{EntityNo, Lines, Memory};
 use exec_script::Bank;
 use exec_task::GoalTask;
 use exec_world::{Cause, Ready, World};
 use std::alloc::Global;
 
 /// Cuts the ready list of the last snapshot into lanes. Each has the variables of its group and the tasks of the goals that its
-/// callbacks poll. These are out of the world until [`gather`](crate::gather) brings them home. No callback of the list is
+/// callbacks poll. The tasks are out of the world until [`gather`](crate::gather) brings them home. No callback of the list is
 /// committed before that.
 ///
 /// # Errors

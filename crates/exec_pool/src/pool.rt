@@ -61,7 +61,7 @@ impl Pool {
     /// one's are run here, and those of each other one by a worker of the pool, or here if it hasn't begun by then.
     ///
     /// # Errors
-    /// [`Memory`] if a growth was refused. No worker is at work then.
+    /// [`Memory`] if a share of the round was refused. No worker is at work then.
     pub fn run<R: Wait>(
         &mut self,
         rt: &R,

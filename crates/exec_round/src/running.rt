@@ -124,8 +124,9 @@ impl From<OutFailed> for RunFault {
     }
 }
 
-/// Runs a document as [`run`] does, with rounds by [`round_streamed`](crate::round_streamed), and writes the text of its
-/// transcript. Before the first byte is written, the transcript is whole, and the writing has all memory that it needs.
+/// Runs a document as [`run`] does, and writes the text of its transcript. If somebody watches, its rounds are those of
+/// [`round_streamed`](crate::round_streamed). Before the first byte is written, the transcript is whole, and the writing has all
+/// memory that it needs.
 ///
 /// # Errors
 /// [`RunFault::Refused`] if [`run`] refuses, and [`RunFault::Write`] if the writer failed.
