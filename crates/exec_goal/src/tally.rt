@@ -1,4 +1,4 @@
-ghost use Rattle.std.specs.Prelude.{◌≡◌, ◌≤◌, ◌<◌, ◌+◌, ◌^◌, [], false, length, nat_le, true, None};
+ghost use Rattle.std.specs.Prelude.{◌≡◌, ◌≤◌, ◌<◌, ◌+◌, ◌^◌, [], false, length, nat_le, None};
 ghost use Rattle.exec_goal.specs.State.{is_worked_on, is_terminal};
 ghost use Rattle.exec_goal.specs.inner.Tally.{CountsMove, TellsState, one_where, earlier, ended_with, first_with, may_expire};
 

@@ -1,6 +1,6 @@
 -- Owners that are noted for groups, and callbacks that have them.
 use Rattle.std.proofs.Common.{◌≡◌, ◌⊎◌, inl, inr, ℕ, ◌<◌, Bool, true, false, ◌==◌, List, [], ◌∷◌, ◌++◌, length, Option, None, Some, refl, replicate, sym, ap, subst, ⊎_elim, ◌∙◌, true≢false, arith}
-use Rattle.std.specs.Option.{is_some, unwrap_or}
+use Rattle.std.specs.Option.{unwrap_or}
 use Rattle.std.proofs.lemmas.Bool.{eq-eqb, eqb-true}
 use Rattle.std.proofs.lemmas.List.{length-replicate, length_push}
 use Rattle.exec_lane.specs.Portions.{AreOfGroups, AreWorkers, PortionState, nothing}
@@ -60,13 +60,6 @@ pub record Chosen (owners : List ℕ) (list : List Ready) (noted : List (Option 
   pub below : (group owner : ℕ) → place_under group noted ≡ Some owner → owner < workers
   pub all : AreWorkers owners (replicate workers nothing)
   pub many : length owners ≡ length list
-
-pub none_chosen : (noted : List (Option ℕ)) (workers : ℕ) → noted ≡ [] → Chosen [] [] noted workers
-none_chosen noted workers none =
-    record { groups = tt; below = λ group owner found. absurd (none_some (ap (λ (some : List (Option ℕ)). place_under group some) (sym none) ∙ found)); all = tt; many = refl }
-  where
-    none_some : {owner : ℕ} → None ≡ Some owner → ⊥
-    none_some e = true≢false (sym (ap is_some e))
 
 -- and for one more
 pub chosen_more : (owners : List ℕ) (list : List Ready) (before after : List (Option ℕ)) (workers owner wanted : ℕ) (one : Ready) → Chosen owners list before workers → wanted < workers →

@@ -1,10 +1,10 @@
 -- One callback more of a list that is dealt to workers, brought home or committed.
-use Rattle.std.proofs.Common.{◌≡◌, ℕ, zero, suc, ◌+◌, ◌<◌, ◌≤◌, ◌==◌, List, [], ◌∷◌, drop, get_or, length, slice_set, refl, sym, ap, subst, ◌∙◌, arith}
+use Rattle.std.proofs.Common.{◌≡◌, ℕ, zero, suc, ◌+◌, ◌<◌, ◌≤◌, List, [], ◌∷◌, drop, get_or, length, slice_set, refl, sym, ap, subst, ◌∙◌, arith}
 use Rattle.std.specs.List.{AllByRecursion, IsDistinct}
 use Rattle.exec_lane.proofs.PortionsGiven.{homes_out}
 use Rattle.exec_lane.proofs.PortionsHome.{workers_stay}
 use Rattle.exec_lane.specs.Lane.{tasks_out, without_task}
-use Rattle.exec_lane.specs.Portions.{AreWorkers, PortionState, nothing, portion_home, run_if, run_owned, without_home}
+use Rattle.exec_lane.specs.Portions.{AreWorkers, PortionState, nothing, portion_home, without_home}
 use Rattle.exec_lane.specs.inner.Dealing.{commit_first, commits_of, given, given_each, homes_of, portion_at, with_changed, without_did, without_homes}
 use Rattle.exec_rules.specs.Calls.{IsHomeFor, WorldData, polls_same}
 use Rattle.exec_rules.specs.World.{WorldState}
@@ -12,14 +12,6 @@ use Rattle.exec_rules.specs.declared.ready.Ready.{Ready}
 use Rattle.exec_script.specs.declared.effects.Effects.{Effects}
 use Rattle.std.proofs.lemmas.List.{length-drop}
 use lib.Seq.{drop-cons}
-
-pub run_on : (worker : ℕ) (owners : List ℕ) (list : List Ready) (place owner : ℕ) (one : Ready) (portion after : PortionState) → place < length list → length owners ≡ length list →
-    owner ≡ get_or owners place owner → one ≡ get_or list place one → after ≡ run_if (owner == worker) one portion →
-    run_owned worker (drop (suc place) owners) (drop (suc place) list) after ≡ run_owned worker (drop place owners) (drop place list) portion
-run_on worker owners list place owner one portion after within many owner_is one_is after_is =
-    let here : place < length owners = omega (arith, many, within) in
-    ap (run_owned worker (drop (suc place) owners) (drop (suc place) list)) (after_is ∙ (λ i. run_if (owner_is i == worker) (one_is i) portion))
-    ∙ sym (λ i. run_owned worker (drop-cons owners place owner here i) (drop-cons list place one within i) portion)
 
 -- ---- all that is left, and all
 

@@ -1,5 +1,5 @@
 //! How the callbacks of a round are dealt to workers, and what they did is committed.
-ghost use Rattle.std.specs.Prelude.{◌≡◌, ◌⊎◌, ◌<◌, ◌≤◌, true, Some, length, replicate, slice_index_or, IfOk, OnErr, OnOk};
+ghost use Rattle.std.specs.Prelude.{◌≡◌, ◌⊎◌, ◌<◌, ◌≤◌, true, Some, length, replicate, IfOk, OnErr, OnOk};
 ghost use Rattle.std.specs.List.{fold, list_any};
 ghost use Rattle.exec_lane.specs.Gather.{all_ran};
 ghost use Rattle.exec_lane.specs.Lane.{tasks_out, without_task};

@@ -103,12 +103,6 @@ written change [] i x after is sets = refl
 written change (y ∷ xs) zero x after is sets = ap (λ z. z ∷ xs) (sets ∙ ap change is)
 written change (y ∷ xs) (suc i) x after is sets = ap (λ ys. y ∷ ys) (written change xs i x after is sets)
 
--- a write of what stands there is no change
-pub set_same : {A : Type 0} (xs : List A) (i : ℕ) (x after : A) → x ≡ get_or xs i x → after ≡ x → slice_set xs i after ≡ xs
-set_same [] i x after is sets = refl
-set_same (y ∷ xs) zero x after is sets = ap (λ z. z ∷ xs) (sets ∙ is)
-set_same (y ∷ xs) (suc i) x after is sets = ap (λ ys. y ∷ ys) (set_same xs i x after is sets)
-
 -- a change at no place is none
 change_at-past : {A : Type 0} (change : A → A) (xs : List A) (i : ℕ) → length xs ≤ i → xs ≡ change_at i change xs
 change_at-past change [] i past = refl

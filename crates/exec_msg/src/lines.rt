@@ -36,7 +36,7 @@ impl Model for LineList {
 }
 
 impl LineList {
-    ghost use Rattle.std.specs.Prelude.{◌≡◌, List, [], ◌∷◌, ◌++◌, OnOk, OnErr};
+    ghost use Rattle.std.specs.Prelude.{◌≡◌, []};
     ghost use Rattle.exec_msg.specs.declared.line.Line.{Line};
 
     /// No lines. It takes no memory.

@@ -1,5 +1,5 @@
 -- Each step between a caller and its worker keeps the rule.
-use Rattle.std.proofs.Common.{◌≡◌, ◌≢◌, ℕ, zero, suc, List, [], ◌∷◌, length, sym, refl, ap, subst, ◌∙◌, arith}
+use Rattle.std.proofs.Common.{◌≡◌, ℕ, zero, suc, List, [], ◌∷◌, sym, refl, ap, subst, arith}
 use Rattle.std.specs.Prelude.{◌==◌, ◌++◌, Option, None, Some, slice_index, slice_set}
 use mathlib.Core.Option.{none, some, some-injective, some-ne-none}
 use prog.Atomic.{either}

@@ -28,7 +28,7 @@ pub(crate) struct Caller {
 
 impl Model for Caller {
     ghost use Rattle.std.specs.Arc.{arc_value};
-    ghost use Rattle.std.specs.Prelude.{◌≡◌, Option};
+    ghost use Rattle.std.specs.Prelude.{Option};
     ghost use Rattle.exec_pool.specs.Pair.{IsCaller, job_of};
     ghost use Rattle.exec_pool.specs.declared.job.Job.{Job};
 
@@ -48,7 +48,7 @@ pub struct Worker {
 
 impl Model for Worker {
     ghost use Rattle.std.specs.Arc.{arc_value};
-    ghost use Rattle.std.specs.Prelude.{◌≡◌, Option};
+    ghost use Rattle.std.specs.Prelude.{Option};
     ghost use Rattle.exec_pool.specs.Pair.{IsWorker, job_of};
     ghost use Rattle.exec_pool.specs.declared.job.Job.{Job};
 

@@ -1,13 +1,11 @@
 -- The places of the queues that have an item, in ascending order.
-use Rattle.std.proofs.Common.{◌≡◌, ℕ, zero, suc, ◌+◌, ◌-◌, ◌<◌, ◌≤◌, ◌&&◌, ◌==◌, ◌⊎◌, inl, inr, ⊎_elim, Bool, true, false, not, cond, if◌then◌else◌, length, map, filter, drop, get_or, List, [], ◌∷◌, ◌++◌, Option, Some, slice_get, slice_set, refl, sym, ap, subst, ◌∙◌, length-drop, arith}
+use Rattle.std.proofs.Common.{◌≡◌, ℕ, zero, suc, ◌+◌, ◌-◌, ◌<◌, ◌≤◌, ◌&&◌, ◌==◌, ◌⊎◌, inl, inr, ⊎_elim, Bool, true, false, not, cond, if◌then◌else◌, length, map, filter, drop, get_or, List, [], ◌∷◌, ◌++◌, Option, Some, slice_get, slice_set, refl, sym, ap, subst, ◌∙◌, arith}
 use Rattle.std.specs.Bool.{⊤}
 use Rattle.std.specs.List.{AllByRecursion, Contains, flat_map}
 use Rattle.std.specs.List.Sorted.{IsStrictlyIncreasing}
 use Rattle.std.specs.Option.{option_map, option_map_or}
 use Rattle.std.proofs.lemmas.Bool.{cases_lt, eqb-true}
-use Rattle.std.proofs.lemmas.List.{length_push}
 use Rattle.std.proofs.lemmas.List.Elements.{All-contains, filter_passes}
-use Rattle.exec_msg.specs.KeepLast.{excess, sent}
 use Rattle.exec_rules.specs.Ready.{queue_taken}
 use Rattle.exec_rules.specs.World.{Queue, is_queue}
 use Rattle.exec_rules.specs.declared.item.Item.{Item}
@@ -153,14 +151,6 @@ filled_left queues places new is = λ place held.
 not_by : (b : Bool) → (b ≡ true → ⊥) → not b ≡ true
 not_by true differs = absurd (differs refl)
 not_by false differs = refl
-
--- it has an item then
-pub has_sent : (depth : ℕ) (item : Item) (items : List Item) → 1 ≤ depth → not (length (sent depth item items) == 0) ≡ true
-has_sent depth item items deep =
-    let behind = items ++ item ∷ [] in
-    let long = length_push items item in
-    let left = length-drop (excess depth behind) behind in
-    not_by (length (sent depth item items) == 0) (λ none. let e = eqb-true (length (sent depth item items)) 0 none in omega (arith, long, left))
 
 -- and the place at which it is written is that of one
 pub filled_written : (queues : List Queue) (place : ℕ) (after : Queue) → has_item after ≡ true → place < length queues → is_filled_at (slice_set queues place after) place ≡ true

@@ -1,7 +1,7 @@
 //! The queues of a plan's entities in ready order, found by entity and kind. A snapshot walks over those that have an item, and
 //! over no other.
 ghost use Rattle.std.specs.Prelude.{◌≡◌, ◌&&◌, ◌||◌, List, ◌<◌, ◌≤◌, ◌^◌, [], ◌∷◌, ◌++◌, false, true, not, None, Some, length, map, find, slice_get, vec_capacity, OnOk, OnErr, IfOk, IfSome};
-ghost use Rattle.std.specs.Option.{option_copied, option_map, option_map_or, option_to_list};
+ghost use Rattle.std.specs.Option.{option_copied, option_map_or, option_to_list};
 ghost use Rattle.exec_msg.specs.KeepLast.{displaced};
 ghost use Rattle.exec_msg.specs.Kind.{ready_number};
 ghost use Rattle.exec_msg.specs.Lists.{change_first};

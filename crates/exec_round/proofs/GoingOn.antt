@@ -1,5 +1,5 @@
 -- What workers of a streamed round run, and what they send on.
-use Rattle.std.proofs.Common.{◌≡◌, ℕ, zero, suc, ◌+◌, ◌-◌, ◌≤◌, List, [], ◌∷◌, ◌++◌, append-nil, append_assoc, length, refl, slice_set, sym, ap, subst, ◌∙◌, arith, IsPermutation}
+use Rattle.std.proofs.Common.{◌≡◌, ℕ, zero, suc, ◌+◌, ◌-◌, ◌≤◌, List, [], ◌∷◌, ◌++◌, append-nil, append_assoc, length, slice_set, sym, ap, subst, ◌∙◌, arith, IsPermutation}
 use Rattle.std.specs.Result.{OnOk, result_and}
 use Rattle.std.specs.declared.result.Result.{Result}
 use Rattle.std.specs.declared.result.Result.TheVariants.{Ok, Err}
@@ -8,7 +8,7 @@ use Rattle.std.specs.List.{flat_map, range_with_len, slice_get}
 use Rattle.std.specs.Option.{option_to_list}
 use Rattle.std.proofs.lemmas.Grind.{flat_map-append}
 use Rattle.std.proofs.lemmas.List.Concat.{flat_map-cons}
-use Rattle.std.proofs.lemmas.List.Sorted.{IsPermutation-append, IsPermutation-append_left, IsPermutation-refl, IsPermutation-trans}
+use Rattle.std.proofs.lemmas.List.Sorted.{IsPermutation-append, IsPermutation-append_left, IsPermutation-trans}
 use Rattle.exec_lane.specs.Gather.{outcomes_in}
 use Rattle.exec_lane.specs.Lane.{Lane}
 use Rattle.exec_lane.specs.Opening.{IsLaneOf, opened_lane}
@@ -68,14 +68,6 @@ sent_on xs ys a b c first then = record {
       subst (λ (sent : List Outcome). IsPermutation sent (sent_by c)) (append_assoc (sent_by a) xs ys)
       (IsPermutation-trans ((sent_by a ++ xs) ++ ys) (sent_by b ++ ys) (sent_by c) (IsPermutation-append_left ys (sent_by a ++ xs) (sent_by b) first.all) then.all);
 }
-
--- nothing was sent on so far
-pub none_sent : (lane : Lane) (sender : SenderView) → HasSent (outcomes_between lane lane.done lane.done) sender sender
-none_sent lane sender =
-    let none : lane.done - lane.done ≡ 0 = omega arith in record {
-      stays = record { queue = refl; parts = refl; took = refl };
-      all = subst (λ (sent : List Outcome). IsPermutation sent (sent_by sender)) (sym (ap (λ (n : ℕ). sent_by sender ++ items_from (all_outcomes lane) lane.done n) none ∙ append-nil (sent_by sender))) (IsPermutation-refl (sent_by sender));
-    }
 
 -- callbacks ran and were sent on, and then others
 pub runs_on : (first lane after : Lane) (a b c : SenderView) → GoesOn first lane → HasSent (outcomes_between first first.done lane.done) a b → GoesOn lane after → HasSent (outcomes_between lane lane.done after.done) b c →

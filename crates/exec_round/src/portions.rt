@@ -1,6 +1,5 @@
 //! A round whose callbacks are dealt to workers before any of them runs.
 ghost use Rattle.std.specs.Prelude.{◌≡◌, ◌+◌, ◌<◌, ◌≤◌, false, length, slice_index_or, OnOk};
-ghost use Rattle.std.specs.List.{fold};
 ghost use Rattle.exec_lane.specs.Gather.{all_ran};
 ghost use Rattle.exec_lane.specs.Portions.{nothing, run_owned};
 ghost use Rattle.exec_round.specs.inner.Commits.{after_commits};

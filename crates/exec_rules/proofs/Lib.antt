@@ -12,7 +12,6 @@ pub mod Listing
 pub mod Numbering
 pub mod OfKinds
 pub mod Pairs
-pub mod Placing
 pub mod PolledAlike
 pub mod ReadyLists
 pub mod Records

@@ -1,5 +1,5 @@
 -- What a sort by rank keeps, and what it leaves where it is.
-use Rattle.std.proofs.Common.{◌≡◌, ℕ, ◌+◌, Bool, true, false, if◌then◌else◌, nat_le, List, [], ◌∷◌, ◌++◌, length, refl, sym, ap, ◌∙◌, append_assoc, arith}
+use Rattle.std.proofs.Common.{◌≡◌, ℕ, ◌+◌, Bool, true, false, if◌then◌else◌, nat_le, List, [], ◌∷◌, ◌++◌, refl, sym, ap, ◌∙◌, append_assoc, arith}
 use Rattle.std.specs.List.{AllByRecursion, flat_map}
 use Rattle.std.proofs.lemmas.List.{append-nil}
 use Rattle.exec_rules.proofs.Pairs.{Pairs}
@@ -51,9 +51,6 @@ sum_sorted weight sum adds rank (x ∷ xs) =
     let rest = sum_sorted weight sum adds rank xs in
     let b = adds x xs in
     omega (arith, a, rest, b)
-
-pub length_sorted : {A : Type 0} (rank : A → ℕ) (xs : List A) → length (sorted_by rank xs) ≡ length xs
-length_sorted {A} rank xs = sum_sorted (λ (x : A). 1) (λ (all : List A). length all) (λ x all. omega arith) rank xs
 
 -- what two elements give may change places
 abbrev pub Commute : {A B : Type 0} → (A → List B) → A → A → Type 0

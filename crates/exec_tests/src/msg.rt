@@ -1,5 +1,3 @@
-ghost use Rattle.std.specs.Prelude.{◌≡◌};
-
 use crate::shared::{moment, same};
 use exec_msg::limits::TICKS;
 use exec_msg::{

@@ -11,7 +11,7 @@ use Rattle.exec_plan.specs.Graph.{GraphData}
 use Rattle.exec_plan.specs.declared.order.Order.{Order}
 use Rattle.exec_plan.specs.declared.order.Order.TheVariants as order
 use Rattle.exec_rules.proofs.PolledAlike.{parts_alike, placed_alike, poll_alike, runs_alike}
-use Rattle.exec_rules.specs.Ready.{arrival_for, goal_arrival, is_goal_awake, placed_from, poll_ready, queue_taken, rank_under, ready_for, woken}
+use Rattle.exec_rules.specs.Ready.{arrival_for, is_goal_awake, placed_from, poll_ready, queue_taken, rank_under, ready_for, woken}
 use Rattle.exec_rules.specs.Run.{run}
 use Rattle.exec_rules.specs.Sorting.{inserted_by, sorted_by}
 use Rattle.exec_rules.specs.Transcript.{run_all}
@@ -287,25 +287,3 @@ module _ (graph : GraphData) (moment : Moment) where
       (drop-map (with_script_of graph) before list ∙ ap scripted_list p.last ∙ scripts_behind graph moment world have (before + 1))
       p.awake p.taken inputs (listed graph) (ap scripted_list some_is) others_is is
       ∙ ap (run_all (listed_in moment world)) inputs
-
--- ---- arrivals of what is listed
-
-fold_mapped : {A B S : Type 0} (step : S → B → S) (f : A → B) (so_far : S) (xs : List A) → fold step so_far (map f xs) ≡ fold (λ before x. step before (f x)) so_far xs
-fold_mapped step f so_far [] = refl
-fold_mapped step f so_far (x ∷ xs) = fold_mapped step f (step so_far (f x)) xs
-
-fold_both : {A S : Type 0} (step : S → A → S) (so_far : S) (xs ys : List A) → fold step so_far (xs ++ ys) ≡ fold step (fold step so_far xs) ys
-fold_both step so_far [] ys = refl
-fold_both step so_far (x ∷ xs) ys = fold_both step (step so_far x) xs ys
-
--- the arrivals of the callbacks of a list, and of polls after them
-pub arrivals_noted : (graph : GraphData) (moment : Moment) (world : WorldState) (list : List Listed) (goals : List AwakeGoal) (first noted : List Arrived)
-    → first ≡ fold (λ so_far one. with_arrived so_far (arrival_for one.ready.entity one.ready.cause world)) [] list
-    → noted ≡ fold (λ so_far goal. with_arrived so_far (goal_arrival goal.server goal.id world)) first goals
-    → noted ≡ arrived_in world (map (with_script_of graph) list ++ map (poll_at moment) goals)
-arrivals_noted graph moment world list goals first noted is_first is_noted =
-    let step = λ (so_far : List Arrived) (one : Ready). with_arrived so_far (arrival_for one.entity one.cause world) in
-    is_noted
-    ∙ ap (λ (arrivals : List Arrived). fold (λ so_far (goal : AwakeGoal). with_arrived so_far (goal_arrival goal.server goal.id world)) arrivals goals) (is_first ∙ sym (fold_mapped step (with_script_of graph) [] list))
-    ∙ sym (fold_mapped step (poll_at moment) (fold step [] (map (with_script_of graph) list)) goals)
-    ∙ sym (fold_both step [] (map (with_script_of graph) list) (map (poll_at moment) goals))

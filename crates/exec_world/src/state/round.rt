@@ -52,7 +52,6 @@ impl<'a> Round<'a> {
 
 impl<L: Lines> WorldBody<L> {
     ghost use Rattle.std.specs.Prelude.{◌≡◌, ◌≤◌, length, map, take, drop, IfOk, OnOk};
-    ghost use Rattle.exec_msg.specs.declared.line.Line.TheVariants as line;
     ghost use Rattle.exec_rules.specs.Transcript.{feed, feed_one, finish, run_all};
     ghost use Rattle.exec_rules.specs.World.{WorldState, add_line};
     ghost use Rattle.exec_rules.specs.inner.Awake.{poll_at};

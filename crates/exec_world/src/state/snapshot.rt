@@ -12,10 +12,9 @@ use exec_rules::Item;
 
 impl<L: Lines> WorldBody<L> {
     ghost use Rattle.std.specs.Prelude.{◌≡◌, map, IfOk, OnOk};
-    ghost use Rattle.std.specs.List.{flat_map, fold};
-    ghost use Rattle.exec_rules.specs.Ready.{placed_from, queue_ready, queue_taken, reply_taken, timer_taken};
-    ghost use Rattle.exec_rules.specs.inner.ByKind.{queues_before_polls, ready_before};
-    ghost use Rattle.exec_rules.specs.inner.Listing.{as_listed, listed_behind};
+    ghost use Rattle.std.specs.List.{flat_map};
+    ghost use Rattle.exec_rules.specs.Ready.{queue_ready, queue_taken};
+    ghost use Rattle.exec_rules.specs.inner.Listing.{listed_behind};
     ghost use Rattle.exec_world.specs.inner.Snapshots.{IsListed, filled_places, queues_in_part};
 
     // Lists the callbacks that are ready at a moment and no polls, and the goals that are awake. Queues still have their first

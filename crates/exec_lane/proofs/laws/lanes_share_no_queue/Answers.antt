@@ -1,8 +1,7 @@
 use Rattle.std.proofs.Common.{◌≤◌, ℕ, subst, sym}
 use Rattle.exec_lane.proofs.Cutting.{lanes_have_all}
 use Rattle.exec_lane.proofs.laws.lanes_share_no_queue.Goals as goal
-use Rattle.exec_rules.specs.Ready.{is_callback_of}
-use Rattle.exec_rules.specs.Ready.{ready_list}
+use Rattle.exec_rules.specs.Ready.{is_callback_of, ready_list}
 use Rattle.exec_rules.specs.Transcript.{at_snapshot, first_world, rounds}
 
 pub returns : goal.returns

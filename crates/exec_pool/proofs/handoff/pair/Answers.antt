@@ -1,8 +1,8 @@
-use Rattle.std.proofs.Common.{◌≡◌, ◌<◌, ℕ, List, [], ◌∷◌, ◌++◌, sym, ap, subst, ◌∙◌, refl, arith}
-use Rattle.std.specs.Prelude.{Option, None, Some}
+use Rattle.std.proofs.Common.{◌≡◌, List, [], ◌∷◌, ◌++◌, sym, ap, subst, ◌∙◌, arith}
+use Rattle.std.specs.Prelude.{Option, None}
 use mathlib.Core.Option.{none}
 use Rattle.atomic_table.specs.Table.{Allows, Splits, opening, step}
-use Rattle.exec_pool.specs.Pair.{PairRule, View, alone, caller, opener, worker}
+use Rattle.exec_pool.specs.Pair.{PairRule, View, caller, opener, worker}
 use Rattle.exec_pool.specs.Plays.{Mine, begun_so}
 use Rattle.exec_pool.specs.declared.job.Job.{Job}
 use Rattle.exec_pool.proofs.Steps.{begins, hires, opens}

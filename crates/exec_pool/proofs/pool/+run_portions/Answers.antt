@@ -1,4 +1,4 @@
-use Rattle.std.proofs.Common.{◌≡◌, ◌+◌, ◌<◌, ℕ, List, length, vec_capacity, vec_len, sym, ap, subst, ◌∙◌, arith}
+use Rattle.std.proofs.Common.{◌≡◌, ◌+◌, ℕ, List, length, vec_len, sym, subst, ◌∙◌, arith}
 use Rattle.exec_lane.specs.Portions.{PortionState}
 use Rattle.std.specs.Arc.{arc_value}
 use Rattle.exec_pool.specs.Job.{AreRun, IsRun}

@@ -1,4 +1,4 @@
-use Rattle.std.proofs.Common.{◌∙◌, ◌≡◌, ◌==◌, [], ℕ, List, sym, ap, map, length}
+use Rattle.std.proofs.Common.{◌∙◌, ◌==◌, ℕ, List, sym, ap, map, length}
 use Rattle.exec_goal.proofs.Looping.{empty-map, nonempty-map, code-unmoved, table-unmoved}
 use Rattle.exec_goal.proofs.ReturnCodes.{none_from}
 use Rattle.exec_goal.specs.Cancel.{moved, moves_by, after_answer_by}

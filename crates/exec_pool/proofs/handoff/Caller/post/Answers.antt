@@ -1,7 +1,6 @@
-use Rattle.std.proofs.Common.{◌≡◌, ◌<◌, ℕ, List, [], ◌∷◌, sym, ap, subst, ◌∙◌, arith}
-use Rattle.std.specs.Prelude.{◌==◌, Option, None, Some}
+use Rattle.std.proofs.Common.{◌≡◌, sym, ap, subst, ◌∙◌, arith}
+use Rattle.std.specs.Prelude.{None, Some}
 use mathlib.Core.Option.{none}
-use prog.Atomic.{either}
 use Rattle.atomic_table.specs.Table.{Allows, step}
 use Rattle.exec_pool.specs.Pair.{PairRule}
 use Rattle.exec_pool.specs.Plays.{Mine, posted_so}

@@ -1,4 +1,4 @@
-use Rattle.std.proofs.Common.{◌≡◌, Bool, List, [], ◌∷◌, Some, None, true, if◌then◌else◌, ap, sym, ◌∙◌}
+use Rattle.std.proofs.Common.{Bool, List, [], ◌∷◌, Some, None, true, if◌then◌else◌, ap, sym, ◌∙◌}
 use Rattle.exec_rules.specs.Ready.{due_ready, ready_for}
 use Rattle.exec_rules.specs.World.{TimerEntry}
 use Rattle.exec_rules.specs.declared.ready.Cause.TheVariants as cause

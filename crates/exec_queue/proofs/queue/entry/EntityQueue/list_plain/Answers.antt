@@ -1,4 +1,4 @@
-use Rattle.std.proofs.Common.{List, Some, None, is_some, true, refl, sym, ap, ◌∙◌}
+use Rattle.std.proofs.Common.{List, None, is_some, true, refl, sym, ap, ◌∙◌}
 use Rattle.std.specs.Option.{option_copied}
 use Rattle.exec_rules.specs.Ready.{candidates_for, item_ready, ready_for, script_to_take}
 use Rattle.exec_rules.specs.World.{Queue}
