@@ -1,5 +1,5 @@
 -- Which goals of a server are awake, and what a poll of one is.
-use Rattle.std.proofs.Common.{◌≡◌, ℕ, zero, suc, List, [], ◌∷◌, map, length, Bool, true, false, cond, Option, None, Some, slice_get, slice_index_or, refl, ap}
+use Rattle.std.proofs.Common.{◌≡◌, ◌≢◌, ℕ, zero, suc, List, [], ◌∷◌, map, length, Bool, true, false, cond, Option, None, Some, IfSome, slice_get, slice_index_or, refl, ap}
 use Rattle.std.specs.List.{filter}
 use Rattle.std.specs.Option.{option_map}
 use Rattle.exec_goal.specs.Info.{info_of}
@@ -7,12 +7,13 @@ use Rattle.exec_goal.specs.State.{is_worked_on}
 use Rattle.exec_goal.specs.Table.{working}
 use Rattle.exec_goal.specs.declared.info.GoalInfo.{GoalInfo}
 use Rattle.exec_task.specs.Task.{TaskState, is_awake}
+use Rattle.exec_rules.specs.Calls.{away}
 use Rattle.exec_rules.specs.Ready.{is_goal_awake}
 use Rattle.exec_rules.specs.World.{HeldGoal, ServerEntry, doing, is_for, records_of, with_held, work_of}
 use Rattle.exec_rules.specs.Run.{work_after}
 use Rattle.exec_entity.proofs.Changed.{unchanged_first}
 use Rattle.exec_entity.specs.inner.Server.{Kept, work_there}
-use Rattle.exec_entity.specs.inner.Polling.{server_polled}
+use Rattle.exec_entity.specs.inner.Polling.{IsTaken, server_polled}
 use Rattle.std.specs.Prelude.{IsSomeAnd}
 use Rattle.exec_rules.specs.Callback.{poll_listed}
 use Rattle.exec_script.specs.Script.{Variables}
@@ -65,6 +66,11 @@ same_there (Some task) (Some after) is = cc
 pub some_there : (turn : Turn) (task : Option GoalTaskState) → IsSomeAnd (option_map work_of task) (λ work. is_awake work.task turn ≡ true) → IsSomeAnd (Some (work_there task)) (λ work. is_awake work.task turn ≡ true)
 some_there turn None awake = absurd awake
 some_there turn (Some task) awake = awake
+
+-- a task that is taken from where it is kept is the goal's own, unless it is out
+pub taken_there : (task : Option GoalTaskState) → IfSome task (λ task. work_of task ≢ away) → IsTaken (Some (work_there task)) task
+taken_there None own = refl
+taken_there (Some task) own = (refl, own)
 
 pub server-polled : (id : ℕ) (task : Option TaskState) (entry : ServerEntry) → with_held id (held_polled task) entry ≡ server_polled id task entry
 server-polled id None entry =

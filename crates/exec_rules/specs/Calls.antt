@@ -78,10 +78,14 @@ abbrev pub IsHeldFor : EntityNo → Cause → WorldState → Type 0
 IsHeldFor server (cause.Woke id value canceling) world = (work : GoalWork) × (work_at server id world ≡ Some work)
 IsHeldFor server _ world = ⊤
 
--- what stands in the place of a goal's work while its task is out: a task that has ended. No goal's own work comes to be this,
--- because an empty script never ends
+-- what stands in the place of a goal's work while its task is out: a task that has ended, and has no registers. Each task has
+-- eight, so no task's own work is this
 abbrev pub away : GoalWork
-away = record { script = []; value = pos 0; task = record new_task { ending = Some (record { event = event.Abort; value = pos 0 }) } }
+away = record {
+  script = [];
+  value = pos 0;
+  task = record new_task { registers = []; ending = Some (record { event = event.Abort; value = pos 0 }) };
+}
 
 -- the goal that a callback of this server polls is held, and its task is at home
 abbrev pub IsHomeFor : EntityNo → Cause → WorldState → Type 0

@@ -1,11 +1,11 @@
-//! Laws of rounds that crates above use. The contract of each function says one law, and its body is empty.
+//! Laws of rounds that crates above use. The contract of each function says one law, and a call does nothing.
 ghost use Rattle.std.specs.Prelude.{◌≡◌, ◌≢◌, ℕ, ◌+◌, ◌<◌, ◌≤◌, List, ◌++◌, length};
 ghost use Rattle.std.specs.List.{All, AllByRecursion, filter, flat_map};
 ghost use Rattle.std.specs.List.Sorted.{IsNonDecreasingBy};
 ghost use Rattle.exec_plan.specs.Plan.{PlanData};
 ghost use Rattle.exec_msg.specs.declared.kind.Kind.{Kind};
 ghost use Rattle.exec_msg.specs.declared.kind.Kind.TheVariants as kind;
-ghost use Rattle.exec_rules.specs.Calls.{IsHeldFor, after_finish, after_round, world_after};
+ghost use Rattle.exec_rules.specs.Calls.{IsHeldFor, after_finish, after_round, away, world_after};
 ghost use Rattle.exec_rules.specs.Ready.{is_callback_of};
 ghost use Rattle.exec_rules.specs.Ready.{arrival_for, due_ready, placed_from, poll_ready, queue_ready, ready_list};
 ghost use Rattle.exec_rules.specs.Sorting.{sorted_by};
@@ -14,8 +14,10 @@ ghost use Rattle.exec_plan.specs.declared.order.Order.TheVariants as order;
 ghost use Rattle.exec_rules.specs.inner.ByKind.{IsListedByKind};
 ghost use Rattle.exec_rules.specs.inner.Numbering.{IsNumbered};
 ghost use Rattle.exec_rules.specs.Transcript.{at_snapshot, first_world, lines_of, rounds, run_all};
-ghost use Rattle.exec_rules.specs.World.{WorldState};
+ghost use Rattle.exec_rules.specs.World.{WorldState, work_of};
 ghost use Rattle.exec_rules.specs.declared.ready.Ready.{Ready};
+
+use exec_task::GoalTask;
 
 /// A callback may run apart from the world. Its effects are then listed, its variables and its goal's task are brought home,
 /// and it is committed. The world is as if each effect had been given to it at its instruction.
@@ -29,6 +31,13 @@ pub fn callbacks_may_be_committed_behind()
     ensures { (list : List Ready) (world : WorldState) → AllByRecursion (λ one. IsHeldFor one.entity one.cause world) list →
         run_all list world ≡ commit_all list (all_apart list world) (all_home list world) }
 {}
+
+/// No task does the work that stands in the place of a goal's work while its task is out.
+pub fn no_task_is_away(task: &GoalTask)
+    ensures { work_of task.now ≢ away }
+{
+    task.has_eight_registers();
+}
 
 /// The rounds of a plan follow one another: one more round, after the first ones, leaves the world that is after them all. The
 /// world after all rounds of the plan, when it is closed, has the plan's lines.

@@ -1,5 +1,5 @@
 -- Laws of following a script, each by induction over what is left of it.
-use Rattle.std.proofs.Common.{◌≡◌, ◌≢◌, ℕ, zero, suc, ◌+◌, ◌<◌, ◌≤◌, ℤ, List, [], ◌∷◌, ◌++◌, length, drop, Bool, true, false, not, ◌&&◌, ◌||◌, if◌then◌else◌, Option, None, Result, Ok, Err, IfSome, refl, sym, ap, ◌∙◌, append_assoc, append-nil, arith, length-drop, length-append, get_or, inl, inr}
+use Rattle.std.proofs.Common.{◌≡◌, ◌≢◌, ℕ, zero, suc, ◌+◌, ◌<◌, ◌≤◌, ℤ, List, [], ◌∷◌, ◌++◌, length, drop, Bool, true, false, not, ◌&&◌, ◌||◌, if◌then◌else◌, Option, None, Result, Ok, Err, IfSome, refl, sym, ap, ◌∙◌, append_assoc, append-nil, arith, length-drop, length-append, length-set, get_or, inl, inr}
 use Rattle.std.specs.List.{list_any, list_all, All, AllByRecursion, Any}
 use Rattle.std.proofs.lemmas.List.{get_or_default}
 use Rattle.std.proofs.lemmas.List.Elements.{All-nil, All-push, All-drop, recursion_from_All}
@@ -53,6 +53,27 @@ pub resumed_within : {S : Type 0} (give : Effect → S → S) (script : List Ins
 resumed_within give script place registers variables answer input given =
     follow_goes_on (λ next. next ≤ length script) give input (drop place script) place 0 _
     (λ k above below. let e = length-drop place script in omega arith) tt
+
+-- a step makes registers neither more nor fewer
+step_as_many : {S : Type 0} (give : Effect → S → S) (place : ℕ) (does : Step) (state : ScriptState S) → length (after_step give place does state).registers ≡ length state.registers
+step_as_many give place (step.Store (destination.Register slot) value) state = length-set state.registers slot value
+step_as_many give place (step.Store (destination.Variable slot) value) state = refl
+step_as_many give place (step.Skip count) state = refl
+step_as_many give place (step.Give effect) state = refl
+step_as_many give place (step.Answer value) state = refl
+step_as_many give place (step.Wait ticks) state = refl
+step_as_many give place step.Yield state = refl
+step_as_many give place (step.Ended event value) state = refl
+
+follow_as_many : {S : Type 0} (give : Effect → S → S) (input : CallInput) (script : List Instr) (place over : ℕ) (state : ScriptState S) → length (follow give input script place over state).registers ≡ length state.registers
+follow_as_many give input [] place over state = refl
+follow_as_many give input (instruction ∷ rest) place (suc over) state = follow_as_many give input rest (suc place) over state
+follow_as_many give input (instruction ∷ rest) place zero state =
+    let does = step_of instruction state.registers state.variables input in
+    follow_as_many give input rest (suc place) (skipped_by does (length rest)) (after_step give (suc place) does state) ∙ step_as_many give (suc place) does state
+
+pub resumed_as_many : {S : Type 0} (give : Effect → S → S) (script : List Instr) (place : ℕ) (registers variables : List ℤ) (answer : Option ℤ) (input : CallInput) (given : S) → length (resumed give script place registers variables answer input given).registers ≡ length registers
+resumed_as_many give script place registers variables answer input given = follow_as_many give input (drop place script) place 0 _
 
 -- an instruction that ends its goal does so by one of the three events that do
 step_ends : {S : Type 0} (give : Effect → S → S) (input : CallInput) (instruction : Instr) (place : ℕ) (state : ScriptState S) → IfSome (ended_by state.stop) IsEnding → IfSome (ended_by (after_step give place (step_of instruction state.registers state.variables input) state).stop) IsEnding

@@ -96,6 +96,15 @@ impl Cells {
         &self.values
     }
 
+    // There are eight. The call does nothing: whoever makes it knows it then.
+    #[inline(always)]
+    fn are_eight(&self)
+        ensures { length self.now ≡ 8 }
+    {
+        // This makes the type's invariant known here.
+        let _ = &self.values;
+    }
+
     // Becomes these eight integers.
     #[inline(always)]
     pub(crate) fn copy_from(&mut self, values: &[i64])
@@ -121,7 +130,7 @@ impl Model for Regs {
 }
 
 impl Regs {
-    ghost use Rattle.std.specs.Prelude.{◌≡◌};
+    ghost use Rattle.std.specs.Prelude.{◌≡◌, length};
     ghost use Rattle.exec_script.specs.Zeros.{zeros};
 
     /// Eight zeros.
@@ -129,6 +138,14 @@ impl Regs {
         ensures { result ≡ zeros }
     {
         Regs(Cells::new())
+    }
+
+    /// There are eight registers. The call does nothing: whoever makes it knows it then.
+    #[inline(always)]
+    pub fn are_eight(&self)
+        ensures { length self.now ≡ 8 }
+    {
+        self.0.are_eight();
     }
 }
 

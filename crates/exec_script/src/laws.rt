@@ -29,6 +29,12 @@ pub fn goes_on_within_its_end<S>()
         IfSome (goes_on_at (resumed give script place registers variables answer input given).stop) (λ next. next ≤ length script) }
 {}
 
+/// A script changes what registers hold, and not how many there are.
+pub fn registers_stay_as_many<S>()
+    ensures { (give : Effect → S → S) (script : List Instr) (place : ℕ) (registers variables : List ℤ) (answer : Option ℤ) (input : CallInput) (given : S) →
+        length (resumed give script place registers variables answer input given).registers ≡ length registers }
+{}
+
 /// A script that `check` accepts for another role than a goal's own work stops only at its end.
 pub fn only_goals_stop<S>()
     ensures { (give : Effect → S → S) (script : List Instr) (allowed : Place) (place : ℕ) (registers variables : List ℤ) (answer : Option ℤ) (input : CallInput) (given : S) →

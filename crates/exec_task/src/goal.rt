@@ -1,4 +1,4 @@
-ghost use Rattle.std.specs.Prelude.{◌≡◌, [], true, false, None, IsOk, IsErr, IfOk, OnOk, OnErr};
+ghost use Rattle.std.specs.Prelude.{◌≡◌, [], true, false, None, length, IsOk, IsErr, IfOk, OnOk, OnErr};
 ghost use Rattle.std.specs.Arc.{arc_value};
 ghost use Rattle.futures.specs.Task.{Covers, Keeps};
 ghost use Rattle.exec_task.specs.Goal.{poll_of, IsSameGoal, IsPolled, IsRefused, GoalNeeds, LeftWakers, HasYielded, HoldsNoWaker};
@@ -55,6 +55,14 @@ impl GoalTask {
             clock: WakeSource::new(),
             cancellation: WakeSource::new(),
         }
+    }
+
+    /// The task has eight registers, whatever became of it. The call does nothing: whoever makes it knows it then.
+    #[inline(always)]
+    pub fn has_eight_registers(&self)
+        ensures { length self.now.task.registers ≡ 8 }
+    {
+        self.progress.has_eight_registers();
     }
 
     // Goes on with the script of an awake task in a turn. A task that ends waits for nothing any more.

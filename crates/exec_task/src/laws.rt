@@ -127,6 +127,14 @@ pub fn tasks_stay_within_their_script<S>()
     exec_script::laws::goes_on_within_its_end::<S>();
 }
 
+/// A poll leaves a task as many registers as it had.
+pub fn registers_stay_as_many<S>()
+    ensures { (give : Effect → S → S) (script : List Instr) (value : ℤ) (turn : Turn) (task : TaskState) (variables : List ℤ) (given : S) →
+        length (polled give script value turn task variables given).task.registers ≡ length task.registers }
+{
+    exec_script::laws::registers_stay_as_many::<S>();
+}
+
 /// Effects that a poll lists may be given later, one after another. They do the same as effects that are given at once.
 pub fn effects_may_be_given_later<S>()
     ensures { (give : Effect → S → S) (script : List Instr) (value : ℤ) (turn : Turn) (task : TaskState) (variables : List ℤ) (given : S) →

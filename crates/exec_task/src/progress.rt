@@ -1,4 +1,4 @@
-ghost use Rattle.std.specs.Prelude.{◌≡◌, ◌||◌, ◌^◌, None, OnOk, OnErr};
+ghost use Rattle.std.specs.Prelude.{◌≡◌, ◌||◌, ◌^◌, None, length, OnOk, OnErr};
 ghost use Rattle.exec_script.specs.Script.{WaitsWithin};
 ghost use Rattle.exec_script.specs.Script.{listed};
 ghost use Rattle.exec_task.specs.Task.{new_task, has_ended, is_reached, is_awake, after_stop, ran, resumption_of, task_answer, ending_event};
@@ -55,6 +55,14 @@ impl Progress {
             knows_canceling: false,
             ending: None,
         }
+    }
+
+    // The task has eight registers. The call does nothing: whoever makes it knows it then.
+    #[inline(always)]
+    pub(crate) fn has_eight_registers(&self)
+        ensures { length self.now.registers ≡ 8 }
+    {
+        self.registers.are_eight();
     }
 
     pub(crate) fn waits(&self) -> Wait

@@ -308,7 +308,7 @@ impl<L: Lines> World<L> {
     }
 
     /// Takes the task of a goal out. The server holds the goal, and its task isn't out. [`put_task`](World::put_task) brings it
-    /// home.
+    /// home, and it isn't out then: no task's own work is `away` (law `no_task_is_away` of `exec_rules`).
     pub fn take_task(&mut self, server: EntityNo, id: GoalId) -> GoalTask
         requires { (work : GoalWork) × (work_at server id self.old.state ≡ Some work) × (work ≢ away) }
         ensures task { Some (work_of result) ≡ work_at server id self.old.state }

@@ -1,5 +1,5 @@
 -- What a poll makes of a server.
-use Rattle.std.specs.Prelude.{◌≡◌, List, Option, None, Some}
+use Rattle.std.specs.Prelude.{◌≡◌, ◌≢◌, List, Option, None, Some}
 use Rattle.std.specs.List.{find}
 use Rattle.std.specs.Option.{option_map}
 use Rattle.exec_msg.specs.Numbers.{EntityNo, GoalId}
@@ -9,10 +9,10 @@ use Rattle.exec_task.specs.Goal.{GoalTaskState}
 use Rattle.exec_task.specs.Task.{TaskState}
 use Rattle.exec_task.specs.declared.wait.Turn.{Turn}
 use Rattle.exec_entity.specs.declared.server.GoalTurn.{GoalTurn}
-use Rattle.exec_entity.specs.inner.Server.{work_there}
 use Rattle.exec_rules.specs.Callback.{AfterCallback, poll_listed}
+use Rattle.exec_rules.specs.Calls.{away}
 use Rattle.exec_script.specs.Script.{Variables}
-use Rattle.exec_rules.specs.World.{GoalWork, ServerEntry, is_for, is_server_at, standing, with_held, work_in}
+use Rattle.exec_rules.specs.World.{GoalWork, ServerEntry, is_for, is_server_at, standing, with_held, work_in, work_of}
 use Rattle.exec_rules.specs.declared.ready.Cause.{Cause}
 use Rattle.exec_rules.specs.declared.ready.Cause.TheVariants as cause
 
@@ -33,7 +33,8 @@ goal_polled turn id entry variables = poll_listed turn (option_map (λ held. hel
 -- what is taken of a goal that does this work, if it is held: its task, or none where that is out
 abbrev pub IsTaken : Option GoalWork → Option GoalTaskState → Type 0
 IsTaken None task = task ≡ None
-IsTaken (Some work) task = work ≡ work_there task
+IsTaken (Some work) None = work ≡ away
+IsTaken (Some work) (Some task) = (work ≡ work_of task) × (work ≢ away)
 
 -- a poll of a goal in its turn
 abbrev pub polled_in : GoalTurn → List ServerEntry → Variables → AfterCallback (List Effect)

@@ -1,7 +1,8 @@
 //! Polls of a server's goals.
-ghost use Rattle.std.specs.Prelude.{◌≡◌, [], true, false, Some, IfOk, IsSomeAnd, OnErr, OnOk};
+ghost use Rattle.std.specs.Prelude.{◌≡◌, ◌≢◌, [], true, false, Some, IfOk, IfSome, IsSomeAnd, OnErr, OnOk};
 ghost use Rattle.exec_script.specs.declared.effects.Close.TheVariants as close;
 ghost use Rattle.exec_task.specs.Task.{is_awake};
+ghost use Rattle.exec_rules.specs.Calls.{away};
 ghost use Rattle.exec_rules.specs.Ready.{turn_at};
 ghost use Rattle.exec_rules.specs.World.{work_of};
 ghost use Rattle.exec_task.specs.Waking.{wake_of};
@@ -17,13 +18,12 @@ use futures::task::Context;
 use std::mem;
 
 impl Server {
-    ghost use Rattle.std.specs.Prelude.{ℕ, ◌<◌, ◌++◌, true, None, length, map, filter, find, slice_get, slice_index_or, IfNone, IfSome};
+    ghost use Rattle.std.specs.Prelude.{ℕ, ◌<◌, ◌++◌, true, None, length, map, filter, find, slice_get, slice_index_or, IfNone};
     ghost use Rattle.std.specs.Option.{option_map};
     ghost use Rattle.exec_goal.specs.Info.{info_of};
     ghost use Rattle.exec_goal.specs.State.{is_canceling};
     ghost use Rattle.exec_goal.specs.Table.{GoalRecord, working};
     ghost use Rattle.exec_rules.specs.Ready.{is_goal_awake};
-    ghost use Rattle.exec_rules.specs.Calls.{away};
     ghost use Rattle.exec_rules.specs.World.{HeldGoal, arrived, doing, is_for, records_of, with_held};
     ghost use Rattle.exec_rules.specs.inner.Awake.{awake_goal, awake_goals, goal_awake};
     ghost use Rattle.exec_entity.specs.inner.Keeping.{IsFor};
@@ -234,9 +234,14 @@ fn note_arrival(held: &mut KeptWithGoal, number: u64)
 // Puts a task, or none, in the place of a goal's task, and answers that.
 fn replace_task(held: &mut KeptWithGoal, task: Option<GoalTask>) -> Option<GoalTask>
     ensures taken { result ≡ held.old.task }
+    ensures own { IfSome result (λ task. work_of task ≢ away) }
     ensures put { held.new ≡ record held.old { task = task } }
 {
-    mem::replace(&mut held.task, task)
+    let taken = mem::replace(&mut held.task, task);
+    if let Some(task) = &taken {
+        exec_rules::laws::no_task_is_away(task);
+    }
+    taken
 }
 
 // Whether a task is awake if its goal is being canceled. A task that is out never is.

@@ -4,6 +4,7 @@ use Rattle.std.specs.Option.{option_map}
 use Rattle.std.proofs.lemmas.List.{length-map}
 use Rattle.indexmap.specs.IndexMap.{set_value_at}
 use Rattle.exec_msg.specs.Lists.{change_first}
+use Rattle.exec_entity.proofs.Awake.{taken_there}
 use Rattle.exec_entity.proofs.Changed.{unchanged-none}
 use Rattle.exec_entity.proofs.Joined.{change-now, place-now}
 use Rattle.exec_entity.proofs.Placed.{kept-at, changed-at, work-placed}
@@ -12,6 +13,7 @@ use Rattle.exec_entity.proofs.Wakes.{wake-set}
 use Rattle.exec_rules.specs.World.{GoalWork, HeldGoal, ServerEntry, doing, is_for}
 use Rattle.exec_entity.specs.inner.Server.{Kept, all_kept, is_kept_for, kept_of, work_there}
 use Rattle.exec_entity.specs.inner.Polling.{IsTaken}
+use Rattle.exec_task.specs.Goal.{GoalTaskState}
 use Rattle.exec_task.specs.Waking.{wake_of}
 use Rattle.exec_entity.specs.declared.server.KeptWithGoal.{KeptWithGoal}
 use Rattle.exec_entity.proofs.server.Server.exchange_task.Goals as goal
@@ -51,7 +53,8 @@ returns-clause-taken c =
     let one = c.unwrap-held.result.now in
     let kept : Some one ≡ slice_get (values_of entries) c.in_ok-place.place = search rules in
     let at = kept-at c.args.id one c.self.inside.goals entries c.args.self.now.held c.in_ok-place.place (ap (λ (server : ServerEntry). server.held) c.self.view_is) c.self.invariant.0 c.in_ok-place.ensures.at kept in
-    subst (λ (work : Option GoalWork). IsTaken work c.replace_task.result) (sym (work-placed at c.self.invariant.0 c.self.view_is)) (ap work_there (sym c.replace_task.ensures.taken))
+    subst (λ (work : Option GoalWork). IsTaken work c.replace_task.result) (sym (work-placed at c.self.invariant.0 c.self.view_is))
+    (subst (λ (task : Option GoalTaskState). IsTaken (Some (work_there task)) c.replace_task.result) c.replace_task.ensures.taken (taken_there c.replace_task.result c.replace_task.ensures.own))
 
 pub returns-clause-put : goal.returns-clause-put
 returns-clause-put c =
