@@ -49,7 +49,8 @@ fn candidates_for(
 #[inline(always)]
 fn runs_script(item: &Item, server: Option<&Server>) -> bool
     ensures { (script : Script)
-        → script_to_take item.now (option_map_or (λ entry. records_of entry.held) (option_copied server.entry) []) script ≡ (if result then Some script else None) }
+        → script_to_take item.now (option_map_or (λ entry. records_of entry.held) (option_copied server.entry) []) script
+        ≡ (if result then Some script else None) }
 {
     match item {
         Item::Ask { .. } => false,

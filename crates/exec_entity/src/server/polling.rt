@@ -107,7 +107,8 @@ impl Server {
         goals: &mut Vec<AwakeGoal>,
     ) -> Result<(), Memory>
         requires { slice_get (map info_of (records_of self.now.held)) index ≡ Some info.now }
-        ensures { OnOk result ((d : HeldGoal) → goals.new.items ≡ goals.old.items ++ goal_awake moment self.now.handler (slice_index_or self.now.held index d)) }
+        ensures { OnOk result ((d : HeldGoal)
+            → goals.new.items ≡ goals.old.items ++ goal_awake moment self.now.handler (slice_index_or self.now.held index d)) }
     {
         if self.is_goal_awake(index, info, moment) {
             goals.push(self.awake_goal(info))?;
