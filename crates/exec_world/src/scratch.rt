@@ -12,6 +12,8 @@ use std::alloc::Global;
 pub(crate) struct Scratch {
     // The callbacks that are ready, as a snapshot lists them.
     pub(crate) list: ReadyList,
+    // How many of them, the first ones, come before polls under the order of kinds.
+    pub(crate) before: usize,
     // The goals that are awake.
     pub(crate) goals: Vec<AwakeGoal>,
     // The numbers of arrivals, if callbacks run in their order.
@@ -27,6 +29,7 @@ impl Scratch {
     pub(crate) fn new(alloc: Global) -> Scratch {
         Scratch {
             list: ReadyList::new(alloc),
+            before: 0,
             goals: Vec::new(alloc),
             arrivals: Vec::new(alloc),
             places: Vec::new(alloc),

@@ -2,6 +2,7 @@
 ghost use Rattle.std.specs.Prelude.{◌≡◌, ◌++◌, map, OnOk};
 
 use super::WorldBody;
+use super::round::Round;
 use crate::arrived::{Arrived, note_arrival, sort_arrivals};
 use crate::scratch::Scratch;
 use exec_msg::{Lines, Memory, Moment};
@@ -48,6 +49,7 @@ impl<L: Lines> WorldBody<L> {
         ensures arrivals { OnOk result ((graph : GraphData) → AreListed self.now.order self.now
             (map (with_script_of graph) scratch.old.list ++ map (poll_at moment) scratch.old.goals.items) scratch.new.arrivals.items) }
         ensures list { scratch.new.list ≡ scratch.old.list }
+        ensures before { scratch.new.before ≡ scratch.old.before }
         ensures goals { scratch.new.goals.items ≡ scratch.old.goals.items }
     {
         if let Order::Kind = self.mail.order() {
@@ -64,37 +66,36 @@ impl<L: Lines> WorldBody<L> {
     #[inline(never)]
     pub(super) fn run_sorted(
         &mut self,
-        graph: &Graph,
-        moment: Moment,
+        round: &Round<'_>,
         scratch: &mut Scratch,
         cx: &mut Context<'_>,
     ) -> Result<(), Memory>
-        ensures { OnOk result (self.new ≡ run_arrived (map (with_script_of graph.now) scratch.old.list ++ map (poll_at moment) scratch.old.goals.items)
+        ensures { OnOk result (self.new
+            ≡ run_arrived (map (with_script_of round.now.graph.now) scratch.old.list ++ map (poll_at round.now.moment) scratch.old.goals.items)
             self.old scratch.old.arrivals.items) }
     {
         let parts = Parts {
-            graph,
+            graph: round.graph,
             list: scratch.list.as_slice(),
-            moment,
+            moment: round.moment,
             goals: &scratch.goals,
         };
         for arrived in &scratch.arrivals {
-            self.run_at(&parts, arrived, &mut scratch.effects, cx)?;
+            self.run_at(&parts, arrived.place, &mut scratch.effects, cx)?;
         }
         Ok(())
     }
 
-    // Runs the callback at the place of an arrival, if there is one.
+    // Runs the callback at a place, from 0, if there is one.
     fn run_at(
         &mut self,
         parts: &Parts<'_>,
-        arrived: &Arrived,
+        place: usize,
         effects: &mut EffectList,
         cx: &mut Context<'_>,
     ) -> Result<(), Memory>
-        ensures { OnOk result (self.new ≡ run_at parts.now self.old arrived.now.place) }
+        ensures { OnOk result (self.new ≡ run_at parts.now self.old place) }
     {
-        let place = arrived.place;
         let count = parts.list.len();
         if place < count {
             return self.run_each(parts.graph, &parts.list[place..place + 1], effects, cx);

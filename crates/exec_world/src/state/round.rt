@@ -70,8 +70,8 @@ impl<L: Lines> WorldBody<L> {
         ensures taken { OnOk result (self.new ≡ taken_in_parts round.now.moment (begun_by round.now self.old)) }
     {
         self.open_round(round)?;
-        let before = self.list_in_parts(round.moment, scratch)?;
-        self.hand_out(round.graph, round.moment, before, scratch)
+        self.list_in_parts(round.moment, scratch)?;
+        self.hand_out(round, scratch)
     }
 
     // Runs a whole round. Goals are polled in a context that the caller has made.
@@ -85,8 +85,8 @@ impl<L: Lines> WorldBody<L> {
         ensures { OnOk result (self.new ≡ round_in round.now.moment (begun_by round.now self.old)) }
     {
         self.open_round(round)?;
-        let before = self.list_in_parts(round.moment, scratch)?;
-        self.run_listed(round.graph, round.moment, before, scratch, cx)
+        self.list_in_parts(round.moment, scratch)?;
+        self.run_listed(round, scratch, cx)
     }
 
     // Runs a whole round if its work is light, and answers nothing. Otherwise begins it, and answers its callbacks.
@@ -101,56 +101,53 @@ impl<L: Lines> WorldBody<L> {
         ensures { IfOk result (λ heavy. IsHandedOut round.now.moment (begun_by round.now self.old) heavy self.new) }
     {
         self.open_round(round)?;
-        let before = self.list_in_parts(round.moment, scratch)?;
+        self.list_in_parts(round.moment, scratch)?;
         let instructions = scratch.instructions(round.graph);
         if light.is_light(scratch.count(), instructions) {
-            self.run_listed(round.graph, round.moment, before, scratch, cx)?;
+            self.run_listed(round, scratch, cx)?;
             return Ok(None);
         }
-        let list = self.hand_out(round.graph, round.moment, before, scratch)?;
+        let list = self.hand_out(round, scratch)?;
         Ok(Some(Heavy { list, instructions }))
     }
 
-    // Takes the first item of each queue that has one, and runs what a snapshot listed at a moment. The first callbacks, this
-    // many, come before polls under the order of kinds.
+    // Takes the first item of each queue that has one, and runs what a snapshot listed in a round.
     fn run_listed(
         &mut self,
-        graph: &Graph,
-        moment: Moment,
-        before: usize,
+        round: &Round<'_>,
         scratch: &mut Scratch,
         cx: &mut Context<'_>,
     ) -> Result<(), Memory>
-        requires { before ≤ length scratch.old.list }
-        ensures { OnOk result ((world : WorldState) → HaveScriptsOf graph.now world
-            → IsListed moment world before self.old scratch.old.list scratch.old.goals.items → self.new ≡ round_in moment world) }
+        requires { scratch.old.before ≤ length scratch.old.list }
+        ensures { OnOk result ((world : WorldState) → HaveScriptsOf round.now.graph.now world
+            → IsListed round.now.moment world scratch.old.before self.old scratch.old.list scratch.old.goals.items
+            → self.new ≡ round_in round.now.moment world) }
     {
-        self.list_arrivals(moment, scratch)?;
+        self.list_arrivals(round.moment, scratch)?;
         self.take_first();
         match self.mail.order() {
-            Order::Kind => self.run_parts(graph, moment, before, scratch, cx),
-            Order::Arrival => self.run_sorted(graph, moment, scratch, cx),
+            Order::Kind => self.run_parts(round, scratch, cx),
+            Order::Arrival => self.run_sorted(round, scratch, cx),
         }
     }
 
-    // Runs the callbacks of the list that come before polls, this many, then polls the goals, and then runs the others of the list.
+    // Runs the callbacks of the list that come before polls, then polls the goals, and then runs the others of the list.
     fn run_parts(
         &mut self,
-        graph: &Graph,
-        moment: Moment,
-        before: usize,
+        round: &Round<'_>,
         scratch: &mut Scratch,
         cx: &mut Context<'_>,
     ) -> Result<(), Memory>
-        requires { before ≤ length scratch.old.list }
-        ensures { OnOk result (self.new ≡ run_all (map (with_script_of graph.now) (drop before scratch.old.list))
-            (run_all (map (poll_at moment) scratch.old.goals.items) (run_all (map (with_script_of graph.now) (take before scratch.old.list)) self.old))) }
+        requires { scratch.old.before ≤ length scratch.old.list }
+        ensures { OnOk result (self.new ≡ run_all (map (with_script_of round.now.graph.now) (drop scratch.old.before scratch.old.list))
+            (run_all (map (poll_at round.now.moment) scratch.old.goals.items)
+            (run_all (map (with_script_of round.now.graph.now) (take scratch.old.before scratch.old.list)) self.old))) }
     {
-        let list = scratch.list.as_slice();
+        let (first, last) = scratch.list.as_slice().split_at(scratch.before);
         let effects = &mut scratch.effects;
-        self.run_each(graph, &list[..before], effects, cx)?;
-        self.run_polls(moment, &scratch.goals, effects, cx)?;
-        self.run_each(graph, &list[before..], effects, cx)
+        self.run_each(round.graph, first, effects, cx)?;
+        self.run_polls(round.moment, &scratch.goals, effects, cx)?;
+        self.run_each(round.graph, last, effects, cx)
     }
 
     // Begins a round: its line, expiry, and what is fed in it.

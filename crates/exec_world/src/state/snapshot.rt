@@ -11,20 +11,20 @@ use exec_queue::{Queues, take_due_into};
 use exec_rules::Item;
 
 impl<L: Lines> WorldBody<L> {
-    ghost use Rattle.std.specs.Prelude.{◌≡◌, map, IfOk, OnOk};
+    ghost use Rattle.std.specs.Prelude.{◌≡◌, map, OnOk};
     ghost use Rattle.std.specs.List.{flat_map};
     ghost use Rattle.exec_rules.specs.Ready.{queue_ready, queue_taken};
     ghost use Rattle.exec_rules.specs.inner.Listing.{listed_behind};
     ghost use Rattle.exec_world.specs.inner.Snapshots.{IsListed, filled_places, queues_in_part};
 
     // Lists the callbacks that are ready at a moment and no polls, and the goals that are awake. Queues still have their first
-    // items. The answer is how many of the callbacks come before polls under the order of kinds.
+    // items.
     pub(super) fn list_in_parts(
         &mut self,
         moment: Moment,
         scratch: &mut Scratch,
-    ) -> Result<usize, Memory>
-        ensures { IfOk result (λ before. IsListed moment self.old before self.new scratch.new.list scratch.new.goals.items) }
+    ) -> Result<(), Memory>
+        ensures { OnOk result (IsListed moment self.old scratch.new.before self.new scratch.new.list scratch.new.goals.items) }
     {
         scratch.list.clear();
         take_due_into(self.alloc, &mut self.timers, moment, &mut scratch.list)?;
@@ -33,7 +33,8 @@ impl<L: Lines> WorldBody<L> {
         let before = scratch.list.as_slice().len();
         self.list_queues(false, moment, scratch)?;
         self.servers.awake_goals(moment, &mut scratch.goals)?;
-        Ok(before)
+        scratch.before = before;
+        Ok(())
     }
 
     // Takes the first item of each queue that has one.

@@ -16,11 +16,11 @@ returns-clause-list g c = λ world have p.
       | in-Kind+in_ok-list-in-Kind w ↦
           ap (λ (list : Vec _ _). list.items) w.list-is
           ∙ w.in_ok-list-in-Kind.ensures
-          ∙ (λ i. in_parts c.args.graph.now c.args.moment c.args.before (same.list i) (same.goals i))
-          ∙ handed_by_kind c.args.graph.now c.args.moment world c.args.before c.args.self.now c.args.scratch.now.list c.args.scratch.now.goals.items have p (under ∙ w.in-Kind.is)
+          ∙ (λ i. in_parts c.args.round.now.graph.now c.args.round.now.moment (same.before i) (same.list i) (same.goals i))
+          ∙ handed_by_kind c.args.round.now.graph.now c.args.round.now.moment world c.args.scratch.now.before c.args.self.now c.args.scratch.now.list c.args.scratch.now.goals.items have p (under ∙ w.in-Kind.is)
       | in-Arrival+in_ok-list-in-Arrival w ↦
           ap (λ (list : Vec _ _). list.items) w.list-is
           ∙ w.in_ok-list-in-Arrival.ensures
-          ∙ (λ i. placed_from 1 (callbacks_at (with_polls c.args.graph.now c.args.moment (same.list i) (same.goals i)) arrivals))
-          ∙ handed_by_arrival c.args.graph.now c.args.moment world c.args.before c.args.self.now c.args.scratch.now.list c.args.scratch.now.goals.items have p arrivals (under ∙ w.in-Arrival.is) (same.arrivals c.args.graph.now)
+          ∙ (λ i. placed_from 1 (callbacks_at (with_polls c.args.round.now.graph.now c.args.round.now.moment (same.list i) (same.goals i)) arrivals))
+          ∙ handed_by_arrival c.args.round.now.graph.now c.args.round.now.moment world c.args.scratch.now.before c.args.self.now c.args.scratch.now.list c.args.scratch.now.goals.items have p arrivals (under ∙ w.in-Arrival.is) (same.arrivals c.args.round.now.graph.now)
     ]

@@ -15,4 +15,4 @@ pub returns : goal.returns
 returns g c =
     let all = take_all c.loop-arrived.arrived-index c.deref-arrived-items.result.now c.loop-arrived-test.false ∙ c.deref-arrived-items.ensures.value in
     c.loop-arrived.invariant
-    ∙ (λ i. run_arrived (map (with_script_of c.args.graph.now) (c.as_slice.ensures i) ++ map (poll_at c.args.moment) (c.deref.ensures.value i)) c.args.self.now (all i))
+    ∙ (λ i. run_arrived (map (with_script_of c.args.round.now.graph.now) (c.as_slice.ensures i) ++ map (poll_at c.args.round.now.moment) (c.deref.ensures.value i)) c.args.self.now (all i))

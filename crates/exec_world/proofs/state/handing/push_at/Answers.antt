@@ -15,8 +15,8 @@ returns-then-place-list c =
     on_ok_weaker c.push_listed.result
     (λ is. is
     ∙ ap (placed_behind c.args.all.now.items)
-    (listed_there (with_script_of c.args.graph.now) c.as_slice-list.result.now (map (scripted_poll c.args.graph.now c.args.moment) goals) c.args.place c.if-place-list.true
-    ∙ ap (λ (list : List Listed). callback_at (with_polls c.args.graph.now c.args.moment list goals) c.args.place) c.as_slice-list.ensures))
+    (listed_there (with_script_of c.args.round.now.graph.now) c.as_slice-list.result.now (map (scripted_poll c.args.round.now.graph.now c.args.round.now.moment) goals) c.args.place c.if-place-list.true
+    ∙ ap (λ (list : List Listed). callback_at (with_polls c.args.round.now.graph.now c.args.round.now.moment list goals) c.args.place) c.as_slice-list.ensures))
     c.push_listed.ensures
 
 pub returns-then-at-goals : goal.returns-then-at-goals
@@ -25,9 +25,9 @@ returns-then-at-goals c =
     on_ok_weaker c.push_polls.result
     (λ is. is
     ∙ ap (placed_behind c.args.all.now.items)
-    (behind_there (with_script_of c.args.graph.now) (scripted_poll c.args.graph.now c.args.moment) list c.as_slice-goals.result.now c.args.place (c.args.place - length list) refl (omega (arith, c.if-place-list.false))
+    (behind_there (with_script_of c.args.round.now.graph.now) (scripted_poll c.args.round.now.graph.now c.args.round.now.moment) list c.as_slice-goals.result.now c.args.place (c.args.place - length list) refl (omega (arith, c.if-place-list.false))
     c.if-at-goals.true
-    ∙ (λ i. callback_at (with_polls c.args.graph.now c.args.moment (c.as_slice-list.ensures i) (c.as_slice-goals.ensures.value i)) c.args.place)))
+    ∙ (λ i. callback_at (with_polls c.args.round.now.graph.now c.args.round.now.moment (c.as_slice-list.ensures i) (c.as_slice-goals.ensures.value i)) c.args.place)))
     c.push_polls.ensures
 
 pub returns : goal.returns
@@ -36,5 +36,5 @@ returns c =
     let goals : List AwakeGoal = c.as_slice-goals.result.now in
     sym (append-nil c.args.all.now.items)
     ∙ ap (placed_behind c.args.all.now.items)
-    (none_there (with_script_of c.args.graph.now) (scripted_poll c.args.graph.now c.args.moment) list goals c.args.place (c.args.place - length list) refl (omega (arith, c.if-place-list.false)) (omega (arith, c.if-at-goals.false))
-    ∙ (λ i. callback_at (with_polls c.args.graph.now c.args.moment (c.as_slice-list.ensures i) (c.as_slice-goals.ensures.value i)) c.args.place))
+    (none_there (with_script_of c.args.round.now.graph.now) (scripted_poll c.args.round.now.graph.now c.args.round.now.moment) list goals c.args.place (c.args.place - length list) refl (omega (arith, c.if-place-list.false)) (omega (arith, c.if-at-goals.false))
+    ∙ (λ i. callback_at (with_polls c.args.round.now.graph.now c.args.round.now.moment (c.as_slice-list.ensures i) (c.as_slice-goals.ensures.value i)) c.args.place))
