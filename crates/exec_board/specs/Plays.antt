@@ -27,12 +27,16 @@ pub record IsBoxOf (view : SeatView) (lane : ℕ) (box : Lane) : Type 0 where
 
 -- the seat, which didn't hold the lane, has taken its slot, in which its box lies, and holds it from the box's count
 abbrev pub Won : ℕ → Me (Option Lane) SeatView → Me (Option Lane) SeatView → Type 0
-Won lane before after = (box : Lane) × (after ≡ (holding lane box.done before.0, (lane, Some box) ∷ before.1)) × IsBoxOf before.0 lane box × (held lane before.0 ≡ 0)
+Won lane before after =
+    (box : Lane) × (after ≡ (holding lane box.done before.0, (lane, Some box) ∷ before.1))
+    × IsBoxOf before.0 lane box × (held lane before.0 ≡ 0)
 
 -- the seat was refused with this word: the last pass isn't told that a lane is held, but where it holds the lane itself, and no
 -- pass is told that a lane which it holds is finished
 abbrev pub Lost : ℕ → ℕ → Me (Option Lane) SeatView → Me (Option Lane) SeatView → Type 0
-Lost lane word before after = (word ≤ FINISHED) × (after ≡ (refused lane word before.0, before.1)) × (word ≡ HELD → IsLast before.0 → held lane before.0 ≡ 1) × (word ≡ FINISHED → held lane before.0 ≡ 0)
+Lost lane word before after =
+    (word ≤ FINISHED) × (after ≡ (refused lane word before.0, before.1))
+    × (word ≡ HELD → IsLast before.0 → held lane before.0 ≡ 1) × (word ≡ FINISHED → held lane before.0 ≡ 0)
 
 -- a claim: it is won if the lane was open
 abbrev pub claimed : Step (Option Lane) → Me (Option Lane) SeatView → ℕ → Me (Option Lane) SeatView → Type 0

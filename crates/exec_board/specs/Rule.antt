@@ -102,6 +102,7 @@ pub record BoardRule (s : State (Option Lane) SeatView) : Type 0 where
   pub words_are : length s.words ≡ length opening
   pub homes_are : length s.homes ≡ length opening
   pub lanes_ok : (lane : ℕ) → lane < length opening →
-      LaneOk (opened_lane opening lane) (count lane) (slice_index s.words lane) (get_elem? s.homes lane) (tally (held lane) s.views) (λ callback. tally (covered lane callback) s.views)
+      LaneOk (opened_lane opening lane) (count lane) (slice_index s.words lane) (get_elem? s.homes lane)
+      (tally (held lane) s.views) (λ callback. tally (covered lane callback) s.views)
   pub views_ok : (seat : ℕ) (view : SeatView) → get_elem? s.views seat ≡ some view → ViewOk opening most count view
   pub disjoint : (number : ℕ) → tally (has_number number) s.views ≤ 1

@@ -39,7 +39,17 @@ nobody = record { opening = []; passes = 0; seen = []; start = 0; stop = 0; hold
 
 -- the view of the first pass
 abbrev pub opener : List Lane → ℕ → SeatView
-opener opening passes = record { opening = opening; passes = passes; seen = map (λ (lane : Lane). lane.done) opening; start = 0; stop = passes; holds = []; segments = []; busy = [] }
+opener opening passes =
+    record {
+      opening = opening;
+      passes = passes;
+      seen = map (λ (lane : Lane). lane.done) opening;
+      start = 0;
+      stop = passes;
+      holds = [];
+      segments = [];
+      busy = [];
+    }
 
 -- a pass is the last one: it has all numbers, so no other pass stands beside it
 abbrev pub IsLast : SeatView → Type 0

@@ -35,7 +35,8 @@ numbers (suc n) = numbers n ++ n ∷ []
 -- the last refusals that were added are those of so many lanes, one after another from 0
 abbrev pub EndsRefused : ℕ → SeatView → SeatView → Type 0
 EndsRefused lanes before after =
-    (others : List Refusal) × (last : List Refusal) × (after.busy ≡ before.busy ++ others ++ last) × (map (λ (refusal : Refusal). refusal.lane) last ≡ numbers lanes)
+    (others : List Refusal) × (last : List Refusal) × (after.busy ≡ before.busy ++ others ++ last)
+    × (map (λ (refusal : Refusal). refusal.lane) last ≡ numbers lanes)
 
 -- a pass has seen all callbacks of the first so many lanes to have run
 abbrev pub FirstSeen : ℕ → SeatView → Type 0

@@ -74,7 +74,8 @@ fn refusal_by(
     moments: &[u64],
     feed: &[EntryDraft],
 ) -> Refused
-    ensures { (document : DocumentDraft) → is_version document.version ≡ true → named.now ≡ document.graph → moments.now ≡ document.moments → feed.now ≡ document.feed
+    ensures { (document : DocumentDraft)
+        → is_version document.version ≡ true → named.now ≡ document.graph → moments.now ≡ document.moments → feed.now ≡ document.feed
         → (fault ≡ GraphFault.Memory) ⊎ (fault_in document.graph ≡ Some fault) → (result ≡ Refused.Memory) ⊎ (draft_refusal document ≡ Some result) }
 {
     if !are_declared(named, feed) {
@@ -109,7 +110,9 @@ fn plan_on(
     moments: &[u64],
     entries: &[EntryDraft],
 ) -> Result<Plan, Refused>
-    ensures { (document : DocumentDraft) → IsReady document graph moments.now entries.now → order ≡ document.order → Answers (draft_refusal document) (plan_of document) result }
+    ensures { (document : DocumentDraft)
+        → IsReady document graph moments.now entries.now → order ≡ document.order
+        → Answers (draft_refusal document) (plan_of document) result }
 {
     let feed = feed_of(alloc, &graph, entries)?;
     let Some(moments) = moments_of(alloc, moments)? else {

@@ -92,7 +92,8 @@ pub fn accepted_goals_begin_by_their_decision()
 pub fn results_of_ended_goals_are_told()
     ensures { (id : ℕ) (status : GoalStatus) (result : ℤ) (goals : List GoalRecord) →
         (asked_for id goals ≡ told status result)
-        ↔ ((goal : GoalRecord) × (find (has_id id) goals ≡ Some goal) × (is_terminal goal.state ≡ true) × (status_of goal.state ≡ status) × (goal.result ≡ result)) }
+        ↔ ((goal : GoalRecord) × (find (has_id id) goals ≡ Some goal) × (is_terminal goal.state ≡ true)
+        × (status_of goal.state ≡ status) × (goal.result ≡ result)) }
 {}
 
 /// A result request is answered later exactly if the first goal of its identifier hasn't ended.
@@ -247,6 +248,7 @@ pub fn changes_reach_one_goal()
         map (λ goal. goal.id) (change_first (has_id id) change goals) ≡ map (λ goal. goal.id) goals }
     ensures changed { (id : ℕ) (change : GoalRecord → GoalRecord) (goals : List GoalRecord) → ((goal : GoalRecord) → (change goal).id ≡ goal.id) →
         find (has_id id) (change_first (has_id id) change goals) ≡ option_map change (find (has_id id) goals) }
-    ensures others { (id other : ℕ) (change : GoalRecord → GoalRecord) (goals : List GoalRecord) → ((goal : GoalRecord) → (change goal).id ≡ goal.id) → id ≢ other →
+    ensures others { (id other : ℕ) (change : GoalRecord → GoalRecord) (goals : List GoalRecord)
+        → ((goal : GoalRecord) → (change goal).id ≡ goal.id) → id ≢ other →
         find (has_id other) (change_first (has_id id) change goals) ≡ find (has_id other) goals }
 {}

@@ -28,7 +28,8 @@ pub fn calls_are_answered_once()
 /// waits because the goal hasn't ended.
 pub fn asks_are_answered_once()
     ensures { (plan : PlanData) (server id : ℕ) →
-        length (filter (is_ask_taken server id) (lines_of plan)) ≡ length (filter (is_result_told server id) (lines_of plan)) + length (waiting_in id (goals_at server (last_world plan))) }
+        length (filter (is_ask_taken server id) (lines_of plan))
+        ≡ length (filter (is_result_told server id) (lines_of plan)) + length (waiting_in id (goals_at server (last_world plan))) }
 {}
 
 /// An action client asks for the result of a goal at most once.
@@ -41,12 +42,14 @@ pub fn results_are_asked_for_once()
 /// queue lost or that its queue holds, together with its asks that wait. These wait for the goal's end, or in its server's
 /// queue.
 pub fn askers_are_told_once()
-    ensures { (plan : PlanData) → IsLawful plan.graph → (number : ℕ) (client : ActionClientEntry) → action_client_at number (last_world plan) ≡ Some client → IsToldOnce client (last_world plan) }
+    ensures { (plan : PlanData) → IsLawful plan.graph → (number : ℕ) (client : ActionClientEntry)
+        → action_client_at number (last_world plan) ≡ Some client → IsToldOnce client (last_world plan) }
 {}
 
 /// An action client's callback takes the result of a goal at most as often as the client asked for it.
 pub fn results_are_asked_for()
-    ensures { (plan : PlanData) (client id : ℕ) → length (filter (is_result_taken client id) (lines_of plan)) ≤ length (filter (is_asked client id) (lines_of plan)) }
+    ensures { (plan : PlanData) (client id : ℕ) → length (filter (is_result_taken client id) (lines_of plan))
+        ≤ length (filter (is_asked client id) (lines_of plan)) }
 {}
 
 /// In the transcript of a lawful plan no reply, ask, response or code is displaced.

@@ -26,7 +26,8 @@ pub fn decisions_are_of_the_candidates<S>()
     ensures before { (give : Effect → S → S) (ready : Ready) (handling : CancelHandling S) (candidates : List GoalInfo) →
         take (length handling.decisions) (fold (handle_cancel give ready) handling candidates).decisions ≡ handling.decisions }
     ensures identifiers { (give : Effect → S → S) (ready : Ready) (handling : CancelHandling S) (candidates : List GoalInfo) →
-        map decided_goal (drop (length handling.decisions) (fold (handle_cancel give ready) handling candidates).decisions) ≡ map (λ candidate. candidate.id) candidates }
+        map decided_goal (drop (length handling.decisions) (fold (handle_cancel give ready) handling candidates).decisions)
+        ≡ map (λ candidate. candidate.id) candidates }
 {}
 
 /// No two goals of one server have the same identifier, after any rounds of a plan.
@@ -66,17 +67,20 @@ pub fn goals_have_one_end()
 /// In any round of a plan, a goal that is polled is EXECUTING or CANCELING in its turn, and still is when its poll is closed.
 /// If it is polled as one that is being canceled, it is CANCELING.
 pub fn polled_goals_stay_at_work()
-    ensures turn { (plan : PlanData) (number : ℕ) (moments : List ℕ) (next moment : ℕ) (one : Ready) (here : WorldState) (id : ℕ) (value : ℤ) (canceling : Bool) →
+    ensures turn { (plan : PlanData) (number : ℕ) (moments : List ℕ) (next moment : ℕ) (one : Ready) (here : WorldState)
+        (id : ℕ) (value : ℤ) (canceling : Bool) →
         IsTurn plan next moment (rounds plan number moments (first_world plan)) one here → one.cause ≡ cause.Woke id value canceling →
         may_be_polled canceling (state_in id (goals_at one.entity here)) ≡ true }
-    ensures closing { (plan : PlanData) (number : ℕ) (moments : List ℕ) (next moment : ℕ) (one : Ready) (here : WorldState) (id : ℕ) (value : ℤ) (canceling : Bool) →
+    ensures closing { (plan : PlanData) (number : ℕ) (moments : List ℕ) (next moment : ℕ) (one : Ready) (here : WorldState)
+        (id : ℕ) (value : ℤ) (canceling : Bool) →
         IsTurn plan next moment (rounds plan number moments (first_world plan)) one here → one.cause ≡ cause.Woke id value canceling →
         may_be_polled canceling (state_in id (goals_at one.entity (unclosed one here))) ≡ true }
 {}
 
 /// So the ending that a goal's script asks for is always a transition of the goal, and is never without effect.
 pub fn endings_are_allowed()
-    ensures { (plan : PlanData) (number : ℕ) (moments : List ℕ) (next moment : ℕ) (one : Ready) (here : WorldState) (id : ℕ) (value : ℤ) (canceling : Bool) (by : Event) (result : ℤ) →
+    ensures { (plan : PlanData) (number : ℕ) (moments : List ℕ) (next moment : ℕ) (one : Ready) (here : WorldState)
+        (id : ℕ) (value : ℤ) (canceling : Bool) (by : Event) (result : ℤ) →
         IsTurn plan next moment (rounds plan number moments (first_world plan)) one here → one.cause ≡ cause.Woke id value canceling →
         (outcome_in one here).close ≡ close.Ended by result → end_state id by (goals_at one.entity (unclosed one here)) ≢ None }
 {}

@@ -60,7 +60,8 @@ pub fn numbers_of_arrivals_rise()
     ensures queues { (plan : PlanData) (number : ℕ) (moments : List ℕ) → plan.order ≡ order.Arrival →
         All (HasRisingNumbers (rounds plan number moments (first_world plan)).arrivals) (rounds plan number moments (first_world plan)).queues }
     ensures goals { (plan : PlanData) (number : ℕ) (moments : List ℕ) → plan.order ≡ order.Arrival →
-        All (λ entry. All (IsArrival (rounds plan number moments (first_world plan)).arrivals) (numbers_at entry)) (rounds plan number moments (first_world plan)).servers }
+        All (λ entry. All (IsArrival (rounds plan number moments (first_world plan)).arrivals) (numbers_at entry))
+        (rounds plan number moments (first_world plan)).servers }
     ensures distinct { (plan : PlanData) (number : ℕ) (moments : List ℕ) → plan.order ≡ order.Arrival →
         IsDistinct (λ one other. one == other) (all_numbers (rounds plan number moments (first_world plan))) }
 {}

@@ -25,4 +25,6 @@ after_taking items = drop 1 items
 
 -- a queue of items that have a code has one, as each value that a generic type has in contracts
 abbrev pub queue_code : {A : Type 0} → Coded A → Coded (BoundedQueue A)
-queue_code {A} item = code_by (List A × ℕ) (coded× (coded_list item) coded_ℕ) (λ queue. (queue.items, queue.depth)) (λ parts. record { items = parts.0; depth = parts.1 }) (λ _. refl)
+queue_code {A} item =
+    code_by (List A × ℕ) (coded× (coded_list item) coded_ℕ) (λ queue. (queue.items, queue.depth))
+    (λ parts. record { items = parts.0; depth = parts.1 }) (λ _. refl)

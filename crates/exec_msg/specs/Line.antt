@@ -53,7 +53,8 @@ id_field (Some id) = id_text id ∷ []
 abbrev pub fields_of : List (List ℕ) → Line → List (List ℕ)
 fields_of names (line.Round number moment) = codes "round" ∷ decimal number ∷ decimal moment ∷ []
 fields_of names (line.Expire server id) = codes "expire" ∷ name_at names server ∷ id_text id ∷ []
-fields_of names (line.Run entity kind input aux id) = codes "run" ∷ name_at names entity ∷ kind_text kind ∷ signed_decimal input ∷ signed_decimal aux ∷ id_field id
+fields_of names (line.Run entity kind input aux id) =
+    codes "run" ∷ name_at names entity ∷ kind_text kind ∷ signed_decimal input ∷ signed_decimal aux ∷ id_field id
 fields_of names (line.Drop entity kind input) = codes "drop" ∷ name_at names entity ∷ kind_text kind ∷ signed_decimal input ∷ []
 fields_of names (line.Pub topic value) = codes "pub" ∷ name_at names topic ∷ signed_decimal value ∷ []
 fields_of names (line.Call client number value) = codes "call" ∷ name_at names client ∷ decimal number ∷ signed_decimal value ∷ []
@@ -66,7 +67,8 @@ fields_of names (line.Decide server id decision) = codes "decide" ∷ name_at na
 fields_of names (line.State server id status) = codes "state" ∷ name_at names server ∷ id_text id ∷ decimal (status_number status) ∷ []
 fields_of names (line.Code server code moved) = codes "code" ∷ name_at names server ∷ decimal (code_number code) ∷ decimal moved ∷ []
 fields_of names (line.Ask client id) = codes "ask" ∷ name_at names client ∷ id_text id ∷ []
-fields_of names (line.Result server id status value) = codes "result" ∷ name_at names server ∷ id_text id ∷ decimal (status_number status) ∷ signed_decimal value ∷ []
+fields_of names (line.Result server id status value) =
+    codes "result" ∷ name_at names server ∷ id_text id ∷ decimal (status_number status) ∷ signed_decimal value ∷ []
 fields_of names (line.Pending client calls) = codes "pending" ∷ name_at names client ∷ decimal calls ∷ []
 fields_of names (line.End rounds) = codes "end" ∷ decimal rounds ∷ []
 

@@ -29,7 +29,8 @@ impl<T> Model for LazyQueue<T> {
 
     ghost view = { λ queue. record { items = made_items queue.made; depth = queue.depth } };
 
-    ghost invariant = { λ queue. (1 ≤ queue.depth) × (queue.depth ≤ DEPTH) × (length (made_items queue.made) ≤ queue.depth) × IfSome queue.made (λ made. made.depth ≡ queue.depth) };
+    ghost invariant = { λ queue. (1 ≤ queue.depth) × (queue.depth ≤ DEPTH) × (length (made_items queue.made) ≤ queue.depth)
+        × IfSome queue.made (λ made. made.depth ≡ queue.depth) };
 }
 
 impl<T> LazyQueue<T> {

@@ -372,7 +372,8 @@ fn place_result(
     value: i64,
 ) -> usize
     requires { at + greatest_length names.now + 99 ≤ length bytes.old }
-    ensures text { take result bytes.new ≡ take at bytes.old ++ joined (codes "result" ∷ name_at names.now no ∷ id_text id ∷ decimal (status_number status) ∷ signed_decimal value ∷ []) }
+    ensures text { take result bytes.new ≡ take at bytes.old
+        ++ joined (codes "result" ∷ name_at names.now no ∷ id_text id ∷ decimal (status_number status) ∷ signed_decimal value ∷ []) }
     ensures within { result ≤ at + greatest_length names.now + 88 }
 {
     let end = place_goal_count(bytes, at, "result", names, no, id, status.number() as u64);

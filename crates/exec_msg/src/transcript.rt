@@ -183,7 +183,8 @@ impl<'a> TextReader<'a> {
     #[inline(never)]
     pub fn fill(&mut self, buffer: &mut [u8], at: usize) -> Option<usize>
         requires { at + line_room self.old.names ≤ length buffer.old }
-        ensures text { IfSome result (λ end. take at buffer.old ++ transcript_text self.old.names self.old.lines ≡ take end buffer.new ++ transcript_text self.old.names self.new.lines) }
+        ensures text { IfSome result (λ end. take at buffer.old ++ transcript_text self.old.names self.old.lines
+            ≡ take end buffer.new ++ transcript_text self.old.names self.new.lines) }
         ensures within { IfSome result (λ end. end ≤ length buffer.new) }
         ensures shorter { IfSome result (λ _. length self.new.lines < length self.old.lines) }
         ensures full { IfSome result (λ end. (self.new.lines ≡ []) ⊎ (length buffer.new < end + line_room self.old.names)) }
@@ -256,7 +257,8 @@ impl<'a> Left<'a> {
         at: usize,
     ) -> Option<usize>
         requires { at + line_room names.now ≤ length buffer.old }
-        ensures text { IfSome result (λ end. take at buffer.old ++ transcript_text names.now self.old ≡ take end buffer.new ++ transcript_text names.now self.new) }
+        ensures text { IfSome result (λ end. take at buffer.old ++ transcript_text names.now self.old
+            ≡ take end buffer.new ++ transcript_text names.now self.new) }
         ensures within { IfSome result (λ end. end ≤ length buffer.new) }
         ensures shorter { IfSome result (λ _. length self.new + 1 ≡ length self.old) }
         ensures none { IfNone result (self.old ≡ []) }

@@ -166,4 +166,11 @@ read_by name read (ActionClient entity) = do
   on_code ← read entity.on_code
   on_feedback ← read entity.on_feedback
   on_result ← if_there read entity.on_result
-  Some (ActionClient (record { server = server; depth = entity.depth; on_response = on_response; on_code = on_code; on_feedback = on_feedback; on_result = on_result }))
+  Some (ActionClient (record {
+    server = server;
+    depth = entity.depth;
+    on_response = on_response;
+    on_code = on_code;
+    on_feedback = on_feedback;
+    on_result = on_result;
+  }))

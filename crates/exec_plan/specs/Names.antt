@@ -6,7 +6,9 @@ use Rattle.exec_msg.specs.declared.limits.TheConstants.{NAME_LENGTH}
 
 -- `A-Z a-z 0-9 _ /`
 abbrev pub is_name_byte : ℕ → Bool
-is_name_byte byte = (nat_le 65 byte && nat_le byte 90) || (nat_le 97 byte && nat_le byte 122) || (nat_le 48 byte && nat_le byte 57) || (byte == 95) || (byte == 47)
+is_name_byte byte =
+    (nat_le 65 byte && nat_le byte 90) || (nat_le 97 byte && nat_le byte 122) || (nat_le 48 byte && nat_le byte 57)
+    || (byte == 95) || (byte == 47)
 
 -- a name has 1 to 64 of these characters
 abbrev pub is_name : List ℕ → Bool

@@ -95,7 +95,8 @@ impl Plan {
         feed: Vec<Feed>,
     ) -> Result<Plan, PlanFault>
         requires { list_all (λ entry. goes_somewhere graph entry.fed) feed.items ≡ true }
-        ensures plan { IfOk result (λ plan. (plan_fault_in moments.items feed.items ≡ None) × (plan ≡ record { graph = graph; order = order; moments = moments.items; feed = feed.items })) }
+        ensures plan { IfOk result (λ plan. (plan_fault_in moments.items feed.items ≡ None)
+            × (plan ≡ record { graph = graph; order = order; moments = moments.items; feed = feed.items })) }
         ensures fault { IfErr result (λ fault. plan_fault_in moments.items feed.items ≡ Some fault) }
     {
         if let Some(fault) = fault_of(&moments, &feed) {

@@ -128,7 +128,8 @@ placed_from position (one ∷ others) = record one { position = position } ∷ p
 
 -- all callbacks that are ready: those of timers, what takes from queues, and polls
 abbrev pub all_ready : Moment → WorldState → List Ready
-all_ready moment world = flat_map (due_ready moment) world.timers ++ flat_map (queue_ready moment world) world.queues ++ flat_map (poll_ready moment) world.servers
+all_ready moment world =
+    flat_map (due_ready moment) world.timers ++ flat_map (queue_ready moment world) world.queues ++ flat_map (poll_ready moment) world.servers
 
 -- the number of the arrival of a queue's first item
 abbrev pub first_number : Queue → ℕ
@@ -183,7 +184,11 @@ reply_taken clients queue = answered_by_first queue.handler.entity queue.items c
 -- the world after each input is taken
 abbrev pub take_inputs : Moment → WorldState → WorldState
 take_inputs moment world =
-    record world { timers = map (timer_taken moment) world.timers; queues = map queue_taken world.queues; clients = fold reply_taken world.clients world.queues }
+    record world {
+      timers = map (timer_taken moment) world.timers;
+      queues = map queue_taken world.queues;
+      clients = fold reply_taken world.clients world.queues;
+    }
 
 -- whether a ready callback is an entity's of a kind
 abbrev pub is_callback_of : EntityNo → Kind → Ready → Bool

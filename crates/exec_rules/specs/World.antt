@@ -300,4 +300,5 @@ action_client_at client world = find (is_action_client_at client) world.action_c
 
 -- the world after an action client sent its next goal
 abbrev pub with_goal_sent : EntityNo → WorldState → WorldState
-with_goal_sent client world = record world { action_clients = change_first (is_action_client_at client) (λ entry. record entry { goals = entry.goals + 1 }) world.action_clients }
+with_goal_sent client world =
+    record world { action_clients = change_first (is_action_client_at client) (λ entry. record entry { goals = entry.goals + 1 }) world.action_clients }

@@ -42,4 +42,11 @@ give_each give effects given = fold (λ given effect. give effect given) given e
 
 -- where a script stands that listed its effects, once these are given
 abbrev pub given_later : {S : Type 0} → (Effect → S → S) → S → ScriptState (List Effect) → ScriptState S
-given_later give given state = record { registers = state.registers; variables = state.variables; reply_or_decision = state.reply_or_decision; given = give_each give state.given given; stop = state.stop }
+given_later give given state =
+    record {
+      registers = state.registers;
+      variables = state.variables;
+      reply_or_decision = state.reply_or_decision;
+      given = give_each give state.given given;
+      stop = state.stop;
+    }

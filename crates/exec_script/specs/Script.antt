@@ -79,13 +79,15 @@ at_least_0 (negsuc n) = 0
 
 -- what one instruction does
 abbrev pub step_of : Instruction → Registers → Variables → CallInput → Step
-step_of (instr.Set destination operation left right) registers variables input = step.Store destination (result_of operation (value_of left registers variables input) (value_of right registers variables input))
+step_of (instr.Set destination operation left right) registers variables input =
+    step.Store destination (result_of operation (value_of left registers variables input) (value_of right registers variables input))
 step_of (instr.Skip condition count) registers variables input = step.Skip (if int_eq (value_of condition registers variables input) (pos 0) then 0 else count)
 step_of (instr.Pub topic value) registers variables input = step.Give (effect.Publish topic (value_of value registers variables input))
 step_of (instr.Call client value) registers variables input = step.Give (effect.Call client (value_of value registers variables input))
 step_of (instr.Goal client value) registers variables input = step.Give (effect.SendGoal client (value_of value registers variables input))
 step_of (instr.CancelAll client stamp) registers variables input = step.Give (effect.CancelAll client (at_least_0 (value_of stamp registers variables input)))
-step_of (instr.CancelGoal client goal stamp) registers variables input = step.Give (effect.CancelGoal client (at_least_0 (value_of goal registers variables input)) (at_least_0 (value_of stamp registers variables input)))
+step_of (instr.CancelGoal client goal stamp) registers variables input =
+    step.Give (effect.CancelGoal client (at_least_0 (value_of goal registers variables input)) (at_least_0 (value_of stamp registers variables input)))
 step_of (instr.Execute server) registers variables input = step.Give (effect.Execute server)
 step_of (instr.Log value) registers variables input = step.Give (effect.Log (value_of value registers variables input))
 step_of (instr.Reply value) registers variables input = step.Answer (value_of value registers variables input)
@@ -122,7 +124,11 @@ variables_after (destination.Variable slot) value variables = slice_set variable
 
 -- where a script stands after a step, behind which comes this place; an effect goes where `give` puts it
 abbrev pub after_step : {S : Type 0} → (Effect → S → S) → ℕ → Step → ScriptState S → ScriptState S
-after_step give place (step.Store destination value) state = record state { registers = registers_after destination value state.registers; variables = variables_after destination value state.variables }
+after_step give place (step.Store destination value) state =
+    record state {
+      registers = registers_after destination value state.registers;
+      variables = variables_after destination value state.variables;
+    }
 after_step give place (step.Skip count) state = state
 after_step give place (step.Give effect) state = record state { given = give effect state.given }
 after_step give place (step.Answer value) state = record state { reply_or_decision = Some value }

@@ -96,7 +96,7 @@ impl Cells {
         &self.values
     }
 
-    // There are eight. The call does nothing: whoever makes it knows it then.
+    // There are eight. The call does nothing at run time: a proof about its caller knows the number from it.
     #[inline(always)]
     fn are_eight(&self)
         ensures { length self.now ≡ 8 }
@@ -140,7 +140,7 @@ impl Regs {
         Regs(Cells::new())
     }
 
-    /// There are eight registers. The call does nothing: whoever makes it knows it then.
+    /// There are eight registers. The call does nothing at run time: a proof about its caller knows the number from it.
     #[inline(always)]
     pub fn are_eight(&self)
         ensures { length self.now ≡ 8 }

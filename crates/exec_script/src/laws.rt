@@ -23,9 +23,11 @@ pub fn decisions_are_made_by_their_numbers()
 
 /// A script that waits or yields goes on after the place that it was resumed at, and at its end at the latest.
 pub fn goes_on_within_its_end<S>()
-    ensures behind { (give : Effect → S → S) (script : List Instr) (place : ℕ) (registers variables : List ℤ) (answer : Option ℤ) (input : CallInput) (given : S) →
+    ensures behind { (give : Effect → S → S) (script : List Instr) (place : ℕ)
+        (registers variables : List ℤ) (answer : Option ℤ) (input : CallInput) (given : S) →
         IfSome (goes_on_at (resumed give script place registers variables answer input given).stop) (λ next. place < next) }
-    ensures within { (give : Effect → S → S) (script : List Instr) (place : ℕ) (registers variables : List ℤ) (answer : Option ℤ) (input : CallInput) (given : S) →
+    ensures within { (give : Effect → S → S) (script : List Instr) (place : ℕ)
+        (registers variables : List ℤ) (answer : Option ℤ) (input : CallInput) (given : S) →
         IfSome (goes_on_at (resumed give script place registers variables answer input given).stop) (λ next. next ≤ length script) }
 {}
 
@@ -37,7 +39,8 @@ pub fn registers_stay_as_many<S>()
 
 /// A script that `check` accepts for another role than a goal's own work stops only at its end.
 pub fn only_goals_stop<S>()
-    ensures { (give : Effect → S → S) (script : List Instr) (allowed : Place) (place : ℕ) (registers variables : List ℤ) (answer : Option ℤ) (input : CallInput) (given : S) →
+    ensures { (give : Effect → S → S) (script : List Instr) (allowed : Place) (place : ℕ)
+        (registers variables : List ℤ) (answer : Option ℤ) (input : CallInput) (given : S) →
         allowed.role ≢ role.Goal → legality_of script allowed ≡ Ok tt →
         (resumed give script place registers variables answer input given).stop ≡ stop.End }
 {}
@@ -45,10 +48,12 @@ pub fn only_goals_stop<S>()
 /// A script that `check` accepts in a reentrant group doesn't change the variables that it was given. What it does depends on
 /// no variable.
 pub fn reentrant_scripts_share_nothing<S>()
-    ensures leaves { (give : Effect → S → S) (script : List Instr) (allowed : Place) (place : ℕ) (registers variables : List ℤ) (answer : Option ℤ) (input : CallInput) (given : S) →
+    ensures leaves { (give : Effect → S → S) (script : List Instr) (allowed : Place) (place : ℕ)
+        (registers variables : List ℤ) (answer : Option ℤ) (input : CallInput) (given : S) →
         allowed.reentrant ≡ true → legality_of script allowed ≡ Ok tt →
         (resumed give script place registers variables answer input given).variables ≡ variables }
-    ensures alike { (give : Effect → S → S) (script : List Instr) (allowed : Place) (place : ℕ) (registers variables others : List ℤ) (answer : Option ℤ) (input : CallInput) (given : S) →
+    ensures alike { (give : Effect → S → S) (script : List Instr) (allowed : Place) (place : ℕ)
+        (registers variables others : List ℤ) (answer : Option ℤ) (input : CallInput) (given : S) →
         allowed.reentrant ≡ true → legality_of script allowed ≡ Ok tt →
         resumed give script place registers variables answer input given
         ≡ state_with_variables variables (resumed give script place registers others answer input given) }
@@ -56,7 +61,8 @@ pub fn reentrant_scripts_share_nothing<S>()
 
 /// A script that `check` accepts gives no answer if it is for a callback that answers nothing, or for a goal's own work.
 pub fn callbacks_and_goals_give_no_answer<S>()
-    ensures callback { (give : Effect → S → S) (script : List Instr) (allowed : Place) (place : ℕ) (registers variables : List ℤ) (input : CallInput) (given : S) →
+    ensures callback { (give : Effect → S → S) (script : List Instr) (allowed : Place) (place : ℕ)
+        (registers variables : List ℤ) (input : CallInput) (given : S) →
         allowed.role ≡ role.Callback → legality_of script allowed ≡ Ok tt →
         (resumed give script place registers variables None input given).reply_or_decision ≡ None }
     ensures goal { (give : Effect → S → S) (script : List Instr) (allowed : Place) (place : ℕ) (registers variables : List ℤ) (input : CallInput) (given : S) →
@@ -68,7 +74,8 @@ pub fn callbacks_and_goals_give_no_answer<S>()
 pub fn effects_may_be_given_later<S>()
     ensures call { (give : Effect → S → S) (script : List Instr) (variables : List ℤ) (input : CallInput) (given : S) →
         called give script variables input given ≡ given_later give given (call_of script variables input) }
-    ensures anywhere { (give : Effect → S → S) (script : List Instr) (place : ℕ) (registers variables : List ℤ) (answer : Option ℤ) (input : CallInput) (effects : List Effect) (given : S) →
+    ensures anywhere { (give : Effect → S → S) (script : List Instr) (place : ℕ)
+        (registers variables : List ℤ) (answer : Option ℤ) (input : CallInput) (effects : List Effect) (given : S) →
         resumed give script place registers variables answer input (give_each give effects given)
         ≡ given_later give given (resumed listed script place registers variables answer input effects) }
 {}

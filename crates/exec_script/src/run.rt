@@ -209,7 +209,9 @@ fn follow<R: Results>(
 fn follow_sets<R: Results>(script: &[Instr], place: usize, frame: &mut Frame) -> usize
     ensures behind { place ≤ result }
     ensures input { frame.new.input ≡ frame.old.input }
-    ensures same_end { (answer : Option ℤ) → (given : List Effect) → resumed listed script.now result frame.new.registers frame.new.variables answer frame.new.input given ≡ resumed listed script.now place frame.old.registers frame.old.variables answer frame.old.input given }
+    ensures same_end { (answer : Option ℤ) → (given : List Effect)
+        → resumed listed script.now result frame.new.registers frame.new.variables answer frame.new.input given
+        ≡ resumed listed script.now place frame.old.registers frame.old.variables answer frame.old.input given }
 {
     let mut pc = place;
     while pc < script.len() {

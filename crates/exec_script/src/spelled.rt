@@ -50,7 +50,8 @@ impl SpelledInstr {
         left: WordRef<'_>,
         right: WordRef<'_>,
     ) -> Option<SpelledInstr>
-        ensures words { IfSome result (λ set. set ≡ Text (codes "set") ∷ Text destination.now ∷ Text operation.now ∷ word_of left.entry ∷ word_of right.entry ∷ []) }
+        ensures words { IfSome result (λ set.
+            set ≡ Text (codes "set") ∷ Text destination.now ∷ Text operation.now ∷ word_of left.entry ∷ word_of right.entry ∷ []) }
         ensures spelled { IfSome result (λ set. IsOk (set_of (Text destination.now ∷ Text operation.now ∷ word_of left.entry ∷ word_of right.entry ∷ []))) }
         ensures misspelt { IfNone result (IsErr (set_of (Text destination.now ∷ Text operation.now ∷ word_of left.entry ∷ word_of right.entry ∷ []))) }
     {

@@ -34,7 +34,15 @@ impl Model for GoalTask {
 
     ghost Value = { GoalTaskState };
 
-    ghost view = { λ goal. record { script = (arc_value goal.script).items; value = goal.value; task = goal.progress; failed = goal.failed; clock = goal.clock; cancellation = goal.cancellation } };
+    ghost view = { λ goal.
+        record {
+          script = (arc_value goal.script).items;
+          value = goal.value;
+          task = goal.progress;
+          failed = goal.failed;
+          clock = goal.clock;
+          cancellation = goal.cancellation;
+        } };
 }
 
 impl GoalTask {
@@ -57,7 +65,8 @@ impl GoalTask {
         }
     }
 
-    /// The task has eight registers, whatever became of it. The call does nothing: whoever makes it knows it then.
+    /// The task has eight registers, whatever became of it. The call does nothing at run time: a proof about its caller knows
+    /// the number from it.
     #[inline(always)]
     pub fn has_eight_registers(&self)
         ensures { length self.now.task.registers ≡ 8 }

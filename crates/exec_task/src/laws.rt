@@ -74,10 +74,12 @@ pub fn polls_tell_of_cancellation<S>()
 
 /// A poll of a task that has ended answers its ending, and has no effect.
 pub fn endings_stay<S>()
-    ensures answers { (give : Effect → S → S) (script : List Instr) (value : ℤ) (turn : Turn) (task : TaskState) (variables : List ℤ) (given : S) (ending : Ending) →
+    ensures answers { (give : Effect → S → S) (script : List Instr) (value : ℤ) (turn : Turn) (task : TaskState) (variables : List ℤ)
+        (given : S) (ending : Ending) →
         task_answer task ≡ answer.Ready ending →
         task_answer (polled give script value turn task variables given).task ≡ answer.Ready ending }
-    ensures same { (give : Effect → S → S) (script : List Instr) (value : ℤ) (turn : Turn) (task : TaskState) (variables : List ℤ) (given : S) (ending : Ending) →
+    ensures same { (give : Effect → S → S) (script : List Instr) (value : ℤ) (turn : Turn) (task : TaskState) (variables : List ℤ)
+        (given : S) (ending : Ending) →
         task_answer task ≡ answer.Ready ending →
         polled give script value turn task variables given ≡ record { task = task; variables = variables; given = given } }
 {}

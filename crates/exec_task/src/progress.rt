@@ -57,7 +57,7 @@ impl Progress {
         }
     }
 
-    // The task has eight registers. The call does nothing: whoever makes it knows it then.
+    // The task has eight registers. The call does nothing at run time: a proof about its caller knows the number from it.
     #[inline(always)]
     pub(crate) fn has_eight_registers(&self)
         ensures { length self.now.registers ≡ 8 }

@@ -7,4 +7,5 @@ use Rattle.exec_world.specs.declared.weighing.Heavy.{Heavy}
 abbrev pub IsBegun : ℕ → Option Heavy → WorldData → WorldData → Type 0
 IsBegun round None before after = after ≡ after_round round before
 IsBegun round (Some heavy) before after =
-    (heavy.list.items ≡ ready_in round before) × (after ≡ after_snapshot round before) × AreHome heavy.list.items after.state × HaveVariables heavy.list.items after.state
+    (heavy.list.items ≡ ready_in round before) × (after ≡ after_snapshot round before)
+    × AreHome heavy.list.items after.state × HaveVariables heavy.list.items after.state

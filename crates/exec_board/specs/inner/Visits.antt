@@ -22,7 +22,8 @@ pub record HasRunSome (quantum : ℕ) (before after : Lane) (ended : Result Unit
 
 -- the view after a lane was claimed at one count and released at another
 abbrev pub worked : ℕ → ℕ → ℕ → SeatView → SeatView
-worked lane first end view = record view { seen = slice_set view.seen lane end; segments = view.segments ++ record { lane = lane; first = first; end = end } ∷ [] }
+worked lane first end view =
+    record view { seen = slice_set view.seen lane end; segments = view.segments ++ record { lane = lane; first = first; end = end } ∷ [] }
 
 -- a lane was claimed, run and released
 pub record HasWorked (lane quantum : ℕ) (before after : SeatView) : Type 0 where
@@ -71,6 +72,7 @@ pub record Turning (lane quantum : ℕ) (claimed : Bool) (before after : SeatVie
   pub swept : IsSwept quantum before after
   pub less : left_for after ≤ left_for before
   pub gone_on : claimed ≡ true → left_for after < left_for before
-  pub refused_all : claimed ≡ false → (last : List Refusal) × (after.busy ≡ before.busy ++ last) × (map (λ (refusal : Refusal). refusal.lane) last ≡ numbers lane)
+  pub refused_all : claimed ≡ false → (last : List Refusal) × (after.busy ≡ before.busy ++ last)
+      × (map (λ (refusal : Refusal). refusal.lane) last ≡ numbers lane)
   pub seen_all : claimed ≡ false → IsLast before → FirstSeen lane after
   pub got_on : GotOn before after

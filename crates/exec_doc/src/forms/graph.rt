@@ -35,7 +35,8 @@ fn declare_nodes(nodes: Vec<NodeDraft>, graph: &mut GraphBuilder) -> Result<(), 
 
 #[tactic(auto, using(crate::proofs::Lists::any_list))]
 fn declare_topics(field: Option<Value>, graph: &mut GraphBuilder) -> Result<(), Refused>
-    ensures ok { OnOk result (IsReadBehind (option_map (λ found. unwrap_or found []) (if_there (list_of text) (option_map view field))) graph.old.topics graph.new.topics) }
+    ensures ok { OnOk result
+        (IsReadBehind (option_map (λ found. unwrap_or found []) (if_there (list_of text) (option_map view field))) graph.old.topics graph.new.topics) }
     ensures nodes { graph.new.nodes ≡ graph.old.nodes }
     ensures err { IfErr result (λ code. ReadingFails code (option_map (λ found. unwrap_or found []) (if_there (list_of text) (option_map view field)))) }
 {

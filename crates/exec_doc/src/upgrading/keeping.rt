@@ -44,7 +44,8 @@ fn keep_all(
     kept: &mut Map<String, Value>,
 ) -> Result<(), AllocError>
     requires { are_distinct (unchanged (map (λ name. name.now) names.now)) ≡ true }
-    ensures { OnOk result (members_view kept.new.entries ≡ with_fields (unchanged (map (λ name. name.now) names.now)) (view from.old) (members_view kept.old.entries)) }
+    ensures { OnOk result (members_view kept.new.entries
+        ≡ with_fields (unchanged (map (λ name. name.now) names.now)) (view from.old) (members_view kept.old.entries)) }
 {
     for name in names {
         keep(alloc, from, name, kept)?;
@@ -82,7 +83,9 @@ pub fn keep_each<C: Change>(
     by: &C,
     kept: &mut Map<String, Value>,
 ) -> Result<(), AllocError>
-    ensures kept { OnOk result (members_view kept.new.entries ≡ with_field name.now (option_map (changed_list (C.becomes by.now)) (get name.now (view from.old))) (members_view kept.old.entries)) }
+    ensures kept { OnOk result (members_view kept.new.entries
+        ≡ with_field name.now (option_map (changed_list (C.becomes by.now)) (get name.now (view from.old)))
+        (members_view kept.old.entries)) }
     ensures left { LosesField name.now (view from.old) (view from.new) }
 {
     match take_field(from, name) {

@@ -97,7 +97,9 @@ fn declarations_of(
     requires names { length directory.now.names ≤ 65536 }
     requires links { All (IsLinked directory.now) links.now }
     requires entities { map (λ linked. linked.placed) links.now ≡ entities_of draft.now }
-    ensures { IfOk result (λ found. option_map (λ others. map resolved_topic draft.now.topics ++ others) (each (resolved_entity draft.now) (entities_of draft.now)) ≡ option_map (λ entities. entries_of entities.entries) found) }
+    ensures { IfOk result (λ found.
+        option_map (λ others. map resolved_topic draft.now.topics ++ others) (each (resolved_entity draft.now) (entities_of draft.now))
+        ≡ option_map (λ entities. entries_of entities.entries) found) }
 {
     let mut entities = topics_of(alloc, draft)?;
     for linked in links {

@@ -34,7 +34,8 @@ impl<'a> Model for Directory<'a> {
 
     ghost Value = { DirectoryData };
 
-    ghost view = { λ directory. record { topics = directory.topics; names = directory.names; groups = directory.groups.items; entities = directory.entities.items } };
+    ghost view = { λ directory.
+        record { topics = directory.topics; names = directory.names; groups = directory.groups.items; entities = directory.entities.items } };
 }
 
 impl<'a> Directory<'a> {
@@ -195,7 +196,8 @@ fn node_groups<'a>(
     alloc: Global,
     draft: &'a GraphDraft,
 ) -> Result<Option<Vec<NodeGroups<'a>>>, Memory>
-    ensures { IfOk result (λ found. option_map (λ groups. groups.items) found ≡ then_some (list_all has_named_groups draft.now.nodes) (node_groups_from 0 draft.now.nodes)) }
+    ensures { IfOk result (λ found. option_map (λ groups. groups.items) found
+        ≡ then_some (list_all has_named_groups draft.now.nodes) (node_groups_from 0 draft.now.nodes)) }
 {
     let nodes = draft.nodes.as_slice();
     let mut groups = Vec::new(alloc);

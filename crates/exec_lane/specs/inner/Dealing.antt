@@ -31,7 +31,8 @@ given one world portion = record portion {
 
 -- workers that were given what each callback of a list needs, each task taken out of the world
 abbrev pub given_each : List ℕ → List Ready → List PortionState → WorldState → List PortionState
-given_each (owner ∷ owners) (one ∷ list) portions world = given_each owners list (with_changed owner (given one world) portions) (without_task one.entity one.cause world)
+given_each (owner ∷ owners) (one ∷ list) portions world =
+    given_each owners list (with_changed owner (given one world) portions) (without_task one.entity one.cause world)
 given_each _ _ portions world = portions
 
 -- the world in which all that callbacks left is home

@@ -29,7 +29,8 @@ did_in variables slot = apart_with slot.ready slot.work variables
 
 -- the slot after it did
 abbrev pub slot_after : Variables → SlotState → SlotState
-slot_after variables slot = record slot { work = option_map (work_after (did_in variables slot).task) slot.work; did = Some (effects_of (did_in variables slot)) }
+slot_after variables slot =
+    record slot { work = option_map (work_after (did_in variables slot).task) slot.work; did = Some (effects_of (did_in variables slot)) }
 
 -- slots of which the first left this
 abbrev pub slots_at : List LeftByCallback → List SlotState → List SlotState

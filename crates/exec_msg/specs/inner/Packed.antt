@@ -44,8 +44,10 @@ said_by (cell.Log entity high low) id = a_line (line.Log entity (value_by high l
 said_by (cell.RunOnGoal kind entity high low) id = a_line (line.Run entity kind (value_by high low) (pos 0) (Some id)) id
 said_by (cell.RunOnGoalBeside kind entity aux low) id = a_line (line.Run entity kind (pos low) (pos aux) (Some id)) id
 said_by (cell.RunOnGoalCounted kind entity high low) id = a_line (line.Run entity kind (value_by high low) (aux_by id) (Some id)) id
-said_by (cell.RunOnNear kind entity maker count low) id = a_line (line.Run entity kind (pos low) (pos 0) (Some (maker * 2 ^ 64 + count))) (maker * 2 ^ 64 + count)
-said_by (cell.RunOnNearCounted kind entity maker count low) id = a_line (line.Run entity kind (pos low) (pos count) (Some (maker * 2 ^ 64 + count))) (maker * 2 ^ 64 + count)
+said_by (cell.RunOnNear kind entity maker count low) id =
+    a_line (line.Run entity kind (pos low) (pos 0) (Some (maker * 2 ^ 64 + count))) (maker * 2 ^ 64 + count)
+said_by (cell.RunOnNearCounted kind entity maker count low) id =
+    a_line (line.Run entity kind (pos low) (pos count) (Some (maker * 2 ^ 64 + count))) (maker * 2 ^ 64 + count)
 said_by (cell.Expire server) id = a_line (line.Expire server id) id
 said_by (cell.Goal client high low) id = a_line (line.Goal client id (value_by high low)) id
 said_by (cell.Cancel client high low) id = a_line (line.Cancel client id (joined_halves high low)) id
@@ -98,7 +100,9 @@ HaveWholes (cell ∷ cells) id wholes = HaveWholesBy (said_by cell id) id wholes
 
 -- cells behind these say lines, where one identifier was told before and one is behind
 abbrev pub HasLines : List PackedCell → List PackedCell → ℕ → ℕ → List Line → Type 0
-HasLines cells new before behind lines = (more : List PackedCell) × (new ≡ cells ++ more) × (lines_in more before [] ≡ lines) × (id_behind more before ≡ behind) × HaveWholes more before []
+HasLines cells new before behind lines =
+    (more : List PackedCell) × (new ≡ cells ++ more) × (lines_in more before [] ≡ lines)
+    × (id_behind more before ≡ behind) × HaveWholes more before []
 
 -- cells don't begin with one that tells an identifier alone
 abbrev pub tells_no_id : List PackedCell → Type 0

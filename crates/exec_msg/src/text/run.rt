@@ -25,7 +25,8 @@ pub(crate) fn place_run(
     input: i64,
 ) -> usize
     requires { at + greatest_length names.now + 127 ≤ length bytes.old }
-    ensures text { take result bytes.new ≡ take at bytes.old ++ joined (codes "run" ∷ name_at names.now no ∷ kind_text kind ∷ signed_decimal input ∷ signed_decimal (pos 0) ∷ []) }
+    ensures text { take result bytes.new ≡ take at bytes.old
+        ++ joined (codes "run" ∷ name_at names.now no ∷ kind_text kind ∷ signed_decimal input ∷ signed_decimal (pos 0) ∷ []) }
     ensures within { result ≤ at + greatest_length names.now + 57 }
 {
     let Some(name) = names.short(no) else {
@@ -59,7 +60,8 @@ pub(crate) fn place_run_beside(
     aux: i64,
 ) -> usize
     requires { at + greatest_length names.now + 127 ≤ length bytes.old }
-    ensures text { take result bytes.new ≡ take at bytes.old ++ joined (codes "run" ∷ name_at names.now no ∷ kind_text kind ∷ signed_decimal input ∷ signed_decimal aux ∷ []) }
+    ensures text { take result bytes.new ≡ take at bytes.old
+        ++ joined (codes "run" ∷ name_at names.now no ∷ kind_text kind ∷ signed_decimal input ∷ signed_decimal aux ∷ []) }
     ensures within { result ≤ at + greatest_length names.now + 57 }
 {
     let Some(name) = names.short(no) else {
@@ -95,7 +97,8 @@ fn place_any_run(
     aux: i64,
 ) -> usize
     requires { at + greatest_length names.now + 68 ≤ length bytes.old }
-    ensures text { take result bytes.new ≡ take at bytes.old ++ joined (codes "run" ∷ name_at names.now no ∷ kind_text kind ∷ signed_decimal input ∷ signed_decimal aux ∷ []) }
+    ensures text { take result bytes.new ≡ take at bytes.old
+        ++ joined (codes "run" ∷ name_at names.now no ∷ kind_text kind ∷ signed_decimal input ∷ signed_decimal aux ∷ []) }
     ensures within { result ≤ at + greatest_length names.now + 57 }
 {
     let end = place_callback(bytes, at, "run", names, no, kind);
@@ -117,7 +120,8 @@ pub(crate) fn place_goal_run(
     id: GoalId,
 ) -> usize
     requires { at + greatest_length names.now + 105 ≤ length bytes.old }
-    ensures text { take result bytes.new ≡ take at bytes.old ++ joined (codes "run" ∷ name_at names.now no ∷ kind_text kind ∷ signed_decimal input ∷ signed_decimal aux ∷ id_text id ∷ []) }
+    ensures text { take result bytes.new ≡ take at bytes.old
+        ++ joined (codes "run" ∷ name_at names.now no ∷ kind_text kind ∷ signed_decimal input ∷ signed_decimal aux ∷ id_text id ∷ []) }
     ensures within { result ≤ at + greatest_length names.now + 94 }
 {
     let end = place_callback(bytes, at, "run", names, no, kind);

@@ -13,5 +13,7 @@ use Rattle.exec_program.specs.declared.program.Failure.TheVariants as failure
 abbrev pub HasWritten : {Value : Type 0} → List ℕ → StreamRun → Bool → Result Value Failure → Type 0
 HasWritten document output flushed (Ok _) = (flushed ≡ true) × ((plan : PlanData) × (document_of document ≡ Some plan) × Appended output (text_of plan))
 HasWritten document output flushed (Err (failure.Refused code)) = IsRefusalOf document code × Unchanged output
-HasWritten document output flushed (Err failure.WriteFailed) = (output.failed ≡ true) × ((plan : PlanData) × (document_of document ≡ Some plan) × ((count : ℕ) × Appended output (take count (text_of plan))))
+HasWritten document output flushed (Err failure.WriteFailed) =
+    (output.failed ≡ true)
+    × ((plan : PlanData) × (document_of document ≡ Some plan) × ((count : ℕ) × Appended output (take count (text_of plan))))
 HasWritten document output flushed (Err _) = ⊥

@@ -8,5 +8,6 @@ use Rattle.exec_rules.specs.Calls.{AreHome, HaveVariables, WorldData, after_roun
 abbrev pub HasBegun : ℕ → Option Begun → WorldData → WorldData → Type 0
 HasBegun round None before after = after ≡ after_round round before
 HasBegun round (Some begun) before after =
-    (begun.list.items ≡ ready_in round before) × (after ≡ after_snapshot round before) × AreHome begun.list.items after.state × HaveVariables begun.list.items after.state
+    (begun.list.items ≡ ready_in round before) × (after ≡ after_snapshot round before)
+    × AreHome begun.list.items after.state × HaveVariables begun.list.items after.state
     × (0 < length begun.list.items) × (0 < begun.workers)

@@ -36,7 +36,11 @@ listed_by_kind moment world = placed_from 1 (ready_before moment world ++ flat_m
 -- the world after each input is taken: the queues before polls alone hand on replies
 abbrev pub taken_in_parts : Moment → WorldState → WorldState
 taken_in_parts moment world =
-    record world { timers = map (timer_taken moment) world.timers; queues = map queue_taken world.queues; clients = fold reply_taken world.clients (queues_before_polls world) }
+    record world {
+      timers = map (timer_taken moment) world.timers;
+      queues = map queue_taken world.queues;
+      clients = fold reply_taken world.clients (queues_before_polls world);
+    }
 
 -- the ready list of a world is this list
 abbrev pub IsListedByKind : Moment → WorldState → Type 0

@@ -10,7 +10,8 @@ pub record FrameState : Type 0 where
 
 -- the input behind the registers and the variables
 abbrev pub input_in : List ℤ → CallInput
-input_in values = record { first = slice_index_or values 16 (pos 0); aux = slice_index_or values 17 (pos 0); moment = at_least_0 (slice_index_or values 18 (pos 0)) }
+input_in values =
+    record { first = slice_index_or values 16 (pos 0); aux = slice_index_or values 17 (pos 0); moment = at_least_0 (slice_index_or values 18 (pos 0)) }
 
 -- the frame that an array of integers is
 abbrev pub frame_of : List ℤ → FrameState

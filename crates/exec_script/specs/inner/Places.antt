@@ -12,7 +12,8 @@ place_behind (suc (suc zero)) h = refl
 place_behind (suc (suc (suc zero))) h = refl
 place_behind (suc (suc (suc (suc n)))) h = absurd (omega arith)
 
-place_by : (low middle : Bool) (place : ℕ) → nat_lt place 8 ≡ low → nat_lt place 16 ≡ middle → place < 20 → place_of (if low then Register place else (if middle then Variable (place - 8) else cell_behind (place - 16))) ≡ place
+place_by : (low middle : Bool) (place : ℕ) → nat_lt place 8 ≡ low → nat_lt place 16 ≡ middle → place < 20 →
+    place_of (if low then Register place else (if middle then Variable (place - 8) else cell_behind (place - 16))) ≡ place
 place_by true middle place p q h = refl
 place_by false true place p q h = let least = ltb-false place 8 p in omega arith
 place_by false false place p q h =
@@ -24,7 +25,8 @@ place_by false false place p q h =
 pub place_is : (place : ℕ) → place < 20 → place_of (cell_at place) ≡ place
 place_is place h = place_by (nat_lt place 8) (nat_lt place 16) place refl refl h
 
-target_by : (low : Bool) (place : ℕ) → nat_lt place 8 ≡ low → place_of_target (if low then destination.Register place else destination.Variable (place - 8)) ≡ place
+target_by : (low : Bool) (place : ℕ) → nat_lt place 8 ≡ low →
+    place_of_target (if low then destination.Register place else destination.Variable (place - 8)) ≡ place
 target_by true place p = refl
 target_by false place p = let least = ltb-false place 8 p in omega arith
 

@@ -37,7 +37,8 @@ with_declared graph number before = record {
   timers = with_if (is_timer (declared_at graph number)) (new_timer graph number) before.timers;
   servers = with_if (is_server (declared_at graph number)) (new_server graph number) before.servers;
   clients = with_if (is_client (declared_at graph number)) (new_client graph number) before.clients;
-  action_clients = with_if (is_action_client (declared_at graph number)) (action_client_for (length before.action_clients) number (entity_at graph number)) before.action_clients;
+  action_clients = with_if (is_action_client (declared_at graph number))
+      (action_client_for (length before.action_clients) number (entity_at graph number)) before.action_clients;
 }
 
 -- the queue of an entity's callbacks of a kind
