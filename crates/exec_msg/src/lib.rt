@@ -9,6 +9,7 @@ pub mod laws;
 mod lazy_queue;
 pub mod limits;
 mod line;
+mod line_texts;
 mod lines;
 mod memory;
 mod name_texts;

@@ -3,16 +3,16 @@
 pub(crate) mod id;
 pub(crate) mod numbers;
 
-ghost use Rattle.std.specs.Prelude.{◌≡◌, ◌+◌, ◌<◌, ◌≤◌, [], ◌∷◌, ◌++◌, length, take, decimal};
+ghost use Rattle.std.specs.Prelude.{◌≡◌, ◌+◌, ◌≤◌, [], ◌∷◌, ◌++◌, length, take, decimal};
 ghost use Rattle.std.specs.Fmt.{signed_decimal};
 ghost use Rattle.exec_msg.specs.Line.{greatest_length, spaced, joined, name_at, kind_text, id_text};
 
 use crate::kind::Kind;
+use crate::line_texts::LineTexts;
 use crate::name_texts::{NameField, NameTexts};
 use crate::numbers::{EntityNo, GoalId};
 use crate::place::id::place_id;
 use crate::place::numbers::{place_count, place_value};
-use crate::value_texts::ValueTexts;
 use std::simd::Simd;
 
 #[inline(always)]
@@ -174,7 +174,7 @@ pub(crate) fn place_kind(bytes: &mut [u8], at: usize, kind: Kind) -> usize
 }
 
 // A line's word, and the goal that it is about: the name of its server or client and its identifier.
-#[inline(always)]
+#[inline(never)]
 pub(crate) fn place_goal(
     bytes: &mut [u8],
     at: usize,
@@ -192,22 +192,22 @@ pub(crate) fn place_goal(
 }
 
 // A line's word, the name of what it is about, and a value.
-#[inline(always)]
+#[inline(never)]
 pub(crate) fn place_named_value(
-    texts: &mut ValueTexts,
+    texts: &mut LineTexts<'_>,
     bytes: &mut [u8],
     at: usize,
     word: &str,
-    names: &NameTexts<'_>,
     no: EntityNo,
     value: i64,
 ) -> usize
-    requires { at + length word.now + greatest_length names.now + 49 ≤ length bytes.old }
-    ensures text { take result bytes.new ≡ take at bytes.old ++ joined (word.now ∷ name_at names.now no ∷ signed_decimal value ∷ []) }
-    ensures within { result ≤ at + length word.now + greatest_length names.now + 23 }
+    requires { at + length word.now + greatest_length texts.old + 49 ≤ length bytes.old }
+    ensures text { take result bytes.new ≡ take at bytes.old ++ joined (word.now ∷ name_at texts.old no ∷ signed_decimal value ∷ []) }
+    ensures within { result ≤ at + length word.now + greatest_length texts.old + 23 }
+    ensures names { texts.new ≡ texts.old }
 {
-    let end = place_named(bytes, at, word, names, no);
-    place_value(texts, bytes, end, value)
+    let end = place_named(bytes, at, word, &texts.names, no);
+    place_value(&mut texts.values, bytes, end, value)
 }
 
 // A line's word, the name of what it is about, and a count.
@@ -225,61 +225,5 @@ pub(crate) fn place_named_count(
     ensures within { result ≤ at + length word.now + greatest_length names.now + 22 }
 {
     let end = place_named(bytes, at, word, names, no);
-    place_count(bytes, end, count)
-}
-
-// A line's word, and the goal that it is about.
-#[inline(never)]
-pub(crate) fn place_goal_line(
-    bytes: &mut [u8],
-    at: usize,
-    word: &str,
-    names: &NameTexts<'_>,
-    no: EntityNo,
-    id: GoalId,
-) -> usize
-    requires { at + length word.now + greatest_length names.now + 49 ≤ length bytes.old }
-    ensures text { take result bytes.new ≡ take at bytes.old ++ joined (word.now ∷ name_at names.now no ∷ id_text id ∷ []) }
-    ensures within { result ≤ at + length word.now + greatest_length names.now + 38 }
-{
-    place_goal(bytes, at, word, names, no, id)
-}
-
-// A line's word, the goal that it is about, and a value.
-#[inline(never)]
-pub(crate) fn place_goal_value(
-    texts: &mut ValueTexts,
-    bytes: &mut [u8],
-    at: usize,
-    word: &str,
-    names: &NameTexts<'_>,
-    no: EntityNo,
-    id: GoalId,
-    value: i64,
-) -> usize
-    requires { at + length word.now + greatest_length names.now + 71 ≤ length bytes.old }
-    ensures text { take result bytes.new ≡ take at bytes.old ++ joined (word.now ∷ name_at names.now no ∷ id_text id ∷ signed_decimal value ∷ []) }
-    ensures within { result ≤ at + length word.now + greatest_length names.now + 60 }
-{
-    let end = place_goal(bytes, at, word, names, no, id);
-    place_value(texts, bytes, end, value)
-}
-
-// A line's word, the goal that it is about, and a count.
-#[inline(never)]
-pub(crate) fn place_goal_count(
-    bytes: &mut [u8],
-    at: usize,
-    word: &str,
-    names: &NameTexts<'_>,
-    no: EntityNo,
-    id: GoalId,
-    count: u64,
-) -> usize
-    requires { at + length word.now + greatest_length names.now + 70 ≤ length bytes.old }
-    ensures text { take result bytes.new ≡ take at bytes.old ++ joined (word.now ∷ name_at names.now no ∷ id_text id ∷ decimal count ∷ []) }
-    ensures within { result ≤ at + length word.now + greatest_length names.now + 59 }
-{
-    let end = place_goal(bytes, at, word, names, no, id);
     place_count(bytes, end, count)
 }

@@ -3,23 +3,22 @@ mod run;
 
 ghost use Rattle.std.specs.Prelude.{◌≡◌, ◌+◌, ◌<◌, ◌≤◌, [], ◌∷◌, ◌++◌, length, take, codes, decimal, ◌^◌, vec_capacity, vec_len, IfOk, OnErr};
 ghost use Rattle.std.specs.Fmt.{signed_decimal};
-ghost use Rattle.exec_msg.specs.Goal.{status_number, code_number};
+ghost use Rattle.exec_msg.specs.Goal.{code_number};
 ghost use Rattle.exec_msg.specs.Line.{IsAppended, greatest_length, line_room, joined, name_at, kind_text, id_text, fields_of, line_text};
 
-use crate::goal::{GoalStatus, ReturnCode};
+use crate::goal::ReturnCode;
 use crate::kind::Kind;
 use crate::line::Line;
+use crate::line_texts::LineTexts;
 use crate::memory::Memory;
 use crate::name_texts::NameTexts;
 use crate::names::Names;
 use crate::numbers::{EntityNo, GoalId};
 use crate::place::numbers::{place_count, place_small, place_value, small};
 use crate::place::{
-    place, place_callback, place_goal_count, place_goal_line, place_goal_value, place_named_count,
-    place_named_value, place_short_named,
+    place, place_callback, place_goal, place_named_count, place_named_value, place_short_named,
 };
-use crate::value_texts::ValueTexts;
-use run::{place_goal_run, place_run, place_run_beside};
+use run::{place_aux_and_id, place_run, place_run_start};
 
 /// Appends the text of a line.
 ///
@@ -33,9 +32,8 @@ pub fn write_line(line: &Line, names: &Names, out: &mut Vec<u8>) -> Result<(), M
     let at = out.len();
     let room = room_behind(at, names)?;
     out.resize(room, 0)?;
-    let name_texts = NameTexts::new(*out.allocator(), names);
-    let mut texts = ValueTexts::new(*out.allocator());
-    let end = place_line(line, &name_texts, &mut texts, out.as_mut_slice(), at);
+    let mut texts = LineTexts::new(*out.allocator(), names);
+    let end = place_line(line, &mut texts, out.as_mut_slice(), at);
     out.truncate(end);
     Ok(())
 }
@@ -59,115 +57,117 @@ pub fn room_behind(at: usize, names: &Names) -> Result<usize, Memory>
 #[inline(always)]
 pub(crate) fn place_line(
     line: &Line,
-    names: &NameTexts<'_>,
-    texts: &mut ValueTexts,
+    texts: &mut LineTexts<'_>,
     bytes: &mut [u8],
     at: usize,
 ) -> usize
-    requires { at + line_room names.now ≤ length bytes.old }
-    ensures text { take result bytes.new ≡ take at bytes.old ++ line_text names.now line.now }
-    ensures within { result ≤ at + line_room names.now }
+    requires { at + line_room texts.old ≤ length bytes.old }
+    ensures text { take result bytes.new ≡ take at bytes.old ++ line_text texts.old line.now }
+    ensures within { result ≤ at + line_room texts.old }
+    ensures names { texts.new ≡ texts.old }
 {
-    let end = place_fields(line, names, texts, bytes, at);
+    let end = place_fields(line, texts, bytes, at);
     bytes[end] = b'\n';
     end + 1
 }
 
 // The match is inlined into what makes a line, and is decided there. For that it must be small, so it has only calls.
 #[inline(always)]
-fn place_fields(
-    line: &Line,
-    names: &NameTexts<'_>,
-    texts: &mut ValueTexts,
-    bytes: &mut [u8],
-    at: usize,
-) -> usize
-    requires { at + greatest_length names.now + 127 ≤ length bytes.old }
-    ensures text { take result bytes.new ≡ take at bytes.old ++ joined (fields_of names.now line.now) }
-    ensures within { result ≤ at + greatest_length names.now + 127 }
+fn place_fields(line: &Line, texts: &mut LineTexts<'_>, bytes: &mut [u8], at: usize) -> usize
+    requires { at + greatest_length texts.old + 127 ≤ length bytes.old }
+    ensures text { take result bytes.new ≡ take at bytes.old ++ joined (fields_of texts.old line.now) }
+    ensures within { result ≤ at + greatest_length texts.old + 127 }
+    ensures names { texts.new ≡ texts.old }
 {
     match *line {
         Line::Round { number, moment } => place_round(bytes, at, number, moment.ticks()),
-        Line::Expire { server, id } => place_goal_line(bytes, at, "expire", names, server, id),
+        Line::Expire { server, id } => place_goal(bytes, at, "expire", &texts.names, server, id),
         Line::Run {
             entity,
             kind,
             input,
             aux: 0,
             id: None,
-        } => place_run(texts, bytes, at, names, entity, kind, input),
+        } => place_run(texts, bytes, at, entity, kind, input),
         Line::Run {
             entity,
             kind,
             input,
             aux,
             id: None,
-        } => place_run_beside(texts, bytes, at, names, entity, kind, input, aux),
+        } => {
+            let end = place_run_start(texts, bytes, at, entity, kind, input);
+            texts.values.place(bytes, end, aux)
+        }
         Line::Run {
             entity,
             kind,
             input,
             aux,
             id: Some(id),
-        } => place_goal_run(texts, bytes, at, names, entity, kind, input, aux, id),
+        } => {
+            let end = place_run_start(texts, bytes, at, entity, kind, input);
+            place_aux_and_id(texts, bytes, end, aux, id)
+        }
         Line::Drop {
             entity,
             kind,
             input,
-        } => place_drop(texts, bytes, at, names, entity, kind, input),
-        Line::Pub { topic, value } => place_pub(texts, bytes, at, names, topic, value),
+        } => place_drop(texts, bytes, at, entity, kind, input),
+        Line::Pub { topic, value } => place_pub(texts, bytes, at, topic, value),
         Line::Call {
             client,
             number,
             value,
-        } => place_call(texts, bytes, at, names, client, number, value),
-        Line::Reply { service, value } => place_reply(texts, bytes, at, names, service, value),
-        Line::Goal { client, id, value } => place_goal_value(
-            texts, bytes, at, "goal", names, client, id, value,
-        ),
-        Line::Cancel { client, id, stamp } => place_goal_count(
-            bytes, at, "cancel", names, client, id, stamp,
-        ),
-        Line::Log { entity, value } => place_log(texts, bytes, at, names, entity, value),
-        Line::Feedback { server, id, value } => place_goal_value(
-            texts, bytes, at, "feedback", names, server, id, value,
-        ),
+        } => place_call(texts, bytes, at, client, number, value),
+        Line::Reply { service, value } => place_reply(texts, bytes, at, service, value),
+        Line::Goal { client, id, value } => {
+            let end = place_goal(bytes, at, "goal", &texts.names, client, id);
+            texts.values.place(bytes, end, value)
+        }
+        Line::Cancel { client, id, stamp } => {
+            place_cancel(bytes, at, &texts.names, client, id, stamp)
+        }
+        Line::Log { entity, value } => place_log(texts, bytes, at, entity, value),
+        Line::Feedback { server, id, value } => {
+            let end = place_goal(bytes, at, "feedback", &texts.names, server, id);
+            texts.values.place(bytes, end, value)
+        }
         Line::Decide {
             server,
             id,
             decision,
-        } => place_goal_count(
-            bytes,
-            at,
-            "decide",
-            names,
-            server,
-            id,
-            decision.number() as u64,
-        ),
-        Line::State { server, id, status } => place_goal_count(
-            bytes,
-            at,
-            "state",
-            names,
-            server,
-            id,
-            status.number() as u64,
-        ),
+        } => {
+            let end = place_goal(bytes, at, "decide", &texts.names, server, id);
+            texts.values.place(bytes, end, i64::from(decision.number()))
+        }
+        Line::State { server, id, status } => {
+            let end = place_goal(bytes, at, "state", &texts.names, server, id);
+            texts.values.place(bytes, end, i64::from(status.number()))
+        }
         Line::Code {
             server,
             code,
             moved,
-        } => place_code(bytes, at, names, server, code, moved),
-        Line::Ask { client, id } => place_goal_line(bytes, at, "ask", names, client, id),
+        } => place_code(bytes, at, &texts.names, server, code, moved),
+        Line::Ask { client, id } => place_goal(bytes, at, "ask", &texts.names, client, id),
         Line::Result {
             server,
             id,
             status,
             value,
-        } => place_result(texts, bytes, at, names, server, id, status, value),
+        } => {
+            let end = place_goal(bytes, at, "result", &texts.names, server, id);
+            let end = texts.values.place(bytes, end, i64::from(status.number()));
+            texts.values.place(bytes, end, value)
+        }
         Line::Pending { client, calls } => place_named_count(
-            bytes, at, "pending", names, client, calls,
+            bytes,
+            at,
+            "pending",
+            &texts.names,
+            client,
+            calls,
         ),
         Line::End { rounds } => place_end(bytes, at, rounds),
     }
@@ -196,151 +196,132 @@ fn place_end(bytes: &mut [u8], at: usize, rounds: u64) -> usize
 
 #[inline(never)]
 fn place_drop(
-    texts: &mut ValueTexts,
+    texts: &mut LineTexts<'_>,
     bytes: &mut [u8],
     at: usize,
-    names: &NameTexts<'_>,
     no: EntityNo,
     kind: Kind,
     input: i64,
 ) -> usize
-    requires { at + greatest_length names.now + 53 ≤ length bytes.old }
-    ensures text { take result bytes.new ≡ take at bytes.old ++ joined (codes "drop" ∷ name_at names.now no ∷ kind_text kind ∷ signed_decimal input ∷ []) }
-    ensures within { result ≤ at + greatest_length names.now + 36 }
+    requires { at + greatest_length texts.old + 53 ≤ length bytes.old }
+    ensures text { take result bytes.new ≡ take at bytes.old ++ joined (codes "drop" ∷ name_at texts.old no ∷ kind_text kind ∷ signed_decimal input ∷ []) }
+    ensures within { result ≤ at + greatest_length texts.old + 36 }
+    ensures names { texts.new ≡ texts.old }
 {
-    let end = place_callback(bytes, at, "drop", names, no, kind);
-    place_value(texts, bytes, end, input)
+    let end = place_callback(bytes, at, "drop", &texts.names, no, kind);
+    place_value(&mut texts.values, bytes, end, input)
 }
 
 #[inline(never)]
 fn place_pub(
-    texts: &mut ValueTexts,
+    texts: &mut LineTexts<'_>,
     bytes: &mut [u8],
     at: usize,
-    names: &NameTexts<'_>,
     no: EntityNo,
     value: i64,
 ) -> usize
-    requires { at + greatest_length names.now + 52 ≤ length bytes.old }
-    ensures text { take result bytes.new ≡ take at bytes.old ++ joined (codes "pub" ∷ name_at names.now no ∷ signed_decimal value ∷ []) }
-    ensures within { result ≤ at + greatest_length names.now + 26 }
+    requires { at + greatest_length texts.old + 52 ≤ length bytes.old }
+    ensures text { take result bytes.new ≡ take at bytes.old ++ joined (codes "pub" ∷ name_at texts.old no ∷ signed_decimal value ∷ []) }
+    ensures within { result ≤ at + greatest_length texts.old + 26 }
+    ensures names { texts.new ≡ texts.old }
 {
-    let Some(name) = names.short(no) else {
-        return place_long_named_value(texts, bytes, at, "pub", names, no, value);
+    let Some(name) = texts.names.short(no) else {
+        return place_named_value(texts, bytes, at, "pub", no, value);
     };
     let end = place_short_named(bytes, at, "pub", name);
-    place_value(texts, bytes, end, value)
+    place_value(&mut texts.values, bytes, end, value)
 }
 
 #[inline(never)]
 fn place_reply(
-    texts: &mut ValueTexts,
+    texts: &mut LineTexts<'_>,
     bytes: &mut [u8],
     at: usize,
-    names: &NameTexts<'_>,
     no: EntityNo,
     value: i64,
 ) -> usize
-    requires { at + greatest_length names.now + 54 ≤ length bytes.old }
-    ensures text { take result bytes.new ≡ take at bytes.old ++ joined (codes "reply" ∷ name_at names.now no ∷ signed_decimal value ∷ []) }
-    ensures within { result ≤ at + greatest_length names.now + 28 }
+    requires { at + greatest_length texts.old + 54 ≤ length bytes.old }
+    ensures text { take result bytes.new ≡ take at bytes.old ++ joined (codes "reply" ∷ name_at texts.old no ∷ signed_decimal value ∷ []) }
+    ensures within { result ≤ at + greatest_length texts.old + 28 }
+    ensures names { texts.new ≡ texts.old }
 {
-    let Some(name) = names.short(no) else {
-        return place_long_named_value(texts, bytes, at, "reply", names, no, value);
+    let Some(name) = texts.names.short(no) else {
+        return place_named_value(texts, bytes, at, "reply", no, value);
     };
     let end = place_short_named(bytes, at, "reply", name);
-    place_value(texts, bytes, end, value)
+    place_value(&mut texts.values, bytes, end, value)
 }
 
 #[inline(never)]
 fn place_log(
-    texts: &mut ValueTexts,
+    texts: &mut LineTexts<'_>,
     bytes: &mut [u8],
     at: usize,
-    names: &NameTexts<'_>,
     no: EntityNo,
     value: i64,
 ) -> usize
-    requires { at + greatest_length names.now + 52 ≤ length bytes.old }
-    ensures text { take result bytes.new ≡ take at bytes.old ++ joined (codes "log" ∷ name_at names.now no ∷ signed_decimal value ∷ []) }
-    ensures within { result ≤ at + greatest_length names.now + 26 }
+    requires { at + greatest_length texts.old + 52 ≤ length bytes.old }
+    ensures text { take result bytes.new ≡ take at bytes.old ++ joined (codes "log" ∷ name_at texts.old no ∷ signed_decimal value ∷ []) }
+    ensures within { result ≤ at + greatest_length texts.old + 26 }
+    ensures names { texts.new ≡ texts.old }
 {
-    let Some(name) = names.short(no) else {
-        return place_long_named_value(texts, bytes, at, "log", names, no, value);
+    let Some(name) = texts.names.short(no) else {
+        return place_named_value(texts, bytes, at, "log", no, value);
     };
     let end = place_short_named(bytes, at, "log", name);
-    place_value(texts, bytes, end, value)
+    place_value(&mut texts.values, bytes, end, value)
 }
 
-// A line's word, a name that has no field, and a value.
-#[inline(never)]
-fn place_long_named_value(
-    texts: &mut ValueTexts,
-    bytes: &mut [u8],
-    at: usize,
-    word: &str,
-    names: &NameTexts<'_>,
-    no: EntityNo,
-    value: i64,
-) -> usize
-    requires { at + length word.now + greatest_length names.now + 49 ≤ length bytes.old }
-    ensures text { take result bytes.new ≡ take at bytes.old ++ joined (word.now ∷ name_at names.now no ∷ signed_decimal value ∷ []) }
-    ensures within { result ≤ at + length word.now + greatest_length names.now + 23 }
-{
-    place_named_value(texts, bytes, at, word, names, no, value)
-}
-
-// The line of a client's call. If its number is small, the name is short and the text of the value is kept, it is placed
-// without a call.
+// The line of a client's call. If its number is small, its name is short, and its value is small or has a text that is kept, it
+// is placed without calling a function.
 #[inline(never)]
 fn place_call(
-    texts: &mut ValueTexts,
+    texts: &mut LineTexts<'_>,
     bytes: &mut [u8],
     at: usize,
-    names: &NameTexts<'_>,
     no: EntityNo,
     number: u64,
     value: i64,
 ) -> usize
-    requires { at + greatest_length names.now + 127 ≤ length bytes.old }
-    ensures text { take result bytes.new ≡ take at bytes.old ++ joined (codes "call" ∷ name_at names.now no ∷ decimal number ∷ signed_decimal value ∷ []) }
-    ensures within { result ≤ at + greatest_length names.now + 48 }
+    requires { at + greatest_length texts.old + 127 ≤ length bytes.old }
+    ensures text { take result bytes.new ≡ take at bytes.old ++ joined (codes "call" ∷ name_at texts.old no ∷ decimal number ∷ signed_decimal value ∷ []) }
+    ensures within { result ≤ at + greatest_length texts.old + 48 }
+    ensures names { texts.new ≡ texts.old }
 {
     if number >= 10_000 {
-        return place_any_call(texts, bytes, at, names, no, number, value);
+        return place_any_call(texts, bytes, at, no, number, value);
     }
-    let Some(name) = names.short(no) else {
-        return place_any_call(texts, bytes, at, names, no, number, value);
-    };
-    if let Some(small) = small(value) {
-        let end = place_short_named(bytes, at, "call", name);
-        let end = place_small(bytes, end, number);
-        return place_small(bytes, end, small);
+    if let Some(name) = texts.names.short(no) {
+        if let Some(small) = small(value) {
+            let end = place_short_named(bytes, at, "call", name);
+            let end = place_small(bytes, end, number);
+            return place_small(bytes, end, small);
+        }
+        if let Some(field) = texts.values.find(value) {
+            let end = place_short_named(bytes, at, "call", name);
+            let end = place_small(bytes, end, number);
+            return field.place(bytes, end);
+        }
     }
-    let Some(field) = texts.find(value) else {
-        return place_any_call(texts, bytes, at, names, no, number, value);
-    };
-    let end = place_short_named(bytes, at, "call", name);
-    let end = place_small(bytes, end, number);
-    field.place(bytes, end)
+    place_any_call(texts, bytes, at, no, number, value)
 }
 
 #[inline(never)]
 fn place_any_call(
-    texts: &mut ValueTexts,
+    texts: &mut LineTexts<'_>,
     bytes: &mut [u8],
     at: usize,
-    names: &NameTexts<'_>,
     no: EntityNo,
     number: u64,
     value: i64,
 ) -> usize
-    requires { at + greatest_length names.now + 53 ≤ length bytes.old }
-    ensures text { take result bytes.new ≡ take at bytes.old ++ joined (codes "call" ∷ name_at names.now no ∷ decimal number ∷ signed_decimal value ∷ []) }
-    ensures within { result ≤ at + greatest_length names.now + 48 }
+    requires { at + greatest_length texts.old + 53 ≤ length bytes.old }
+    ensures text { take result bytes.new ≡ take at bytes.old ++ joined (codes "call" ∷ name_at texts.old no ∷ decimal number ∷ signed_decimal value ∷ []) }
+    ensures within { result ≤ at + greatest_length texts.old + 48 }
+    ensures names { texts.new ≡ texts.old }
 {
-    let end = place_named_count(bytes, at, "call", names, no, number);
-    place_value(texts, bytes, end, value)
+    let end = place_named_count(bytes, at, "call", &texts.names, no, number);
+    place_value(&mut texts.values, bytes, end, value)
 }
 
 #[inline(never)]
@@ -361,21 +342,18 @@ fn place_code(
 }
 
 #[inline(never)]
-fn place_result(
-    texts: &mut ValueTexts,
+fn place_cancel(
     bytes: &mut [u8],
     at: usize,
     names: &NameTexts<'_>,
     no: EntityNo,
     id: GoalId,
-    status: GoalStatus,
-    value: i64,
+    stamp: u64,
 ) -> usize
-    requires { at + greatest_length names.now + 99 ≤ length bytes.old }
-    ensures text { take result bytes.new ≡ take at bytes.old
-        ++ joined (codes "result" ∷ name_at names.now no ∷ id_text id ∷ decimal (status_number status) ∷ signed_decimal value ∷ []) }
-    ensures within { result ≤ at + greatest_length names.now + 88 }
+    requires { at + greatest_length names.now + 65 ≤ length bytes.old }
+    ensures text { take result bytes.new ≡ take at bytes.old ++ joined (codes "cancel" ∷ name_at names.now no ∷ id_text id ∷ decimal stamp ∷ []) }
+    ensures within { result ≤ at + greatest_length names.now + 65 }
 {
-    let end = place_goal_count(bytes, at, "result", names, no, id, status.number() as u64);
-    place_value(texts, bytes, end, value)
+    let end = place_goal(bytes, at, "cancel", names, no, id);
+    place_count(bytes, end, stamp)
 }

@@ -1,17 +1,17 @@
 //! A transcript's lines, kept in few bytes each. Its text is made of them piece by piece.
-ghost use Rattle.std.specs.Prelude.{◌≡◌, ◌≤◌, take, vec_len, OnOk};
+ghost use Rattle.std.specs.Prelude.{◌≡◌, ◌+◌, ◌≤◌, ◌++◌, length, take, vec_len, OnOk};
+ghost use Rattle.exec_msg.specs.Line.{line_room, line_text};
 
 use crate::line::Line;
+use crate::line_texts::LineTexts;
 use crate::lines::{Lines, push_copy};
 use crate::memory::Memory;
-use crate::name_texts::NameTexts;
 use crate::names::Names;
 use crate::numbers::GoalId;
 use crate::packed::PackedCell;
 use crate::packed::push::push_line;
 use crate::packed::said::skip_ids;
 use crate::text::{place_line, room_behind};
-use crate::value_texts::ValueTexts;
 use std::alloc::Global;
 use std::marker::Model;
 
@@ -59,14 +59,11 @@ impl Transcript {
     pub fn reader<'a>(&'a self, alloc: Global, names: &'a Names) -> Result<TextReader<'a>, Memory>
         ensures { IfOk result (λ reader. reader ≡ record { names = names.now; lines = self.now }) }
     {
-        let mut name_texts = NameTexts::new(alloc, names);
-        let mut texts = ValueTexts::new(alloc);
+        let mut texts = LineTexts::new(alloc, names);
         if self.cells.len() >= MANY_CELLS {
-            name_texts.fill()?;
             texts.fill()?;
         }
         Ok(TextReader {
-            names: name_texts,
             texts,
             cells: self.cells.as_slice(),
             wholes: self.wholes.as_slice(),
@@ -134,8 +131,7 @@ impl Lines for Transcript {
 /// A transcript whose text is read piece by piece.
 #[derive(Drop)]
 pub struct TextReader<'a> {
-    names: NameTexts<'a>,
-    texts: ValueTexts,
+    texts: LineTexts<'a>,
     cells: &'a [PackedCell],
     wholes: &'a [Line],
     // The identifier that was given last.
@@ -148,7 +144,7 @@ impl<'a> Model for TextReader<'a> {
 
     ghost Value = { LinesLeft };
 
-    ghost view = { λ reader. record { names = reader.names; lines = lines_in reader.cells.now reader.told reader.wholes.now } };
+    ghost view = { λ reader. record { names = reader.texts; lines = lines_in reader.cells.now reader.told reader.wholes.now } };
 }
 
 impl<'a> TextReader<'a> {
@@ -163,7 +159,7 @@ impl<'a> TextReader<'a> {
         ensures { IfOk result (λ buffer. line_room self.now.names ≤ length buffer.items) }
     {
         let mut buffer = Vec::new(alloc);
-        lengthen(&mut buffer, room_behind(0, self.names.names())?)?;
+        lengthen(&mut buffer, room_behind(0, self.texts.names.names())?)?;
         Ok(buffer)
     }
 
@@ -171,7 +167,7 @@ impl<'a> TextReader<'a> {
     pub fn has_room(&self, buffer: &[u8], at: usize) -> bool
         ensures { result ≡ nat_le (at + line_room self.now.names) (length buffer.now) }
     {
-        match room_behind(at, self.names.names()) {
+        match room_behind(at, self.texts.names.names()) {
             Ok(room) => room <= buffer.len(),
             Err(_) => false,
         }
@@ -199,9 +195,9 @@ impl<'a> TextReader<'a> {
             wholes: self.wholes,
             told: self.told,
         };
-        let mut end = left.place_next(&self.names, &mut self.texts, buffer, at)?;
+        let mut end = left.place_next(&mut self.texts, buffer, at)?;
         while end <= last {
-            let Some(next) = left.place_next(&self.names, &mut self.texts, buffer, end) else {
+            let Some(next) = left.place_next(&mut self.texts, buffer, end) else {
                 break;
             };
             end = next;
@@ -217,7 +213,7 @@ impl<'a> TextReader<'a> {
         requires { line_room self.now.names ≤ length buffer.now }
         ensures { result + line_room self.now.names ≡ length buffer.now }
     {
-        match room_behind(0, self.names.names()) {
+        match room_behind(0, self.texts.names.names()) {
             Ok(room) => buffer.len() - room,
             Err(_) => 0,
         }
@@ -251,18 +247,18 @@ impl<'a> Left<'a> {
     #[inline(always)]
     fn place_next(
         &mut self,
-        names: &NameTexts<'_>,
-        texts: &mut ValueTexts,
+        texts: &mut LineTexts<'_>,
         buffer: &mut [u8],
         at: usize,
     ) -> Option<usize>
-        requires { at + line_room names.now ≤ length buffer.old }
-        ensures text { IfSome result (λ end. take at buffer.old ++ transcript_text names.now self.old
-            ≡ take end buffer.new ++ transcript_text names.now self.new) }
+        requires { at + line_room texts.old ≤ length buffer.old }
+        ensures text { IfSome result (λ end. take at buffer.old ++ transcript_text texts.old self.old
+            ≡ take end buffer.new ++ transcript_text texts.old self.new) }
         ensures within { IfSome result (λ end. end ≤ length buffer.new) }
         ensures shorter { IfSome result (λ _. length self.new + 1 ≡ length self.old) }
         ensures none { IfNone result (self.old ≡ []) }
         ensures unchanged { IfNone result (self.new ≡ self.old) }
+        ensures names { texts.new ≡ texts.old }
         ensures same_buffer { IfNone result (buffer.new ≡ buffer.old) }
         ensures same_length { length buffer.new ≡ length buffer.old }
     {
@@ -273,7 +269,7 @@ impl<'a> Left<'a> {
         if let Some((line, told_behind)) = cell.line(told) {
             self.cells = behind;
             self.told = told_behind;
-            return Some(place_line(&line, names, texts, buffer, at));
+            return Some(place_line(&line, texts, buffer, at));
         }
         let [whole, wholes @ ..] = self.wholes else {
             return None;
@@ -281,6 +277,17 @@ impl<'a> Left<'a> {
         self.cells = behind;
         self.wholes = wholes;
         self.told = told;
-        Some(place_line(whole, names, texts, buffer, at))
+        Some(place_whole(whole, texts, buffer, at))
     }
+}
+
+// A line that has no form in cells. It isn't inlined, because few lines have none.
+#[inline(never)]
+fn place_whole(line: &Line, texts: &mut LineTexts<'_>, buffer: &mut [u8], at: usize) -> usize
+    requires { at + line_room texts.old ≤ length buffer.old }
+    ensures text { take result buffer.new ≡ take at buffer.old ++ line_text texts.old line.now }
+    ensures within { result ≤ at + line_room texts.old }
+    ensures names { texts.new ≡ texts.old }
+{
+    place_line(line, texts, buffer, at)
 }

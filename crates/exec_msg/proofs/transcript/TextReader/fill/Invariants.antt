@@ -6,7 +6,7 @@ use Rattle.exec_msg.proofs.transcript.TextReader.fill.Given as goal
 abbrev pub invariant-loop-end : goal.invariant-loop-end
 invariant-loop-end l =
     (take l.fn.at l.fn.buffer ++ transcript_text l.fn.self.names l.fn.self.lines ≡ take l.end l.buffer ++ transcript_text l.fn.self.names l.left)
-    × (l.self-inside.names ≡ l.fn.self.names)
+    × (l.self-inside.texts ≡ l.fn.self.names)
     × (l.end ≤ length l.buffer)
     × (length l.buffer ≡ length l.fn.buffer)
     × (length l.left < length l.fn.self.lines)
