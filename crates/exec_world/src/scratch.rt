@@ -12,7 +12,7 @@ use std::alloc::Global;
 pub(crate) struct Scratch {
     // The callbacks that are ready, as a snapshot lists them.
     pub(crate) list: ReadyList,
-    // How many of them, the first ones, come before polls under the order of kinds.
+    // How many of these, from the first one, come before polls under the order of kinds.
     pub(crate) before: usize,
     // The goals that are awake.
     pub(crate) goals: Vec<AwakeGoal>,
