@@ -2,19 +2,17 @@
 ghost use Rattle.std.specs.Prelude.{◌≡◌, IfOk, OnErr, OnOk};
 ghost use Rattle.std.specs.Option.{option_map};
 ghost use Rattle.exec_script.specs.Script.{called, cancel_decided, listed};
-ghost use Rattle.exec_rules.specs.Callback.{candidate_input, handle_all, instructions_of};
-ghost use Rattle.exec_rules.specs.Close.{decision_of_close};
+ghost use Rattle.exec_rules.specs.Callback.{candidate_input, handle_all, instructions_of, poll_listed};
 ghost use Rattle.exec_rules.specs.inner.Handling.{cancel_decision_in};
 ghost use Rattle.exec_rules.specs.Ready.{turn_at};
 ghost use Rattle.exec_rules.specs.Run.{apart_with, effects_of, work_after};
 ghost use Rattle.exec_rules.specs.World.{work_of};
-ghost use Rattle.exec_rules.specs.Callback.{poll_listed};
 
 use crate::polling::poll_any;
 use crate::ready::{Cause, Ready};
 use crate::runnable::Runnable;
 use exec_goal::GoalInfo;
-use exec_msg::{CancelDecision, Decision, Elements, Memory, Moment};
+use exec_msg::{CancelDecision, Elements, Memory, Moment};
 use exec_script::{Bank, Close, EffectList, Effects, Input, Role, run_call_into};
 use exec_task::{GoalTask, Poller, Turn};
 use std::alloc::Global;
@@ -167,16 +165,6 @@ fn candidate_input(moment: Moment, candidate: &GoalInfo) -> Input
         first: candidate.value,
         aux: i64::from(candidate.state.status().number()),
         moment,
-    }
-}
-
-/// The decision that closes a callback. If something else closes it, the decision is to reject.
-pub fn decision_of_close(closing: &Close) -> Decision
-    ensures { result ≡ decision_of_close closing.now }
-{
-    match closing {
-        Close::Decide(decision) => *decision,
-        _ => Decision::Reject,
     }
 }
 

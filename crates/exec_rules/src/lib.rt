@@ -12,7 +12,6 @@ mod ready;
 mod runnable;
 mod shared;
 
-pub use callback::decision_of_close;
 pub use handler::Handler;
 pub use item::Item;
 pub use listed::{Listed, ReadyList};

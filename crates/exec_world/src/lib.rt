@@ -3,6 +3,7 @@
 
 mod arrived;
 mod banks;
+mod closing;
 mod fault;
 mod first_world;
 mod fronts;

@@ -1,8 +1,6 @@
 //! What closes a callback in the world, after its effects.
-ghost use Rattle.std.specs.Prelude.{◌≡◌};
-ghost use Rattle.exec_rules.specs.Close.{decisions_of_close, reply_of_close};
-
 use super::WorldBody;
+use crate::closing::{decision_of_close, decisions_of_close, reply_of_close};
 use exec_entity::GoalRequest;
 use exec_goal::{Asked, CancelRequest};
 use exec_msg::{
@@ -10,7 +8,7 @@ use exec_msg::{
     Moment,
 };
 use exec_plan::Order;
-use exec_rules::{Cause, Item, Ready, decision_of_close};
+use exec_rules::{Cause, Item, Ready};
 use exec_script::Close;
 
 impl<L: Lines> WorldBody<L> {
@@ -21,7 +19,6 @@ impl<L: Lines> WorldBody<L> {
     ghost use Rattle.exec_world.specs.inner.Adding.{closing_adds, item_adds, pend_adds, poll_adds, response_adds};
     ghost use Rattle.exec_msg.specs.declared.goal.GoalStatus.TheVariants as status;
     ghost use Rattle.exec_msg.specs.declared.line.Line.TheVariants as line;
-    ghost use Rattle.exec_rules.specs.declared.item.Item.TheVariants as item;
     ghost use Rattle.exec_goal.specs.Table.{is_accepting};
     ghost use Rattle.exec_rules.specs.Close.{accept, answer_goal, ask, cancel, decide, end, goal_arrived, pend, reply_to, respond, tell};
     ghost use Rattle.exec_rules.specs.Close.{close_callback, close_item, close_poll};
@@ -321,23 +318,5 @@ impl<L: Lines> WorldBody<L> {
             index = index.checked_add(1).ok_or(Memory)?;
         }
         Ok(())
-    }
-}
-
-fn reply_of_close(closing: &Close) -> i64
-    ensures { result ≡ reply_of_close closing.now }
-{
-    match closing {
-        Close::Reply(value) => *value,
-        _ => 0,
-    }
-}
-
-fn decisions_of_close(closing: &Close) -> &[(GoalId, CancelDecision)]
-    ensures { result.now ≡ decisions_of_close closing.now }
-{
-    match closing {
-        Close::Decisions(decisions) => decisions.as_slice(),
-        _ => &[],
     }
 }
