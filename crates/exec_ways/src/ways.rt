@@ -27,6 +27,14 @@ pub enum Way {
 /// All ways.
 pub const WAYS: &[Way] = &[Way::Forked, Way::Claimed, Way::Streamed];
 
+// The way in which rounds are shared, by how many workers, and how many callbacks a claim takes at most.
+#[derive(Drop)]
+struct WaySettings {
+    workers: usize,
+    quantum: usize,
+    way: Way,
+}
+
 /// Why a way isn't compared, or differs.
 #[derive(Clone, Copy, Debug, PartialEq, Eq)]
 pub enum Fault {
@@ -67,7 +75,12 @@ pub fn compare<R: Threads + Wait + Sync>(
     let alone = lines_alone(alloc, plan)?;
     let rounds = callbacks_of(alloc, alone.as_slice())?;
     let world = new_world(alloc, plan)?;
-    let (lines, ran) = lines_by(rt, alloc, world, rounds.as_slice(), settings, way)?;
+    let how = WaySettings {
+        workers: settings.workers as usize,
+        quantum: settings.quantum as usize,
+        way,
+    };
+    let (lines, ran) = lines_by(rt, alloc, world, rounds.as_slice(), &how)?;
     if lines.as_slice() == alone.as_slice() {
         Ok(ran)
     } else {
@@ -108,8 +121,7 @@ fn lines_by<R: Threads + Wait + Sync>(
     alloc: Global,
     world: World,
     rounds: &[usize],
-    settings: Settings,
-    way: Way,
+    how: &WaySettings,
 ) -> Result<(LineList, Ran), Fault> {
     let mut world = world;
     let mut ran = Ran {
@@ -118,15 +130,7 @@ fn lines_by<R: Threads + Wait + Sync>(
     };
     for (done, callbacks) in rounds.iter().enumerate() {
         let gate = Counting::new(alloc, *callbacks)?;
-        world = next(
-            rt,
-            alloc,
-            world,
-            done.saturating_add(1),
-            settings,
-            way,
-            &gate,
-        )?;
+        world = next(rt, alloc, world, done.saturating_add(1), how, &gate)?;
         ran.add(*callbacks, &gate)?;
     }
     Ok((closed(world)?, ran))
@@ -151,15 +155,13 @@ fn next<R: Threads + Wait + Sync, G: Gate>(
     alloc: Global,
     world: World,
     round: usize,
-    settings: Settings,
-    way: Way,
+    how: &WaySettings,
     gate: &G,
 ) -> Result<World, Memory> {
-    let (workers, quantum) = (settings.workers as usize, settings.quantum as usize);
-    if !is_ready(&world, round) || workers == 0 || quantum == 0 {
+    if !is_ready(&world, round) || how.workers == 0 || how.quantum == 0 {
         return Err(Memory);
     }
-    share(rt, alloc, world, round, workers, quantum, way, gate)
+    share(rt, alloc, world, round, how, gate)
 }
 
 // Whether a world may run the round of this number.
@@ -175,17 +177,16 @@ fn share<R: Threads + Wait + Sync, G: Gate>(
     alloc: Global,
     world: World,
     round: usize,
-    workers: usize,
-    quantum: usize,
-    way: Way,
+    how: &WaySettings,
     gate: &G,
 ) -> Result<World, Memory>
     requires unfailed { world.failed ≡ false }
     requires next { IsNext round world }
-    requires workers { 0 < workers }
-    requires quantum { 0 < quantum }
+    requires workers { 0 < how.now.workers }
+    requires quantum { 0 < how.now.quantum }
 {
-    match way {
+    let (workers, quantum) = (how.workers, how.quantum);
+    match how.way {
         Way::Forked => round_forked(rt, alloc, world, round, workers, gate),
         Way::Claimed => round_claimed(rt, alloc, world, round, workers, quantum, gate),
         Way::Streamed => round_streamed(rt, alloc, world, round, workers, quantum, gate),

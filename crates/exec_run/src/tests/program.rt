@@ -321,19 +321,13 @@ fn leaves_a_front<H: Threads + Wait + Sync>(
     alloc: Global,
     document: &str,
     text: &[u8],
-    step: usize,
-    calls: usize,
-    end: End,
+    sink: Sink,
 ) -> bool {
-    let mut out = Through::new(Sink {
-        taken: Vec::new(alloc),
-        step,
-        calls,
-        end,
-    });
+    let most = sink.calls.saturating_mul(sink.step);
+    let mut out = Through::new(sink);
     let ended = run_into(rt, alloc, document.as_bytes(), 2, 1, &Open, &mut out);
-    let taken = text.len().min(calls.saturating_mul(step));
-    ended == Err(RunFault::Write) && out.failed() && out.writer.taken.as_slice() == &text[..taken]
+    let taken = &text[..text.len().min(most)];
+    ended == Err(RunFault::Write) && out.failed() && out.writer.taken.as_slice() == taken
 }
 
 #[test]
@@ -343,7 +337,13 @@ fn a_writer_that_fails_has_a_front(rt: HostRuntime) {
         for step in [1, 3] {
             for end in [End::Fails, End::TakesNothing] {
                 for calls in 0..text.len().div_ceil(step) {
-                    let left = leaves_a_front(&rt, rt.alloc(), document, text, step, calls, end);
+                    let sink = Sink {
+                        taken: Vec::new(rt.alloc()),
+                        step,
+                        calls,
+                        end,
+                    };
+                    let left = leaves_a_front(&rt, rt.alloc(), document, text, sink);
                     assert!(rt; left, "after {calls} calls of {step} bytes");
                 }
             }
