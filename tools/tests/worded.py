@@ -18,21 +18,30 @@ PAGES = (
     ("what is aside", f"# Head\n\n```text\n{LONG}\n{LONG}\n```\n| a | table |\n\n{SHORT}", "docs/x.md                      109        5      5.0         5          5\n"),
     ("inline code, a link and a mark", "A `let x = 1` is **one** [such word](x.md) more.", "docs/x.md                        7        7      7.0         7          7\n"),
     ("entries of a list", f"- {SHORT * 20}\n- {SHORT * 20}", "docs/x.md                      200      200      5.0         5        100\n"),
-    ("40,000 words", f"{SHORT * 20}\n\n" * 400, "all that no script writes    40000    40000\n10 passed, 0 failed\n"),
-    ("40,001 words", f"{SHORT * 20}\n\n" * 400 + "Word.", "  40001 words in the sentences of all pages, and at most 40000 are wanted\n9 passed, 1 failed\n"),
+    ("40,000 words", f"{SHORT * 20}\n\n" * 400, "all that no script writes    40000    40000\n"),
+    ("40,001 words", f"{SHORT * 20}\n\n" * 400 + "Word.", "  40001 words in the sentences of these pages, and at most 40000 are wanted\n"),
+)
+# The same of a page of a crate, beside the empty pages.
+OF_CRATES = (
+    ("8,000 words", f"{SHORT * 20}\n\n" * 80, "all pages of crates           8000     8000\n14 passed, 0 failed\n"),
+    ("8,001 words", f"{SHORT * 20}\n\n" * 80 + "Word.", "  8001 words in the sentences of these pages, and at most 8000 are wanted\n13 passed, 1 failed\n"),
+    ("a sentence of 51 words in a crate", SHORT * 9 + "And w" + LONG[1:], "  crates/x/README.md:1: a sentence of 51 words: And word"),
 )
 
 
 def answers(_program):
     with tempfile.TemporaryDirectory() as folder:
         top = pathlib.Path(folder)
-        (top / "docs").mkdir()
+        for name in ("docs", "crates/x"):
+            (top / name).mkdir(parents=True)
         for name in ("README.md", "CONTRIBUTING.md"):
             (top / name).write_text("")
-        for what, text, says in PAGES:
-            (top / "docs/x.md").write_text(text)
-            status, told = tool.run("words", top)
-            yield f"words of {what}: {told}", (status, says in told), (1 if says.startswith("  ") else 0, True)
-        (top / "docs/x.md").rename(top / "docs/HEADLINE.md")
+        for page, cases in (("docs/x.md", PAGES), ("crates/x/README.md", OF_CRATES)):
+            for what, text, says in cases:
+                (top / page).write_text(text)
+                status, told = tool.run("words", top)
+                yield f"words of {what}: {told}", (status, says in told), (1 if says.startswith("  ") else 0, True)
+            (top / page).write_text("")
+        (top / "docs/HEADLINE.md").write_text(PAGES[-1][1])
         yield "the same words on a page that a script writes", tool.run("words", top)[0], 0
     yield "wrong words of words", tool.run("words", "--all")[0], 1
