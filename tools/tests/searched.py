@@ -89,6 +89,7 @@ def answers(program):
         yield from of_kinds(top)
         yield from of_chance(top)
         yield from of_robust(top)
+        yield from of_silence(top)
         yield from of_shards(top)
         yield from of_folders(top)
         yield from of_words(top)
@@ -195,9 +196,43 @@ def of_robust(top):
     cause = started(top, "search", "small.json", *ruled(top, "some run hear message 2"), "--drop", "x", "--drop", "y", "--all")[1]
     yield f"what is no cause: {cause}", ("of these: feed[1] (x 2) is dropped" in cause, "of these: feed[0]" in cause, "of these: feed[2]" in cause), (True, False, False)
     nothing = started(top, "search", "small.json", *ruled(top, "every drop hear then log meet"), "--drop", "x")
-    yield f"a rule of nothing: {nothing}", (nothing[0], "some.rules:1:1: holds of nothing in 4 runs: every drop hear then log meet\n  no line is drop hear\n" in nothing[1]), (0, True)
+    yield f"a rule of nothing: {nothing}", (nothing[0], "some.rules:1:1: holds of nothing in 4 runs: every drop hear then log meet\n  no line is drop hear\n" in nothing[1]), (1, True)
     opened = started(top, "search", "small.json", *ruled(top, "every run beat timer 10 then log hear within 3 rounds"), "--drop", "x")
-    yield f"a rule that is open: {opened}", (opened[0], "some.rules:1:1: undecided in 4 of 4 runs" in opened[1]), (0, True)
+    yield f"a rule that is open: {opened}", (opened[0], "some.rules:1:1: undecided in 4 of 4 runs" in opened[1]), (1, True)
+
+
+# Rules of which runs of the small document say nothing, or something; options; the status, and the end of the last line.
+NO_RULE = "4 runs, all there are: no rule breaks"
+SILENT = (
+    ("every drop hear then log meet", (), 1, "; of nothing in all of them: some.rules:1:1"),
+    ("every drop hear then log meet", ("--accept-undecided",), 1, "; of nothing in all of them: some.rules:1:1"),
+    ("every drop hear then log meet", ("--accept-nothing",), 0, ""),
+    ("never pub x", (), 1, "; of nothing in all of them: some.rules:1:1"),
+    ("every run beat timer 10 then log hear within 3 rounds", (), 1, "; undecided in all of them: some.rules:1:1"),
+    ("every run beat timer 10 then log hear within 3 rounds", ("--accept-nothing",), 1, "; undecided in all of them: some.rules:1:1"),
+    ("every run beat timer 10 then log hear within 3 rounds", ("--accept-undecided",), 0, ""),
+    # Two runs leave it undecided, and two have no such line: none decides it.
+    ("every log hear 2 then log meet 9 within 20 rounds", (), 1, "; undecided in all of them: some.rules:1:1"),
+    # Two runs hear nothing, and two hold.
+    ("every log hear 2 then log meet 1", (), 0, ""),
+)
+
+
+def of_silence(top):
+    """A rule that no run decides, or that all runs have nothing of, ends with 1 and is named in the last line, unless it is accepted."""
+    for rule, words, status, end in SILENT:
+        found = started(top, "search", "small.json", *ruled(top, rule), "--drop", "x", *words)
+        yield f"the silent rule {rule!r} {words}: {found[1]}", (found[0], found[1].split("\n")[-2]), (status, NO_RULE + end)
+    robust = started(top, "search", "small.json", "--robust", "drop hear", "--drop", "x")
+    yield f"robust lines that there are none of: {robust}", (robust[0], robust[1].split("\n")[-2]), (1, f"{NO_RULE}; of nothing in all of them: --robust 1")
+    rules = ruled(top, "\n".join(SILENT[at][0] for at in (0, 4)))
+    for shard in (1, 2):
+        part = started(top, "search", "small.json", *rules, "--drop", "x", "--shard", f"{shard}/2", "-o", f"silent_{shard}")
+        yield f"a shard doesn't know what others say: {part}", part, (0, "")
+    joined = started(top, "search", "--merge", "silent_1", "silent_2")
+    yield f"silent rules of shards: {joined}", (joined[0], joined[1].split("\n")[-2]), (1, f"{NO_RULE}; undecided in all of them: some.rules:2:1; of nothing in all of them: some.rules:1:1")
+    accepted = started(top, "search", "--merge", "silent_1", "silent_2", "--accept-undecided", "--accept-nothing")
+    yield f"accepted rules of shards: {accepted}", (accepted[0], accepted[1].split("\n")[-2]), (0, NO_RULE)
 
 
 def of_shards(top):

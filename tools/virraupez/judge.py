@@ -26,6 +26,9 @@ class Same(rules.Rule):
         if self.count < len(self.lines):
             self.fail(number, "the end", now, f"the document's own run has {self.lines[self.count]}")
 
+    def unmet(self):
+        return None if self.lines or self.count else self.patterns[0]
+
 
 def robust(text, number, declared):
     """The rule that the lines of a pattern stay the same, whatever varies."""

@@ -10,6 +10,8 @@ CHUNK = 16
 # option than the document, and those that broke a rule.
 Part = collections.namedtuple("Part", "runs unmet undecided changed breaks")
 COUNTED = ("unmet", "undecided", "changed")
+# Why runs say nothing of a rule.
+UNDECIDED, NOTHING = "undecided in all of them", "of nothing in all of them"
 # A run that broke rules: its number, what varies in it, and the places of the rules with the lines that decide them.
 Broken = collections.namedtuple("Broken", "number taken breaks")
 
@@ -20,7 +22,10 @@ class Search:
     def __init__(self, plan):
         self.plan, self.document, self.is_all = plan, plan["document"], plan["all"]
         self.space = space.Space(self.document, plan["vary"])
-        self.rules = judge.read(plan["rules"], plan["text"], plan["robust"], fit.Own(plan["name"], self.document).kinds)
+        own = fit.Own(plan["name"], self.document)
+        self.rules = judge.read(plan["rules"], plan["text"], plan["robust"], own.kinds)
+        # The places of rules on lines that no script writes, which therefore are of nothing if they don't fail.
+        self.unwritten = {at for at, rule in enumerate(self.rules) if not own.may_write(rule.patterns[0])}
         self.is_whole = self.space.size <= plan["runs"]
         self.runs = self.space.size if self.is_whole else plan["runs"]
 
@@ -50,7 +55,7 @@ class Search:
             taken = self.taken(number)
             self.run(judging, number, taken)
             count += 1
-            unmet.update(at for at, rule in enumerate(self.rules) if rule.unmet())
+            unmet.update(at for at, rule in enumerate(self.rules) if self.is_of_nothing(at, rule))
             undecided.update(at for at, rule in enumerate(self.rules) if rule.open_end)
             changed.update(at for at, _ in taken)
             found = [(at, judge.said(rule.failure)) for at, rule in enumerate(self.rules) if rule.failure]
@@ -59,6 +64,10 @@ class Search:
                 if not self.is_all:
                     break
         return Part(count, unmet, undecided, changed, breaks)
+
+    def is_of_nothing(self, at, rule):
+        """Whether a rule held in the last run, but only because there was nothing that it is about."""
+        return not rule.failure and not rule.open_end and bool(rule.unmet() or at in self.unwritten)
 
     def parts(self, judging, shard, of, processes):
         """What comes of the runs of a shard, chunk by chunk in their order, after that of the document's own run."""
@@ -114,6 +123,14 @@ class Tally:
             getattr(self, name).update(getattr(part, name))
         for broken in part.breaks:
             self.take(broken)
+
+    def silent(self, accepted=()):
+        """The places of the rules of which the runs say nothing, each with why: no run decides it (UNDECIDED), or all have nothing that
+        it is about (NOTHING). What is accepted isn't among them."""
+        for at in range(len(self.search.rules)):
+            why = UNDECIDED if self.undecided[at] else NOTHING
+            if self.runs and self.undecided[at] + self.unmet[at] == self.runs and why not in accepted:
+                yield at, why
 
     def take(self, broken):
         """Takes a run that broke rules. If not all are asked for the first of them counts alone."""

@@ -1,6 +1,7 @@
 """The report of a search: which rules break in how many runs, the least change that breaks each, and where it breaks."""
 import fractions
 
+from . import search
 from .difference import numbered
 
 # How many changes of a run are reported, how many choices of a rule, and how many ranges of a choice.
@@ -9,8 +10,8 @@ CHANGES, CHOICES, RANGES = 8, 4, 12
 SELDOM = 5
 
 
-def lines(tally, paint, end=""):
-    """The table of a search. The end says why not all was run, if so."""
+def lines(tally, paint, end="", accepted=()):
+    """The table of a search. The end says why not all was run, if so. Accepted is what a rule may be in all runs."""
     for at, rule in enumerate(tally.search.rules):
         if tally.own and at in dict(tally.own.breaks):
             yield head(rule, paint, "breaks without a change")
@@ -19,7 +20,8 @@ def lines(tally, paint, end=""):
             yield from of_rule(tally, at, paint)
     if tally.first is None or tally.search.is_all:
         yield from remarks(tally, paint)
-    yield paint("fine" if tally.first is None and not end else "fault", summary(tally, end))
+    silent = list(tally.silent(accepted))
+    yield paint("fine" if tally.first is None and not silent and not end else "fault", summary(tally, silent, end))
 
 
 def head(rule, paint, says, colour="fault"):
@@ -74,19 +76,30 @@ def remarks(tally, paint):
         if tally.runs and tally.unmet[at] == tally.runs:
             rule.begin()
             yield head(rule, paint, f"holds of nothing in {numbered(tally.runs, 'run')}", "hint")
-            yield f"  no line is {' '.join(rule.unmet().words)}"
+            yield f"  no {'script writes a line' if at in tally.search.unwritten else 'line is'} {' '.join((rule.unmet() or rule.patterns[0]).words)}"
         if tally.undecided[at]:
             yield head(rule, paint, f"undecided in {tally.undecided[at]} of {numbered(tally.runs, 'run')}", "warning")
 
 
-def summary(tally, end):
-    search = tally.search
-    kind = "all there are" if search.is_whole else f"drawn with the seed {search.plan['seed']}"
-    runs = f"{numbered(tally.runs, 'run')}, {kind}" if tally.runs == search.runs else f"{tally.runs} of {numbered(search.runs, 'run')}"
+def summary(tally, silent, end):
+    made = tally.search
+    kind = "all there are" if made.is_whole else f"drawn with the seed {made.plan['seed']}"
+    runs = f"{numbered(tally.runs, 'run')}, {kind}" if tally.runs == made.runs else f"{tally.runs} of {numbered(made.runs, 'run')}"
     if not tally.is_counted:
-        runs = f"some of {numbered(search.runs, 'run')}"
-    if tally.first is not None and not search.is_all:
-        which = f"run {tally.first} of {search.runs}" if tally.first else "the document's own run"
+        runs = f"some of {numbered(made.runs, 'run')}"
+    if tally.first is not None and not made.is_all:
+        which = f"run {tally.first} of {made.runs}" if tally.first else "the document's own run"
         return f"{which} breaks a rule; --all counts all{end}"
     broken = f"{tally.broken} {'breaks' if tally.broken == 1 else 'break'} a rule" if tally.broken else "no rule breaks"
-    return f"{runs}: {broken}{end}"
+    return f"{runs}: {broken}{open_ends(made, silent)}{end}"
+
+
+def open_ends(made, silent):
+    """What the last line says of rules of which the runs say nothing."""
+    told = ""
+    for why in (search.UNDECIDED, search.NOTHING):
+        names = [made.rules[at].place.rstrip(": ") for at, it in silent if it == why]
+        if names:
+            more = f" and {len(names) - CHOICES} more" if len(names) > CHOICES else ""
+            told += f"; {why}: {', '.join(names[:CHOICES])}{more}"
+    return told

@@ -11,8 +11,8 @@ import time
 
 from .. import command, crew, flow, grammar, judge, saved, search, shards, space, table
 
-STATUS = """The status is 0 if no run breaks a rule, 1 if one does, and 2 if the document or the rules are wrong or a run fails. It is 130 after
-Ctrl-C, and what was found so far is reported."""
+STATUS = """The status is 0 if no run breaks a rule, 1 if one does or if the runs say nothing of a rule, and 2 if the document or the rules
+are wrong or a run fails. It is 130 after Ctrl-C, and what was found so far is reported."""
 RUNS, INTERRUPTED = 10000, 130
 # The greatest number of runs, of shards, and of processes that a user may ask for.
 MOST, PROCESSES = 10**12, 1024
@@ -46,6 +46,10 @@ def parser(prog=None):
     made.add_argument("--runs", metavar="N", type=number, default=RUNS, help=f"how many runs there are at most; {RUNS} if it isn't given")
     made.add_argument("--seed", metavar="N", type=number, default=1, help="a number that chooses what is drawn by chance; 1 if it isn't given")
     made.add_argument("--all", action="store_true", help="count all runs that break a rule, and don't stop at the first")
+    undecided = "let a rule pass that no run decides; otherwise the status is 1"
+    made.add_argument("--accept-undecided", dest="accepted", action="append_const", const=search.UNDECIDED, default=[], help=undecided)
+    nothing = "let a rule pass that is of nothing in all runs; otherwise the status is 1"
+    made.add_argument("--accept-nothing", dest="accepted", action="append_const", const=search.NOTHING, help=nothing)
     made.add_argument("--save", metavar="DIR", help="save documents and transcripts of runs that break a rule in a folder")
     made.add_argument("--shard", metavar="K/N", type=shard, help="do part K of N, and write JSON lines for --merge")
     made.add_argument("--merge", action="store_true", help="join what all shards wrote, and report it as one search does")
@@ -116,10 +120,11 @@ def searched(made, asked, out):
     if lines:
         lines.end(stopped is None)
     else:
-        tell(tally, out, stopped)
+        tell(tally, out, stopped, asked.accepted)
     out.flush()
     folder.end(tally)
-    return status(tally, stopped)
+    # A shard doesn't know what other shards say of a rule.
+    return status(tally, stopped, not lines and any(tally.silent(asked.accepted)))
 
 
 def merged(asked, out):
@@ -129,23 +134,24 @@ def merged(asked, out):
     joined = shards.join(asked.documents)
     missing = list(joined.missing())
     made, tally = joined.tally.search, joined.tally
-    tell(tally, out, missing)
+    tell(tally, out, missing, asked.accepted)
     if asked.save:
         judging = judge.Judge(judge.executor(asked.reference), made.rules)
         made.own(judging)
         saved.Folder(asked.save, made, judging).end(tally)
-    return status(tally, command.Trouble(*missing) if missing else None)
+    return status(tally, command.Trouble(*missing) if missing else None, any(tally.silent(asked.accepted)))
 
 
-def tell(tally, out, stopped):
-    for line in table.lines(tally, out.paint, "; it ended early" if stopped else ""):
+def tell(tally, out, stopped, accepted):
+    for line in table.lines(tally, out.paint, "; it ended early" if stopped else "", accepted):
         out.line(line)
 
 
-def status(tally, stopped):
+def status(tally, stopped, is_open):
+    """The status of a search. It is open if the runs say nothing of a rule."""
     if isinstance(stopped, command.Trouble):
         raise stopped
-    return INTERRUPTED if stopped else command.FINE if tally.first is None else command.FOUND
+    return INTERRUPTED if stopped else command.FINE if tally.first is None and not is_open else command.FOUND
 
 
 class Progress:
