@@ -7,12 +7,11 @@ import sys
 import tempfile
 import xml.etree.ElementTree as tree
 
-from virraupez import command, difference, flow, picture, scene, transcript
+from virraupez import command, difference, executor, flow, picture, scene, transcript
 
 from . import tool
 
 sys.path.insert(0, str(tool.TOP / "cases"))
-import executor
 import generate
 
 FOLLOWED, SPOILED = 400, 600

@@ -7,11 +7,9 @@ import sys
 import tempfile
 
 import virraupez
+from virraupez import executor
 
 from . import tool
-
-sys.path.insert(0, str(tool.TOP / "cases"))
-import executor
 
 PAGE = tool.TOP / "docs/cookbook.md"
 SCRIPT = re.compile(r"^```script (\w+)\n(.*?)^```$", re.S | re.M)

@@ -4,12 +4,9 @@ import collections
 import sys
 import xml.etree.ElementTree as tree
 
-from virraupez import picture, scene
+from virraupez import executor, picture, scene
 
 from . import tool
-
-sys.path.insert(0, str(tool.TOP / "cases"))
-import executor
 
 SVG = "{http://www.w3.org/2000/svg}"
 KINDS = ("timer", "message", "request, reply", "action", "dropped")
@@ -107,7 +104,7 @@ def of_others():
         ([*lines[:60], "log ticks"], "-:61:1: the transcript is cut off within a line"),
         ([lines[0], lines[1].replace("laser", "lasr"), *lines[2:]], "-:2:1: the document has no timer lasr"),
         ([lines[0], lines[1].replace("laser timer", "laser message"), *lines[2:]], "-:2:1: the document has no subscription laser"),
-        ([it for it in lines if it[:8] != "round 21" and it[:3] != "end"][:175] + ["end 20\n"], ": the document has 21 moments"),
+        ([it for it in lines if it[:8] != "round 21" and it[:3] != "end"][:175] + ["end 20\n"], ": the document's run has `round 21 24` there"),
     ):
         status, text = tool.run("picture", "examples/robot.json", "-", given="".join(change).encode())
         yield f"picture of a changed transcript: {text}", (status, told in text, text.count("\n")), (2, True, 1)

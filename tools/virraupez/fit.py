@@ -1,22 +1,77 @@
-"""Whether a transcript is one of a document: its names, their kinds, and its moments."""
+"""Whether a transcript is one of a document: its names, their kinds, its moments, and each of its lines, which the executor in Python
+gives too."""
 import re
 
-from . import command, flow, grammar, transcript
+from . import command, executor, flow, grammar, transcript
 
 # What stands before a name on each line that has one, and the name; of a callback its kind too.
 NAMED = re.compile("\n((?:run|drop) [^ ]+ [^ ]+|(?!round |end )[a-z]+ [^ ]+)").findall
 
 
-class Own:
-    """The names of a document with their kinds, and its moments."""
+class Run:
+    """The text of a document's run, which is made as far as it is asked for."""
 
-    def __init__(self, name, document):
-        self.name = name
+    def __init__(self, document):
+        self.rounds, self.text = executor.rounds_of(document), ""
+
+    def takes(self, block):
+        """Whether a block of whole lines comes next; then it is over."""
+        parts, length = [self.text], len(self.text)
+        while length < len(block):
+            lines = next(self.rounds, None)
+            if lines is None:
+                break
+            parts += [f"{line}\n" for line in lines]
+            length = length + sum(map(len, lines)) + len(lines)
+        self.text = "".join(parts)
+        if block and block[-1] != "\n" or not self.text.startswith(block):
+            return False
+        self.text = self.text[len(block) :]
+        return True
+
+    def lines(self):
+        """The lines that come next."""
+        yield from self.text.split("\n")[:-1]
+        for lines in self.rounds:
+            yield from lines
+
+
+class Own:
+    """The names of a document with their kinds, its moments, and its run. A transcript that is to be the document's must be that run,
+    line by line. If it may be another executor's, or of another version of the document, only names and moments must be the same,
+    and it is noted at which line it strays from the run."""
+
+    def __init__(self, name, document, is_strict=True):
+        self.name, self.document, self.is_strict = name, document, is_strict
         self.kinds = {topic: "topics" for topic in document.get("topics", [])}
         for node in document.get("nodes", []):
             self.kinds.update({it["name"]: kind for kind in grammar.ENTITIES for it in node.get(kind, [])})
         self.moments = document.get("moments", [])
         self.known, self.writes = set(), set(written(document))
+
+    # ---- the run
+
+    def begin(self):
+        """Begins with the first line of a transcript."""
+        self.run, self.strayed = Run(self.document), None
+
+    def follows(self, block, number):
+        """Whether a block of lines, behind some that were taken, is what the run has there. If it isn't, what strays is noted: the
+        number of the line, and what the run has in its place."""
+        if self.strayed is None and not self.run.takes(block):
+            wanted = self.run.lines()
+            pairs = [(at, line, next(wanted, None)) for at, line in enumerate(block.split("\n"), number + 1)]
+            # Without its line feed the last line strays too.
+            self.strayed = next(((at, other) for at, line, other in pairs if line != other), pairs[-1][::2])
+        return self.strayed is None
+
+    def stray(self):
+        """What is wrong with the line that strays."""
+        wanted = self.strayed[1]
+        says = "the document's run has ended there" if wanted is None else f"the document's run has `{wanted}` there"
+        return f"{says}: {command.shown(self.name)} isn't the document of this transcript"
+
+    # ---- names and moments
 
     def may_write(self, of):
         """Whether a run may have a line of a pattern, by the words of the scripts."""
@@ -80,6 +135,6 @@ def noun_of(named):
     return "entity" if len(kinds) > 1 else "topic" if "topics" in kinds else grammar.ENTITIES[min(kinds)]
 
 
-def read(name):
+def read(name, is_strict=True):
     """What a transcript of a document must fit, by the document's file."""
-    return Own(name, flow.read_document(name))
+    return Own(name, flow.read_document(name), is_strict)

@@ -1,7 +1,8 @@
 """Who sent what each callback takes. The document says where items are pushed, and the transcript what was pushed and taken:
 so each queue is followed by the rules of docs/rules.md ("Queues", "A round"), without running a script.
 
-A transcript that another executor wrote may not fit; what is taken then has no known origin, and nothing else happens."""
+A transcript that another executor wrote, which diff and view may be given, may not fit; what is taken then has no known origin, and
+nothing else happens."""
 import collections
 import json
 

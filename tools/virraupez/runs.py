@@ -1,12 +1,12 @@
 """Runs of documents: by a proved program, or by the executor in Python. Which program ./exec_run and ./exec_upgrade run is asked once,
 because to ask takes longer than a short run does."""
+import json
 import os
 import pathlib
 import platform
 import subprocess
-import sys
 
-from . import command
+from . import command, executor, refusals
 
 TOP = pathlib.Path(__file__).resolve().parent.parent.parent
 REFUSED = 1
@@ -58,18 +58,11 @@ class Upgrader(Program):
 class Reference:
     """The executor in Python, which is written apart from the program; nothing of it is proved."""
 
-    def __init__(self):
-        sys.path.insert(0, str(TOP / "cases"))
-        import codes
-        import executor
-
-        self.codes, self.executor = codes, executor
-
     def transcript(self, given):
-        try:
-            return "".join(f"{line}\n" for line in self.executor.transcript(given))
-        except self.codes.Refused as refused:
-            raise Refused(str(refused.args[0])) from None
+        code = refusals.code(given)
+        if code:
+            raise Refused(str(code))
+        return "".join(f"{line}\n" for line in executor.lines_of(json.loads(given)))
 
 
 def demand_machine(reference=Executor.REFERENCE):

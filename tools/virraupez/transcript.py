@@ -204,13 +204,18 @@ def checked(stream, name, own=None):
     """The blocks of a stream, checked: the form of each line, the order of rounds to the end, and what a document's own lines
     must be. A block is tried as a whole, and line by line if something is wrong in it."""
     order, number, rest = Order(name, own), 0, ""
+    if own is not None:
+        own.begin()
     while True:
         part = stream.read(BLOCK)
         text = rest + part
         cut = text.rfind("\n") + 1 if part else len(text)
         block, rest = text[:cut], text[cut:]
         before = copy.copy(order)
-        if not have_forms(block) or not order.takes(block) or len(rest) > LONGEST:
+        is_own = own is not None and own.follows(block, number)
+        if own is not None and own.is_strict and not is_own:
+            before.demand_own(block, number)
+        if not is_own and not have_forms(block) or not order.takes(block, is_own) or len(rest) > LONGEST:
             before.demand(block + rest, number)
         if block:
             number += block.count("\n")
@@ -223,6 +228,7 @@ def checked(stream, name, own=None):
 
 # The lines whose place in a transcript is asked for, each behind a line feed: `^` would be tried at each sign.
 ORDERED = re.compile("\n(?:round|pending|end) .*").finditer
+LINES = re.compile("[^\n]*\n|[^\n]+$").findall
 
 
 class Order:
@@ -234,14 +240,14 @@ class Order:
         # The first words of lines that may follow, if not all may.
         self.only = ("round ", "end ")
 
-    def takes(self, block):
-        """Takes a block of lines that have their forms, and tells whether they may stand there."""
+    def takes(self, block, is_own=False):
+        """Takes a block of lines that have their forms, and tells whether they may stand there. Names are right in the document's own."""
         at = 0
         for found in ORDERED("\n" + block):
             if found.start() != at and not self.allows(block, at) or not self.allows(block, found.start()) or self.step(found.group()[1:]):
                 return False
             at = found.end()
-        return (at == len(block) or self.allows(block, at)) and (self.own is None or self.own.fits(block))
+        return (at == len(block) or self.allows(block, at)) and (self.own is None or is_own or self.own.fits(block))
 
     def allows(self, block, at):
         return self.only is None or block.startswith(self.only, at)
@@ -266,13 +272,19 @@ class Order:
 
     def demand(self, text, number):
         """Takes lines one by one to the first that is wrong, which is told."""
-        for number, line in enumerate(re.findall("[^\n]*\n|[^\n]+$", text), number + 1):
+        for number, line in enumerate(LINES(text), number + 1):
             bare, word = line.rstrip("\n"), line.split(" ", 1)[0]
             if line[-1] != "\n" or not is_line(bare) or not self.allows(line, 0):
                 raise self.wrong(number, line)
             says = self.step(bare) if word in ("round", "pending", "end") else self.own.misfit(bare) if self.own else ""
             if says:
                 raise self.trouble(number, says)
+
+    def demand_own(self, block, number):
+        """Tells the line of a block that strays from the document's run: as a line that is none or that can't stand there, if it is."""
+        at = self.own.strayed[0]
+        self.demand("".join(LINES(block)[: at - number]), number)
+        raise self.trouble(at, self.own.stray())
 
     def trouble(self, number, says):
         return command.Trouble(f"{command.place(self.name, number)}{says}")

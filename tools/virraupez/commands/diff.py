@@ -6,7 +6,8 @@ import sys
 
 from .. import command, difference, fit, flow, grammar
 
-STATUS = "The status is 0 if they are the same, 1 if they differ, and 2 if one can't be read or is cut off."
+STATUS = """The status is 0 if they are the same, 1 if they differ, and 2 if one can't be read or is cut off, or isn't a run of its
+document. Of one document for both, at least one must be a run."""
 
 
 def parser(prog=None):
@@ -22,12 +23,19 @@ def run(asked, out):
     if len(asked.document) > 2:
         raise command.Trouble("at most two documents")
     documents = [flow.read_document(name) for name in asked.document]
-    own = [fit.Own(name, document) for name, document in zip(asked.document, documents)]
+    # Of one document two different transcripts can't both be the run, and one may be another executor's.
+    is_shared = len(documents) == 1
+    own = [fit.Own(name, document, not is_shared) for name, document in zip(asked.document * 2, documents * 2)][:2]
     flows = list(map(flow.Flow, documents))
     found = difference.Difference((asked.one, asked.other), flows, sys.maxsize if asked.all else difference.TOLD)
-    found.read((own * 2)[:2] or [None, None])
+    found.read(own or [None, None])
+    if is_shared and not found.trouble and own[0].strayed and own[1].strayed:
+        found.trouble = command.Trouble(*(command.place(side.name, it.strayed[0]) + it.stray() for side, it in zip(found.sides, own)))
     for line in found.lines(out.paint):
         out.line(line)
+    for side, it in zip(found.sides, own):
+        if is_shared and it.strayed:
+            out.line(f"{side.name} isn't a run of {command.shown(it.name)}: its line {it.strayed[0]} doesn't follow")
     orders = list(map(grammar.order_of, documents))
     if found.differ and len(set(orders)) == 2:
         out.line("ready callbacks run " + ", ".join(f"by {order} in {command.shown(name)}" for order, name in zip(orders, asked.document)))

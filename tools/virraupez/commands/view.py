@@ -25,7 +25,11 @@ def run(asked, out):
     runs = [view.Run(asked.transcript, document, fit.Own(asked.document, document), *asked.rounds)]
     if asked.other:
         other = flow.read_document(asked.second) if asked.second else document
-        runs.append(view.Run(asked.other, other, fit.Own(asked.second or asked.document, other), *asked.rounds))
+        # Another executor's run of the same document may be compared with the document's own.
+        own = fit.Own(asked.second or asked.document, other, is_strict=bool(asked.second))
+        runs.append(view.Run(asked.other, other, own, *asked.rounds))
+        if own.strayed:
+            command.note(f"view: {asked.other} isn't a run of {command.shown(own.name)}: its line {own.strayed[0]} doesn't follow")
     elif asked.second:
         raise command.Trouble("--document is the document of a second transcript, and there is none")
     if not any(it.scene.columns for it in runs):
