@@ -1,11 +1,11 @@
-"""That each command of docs/tour.md, docs/modelling.md, docs/search.md and docs/command.md does what its page shows, run by a shell as it stands there, one after the
+"""That each command of docs/tour.md, docs/modelling.md, docs/check.md, docs/search.md and docs/command.md does what its page shows, run by a shell as it stands there, one after the
 other in a copy of the repository; and that what the pages show of files is in them."""
 import re
 import subprocess
 
 from . import documented, sandbox, tool
 
-PAGES = ("tour.md", "modelling.md", "command.md", "search.md")
+PAGES = ("tour.md", "modelling.md", "check.md", "command.md", "search.md")
 # The files of which a page shows parts.
 SHOWN = {"modelling.md": {"py": "examples/navigation.py", "text": "examples/navigation.rules"}}
 
@@ -32,7 +32,7 @@ def answers(program):
                     yield f"{name}: the script {command}: {told}", ran.returncode, 0
                 else:
                     yield f"{name}: {command}", told, output
-        for script in (script for script, output in commands(page) if output is None and "virraupez run" in script):
+        for script in (script for script, output in commands(page) if output is None and ("virraupez run" in script or "virraupez check" in script)):
             yield from failing(name, script)
         yield from spoken(page)
         yield from shown(page)

@@ -20,7 +20,12 @@ def read_document(name):
     if told.code:
         first = told.entries[0]
         raise command.Trouble(f"{command.place(name, first.line, first.column)}refused {report.named(told.code)}: explain tells why")
-    return json.loads(text)
+    return parsed(text)
+
+
+def parsed(given):
+    """The value of a lawful document's bytes."""
+    return json.loads(given)
 
 
 def fed_text(entry):

@@ -75,6 +75,11 @@ class Judge:
                 rule.lines = [" ".join(it) for it in words if of.matches(it) and of.bound(it) is not None]
 
 
+def lacking(rule):
+    """What there isn't, so that a rule holds of nothing."""
+    return f"no line is {' '.join(rule.unmet().words)}" if rule.unmet() else f"no script writes a line {' '.join(rule.patterns[0].words[:2])}"
+
+
 def said(finding):
     """The line that decides a rule, with its place in the run."""
     says = f" ({finding.says})" if finding.says else ""

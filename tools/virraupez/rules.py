@@ -17,6 +17,8 @@ FORMS = (
     "count PATTERN is|at least|at most N",
     "at end no pending [PATTERN]",
 )
+# What becomes of a rule: it may hold only because there is nothing that it is about.
+HOLDS, FAILS, UNDECIDED, NOTHING = "holds", "fails", "undecided", "holds of nothing"
 ROUNDS, TICKS = 0, 1
 UNITS = {"round": ROUNDS, "rounds": ROUNDS, "tick": TICKS, "ticks": TICKS}
 
@@ -54,6 +56,12 @@ class Rule:
     def unmet(self):
         """The pattern that no line matched, so that the rule holds of nothing; None if it holds of something."""
         return None
+
+    def outcome(self, own=None):
+        """What became of the rule, beside what a document's scripts may write, if that is given."""
+        if self.failure or self.open_end:
+            return FAILS if self.failure else UNDECIDED
+        return NOTHING if self.unmet() or own and not own.may_write(self.patterns[0]) else HOLDS
 
 
 class Never(Rule):

@@ -1,7 +1,7 @@
 """A search for the variations of a document whose runs break a rule: which runs there are, and what came of them."""
 import collections
 
-from . import command, crew, fit, judge, runs, space
+from . import command, crew, fit, judge, rules, runs, space
 
 # How many runs a process is given at a time.
 CHUNK = 16
@@ -22,10 +22,8 @@ class Search:
     def __init__(self, plan):
         self.plan, self.document, self.is_all = plan, plan["document"], plan["all"]
         self.space = space.Space(self.document, plan["vary"])
-        own = fit.Own(plan["name"], self.document)
-        self.rules = judge.read(plan["rules"], plan["text"], plan["robust"], own.kinds)
-        # The places of rules on lines that no script writes, which therefore are of nothing if they don't fail.
-        self.unwritten = {at for at, rule in enumerate(self.rules) if not own.may_write(rule.patterns[0])}
+        self.own_names = fit.Own(plan["name"], self.document)
+        self.rules = judge.read(plan["rules"], plan["text"], plan["robust"], self.own_names.kinds)
         self.is_whole = self.space.size <= plan["runs"]
         self.runs = self.space.size if self.is_whole else plan["runs"]
 
@@ -55,8 +53,9 @@ class Search:
             taken = self.taken(number)
             self.run(judging, number, taken)
             count += 1
-            unmet.update(at for at, rule in enumerate(self.rules) if self.is_of_nothing(at, rule))
-            undecided.update(at for at, rule in enumerate(self.rules) if rule.open_end)
+            outcomes = [rule.outcome(self.own_names) for rule in self.rules]
+            unmet.update(at for at, it in enumerate(outcomes) if it == rules.NOTHING)
+            undecided.update(at for at, it in enumerate(outcomes) if it == rules.UNDECIDED)
             changed.update(at for at, _ in taken)
             found = [(at, judge.said(rule.failure)) for at, rule in enumerate(self.rules) if rule.failure]
             if found:
@@ -64,10 +63,6 @@ class Search:
                 if not self.is_all:
                     break
         return Part(count, unmet, undecided, changed, breaks)
-
-    def is_of_nothing(self, at, rule):
-        """Whether a rule held in the last run, but only because there was nothing that it is about."""
-        return not rule.failure and not rule.open_end and bool(rule.unmet() or at in self.unwritten)
 
     def parts(self, judging, shard, of, processes):
         """What comes of the runs of a shard, chunk by chunk in their order, after that of the document's own run."""

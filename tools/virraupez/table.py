@@ -1,7 +1,7 @@
 """The report of a search: which rules break in how many runs, the least change that breaks each, and where it breaks."""
 import fractions
 
-from . import search
+from . import judge, rules, search
 from .difference import numbered
 
 # How many changes of a run are reported, how many choices of a rule, and how many ranges of a choice.
@@ -75,8 +75,8 @@ def remarks(tally, paint):
     for at, rule in enumerate(tally.search.rules):
         if tally.runs and tally.unmet[at] == tally.runs:
             rule.begin()
-            yield head(rule, paint, f"holds of nothing in {numbered(tally.runs, 'run')}", "hint")
-            yield f"  no {'script writes a line' if at in tally.search.unwritten else 'line is'} {' '.join((rule.unmet() or rule.patterns[0]).words)}"
+            yield head(rule, paint, f"{rules.NOTHING} in {numbered(tally.runs, 'run')}", "hint")
+            yield f"  {judge.lacking(rule)}"
         if tally.undecided[at]:
             yield head(rule, paint, f"undecided in {tally.undecided[at]} of {numbered(tally.runs, 'run')}", "warning")
 

@@ -5,7 +5,7 @@
   at end no pending
 
 Of each rule that doesn't hold the first line that breaks it is told, with its round. docs/holds.md has all rules."""
-from .. import command, fit, rules, transcript
+from .. import command, fit, judge, report, rules, transcript
 
 STATUS = """The last line is 'N hold, M fail, K undecided'. The status is 0 if all hold, 1 if one fails or is undecided, and 2 if the rules or
 a transcript are wrong."""
@@ -40,22 +40,29 @@ def run(asked, out):
     return status
 
 
+COLOURS = {rules.FAILS: "fault", rules.UNDECIDED: "warning", rules.NOTHING: "hint"}
+
+
 def told(file, name, check, own, paint):
     """What is told of each rule that doesn't hold, or holds of nothing."""
     for rule in check.rules:
-        at = paint("place", command.place(file, rule.number, rule.column))
-        if rule.failure:
-            yield f"{at}{paint('fault', 'fails')}: {rule.text}"
-            yield line_of(name, rule.failure)
-        elif rule.open_end:
-            yield f"{at}{paint('warning', 'undecided')}: {rule.text}"
-            yield line_of(name, rule.open_end)
-        elif rule.unmet():
-            yield f"{at}{paint('hint', 'holds of nothing')}: {rule.text}"
-            yield f"  {name}: no line is {' '.join(rule.unmet().words)}"
-        elif own and not own.may_write(rule.patterns[0]):
-            yield f"{at}{paint('hint', 'holds of nothing')}: {rule.text}"
-            yield f"  {command.shown(own.name)}: no script writes a line {' '.join(rule.patterns[0].words[:2])}"
+        yield from told_of(file, name, rule, own, paint)
+
+
+def told_of(file, name, rule, own, paint=report.unpainted):
+    """The lines that say why a rule doesn't hold, or holds of nothing."""
+    outcome = rule.outcome(own)
+    if outcome == rules.HOLDS:
+        return []
+    head = f"{paint('place', command.place(file, rule.number, rule.column))}{paint(COLOURS[outcome], outcome)}: {rule.text}"
+    return [head, reason(rule, outcome, name, own)]
+
+
+def reason(rule, outcome, name, own):
+    """The line that decides a rule, or what there isn't."""
+    if outcome != rules.NOTHING:
+        return line_of(name, rule.failure or rule.open_end)
+    return f"  {name if rule.unmet() else command.shown(own.name)}: {judge.lacking(rule)}"
 
 
 def line_of(name, it):

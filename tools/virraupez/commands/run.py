@@ -5,6 +5,7 @@ refused, the places of its faults are told, as explain tells them.
 The proved program is for Linux on x86-64. With --reference an executor in Python runs the document, on any machine. It is
 written apart from the program, by docs/rules.md alone. Nothing of it is proved; tests compare both byte by byte."""
 import argparse
+import os
 import subprocess
 
 from .. import command, grammar, runs
@@ -41,6 +42,8 @@ def run(asked, out):
     refused = by_reference(given, out) if asked.reference else by_program(asked, given, out)
     if refused:
         tell_faults(asked.document, given)
+        if asked.output != command.STANDARD and os.path.isfile(asked.output):
+            command.note(f"run: {command.shown(asked.output)} stays, and is no transcript of this document")
     return command.FOUND if refused else command.FINE
 
 
