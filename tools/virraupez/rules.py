@@ -171,16 +171,15 @@ class Then(Pair):
 
 
 def demand_variables(patterns):
-    """Refuses variables that can't be the same word, and those that stand once where a name of a few is wanted."""
+    """Refuses variables that are used once, as one that is misspelt, and those that can't be the same word."""
     places = collections.OrderedDict()
     for of in patterns:
         for at, name in of.variables:
             places.setdefault(name, []).append((of, at))
     for name, found in places.items():
-        for of, at in found:
-            if len(found) == 1 and is_of_few(of, at):
-                hint = hints_of(of, at, name)
-                raise Wrong(of.words[at].column, f"{name} is a variable, which stands once: `_` is any word{hint}")
+        if len(found) == 1:
+            of, at = found[0]
+            raise Wrong(of.words[at].column, f"{name} is a variable that is used once: `_` is any word{hint_of(of, at, name, places)}")
         for at, one in enumerate(found):
             for other in found[at + 1 :]:
                 if not can_meet(one, other):
@@ -188,14 +187,12 @@ def demand_variables(patterns):
                     raise Wrong(other[0].words[other[1]].column, says)
 
 
-def is_of_few(of, at):
-    """Whether a place has the first word, a kind, or a number that has a name."""
-    return at == 0 or all(isinstance(form, transcript.Kind) or getattr(form, "names", None) for form in of.forms_at(at))
-
-
-def hints_of(of, at, name):
-    names = transcript.WORDS if at == 0 else [it for form in of.forms_at(at) for it in getattr(form, "names", None) or [form.word]]
-    return pattern.meant(name, names)
+def hint_of(of, at, name, places):
+    """What a variable that is used once may be meant for: the name of one of a few, another variable, or the name itself."""
+    if at == 0 or all(isinstance(form, transcript.Kind) or getattr(form, "names", None) for form in of.forms_at(at)):
+        return pattern.meant(name, transcript.WORDS if at == 0 else [it for form in of.forms_at(at) for it in getattr(form, "names", None) or [form.word]])
+    near = pattern.meant(name, [it for it in places if it != name])
+    return near or (f"; ={name} is the word itself" if any(isinstance(form, transcript.Name) for form in of.forms_at(at)) else "")
 
 
 def can_meet(one, other):

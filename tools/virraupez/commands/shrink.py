@@ -19,7 +19,7 @@ def parser(prog=None):
     made.add_argument("--rules", metavar="RULES", required=True, help="a file of rules, as holds has them")
     made.add_argument("--rule", metavar="LINE", type=search.number, help="the line of the rule, if the document breaks several")
     made.add_argument("--unless", metavar="DOCUMENT", help="a document with another timing that keeps the rule: it is cut in the same way, and must keep it")
-    made.add_argument("--keep", metavar="PATTERN", action="append", default=[], help="a line that the run must keep, as 'state navigate ID CANCELED'")
+    made.add_argument("--keep", metavar="PATTERN", action="append", default=[], help="a line that the run must keep, as 'state navigate _ CANCELED'")
     made.add_argument("--reference", action="store_true", help="run by the executor in Python, of which nothing is proved")
     return made
 
