@@ -9,9 +9,12 @@ import contextlib
 import io
 import os
 import re
+import stat
 import sys
 import threading
 import time
+
+from . import replacement
 
 FINE, FOUND, TROUBLE = 0, 1, 2
 STANDARD = "-"
@@ -59,7 +62,7 @@ def main(tool, words=None, prog=None):
     """Runs a tool, and gives its status."""
     prog = prog or os.path.basename(sys.argv[0])
     try:
-        Source.taken = False
+        Source.taken, Source.files = False, []
         asked = tool.parser(prog).parse_args(words)
         with PROGRESS.told(prog), Output(asked.output) as out:
             return tool.run(asked, out)
@@ -123,12 +126,13 @@ def note(*lines):
 
 
 class Output:
-    """Standard output, or a file that is made when the first of the output comes: where trouble comes first it stays as it is.
+    """Standard output, or a file. A file is a new one that takes the place of the other at the end: if trouble comes first, the other
+    stays as it is, but for a report, which is kept. No file is replaced that is read.
 
     A file's name may be no text, and a transcript's signs none of the locale's, so all is UTF-8 and no sign is refused."""
 
-    def __init__(self, name=STANDARD):
-        self.name, self.stream = name, None
+    def __init__(self, name=STANDARD, is_read=False):
+        self.name, self.stream, self.new, self.is_kept, self.is_read = name, None, None, False, is_read
         self.coloured = name == STANDARD and is_terminal(1) and not os.environ.get("NO_COLOR") and os.environ.get("TERM") != "dumb"
 
     def __enter__(self):
@@ -136,20 +140,39 @@ class Output:
 
     def __exit__(self, kind, _wrong, _trace):
         try:
-            self.close()
+            self.close(kind is None or self.is_kept)
         except Trouble:
             if kind is None:
                 raise
+
+    def open(self):
+        """Opens the file: a new one, unless the name is that of a device or a pipe, or of a file in a folder that takes no new one."""
+        self.demand_unread()
+        file = 1
+        if self.name != STANDARD:
+            file = self.name
+            with contextlib.suppress(PermissionError):
+                self.new = replacement.Replacement(self.name) if replacement.is_plain(self.name) else None
+                file = self.new.number if self.new else self.name
+        self.stream = open(file, "w", encoding="utf-8", errors="backslashreplace", newline="\n", closefd=file != 1)
+
+    def demand_unread(self):
+        """Refuses to replace a file that is read, by whatever name."""
+        if self.name != STANDARD and not self.is_read and any(os.path.samestat(it, os.stat(self.name)) for it in Source.files if os.path.exists(self.name)):
+            raise Trouble(f"{shown(self.name)}: this file is read, and would be replaced: give -o another name")
 
     def write(self, text):
         PROGRESS.hide()
         with self.named():
             if self.stream is None:
-                file = 1 if self.name == STANDARD else self.name
-                self.stream = open(file, "w", encoding="utf-8", errors="backslashreplace", newline="\n", closefd=file != 1)
+                self.open()
             self.stream.write(text)
             if self.coloured:
                 self.stream.flush()
+
+    def keep(self):
+        """Keeps what is written, whatever trouble comes after it: a report says what was found up to it."""
+        self.is_kept = True
 
     def line(self, text=""):
         self.write(f"{text}\n")
@@ -159,10 +182,21 @@ class Output:
             with self.named():
                 self.stream.flush()
 
-    def close(self):
-        if self.stream is not None:
+    def close(self, is_whole=True):
+        if self.stream is None:
+            return
+        stream, new, self.stream, self.new = self.stream, self.new, None, None
+        try:
             with self.named():
-                stream, self.stream = self.stream, None
+                stream.flush()
+                if new and is_whole:
+                    self.demand_unread()
+                    lost = new.end()
+                    note(*(f"{shown(self.name)}: {it}" for it in lost))
+        finally:
+            if new:
+                new.drop()
+            with self.named():
                 stream.close()
 
     @contextlib.contextmanager
@@ -192,6 +226,8 @@ class Source(io.FileIO):
     """A file, or standard input, that counts what is read of it."""
 
     taken = False
+    # What the system says of the files that were opened.
+    files = []
 
     def __init__(self, name):
         if name == STANDARD and Source.taken:
@@ -202,7 +238,10 @@ class Source(io.FileIO):
         except OSError as wrong:
             raise Trouble(f"{shown(name)}: {wrong.strerror}") from None
         self.given, self.count = name, 0
-        self.size = os.fstat(self.fileno()).st_size
+        about = os.fstat(self.fileno())
+        self.size = about.st_size
+        if stat.S_ISREG(about.st_mode):
+            Source.files.append(about)
         PROGRESS.source = self
 
     def readinto(self, buffer):

@@ -48,6 +48,7 @@ def run(asked, out):
             out.line(line)
         out.line(out.paint("fine" if made.passes else "fault", made.line()))
     if wrong:
+        out.keep()
         raise command.Trouble(*wrong)
     return command.FINE if all(it.passes for it in verdicts) else command.FOUND
 
@@ -105,7 +106,7 @@ def add_golden(asked, name, document, ran, made):
     else:
         lines = verdict.differences(document, name, golden, ran)
     if lines and asked.update:
-        with command.Output(golden) as to:
+        with command.Output(golden, is_read=True) as to:
             to.write(ran)
     outcome = verdict.PASSES if not lines else verdict.RENEWED if asked.update else rules.FAILS
     made.add(verdict.GOLDEN, golden, outcome, lines)
@@ -122,6 +123,8 @@ class Lines:
 
     def flush(self):
         """All is kept."""
+
+    keep = flush
 
     def paint(self, _colour, text):
         return text

@@ -40,5 +40,6 @@ def run(asked, out):
     if found.differ and len(set(orders)) == 2:
         out.line("ready callbacks run " + ", ".join(f"by {order} in {command.shown(name)}" for order, name in zip(orders, asked.document)))
     if found.trouble:
+        out.keep()
         raise found.trouble
     return command.FOUND if found.differ else command.FINE

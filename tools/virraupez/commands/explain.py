@@ -44,5 +44,6 @@ def run(asked, out):
                 out.line(line)
         status = max(status, command.FOUND if told.code else command.FINE)
     if wrong:
+        out.keep()
         raise command.Trouble(*wrong)
     return status

@@ -36,6 +36,7 @@ def run(asked, out):
             out.line(line)
         status = max(status, verdict(out, check, f"{name}: " if len(asked.transcripts) > 1 else "", asked.accept_undecided))
     if wrong:
+        out.keep()
         raise command.Trouble(*wrong)
     return status
 

@@ -122,6 +122,7 @@ def searched(made, asked, out):
     else:
         tell(tally, out, stopped, asked.accepted)
     out.flush()
+    out.keep()
     folder.end(tally)
     # A shard doesn't know what other shards say of a rule.
     return status(tally, stopped, not lines and any(tally.silent(asked.accepted)))
@@ -135,6 +136,7 @@ def merged(asked, out):
     missing = list(joined.missing())
     made, tally = joined.tally.search, joined.tally
     tell(tally, out, missing, asked.accepted)
+    out.keep()
     if asked.save:
         judging = judge.Judge(judge.executor(asked.reference), made.rules)
         made.own(judging)
