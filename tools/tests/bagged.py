@@ -93,6 +93,7 @@ def answers(program):
     with tempfile.TemporaryDirectory() as folder:
         folder = pathlib.Path(folder)
         yield from of_numbers(folder)
+        yield from of_zeros(folder)
         yield from of_times(folder)
         yield from of_types(folder)
         yield from of_wrong(folder)
@@ -114,6 +115,31 @@ def of_numbers(folder):
             write(path, {"/x": (f"std_msgs/msg/{name}", "cdr")}, [("/x", at, cdr((of, value), order=order)) for at, value in enumerate(values)])
             status, entries = fed(path, "--topic", "/x:x", *words)
             yield f"what is fed of {name} {values} {order}", (status, [it[1] for it in entries]), (0, should)
+
+
+# Numbers that are fed, the words that scale them, and what is said of those that became 0.
+ZEROS = (
+    ((0.3, -0.05, 0.0, 7.0), (), "/x: data: 2 values became 0, the least of which is 0.05; --scale 100 keeps a digit of each\n"),
+    ((0.3,), (), "/x: data: 1 value became 0, the least of which is 0.3; --scale 10 keeps a digit of each\n"),
+    ((0.0004,), ("--scale", "1000"), "/x: data: 1 value became 0, the least of which is 0.0004; --scale 10000 keeps a digit of each\n"),
+    ((0.3, -0.05, 0.0), ("--scale", "100"), None),
+    ((0.6, 0.0, -1.0), (), None),
+)
+
+
+def of_zeros(folder):
+    """Values that lose all their digits are told, with a scale by which none does; and a name that isn't in the bag."""
+    for number, (values, words, says) in enumerate(ZEROS):
+        path = folder / f"zeros{number}.db3"
+        write(path, {"/x": ("std_msgs/msg/Float64", "cdr")}, [("/x", at, cdr(("float64", value))) for at, value in enumerate(values)])
+        status, told = tool.within("feed", path, "--topic", "/x:x", *words)
+        yield f"what is said of {values} {words}: {told}", (status, told.endswith(f"feed: {says}") if says else "became" in told), (0, bool(says))
+        if says:
+            scale = says.split("--scale ")[1].split(" ")[0]
+            found = [it[1] for it in fed(path, "--topic", "/x:x", "--scale", scale)[1]]
+            yield f"with the scale {scale}", [bool(it) for it in found], [bool(it) for it in values]
+    status, told = tool.within("feed", path, "--topic", "/xx:x")
+    yield f"a name that isn't in the bag: {told}", (status, "no topic /xx: did you mean /x?" in told), (2, True)
 
 
 def of_times(folder):

@@ -11,6 +11,8 @@ class Source:
 
     def __init__(self, name, own):
         self.name, self.own, self.type, self.field, self.scale = name, own, None, "data", decimal.Decimal(1)
+        # How many numbers other than 0 became 0, and the least of them.
+        self.zeros, self.least = 0, decimal.Decimal("Infinity")
 
     def value(self, types, given):
         """The value of a message; None if it is no finite number."""
@@ -20,7 +22,15 @@ class Source:
         value = (decimal.Decimal(number) * self.scale).to_integral_value(decimal.ROUND_HALF_EVEN)
         if not -(2**63) <= value < 2**63:
             raise cdr.Unreadable(f"{value:.3e} has more than 64 bits")
+        if number and not value:
+            self.zeros, self.least = self.zeros + 1, min(self.least, abs(decimal.Decimal(number)))
         return int(value)
+
+    def remark(self):
+        """What is said of numbers that became 0, with the scale that keeps a digit of each."""
+        scale = decimal.Decimal(1).scaleb(-self.least.adjusted())
+        became = f"{difference.numbered(self.zeros, 'value')} became 0, the least of which is {float(self.least):.3g}"
+        return f"{self.name}: {self.field}: {became}; --scale {scale:f} keeps a digit of each"
 
 
 def entries(bag, sources, tick, begin):
@@ -42,6 +52,7 @@ def entries(bag, sources, tick, begin):
                 made.append({"topic": source.own, "value": value, "at": begin + -(-(time - bag.first) // tick)})
     remarks = [f"{name} has no message" for name, count in counts.items() if not count]
     remarks += [f"{name}: {difference.numbered(count, 'value')} left out: no finite number" for name, count in lost.items() if count]
+    remarks += [source.remark() for source in sources if source.zeros]
     return made, remarks
 
 
