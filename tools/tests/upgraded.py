@@ -36,6 +36,19 @@ TEXTS = (
     (NODE.join(('{"version":1,', "}")).replace(":1}]}", ':1,"x":[]}],"y":{}}'), NODE.join(('{"version":2,"order":"kind",', "}"))),
     ('{"version":3,"version":1}', '{"version":3,"version":2,"order":"kind"}'),
     ('{"a":1,"version":1,"a":1}', '{"order":"kind","version":2}'),
+    # The name of the schema stays, whatever it is.
+    ('{"$schema":"x.json",\n "version":1}', '{"$schema":"x.json",\n "version":2,\n "order":"kind"}'),
+    ('{"version":1,"a":1,"$schema":[1.5]}', '{"version":2,"order":"kind","$schema":[1.5]}'),
+    ('{"version":1,"nodes":[{"name":"n","$schema":1}]}', '{"version":2,"order":"kind","nodes":[{"name":"n"}]}'),
+)
+# Documents with ignored fields, the places and paths of those that an upgrade would let go, and what is left of each.
+LOST = (
+    ('{"version":1,\n "remark":"a"}', ["2:2: goes: remark"], '{"version":2,\n "order":"kind"}'),
+    (NODE.join(('{"version":1,', "}")).replace('"t",', '"t","scrpt":[], '), ["1:57: goes: nodes[0].timers[0].scrpt"], NODE.join(('{"version":2,"order":"kind",', "}")).replace('"t",', '"t",')),
+    ('{"version":1,"order":"arrival"}', ["1:14: goes: order"], '{"version":2,"order":"kind"}'),
+    ('{"version":1,"order":"kind"}', [], '{"version":2,"order":"kind"}'),
+    ('{"version":1,"moments":[1],"moments":[2]}', ["1:28: goes: moments"], '{"version":2,"moments":[1],"order":"kind","moments":[1],"moments":[2]}'),
+    ('{"$schema":"x.json","version":1}', [], '{"$schema":"x.json","version":2,"order":"kind"}'),
 )
 REFUSED = '{"version":1,"moments":[2,1]}', '-:1:27: refused 8 (Clock): moments[1]\n  stands: 1\n  wanted: a moment at or after the one before it, 2\n  hint: moments never go back\n'
 
@@ -47,6 +60,7 @@ def answers(_program):
     yield from of_words()
     with sandbox.of("exit 70", "exec_upgrade") as top:
         yield from of_files(top)
+        yield from of_lost(top)
     yield from of_programs()
     yield from of_machines()
     if not tool.UPGRADES:
@@ -88,6 +102,27 @@ def of_words():
         yield f"upgrade {words}: {told}", (status, part in told), (2, True)
 
 
+def of_lost(top):
+    """Each field that would go is told with its place, and nothing is written then, in place or elsewhere, but with --drop-unknown."""
+    for at, (given, places, should) in enumerate(LOST):
+        path = top / f"lost_{at}.json"
+        path.write_text(given)
+        status, told = upgraded(top, path.name)
+        found = [line.split(":", 1)[1] for line in told.split("\n") if " goes: " in line]
+        yield f"what would go of {given!r}: {told}", (status, found, should in told), (1, places, False) if places else (0, [], True)
+        status, _ = upgraded(top, "-i", path.name)
+        yield f"upgrade -i of {given!r}", (status, path.read_text()), (1, given) if places else (0, should)
+        path.write_text(given)
+        status, told = upgraded(top, "-i", "--drop-unknown", path.name)
+        yield f"upgrade -i --drop-unknown of {given!r}: {told}", (status, path.read_text(), told.count(" goes: ")), (0, should, len(places))
+    path = top / "schema.json"
+    path.write_text('{"version":1,"$schema":null}')
+    status, told = upgraded(top, "--compact", path.name)
+    yield f"upgrade --compact: {told}", (status, f"{path.name}: goes: $schema, which --compact leaves out\n" in told), (1, True)
+    yield "with --drop-unknown", '\n{"order":"kind","version":2}\n' in "\n" + upgraded(top, "--compact", "--drop-unknown", path.name)[1], True
+    yield "explain of a schema's name", tool.run("explain", path)[1].count("schema\n"), 0
+
+
 def of_files(top):
     """With -i a file is replaced if it is accepted, and keeps its mode; a link stays, and so does what needs no change."""
     old, new = '{"version":1,\n "moments":[1,2]}\n', '{"version":2,\n "order":"kind",\n "moments":[1,2]}\n'
@@ -119,7 +154,8 @@ def of_files(top):
     names = sorted(it.name for it in folder.rglob("*"))
     yield "what is in the folder", names, ["done.json", "leading.json", "linked.json", "other", "pipe.json", "plain.json", "wrong.json"]
     same = upgraded(top, "own/plain.json", "-o", "own/plain.json")
-    yield "upgrade -o to the document itself", (same, plain.read_text()), ((0, SAYS), '{"moments":[1,2],"order":"kind","version":2}\n')
+    says = "virraupez upgrade: own/plain.json: this file is read, and would be replaced: give -o another name\n"
+    yield "upgrade -o to the document itself", (same, plain.read_text()), ((2, says), '{"moments":[1,2],"order":"kind","version":2}\n')
 
 
 def upgraded(top, *words):

@@ -36,6 +36,8 @@ def fields_of(value, form, path=()):
         if name in forms:
             if isinstance(value[name], (dict, list)):  # most are numbers and texts, which have no fields
                 yield from fields_of(value[name], forms[name], path + (name,))
+        elif of == "document" and name == g.SCHEMA:
+            continue
         elif name not in g.OBJECTS[of]:
             yield unknown_field(name, of, path, value)
         elif g.is_count(value.get("version")) and value["version"] in g.VERSIONS:

@@ -116,6 +116,8 @@ REQUIRED = {
     "goal request": ("round", "action", "goal", "value"),
     "cancel request": ("round", "action", "cancel"),
 }
+# The field of a document that names its schema for editors. The program ignores it, and the tools keep it.
+SCHEMA = "$schema"
 # The fields of a document that version 1 hasn't, with the version that has them.
 SINCE = {"order": 2}
 # The field by which each form of an entry is known.

@@ -22,8 +22,10 @@ class Entry:
 class Report:
     """A document's code, 0 where it isn't refused, with entries, and how many more places of each code there are."""
 
-    def __init__(self, given, most=TOLD):
+    def __init__(self, given, most=TOLD, of=None):
+        """Of is what gives the faults and warnings of a document's value: all, unless it is given."""
         self.most, self.entries, self.counts, self.rounds = most, [], {}, 0
+        self.of = of or every
         try:
             text = given.decode()
             document = json_text.read(text)
@@ -55,7 +57,7 @@ class Report:
 
     def add_all(self, text, document):
         kept = []
-        for fault in every(document):
+        for fault in self.of(document):
             count = self.counts[fault.code] = self.counts.get(fault.code, 0) + 1
             if count <= self.most:
                 kept.append(fault)
@@ -83,6 +85,13 @@ def every(document):
     yield from refusals.of(document, declared)
     if isinstance(document, dict):
         yield from advice.warnings(document, declared)
+
+
+def ignored(document):
+    """The warnings of the fields of a document that an upgrade leaves out or changes."""
+    for warning in advice.fields_of(document, "document"):
+        if warning.path != ("order",) or document["order"] != grammar.ORDERS[0]:
+            yield warning
 
 
 def begin_of(fault, place):

@@ -188,6 +188,7 @@ def object_of(owner, strict):
     if owner != "document":
         made = {"description": OBJECTS[owner], **made}
     else:
+        fields[g.SCHEMA] = {"description": "Where this schema is, for editors. It changes nothing."}
         made = {**made, **by_version(strict)}
     return {**made, "additionalProperties": False} if strict else made
 

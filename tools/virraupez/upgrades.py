@@ -35,9 +35,11 @@ def kept(value, form):
 
 
 def edited(text, value):
-    """The text of a lawful document with no other changes than those by which it has the value of its upgrade. It is laid out anew if
-    these don't do, as if an ignored name stands twice in an object."""
-    found = "".join(parts(text, sorted(edits(text, json_text.read(text), value))))
+    """The text of a lawful document with no other changes than those by which it has the value of its upgrade, but for the name of its
+    schema, which stays. It is laid out anew if these don't do, as if an ignored name stands twice in an object."""
+    document = json_text.read(text)
+    value = {**value, **{name: it for name, it in document.items() if name == grammar.SCHEMA}}
+    found = "".join(parts(text, sorted(edits(text, document, value))))
     return found if json_text.read(found) == value else made.layout(value)
 
 

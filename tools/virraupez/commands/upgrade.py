@@ -1,19 +1,18 @@
 """upgrade: brings documents to version 2. An upgrade says the same plan as its document and has the same transcript. It names the order
-of ready callbacks, and leaves out fields that are ignored. The proved program writes it, as ./exec_upgrade finds it. If a document
+of ready callbacks, and leaves out fields that are ignored, each of which is told. One that is misspelt is among them, so a document
+with such fields is upgraded only with --drop-unknown. The proved program writes the upgrade, as ./exec_upgrade finds it. If a document
 is refused, the places of its faults are told, as explain tells them, and the others are upgraded.
 
 It is written in the text of its document, whose lines, spaces and order of fields stay, so that both can be compared line by line.
 With -i each document is replaced by its upgrade, by a new file of the same name and mode. docs/upgrade.md has more."""
-import contextlib
 import json
-import os
-import stat
-import tempfile
+import sys
 
-from .. import command, refusals, report, runs, upgrades
+from .. import command, difference, grammar, json_text, refusals, replacement, report, runs, upgrades
 from . import explain
 
-STATUS = "The status is 0, 1 if a document is refused, and 2 if one can't be read or replaced, or no program runs."
+STATUS = """The status is 0, 1 if a document is refused or fields of it would go, and 2 if one can't be read or replaced, or no program
+runs."""
 
 
 def parser(prog=None):
@@ -21,6 +20,7 @@ def parser(prog=None):
     made.add_argument("documents", metavar="DOCUMENT", nargs="+", help="a document; - is standard input")
     made.add_argument("-i", "--in-place", action="store_true", help="replace each document by its upgrade, and write nothing to standard output")
     made.add_argument("--compact", action="store_true", help="write each upgrade in one line, as the program does: no spaces, the fields sorted by their names")
+    made.add_argument("--drop-unknown", action="store_true", help="let the fields go that are ignored")
     made.add_argument("--reference", action="store_true", help="upgrade by a reader in Python, of which nothing is proved")
     return made
 
@@ -35,7 +35,11 @@ def run(asked, out):
     for name in asked.documents:
         try:
             given = explain.given_by(name)
-            text = shown(given, text_of(given), asked.compact)
+            made = text_of(given)
+            if tell_lost(name, given, asked) and not asked.drop_unknown:
+                status = command.FOUND
+                continue
+            text = shown(given, made, asked.compact)
             if asked.in_place and text != given.decode():
                 replace(name, text)
         except runs.Refused as refused:
@@ -48,6 +52,7 @@ def run(asked, out):
     if asked.reference:
         command.note("upgrade: this is made by the reader in Python, and not by the proved program")
     if wrong:
+        out.keep()
         raise command.Trouble(*wrong)
     return status
 
@@ -65,6 +70,21 @@ def shown(given, text, is_compact):
     return f"{text}\n" if is_compact else upgrades.edited(given.decode(), json.loads(text))
 
 
+def tell_lost(name, given, asked):
+    """Tells each field that an upgrade leaves out, with its place, and gives how many there are."""
+    lost = report.Report(given, sys.maxsize, report.ignored)
+    for entry in lost.entries:
+        head, *more = report.entry_lines(entry, 0, f"{name}:", report.unpainted)
+        command.note(head.replace(" warning: ", " goes: ", 1), *more)
+    count = len(lost.entries)
+    if asked.compact and grammar.SCHEMA in json_text.read(given.decode()):
+        command.note(f"{command.shown(name)}: goes: {grammar.SCHEMA}, which --compact leaves out")
+        count += 1
+    if count and not asked.drop_unknown:
+        command.note(f"upgrade: {command.shown(name)} isn't upgraded: --drop-unknown lets {difference.numbered(count, 'field')} go")
+    return count
+
+
 def tell_refusal(name, given, refused):
     """Tells the places of a document's faults on standard error, or the code alone if there is no place, as for want of memory."""
     told = report.Report(given)
@@ -73,20 +93,7 @@ def tell_refusal(name, given, refused):
 
 def replace(name, text):
     """Gives a document's name to a new file with its upgrade. A symbolic link stays, and leads to the new file."""
-    path = os.path.realpath(name)
-    try:
-        mode = os.stat(path).st_mode
-        if not stat.S_ISREG(mode):
-            raise command.Trouble(f"{command.shown(name)}: no plain file, which alone can be replaced")
-        file, new = tempfile.mkstemp(prefix=".virraupez.", dir=os.path.dirname(path))
-        try:
-            with open(file, "wb") as stream:
-                os.fchmod(file, stat.S_IMODE(mode))
-                stream.write(text.encode())
-            os.replace(new, path)
-        except BaseException:
-            with contextlib.suppress(OSError):
-                os.unlink(new)
-            raise
-    except OSError as wrong:
-        raise command.Trouble(f"{command.shown(name)}: {wrong.strerror}") from None
+    if not replacement.is_plain(name):
+        raise command.Trouble(f"{command.shown(name)}: no plain file, which alone can be replaced")
+    with command.Output(name, is_read=True) as out:
+        out.write(text)
