@@ -28,7 +28,7 @@ lines_of_crates() {
 
 # The sum of the standard input.
 sum() {
-  summed=$(sha256sum) && echo "${summed%% *}"
+  line=$(sha256sum) && echo "${line%% *}"
 }
 
 # The names of the crates on which the program stands, in a line.
@@ -55,10 +55,16 @@ fact() {
   sed -n "s/^$2 //p" "$1" 2>/dev/null
 }
 
+# Whether the program is there, can be run, and has this sum. Its state is that of before it was read.
+is_whole() {
+  state=$(printf '%s\n' "$program" | list_states) summed=$1
+  [ -x "$program" ] && [ "$(sum <"$program")" = "$summed" ]
+}
+
 # Whether the program of out/ is that of the sources with this sum, as what built it noted.
 is_built() {
-  [ -x "$out/$name" ] && [ "$(fact "$out/built" sources)" = "$1" ] &&
-    [ "$(fact "$out/built" program)" = "$(sum <"$out/$name")" ]
+  program=$out/$name
+  [ "$(fact "$out/built" sources)" = "$1" ] && is_whole "$(fact "$out/built" program)"
 }
 
 # Notes that the program of out/ was built from sources with this sum, by the toolchain that is here.
@@ -104,8 +110,29 @@ compare_with_release() {
 
 # ---- which program is run
 
-# The folder for what is unpacked or known if the repository can't be written: one a checkout.
-cache=${XDG_CACHE_HOME:-${HOME-}/.cache}/virraupez$PWD
+# The folder for what is unpacked or known if the repository can't be written: one a checkout. XDG_CACHE_HOME counts if it is
+# an absolute path, as the XDG Base Directory Specification has it.
+case ${XDG_CACHE_HOME-} in
+/*) cache=$XDG_CACHE_HOME ;;
+*) cache=${HOME-}/.cache ;;
+esac
+cache=$cache/virraupez$PWD
+
+# Whether the cache is the user's, and nobody else may write there. What it says is believed, and what it has is run.
+is_own_cache() {
+  [ -O "$cache" ] && [ -z "$(find "$cache" -prune -perm /022)" ]
+}
+
+# Makes a folder for what is unpacked or known. Others enter no folder that is made for the cache.
+make_room() {
+  if [ "$1" != "$cache" ]; then
+    mkdir -p "$1"
+  elif (umask 077 && mkdir -p "$1"); then
+    is_own_cache || { printf '%s\n' "$1 is another user's, or others may write there" >&2 && return 1; }
+  else
+    return 1
+  fi
+}
 
 # Lists what the choice of a program rests on, be it there or not: the folders and files of the sources of these crates, and
 # other files.
@@ -119,38 +146,61 @@ list_names() {
 }
 
 # Lists the inodes, sizes and times of change of the folders and files that are named on standard input. A folder has another
-# time if a file in it is new or gone. It becomes xargs, so it is called in a subshell.
+# time if a file in it is new or gone.
 list_states() {
-  exec xargs -d '\n' stat -c '%i %s %.9Z' 2>/dev/null
+  xargs -d '\n' stat -c '%i %s %.9Z' 2>/dev/null
 }
 
-# Whether nothing has changed since a program was chosen; then it is in $program.
+# Whether nothing has changed since a program was chosen; then it is in $program. Its own name is the last of the names, and its
+# states end in a line that names it, so that no list counts that was cut off.
 is_known() {
   room=release/out
-  [ -e "$room/$name.states" ] || room=$cache
-  read -r program <"$room/$name.chosen" && [ -s "$program" ] && [ -x "$program" ] &&
-    list_states <"$room/$name.names" | cmp -s - "$room/$name.states"
+  [ -e "$room/$name.states" ] || { room=$cache && is_own_cache; } || return
+  IFS= read -r program <"$room/$name.chosen" && [ -s "$program" ] && [ -x "$program" ] &&
+    { list_states <"$room/$name.names"; printf '%s\n' "end $program"; } | cmp -s - "$room/$name.states"
 } 2>/dev/null
 
 # Keeps the choice, with the files as they were before it was made, unless one is new since they were listed.
 keep() {
   [ "$(list_names $crates)" = "$names" ] || return
   for room in release/out "$cache"; do
-    mkdir -p "$room" && rm -f "$room/$name.states" && echo "$program" >"$room/$name.chosen" &&
-      echo "$names" >"$room/$name.names" && echo "$states" >"$room/$name.states.$$" &&
+    make_room "$room" && rm -f "$room/$name.states" && printf '%s\n' "$program" "$summed" >"$room/$name.chosen" &&
+      printf '%s\n' "$names" "$program" >"$room/$name.names" &&
+      printf '%s\n' "$states" "$state" "end $program" >"$room/$name.states.$$" &&
       mv -f "$room/$name.states.$$" "$room/$name.states" && return
   done
 } 2>/dev/null
 
+# What is wrong with an unpacked program that was chosen: nothing if it is as it was then, or that of release/ today.
+fault_of_choice() {
+  for room in release/out "$cache"; do
+    { IFS= read -r program && read -r summed; } <"$room/$name.chosen" && [ "$program" = "$room/$name" ] || continue
+    is_whole "$summed" || is_whole "$(fact release/about "$name program")" ||
+      printf '%s\n' "$program has changed since it was unpacked, so ./$name will unpack it anew"
+  done
+} 2>/dev/null
+
 tell() {
-  echo "$name: $1" >&2
+  printf '%s\n' "$name: $1" >&2
 }
 
-# Unpacks the program of release/ into a folder, and tries it on an empty document.
+# Whether a file is the program of release/, and can be run.
+is_shipped() {
+  program=$1
+  is_whole "$(fact release/about "$name program")"
+}
+
+# Whether a file answers an empty document as the program must.
+is_answering() {
+  [ "$(cd -- "${1%/*}" && echo '{"version":1}' | "./${1##*/}" $trial)" = "$answer" ]
+}
+
+# Unpacks the program of release/ into a folder. It is run after it was summed, and has its name after it is on the disk.
 unpack() {
   new=$1/$name.$$
-  if mkdir -p "$1" && gzip -dc "$packed" >"$new" && chmod +x "$new" &&
-    [ "$(cd "$1" && echo '{"version":1}' | "./${new##*/}" $trial)" = "$answer" ]; then
+  if gzip -dc "$packed" >"$new" && chmod +x "$new" &&
+    { is_shipped "$new" || { echo "it isn't the program that release/about names" >&2 && false; }; } &&
+    is_answering "$new" && sync "$new"; then
     mv -f "$new" "$1/$name"
   else
     rm -f "$new"
@@ -161,14 +211,13 @@ unpack() {
 # Chooses the program of release/: the one that is unpacked, or one that it unpacks.
 take_release() {
   for room in release/out "$cache"; do
-    program=$room/$name
-    [ "$(sum 2>/dev/null <"$program")" != "$(fact release/about "$name program")" ] || return 0
-    if why=$(unpack "$room" 2>&1); then
-      tell "the program of release/ was proved elsewhere from these sources, with $(fact release/about "$name toolchain"); ./build proves it here and compares the bytes"
-      return 0
-    fi
+    why=$(make_room "$room" 2>&1) || continue
+    ! is_shipped "$room/$name" || return 0
+    why=$(unpack "$room" 2>&1) && is_shipped "$room/$name" || continue
+    tell "the program of release/ was proved elsewhere from these sources, with $(fact release/about "$name toolchain"); ./build proves it here and compares the bytes"
+    return 0
   done
-  tell "the program of release/ can't be unpacked and run: $(echo "$why" | tail -n 1)"
+  tell "the program of release/ can't be unpacked and run: $(printf '%s\n' "$why" | tail -n 1)"
   return 1
 }
 
@@ -181,9 +230,8 @@ choose() {
   fi
   crates=$(names_of_crates)
   names=$(list_names $crates)
-  states=$(echo "$names" | list_states)
+  states=$(printf '%s\n' "$names" | list_states)
   sources=$(sum_of_sources)
-  program=$out/$name
   if is_built "$sources"; then
     :
   elif fault=$(fault_of_release "$sources") && [ -z "$fault" ]; then
@@ -191,7 +239,7 @@ choose() {
   else
     tell "$fault, so ./build must prove and build one"
     ./build </dev/null || return
-    states=$(echo "$names" | list_states)
+    states=$(printf '%s\n' "$names" | list_states)
     is_built "$(sum_of_sources)" || return
   fi
   keep || :

@@ -11,7 +11,7 @@ from . import command, executor, refusals
 TOP = pathlib.Path(__file__).resolve().parent.parent.parent
 REFUSED = 1
 # What ./exec_run and ./exec_upgrade do before they become the program.
-ASKED = 'command . release/program.sh && ask_of "$0" && { is_known || choose; } && echo "$program"'
+ASKED = 'command . release/program.sh && ask_of "$0" && { is_known || choose; } && printf "%s\\n" "$program"'
 
 
 class Refused(Exception):
