@@ -27,10 +27,10 @@ COMPLETED = (
 # Programs of the shell in the place of ./exec_run, with the status of `run` and a part of what it says.
 STAND_INS = (
     ("cat >/dev/null; echo end 0", 0, "end 0\n"),
-    ("exit 70", 2, "virraupez run: ./exec_run ended with the status 70: there is no transcript\n"),
-    ("cat >/dev/null; echo write failed >&2; exit 3", 2, "./exec_run ended with the status 3"),
+    ("exit 70", 2, "virraupez run: the program ended with the status 70: there is no transcript\n"),
+    ("cat >/dev/null; echo write failed >&2; exit 3", 2, "the program ended with the status 3"),
     ("cat >/dev/null; echo refused 10 >&2; exit 1", 1, "refused 10\n"),
-    ("cat >/dev/null; kill -KILL $$", 2, "./exec_run ended with the status -9"),
+    ("cat >/dev/null; kill -KILL $$", 2, "the program ended with the status -9"),
     ('cat >/dev/null; echo "$1 $2"', 0, "3 200\n"),
 )
 SECOND = 1.0

@@ -1,5 +1,5 @@
 """A copy of the repository's tools and documents in a folder of its own, in which ./exec_run or ./exec_upgrade is the program that is
-tested. So what is run there builds nothing, and leaves nothing in the repository."""
+tested, and what release/program.sh chooses. So what is run there builds nothing, and leaves nothing in the repository."""
 import contextlib
 import pathlib
 import shutil
@@ -26,6 +26,8 @@ def of(script, name="exec_run"):
         (top / "cases").mkdir()
         for path in [*(tool.TOP / it for it in FILES), *(tool.TOP / "cases").glob("*.py")]:
             shutil.copy2(path, top / path.relative_to(tool.TOP))
+        (top / "release").mkdir()
+        (top / "release/program.sh").write_text("ask_of() { program=$1; }\nis_known() { :; }\n")
         (top / name).write_text(f"#!/bin/sh\n{script}\n")
         (top / name).chmod(0o755)
         yield top

@@ -382,7 +382,6 @@ def of_choice():
     """A search asks once which program ./exec_run runs, as ./exec_run itself does, and runs that."""
     with sandbox.of("echo exec_run ran >&2; exit 70") as top:
         (top / "small.json").write_text(small())
-        (top / "release").mkdir()
         (top / "release/it").write_text("#!/bin/sh\n[ \"$*\" = '1 1' ] && cat >/dev/null && echo 'end 0'\n")
         (top / "release/it").chmod(0o755)
         for known, chosen, should in (("true", "echo asked >&2; false", (0, "4 runs, all there are: no rule breaks\n")), ("false", "true", (0, "4 runs, all there are: no rule breaks\n")), ("false", "false", (2, "virraupez search: ./exec_run has no program to run\n"))):

@@ -10,7 +10,18 @@
     robot.write()
 
 docs/write.md has more."""
-from .assemble import ScriptError, script
-from .build import Document, DocumentError, goal_of
+import importlib
 
-__all__ = ["Document", "DocumentError", "ScriptError", "goal_of", "script"]
+# Where each name is. A module is read if one of its names is asked for, so that a command begins at once.
+PLACES = {"Document": "build", "DocumentError": "build", "goal_of": "build", "ScriptError": "assemble", "script": "assemble"}
+__all__ = sorted(PLACES)
+
+
+def __getattr__(name):
+    if name not in PLACES:
+        raise AttributeError(f"module {__name__!r} has no attribute {name!r}")
+    return getattr(importlib.import_module(f".{PLACES[name]}", __name__), name)
+
+
+def __dir__():
+    return sorted({*globals(), *PLACES})

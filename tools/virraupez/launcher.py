@@ -3,11 +3,10 @@ a ROS 2 executor do. A run is a transcript, which is the same bytes each time, w
 
 Each command is a tool of `commands`. Its module is read if it is asked for, and no other, so that a run begins at once."""
 import argparse
-import pathlib
+import sys
 
-from . import command, commands, hints
+from . import command, commands, shipped
 
-TOP = pathlib.Path(__file__).resolve().parent.parent.parent
 NAME = "virraupez"
 ABOUT = __doc__.partition(": ")[2].split("\n\n")[0]
 MORE = """A file's name may be - for standard input or output. A fault begins with FILE:LINE:COLUMN, as editors find it. Colours are for
@@ -36,20 +35,19 @@ class Version(argparse.Action):
     """Writes the version, which is that of the file VERSION, and ends."""
 
     def __call__(self, parser, *_):
-        parser.exit(command.main(Told((TOP / "VERSION").read_text()), [], NAME))
+        parser.exit(command.main(Telling, [], NAME))
 
 
-class Told:
-    """A tool that writes a text."""
+class Telling:
+    """The tool that writes the version."""
 
-    def __init__(self, text):
-        self.text = text
-
-    def parser(self, prog):
+    @staticmethod
+    def parser(prog):
         return command.parser(f"{prog}: writes its version", "", prog)
 
-    def run(self, _asked, out):
-        out.write(f"{NAME} {self.text}")
+    @staticmethod
+    def run(_asked, out):
+        out.line(f"{NAME} {shipped.version()}")
         return command.FINE
 
 
@@ -61,6 +59,8 @@ def rows():
 
 
 def known(name):
+    from . import hints
+
     near = hints.meant(name, commands.NAMES)
     raise argparse.ArgumentTypeError(f"{name[:60]!r} is no command; {near}".rstrip("; "))
 
@@ -72,3 +72,11 @@ def main(words):
     if words and words[0] in commands.NAMES:
         return command.main(commands.tool(words[0]), words[1:], f"{NAME} {words[0]}")
     return command.main(Overview, words, NAME)
+
+
+def entry():
+    """The command of an installed package."""
+    try:
+        return main(sys.argv[1:])
+    except KeyboardInterrupt:
+        return 130

@@ -1,17 +1,15 @@
-"""Runs of documents: by a proved program, or by the executor in Python. Which program ./exec_run and ./exec_upgrade run is asked once,
-because to ask takes longer than a short run does."""
+"""Runs of documents: by a proved program, or by the executor in Python. Which program is run is asked once, because to ask takes longer
+than a short run does."""
 import json
 import os
-import pathlib
 import platform
 import subprocess
 
-from . import command, executor, refusals
+from . import command, shipped
 
-TOP = pathlib.Path(__file__).resolve().parent.parent.parent
 REFUSED = 1
-# What ./exec_run and ./exec_upgrade do before they become the program.
-ASKED = 'command . release/program.sh && ask_of "$0" && { is_known || choose; } && printf "%s\\n" "$program"'
+# What launches a program has its C library ask for large pages, and keep its memory (release/program.sh).
+TUNABLES = "glibc.malloc.hugetlb=1:glibc.malloc.mmap_threshold=4294967296:glibc.malloc.top_pad=67108864:glibc.malloc.trim_threshold=4294967296:glibc.malloc.mxfast=0"
 
 
 class Refused(Exception):
@@ -25,13 +23,16 @@ class Program:
 
     def __init__(self):
         demand_machine(self.REFERENCE)
-        self.words = [path_of_program(self.NAME), *self.WORDS]
+        self.path = shipped.program(self.NAME)
+
+    def start(self, *words, **settings):
+        """Starts the program, under a plain name: its own words would be wrong if its path weren't UTF-8."""
+        # Without close_fds Python starts a program in a fraction of the time.
+        return subprocess.Popen([self.NAME, *words], executable=self.path, stdin=subprocess.PIPE, stdout=subprocess.PIPE, close_fds=False, **settings)
 
     def text(self, given):
         """What the program writes of a document's bytes."""
-        # Without close_fds Python starts a program in a fraction of the time.
-        program = subprocess.Popen(self.words, stdin=subprocess.PIPE, stdout=subprocess.PIPE, stderr=subprocess.PIPE, close_fds=False)
-        with program:
+        with self.start(*self.WORDS, stderr=subprocess.PIPE) as program:
             feed(program.stdin, given)
             text, told = program.stdout.read(), program.stderr.read()
         if program.returncode == REFUSED:
@@ -59,6 +60,8 @@ class Reference:
     """The executor in Python, which is written apart from the program; nothing of it is proved."""
 
     def transcript(self, given):
+        from . import executor, refusals
+
         code = refusals.code(given)
         if code:
             raise Refused(str(code))
@@ -75,14 +78,9 @@ def demand_machine(reference=Executor.REFERENCE):
         )
 
 
-def path_of_program(name):
-    """The program that ./exec_run or ./exec_upgrade runs. Without release/ that is this script itself."""
-    if not (TOP / "release/program.sh").exists():
-        return str(TOP / name)
-    asked = subprocess.run(["sh", "-c", ASKED, name], stdin=subprocess.DEVNULL, stdout=subprocess.PIPE, cwd=TOP)
-    if asked.returncode:
-        raise command.Trouble(f"./{name} has no program to run")
-    return str(TOP / os.fsdecode(asked.stdout).strip())
+def launching():
+    """The environment in which ./exec_run launches its program."""
+    return {"GLIBC_TUNABLES": TUNABLES, **os.environ}
 
 
 def feed(stream, given):

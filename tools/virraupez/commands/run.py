@@ -6,7 +6,6 @@ The proved program is for Linux on x86-64. With --reference an executor in Pytho
 written apart from the program, by docs/rules.md alone. Nothing of it is proved; tests compare both byte by byte."""
 import argparse
 import os
-import subprocess
 
 from .. import command, grammar, runs
 
@@ -60,10 +59,8 @@ def tell_faults(name, given):
 
 
 def by_program(asked, given, out):
-    """Runs a document by ./exec_run; True if it was refused."""
-    runs.demand_machine()
-    words = [str(runs.TOP / "exec_run"), str(asked.workers), str(asked.quantum)]
-    program = subprocess.Popen(words, stdin=subprocess.PIPE, stdout=subprocess.PIPE)
+    """Runs a document by the proved program; True if it was refused."""
+    program = runs.Executor().start(str(asked.workers), str(asked.quantum), env=runs.launching())
     try:
         runs.feed(program.stdin, given)
         for chunk in iter(lambda: program.stdout.read1(CHUNK), b""):
@@ -74,7 +71,7 @@ def by_program(asked, given, out):
         program.kill()
         program.wait()
     if status not in (0, runs.REFUSED):
-        raise command.Trouble(f"./exec_run ended with the status {status}: there is no transcript")
+        raise command.Trouble(f"the program ended with the status {status}: there is no transcript")
     return status == runs.REFUSED
 
 
