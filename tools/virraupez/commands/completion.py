@@ -19,7 +19,8 @@ _virraupez() {{
 }}
 complete -o default -F _virraupez virraupez
 """
-ZSH = """# The words of virraupez in zsh; made by `virraupez completion zsh`.
+ZSH = """#compdef virraupez
+# The words of virraupez in zsh; made by `virraupez completion zsh`.
 _virraupez() {{
   local -a names
   names=(
@@ -37,7 +38,12 @@ _virraupez() {{
     help) _describe command names ;;
   esac
 }}
-compdef _virraupez virraupez
+# A file of a folder of completions is read as the function itself.
+if [[ ${{funcstack[1]-}} == _virraupez ]]; then
+  _virraupez "$@"
+else
+  compdef _virraupez virraupez
+fi
 """
 SHELLS = ("bash", "zsh")
 # What options take that is the name of a file.
