@@ -6,6 +6,7 @@ input, and writes its transcript or the line of its refusal."""
 import json
 import sys
 
+sys.dont_write_bytecode = True
 import codes
 from virraupez.executor import lines_of
 

@@ -9,8 +9,6 @@ import sys
 TOP = pathlib.Path(__file__).resolve().parent.parent
 PROGRAMS = "exec_run", "exec_upgrade"
 FILES = "VERSION", "release/about", "release/NOTICES.md"
-# The executor in Python, which --reference runs.
-REFERENCE = "cases/codes.py", "cases/executor.py"
 
 
 def program(name):
@@ -25,13 +23,12 @@ def program(name):
 
 
 def furnish(folder):
-    (folder / "cases").mkdir(parents=True)
+    folder.mkdir(parents=True)
     for name in PROGRAMS:
         (folder / name).write_bytes(program(name))
         (folder / name).chmod(0o755)
-    for names, to in ((FILES, folder), (REFERENCE, folder / "cases")):
-        for name in names:
-            shutil.copyfile(TOP / name, to / pathlib.Path(name).name)
+    for name in FILES:
+        shutil.copyfile(TOP / name, folder / pathlib.Path(name).name)
 
 
 if __name__ == "__main__":

@@ -10,7 +10,7 @@ from . import tool
 
 # What is built from, of the repository.
 FOLDERS = "debian", "tools/virraupez", "release"
-FILES = "Makefile", "pyproject.toml", ".gitignore", "README.md", "VERSION", "virraupez", "docs/virraupez.1", "cases/codes.py", "cases/executor.py"
+FILES = "Makefile", "pyproject.toml", ".gitignore", "README.md", "VERSION", "virraupez", "docs/virraupez.1"
 # The places in which each is built, with what differs there.
 BUILDS = (("one", "022", {"TZ": "UTC", "LC_ALL": "C.UTF-8"}), ("another one", "077", {"TZ": "Asia/Tokyo", "LC_ALL": "C"}))
 PYTHON, PATH = "/usr/bin/python3", "/usr/sbin:/usr/bin:/sbin:/bin"

@@ -68,9 +68,8 @@ def installed(program):
         package = pathlib.Path(folder) / "virraupez"
         copied(package)
         shipped = package / "shipped"
-        (shipped / "cases").mkdir(parents=True)
-        for name in ("cases/codes.py", "cases/executor.py", "VERSION"):
-            shutil.copy(tool.TOP / name, shipped / name)
+        shipped.mkdir()
+        shutil.copy(tool.TOP / "VERSION", shipped)
         shutil.copy(program, shipped / "exec_run")
         (shipped / "about").write_text(f"exec_run program {hashlib.sha256(pathlib.Path(program).read_bytes()).hexdigest()}\n")
         yield package
