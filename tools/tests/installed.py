@@ -33,7 +33,8 @@ def answers(_program):
 def lacks(what, *names):
     """Whether a machine lacks a program, or a module of Python, that something needs; what isn't done is told then."""
     for name in names:
-        if not shutil.which(name, path=PATH) and subprocess.run([PYTHON, "-c", f"import {name}"], stderr=subprocess.DEVNULL).returncode:
+        is_package = any(pathlib.Path(folder, name).is_dir() for folder in ("/usr/share", "/opt/ros/share"))
+        if not is_package and not shutil.which(name, path=PATH) and subprocess.run([PYTHON, "-c", f"import {name}"], stderr=subprocess.DEVNULL).returncode:
             tool.UNDONE.append(f"{what}, for want of {name}")
             return True
     return False

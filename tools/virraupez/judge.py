@@ -36,6 +36,7 @@ def robust(text, number, declared):
         rule = Same([pattern.Pattern(pattern.tokens(text), 1, declared)])
     except pattern.Wrong as wrong:
         raise command.Trouble(f"--robust {text!r}, at its character {wrong.column}: {wrong}") from None
+    rule.number = 0
     rule.place, rule.text, rule.label = f"--robust {number}: ", f"robust {text}", f"robust_{number}"
     return rule
 

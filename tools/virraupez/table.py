@@ -1,7 +1,7 @@
 """The report of a search: which rules break in how many runs, the least change that breaks each, and where it breaks."""
 import fractions
 
-from . import judge, rules, search
+from . import judge, junit, report, rules, search
 from .difference import numbered
 
 # How many changes of a run are reported, how many choices of a rule, and how many ranges of a choice.
@@ -13,15 +13,30 @@ SELDOM = 5
 def lines(tally, paint, end="", accepted=()):
     """The table of a search. The end says why not all was run, if so. Accepted is what a rule may be in all runs."""
     for at, rule in enumerate(tally.search.rules):
-        if tally.own and at in dict(tally.own.breaks):
-            yield head(rule, paint, "breaks without a change")
-            yield f"  {dict(tally.own.breaks)[at]}"
-        if at in tally.found and tally.found[at].least.number:
-            yield from of_rule(tally, at, paint)
+        yield from broken(tally, at, rule, paint)
     if tally.first is None or tally.search.is_all:
         yield from remarks(tally, paint)
     silent = list(tally.silent(accepted))
     yield paint("fine" if tally.first is None and not silent and not end else "fault", summary(tally, silent, end))
+
+
+def broken(tally, at, rule, paint):
+    """What is reported of a rule that a run broke."""
+    if tally.own and at in dict(tally.own.breaks):
+        yield head(rule, paint, "breaks without a change")
+        yield f"  {dict(tally.own.breaks)[at]}"
+    if at in tally.found and tally.found[at].least.number:
+        yield from of_rule(tally, at, paint)
+
+
+def cases(tally, accepted):
+    """The case of each rule for JUnit: one that a run broke, or of which the runs say nothing, doesn't pass."""
+    silent = dict(tally.silent(accepted))
+    for at, rule in enumerate(tally.search.rules):
+        lines = list(broken(tally, at, rule, report.unpainted))
+        outcome = rules.FAILS if lines else silent.get(at, rules.HOLDS)
+        lines += [f"{rule.place}{outcome}: {rule.text}"] * (at in silent and not lines)
+        yield junit.of_rule(rule, tally.search.plan["rules"] or "", outcome, lines)
 
 
 def head(rule, paint, says, colour="fault"):

@@ -8,7 +8,7 @@ import os
 import pathlib
 import shlex
 
-from .. import command, fit, flow, judge, report, rules, runs, verdict
+from .. import command, fit, flow, judge, junit, report, rules, runs, verdict
 from . import explain, holds, search
 
 STATUS = """There is one verdict a document, in a line: 'DOCUMENT: passes: ..' or 'DOCUMENT: fails: ..'. The status is 0 if all pass, 1 if
@@ -24,6 +24,7 @@ def parser(prog=None):
     made.add_argument("--search", metavar="WORDS", help="search each document too, with these words of search, as '--jitter battery ±2'")
     made.add_argument("--accept-undecided", dest="accepted", action="append_const", const=rules.UNDECIDED, default=[], help="let undecided rules pass")
     made.add_argument("--accept-nothing", dest="accepted", action="append_const", const=rules.NOTHING, help="let rules pass that are about nothing in all documents")
+    junit.option(made)
     made.add_argument("--reference", action="store_true", help="run by the executor in Python, of which nothing is proved")
     return made
 
@@ -47,10 +48,16 @@ def run(asked, out):
         for line in (line for case in made.cases for line in case.lines):
             out.line(line)
         out.line(out.paint("fine" if made.passes else "fault", made.line()))
+    junit.write(asked, [(made.name, [as_case(made, it) for it in made.cases]) for made in verdicts])
     if wrong:
         out.keep()
         raise command.Trouble(*wrong)
     return command.FINE if all(it.passes for it in verdicts) else command.FOUND
+
+
+def as_case(made, case):
+    name = case.name if case.of == verdict.RULE else f"{case.of}: {case.name}"
+    return junit.Case(name, "", 0, case.outcome, [] if made.is_fine(case) else case.lines or [case.outcome])
 
 
 def demand_words(asked):

@@ -6,7 +6,7 @@ codes come after it, and then warnings: what no code refuses and nobody means. A
 import gc
 import sys
 
-from .. import command, grammar, report
+from .. import command, grammar, report, sarif
 
 STATUS = "The status is 0 if no document is refused, 1 if one is, and 2 if one can't be read."
 
@@ -14,7 +14,9 @@ STATUS = "The status is 0 if no document is refused, 1 if one is, and 2 if one c
 def parser(prog=None):
     made = command.parser(__doc__, STATUS, prog)
     made.add_argument("documents", metavar="DOCUMENT", nargs="+", help="a document; - is standard input")
-    made.add_argument("--json", action="store_true", help="tell it as JSON for editors, one object for each document")
+    form = made.add_mutually_exclusive_group()
+    form.add_argument("--json", action="store_true", help="tell it as JSON for editors, one object for each document")
+    form.add_argument("--sarif", action="store_true", help="tell it as SARIF for code scanning, one log for all documents")
     made.add_argument("--all", action="store_true", help=f"tell every place, and not only the first {report.TOLD} of each code")
     return made
 
@@ -30,19 +32,23 @@ def given_by(name):
 
 def run(asked, out):
     gc.disable()  # a document is read into no cycles, and looking for them takes a third of the time
-    status, wrong = command.FINE, []
+    status, wrong, all_told = command.FINE, [], []
     for name in asked.documents:
         try:
             told = report.Report(given_by(name), sys.maxsize if asked.all else report.TOLD)
         except command.Trouble as trouble:
             wrong += trouble.lines
             continue
-        if asked.json:
+        if asked.sarif:
+            all_told.append((name, told))
+        elif asked.json:
             out.line(report.as_json(told, name))
         else:
             for line in report.lines(told, name, out.paint):
                 out.line(line)
         status = max(status, command.FOUND if told.code else command.FINE)
+    if asked.sarif:
+        out.line(sarif.text(all_told))
     if wrong:
         out.keep()
         raise command.Trouble(*wrong)

@@ -5,7 +5,7 @@
   at end no pending
 
 Of each rule that doesn't hold the first line that breaks it is told, with its round. docs/holds.md has all rules."""
-from .. import command, fit, judge, report, rules, transcript
+from .. import command, fit, judge, junit, report, rules, transcript
 
 STATUS = """The last line is 'N hold, M fail, K undecided'. The status is 0 if all hold, 1 if one fails or is undecided, and 2 if the rules or
 a transcript are wrong."""
@@ -17,12 +17,13 @@ def parser(prog=None):
     made.add_argument("transcripts", metavar="TRANSCRIPT", nargs="+", help="a transcript; - is standard input")
     made.add_argument("--document", metavar="DOCUMENT", help="the document of the transcripts, by whose names the rules are checked")
     made.add_argument("--accept-undecided", action="store_true", help="let undecided rules pass: the status is 1 only if one fails")
+    junit.option(made)
     return made
 
 
 def run(asked, out):
     text, own = command.text_of(asked.rules), fit.read(asked.document) if asked.document else None
-    status, wrong = command.FINE, []
+    status, wrong, suites = command.FINE, [], []
     for name in asked.transcripts:
         check = rules.Check(rules.read(text, asked.rules, own.kinds if own else None))
         try:
@@ -32,13 +33,22 @@ def run(asked, out):
             wrong += trouble.lines
             continue
         check.end()
+        suites.append((name, [case(asked, name, rule, own) for rule in check.rules]))
         for line in told(asked.rules, name, check, own, out.paint):
             out.line(line)
         status = max(status, verdict(out, check, f"{name}: " if len(asked.transcripts) > 1 else "", asked.accept_undecided))
+    junit.write(asked, suites)
     if wrong:
         out.keep()
         raise command.Trouble(*wrong)
     return status
+
+
+def case(asked, name, rule, own):
+    """The case of a rule. One that is about nothing passes, and one that is undecided may."""
+    outcome = rule.outcome(own)
+    passes = outcome in (rules.HOLDS, rules.NOTHING) or outcome == rules.UNDECIDED and asked.accept_undecided
+    return junit.of_rule(rule, asked.rules, outcome, [] if passes else told_of(asked.rules, name, rule, own))
 
 
 COLOURS = {rules.FAILS: "fault", rules.UNDECIDED: "warning", rules.NOTHING: "hint"}

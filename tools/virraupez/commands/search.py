@@ -9,7 +9,7 @@ by chance. The same words give the same answer on any machine. docs/search.md ha
 import argparse
 import time
 
-from .. import command, crew, flow, grammar, judge, saved, search, shards, space, table
+from .. import command, crew, flow, grammar, judge, junit, saved, search, shards, space, table
 
 STATUS = """The status is 0 if no run breaks a rule, 1 if one does or if the runs say nothing of a rule, and 2 if the document or the rules
 are wrong or a run fails. It is 130 after Ctrl-C, and what was found so far is reported."""
@@ -55,6 +55,7 @@ def parser(prog=None):
     made.add_argument("--merge", action="store_true", help="join what all shards wrote, and report it as one search does")
     made.add_argument("--processes", metavar="N", type=processes, help="how many processes run side by side; as many as there are processors")
     made.add_argument("--reference", action="store_true", help="run by the executor in Python, of which nothing is proved")
+    junit.option(made)
     made.set_defaults(vary=[])
     # A range may begin with a sign, and is no option then.
     made._negative_number_matcher = space.RANGE
@@ -120,7 +121,7 @@ def searched(made, asked, out):
     if lines:
         lines.end(stopped is None)
     else:
-        tell(tally, out, stopped, asked.accepted)
+        tell(tally, out, stopped, asked)
     out.flush()
     out.keep()
     folder.end(tally)
@@ -135,7 +136,7 @@ def merged(asked, out):
     joined = shards.join(asked.documents)
     missing = list(joined.missing())
     made, tally = joined.tally.search, joined.tally
-    tell(tally, out, missing, asked.accepted)
+    tell(tally, out, missing, asked)
     out.keep()
     if asked.save:
         judging = judge.Judge(judge.executor(asked.reference), made.rules)
@@ -144,9 +145,10 @@ def merged(asked, out):
     return status(tally, command.Trouble(*missing) if missing else None, any(tally.silent(asked.accepted)))
 
 
-def tell(tally, out, stopped, accepted):
-    for line in table.lines(tally, out.paint, "; it ended early" if stopped else "", accepted):
+def tell(tally, out, stopped, asked):
+    for line in table.lines(tally, out.paint, "; it ended early" if stopped else "", asked.accepted):
         out.line(line)
+    junit.write(asked, [(tally.search.plan["name"], list(table.cases(tally, asked.accepted)))])
 
 
 def status(tally, stopped, is_open):

@@ -1,0 +1,15 @@
+"""lsp: is a language server for editors. It shows the faults and warnings of explain at their places while a document is written, and
+what a field means. It speaks the Language Server Protocol on standard input and output, and an editor starts it."""
+import sys
+
+from .. import command, language_server
+
+STATUS = "The status is 0 after the editor has shut the server down, and 1 if it ends otherwise."
+
+
+def parser(prog=None):
+    return command.parser(__doc__, STATUS, prog)
+
+
+def run(_asked, out):
+    return command.FINE if language_server.Server(sys.stdin.buffer, out).serve() else command.FOUND
