@@ -15,12 +15,11 @@ class Same(rules.Rule):
         super().begin()
         self.count = 0
 
-    def line(self, number, line, words, now):
-        if self.patterns[0].matches(words) and self.patterns[0].bound(words) is not None:
-            wanted = self.lines[self.count] if self.count < len(self.lines) else None
-            if line != wanted:
-                self.fail(number, line, now, f"the document's own run has {wanted or 'no more of these lines'}")
-            self.count += 1
+    def line(self, number, line, _about, now):
+        wanted = self.lines[self.count] if self.count < len(self.lines) else None
+        if line != wanted:
+            self.fail(number, line, now, f"the document's own run has {wanted or 'no more of these lines'}")
+        self.count += 1
 
     def end(self, number, now):
         if self.count < len(self.lines):
@@ -69,11 +68,10 @@ class Judge:
 
     def keep(self, text):
         """Keeps the lines of a transcript that must stay the same."""
-        words = [line.split(" ") for line in text.split("\n")[:-1]]
+        lines = text.split("\n")[:-1]
         for rule in self.rules:
             if isinstance(rule, Same):
-                of = rule.patterns[0]
-                rule.lines = [" ".join(it) for it in words if of.matches(it) and of.bound(it) is not None]
+                rule.lines = [line for line in lines if rule.about(line.split(" "))]
 
 
 def lacking(rule):

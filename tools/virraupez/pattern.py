@@ -119,10 +119,24 @@ class Pattern:
         """The tests of the lines of a first word, with the places of what they test."""
         tests = []
         for at in range(1, len(self.words)):
-            meanings = [self.meaning(it, at, shape) for it in self.alternatives[at] for shape in self.shapes if shape[0] == first]
-            if not any(it is not None and not callable(it) and is_open(it) for it in meanings):
-                tests += [(at, it) for it in meanings if callable(it)] or [(at, frozenset(it for it in meanings if it is not None).__contains__)]
+            texts, compared = self.meanings(first, at)
+            if texts is not None:
+                tests += [(at, it) for it in compared] or [(at, texts.__contains__)]
         return tests
+
+    def meanings(self, first, at):
+        """The texts that a word may be at a place of lines of a first word, and the tests of its number. No texts are any word."""
+        found = [self.meaning(it, at, shape) for it in self.alternatives[at] for shape in self.shapes if shape[0] == first]
+        compared, texts = [it for it in found if callable(it)], [it for it in found if it is not None and not callable(it)]
+        return None if any(map(is_open, texts)) else frozenset(texts), compared
+
+    def expression(self, first):
+        """A regular expression of the lines of a first word that it may match. Numbers are compared by its tests alone."""
+        words = [first]
+        for at in range(1, len(self.words)):
+            texts, compared = self.meanings(first, at)
+            words.append(r"\S+" if texts is None or compared else grouped(map(re.escape, texts)))
+        return " ".join(words)
 
     def matches(self, words):
         tests = self.tests.get(words[0])
@@ -175,6 +189,12 @@ class Pattern:
             return Wrong(column, f"a line {of} has {longest + 1} words, and this is one more")
         forms = [forms[at - 1] for _, forms in shapes if at <= len(forms)]
         return Wrong(column, fault_of(word, forms, self.declared))
+
+
+def grouped(expressions):
+    """A regular expression of some."""
+    some = sorted(set(expressions))
+    return some[0] if len(some) == 1 else f"(?:{'|'.join(some)})"
 
 
 def split(word):

@@ -47,8 +47,12 @@ class Rule:
         if self.failure is None:
             self.failure = Finding(*finding)
 
-    def line(self, number, line, words, now):
-        """Takes a line."""
+    def about(self, words):
+        """What a line says to the rule; None if it isn't about the line."""
+        return self.patterns[0].matches(words) and self.patterns[0].bound(words) is not None or None
+
+    def line(self, number, line, about, now):
+        """Takes a line that it is about."""
 
     def end(self, number, now):
         """Takes the end of the transcript."""
@@ -65,9 +69,8 @@ class Rule:
 
 
 class Never(Rule):
-    def line(self, number, line, words, now):
-        if self.patterns[0].matches(words) and self.patterns[0].bound(words) is not None:
-            self.fail(number, line, now)
+    def line(self, number, line, _about, now):
+        self.fail(number, line, now)
 
 
 class Pair(Rule):
@@ -83,6 +86,10 @@ class Pair(Rule):
         found = of.bound(words) if of.matches(words) else None
         return None if found is None else tuple(found[name] for name in self.shared)
 
+    def about(self, words):
+        keys = [self.key(it, words) for it in self.patterns]
+        return None if keys == [None, None] else keys
+
 
 class Order(Pair):
     """No line of a pattern before, or after, the first line of another that belongs to it."""
@@ -95,8 +102,8 @@ class Order(Pair):
         super().begin()
         self.seen = set()
 
-    def line(self, number, line, words, now):
-        first, second = (self.key(it, words) for it in self.patterns)
+    def line(self, number, line, about, now):
+        first, second = about
         if first is not None and (first in self.seen) == self.fails_after:
             self.fail(number, line, now, "" if self.fails_after else "before any of the others")
         if second is not None:
@@ -115,11 +122,10 @@ class Count(Rule):
         super().begin()
         self.count = 0
 
-    def line(self, number, line, words, now):
-        if self.patterns[0].matches(words) and self.patterns[0].bound(words) is not None:
-            self.count += 1
-            if self.most is not None and self.count > self.most:
-                self.fail(number, line, now, f"number {self.count} of these lines")
+    def line(self, number, line, _about, now):
+        self.count += 1
+        if self.most is not None and self.count > self.most:
+            self.fail(number, line, now, f"number {self.count} of these lines")
 
     def end(self, number, now):
         if self.count < self.least:
@@ -137,8 +143,9 @@ class Then(Pair):
         super().begin()
         self.is_met, self.open = False, collections.OrderedDict()
 
-    def line(self, number, line, words, now):
-        first, second = (self.key(it, words) for it in self.patterns)
+    def line(self, number, line, about, now):
+        self.overdue(now)
+        first, second = about
         if second is not None:
             self.open.pop(second, None)
         if first is not None:
@@ -154,7 +161,8 @@ class Then(Pair):
             self.fail(number, line, begun, "nothing followed in time")
 
     def end(self, number, now):
-        if not self.open:
+        self.overdue(now)
+        if not self.open or self.failure:
             return
         number, line, begun = next(iter(self.open.values()))
         # A further round could stand at the last moment, but none has the number of the last.
@@ -332,15 +340,20 @@ def read(text, name="the rules", declared=None):
 # ---- checking
 
 
+ROUND = "\nround "
+# How many lines are known at most.
+KNOWN = 10000
+
+
 class Check:
-    """Rules beside a transcript that is read by blocks of lines. Lines that no rule is about aren't looked at."""
+    """Rules beside a transcript that is read by blocks of lines. Only lines that a pattern of a rule may match are looked at."""
 
     def __init__(self, rules):
         self.rules, self.now, self.number = rules, (0, 0), 0
-        self.by_first = {word: [rule for rule in rules if any(word in it.firsts() for it in rule.patterns)] for word in transcript.WORDS}
-        self.timed = [rule for rule in rules if isinstance(rule, Then)]
-        firsts = [word for word, concerned in self.by_first.items() if concerned or word == "round"]
-        self.concerned = re.compile(f"\n(?:{'|'.join(firsts)}) .*").finditer
+        # What lines say to rules: the runs of a search have many lines that are the same.
+        self.known = {}
+        lines = {of.expression(first) for rule in rules for of in rule.patterns for first in of.firsts()}
+        self.concerned = re.compile(f"\n{pattern.grouped(lines)}(?!\\S).*").finditer
 
     def begin(self):
         """Forgets all lines, so that another transcript may be taken."""
@@ -350,21 +363,34 @@ class Check:
 
     def block(self, block):
         """Takes a block of whole lines."""
-        number, at = self.number + 1, 0
-        for found in self.concerned("\n" + block):
-            number, at = number + block.count("\n", at, found.start()), found.start()
+        text, number, at = "\n" + block, self.number, 0
+        for found in self.concerned(text):
+            begin = found.start() + 1
+            number += text.count("\n", at, begin)
+            # The round's own line may be the one that was found.
+            self.passed(text, at, begin + len(ROUND))
             self.line(number, found.group()[1:])
+            at = begin
+        self.passed(text, at, len(text))
         self.number += block.count("\n")
 
+    def passed(self, text, begin, end):
+        """Passes over a part of a text: the last round in it is now."""
+        at = text.rfind(ROUND, begin, end)
+        if at >= 0:
+            _, number, moment = text[at + 1 : text.index("\n", at + 1)].split(" ")
+            self.now = int(number), int(moment)
+
     def line(self, number, line):
-        words = line.split(" ")
-        if words[0] == "round":
-            self.now = int(words[1]), int(words[2])
-            for rule in self.timed:
-                rule.overdue(self.now)
-        for rule in self.by_first[words[0]]:
+        found = self.known.get(line)
+        if found is None:
+            if len(self.known) >= KNOWN:
+                self.known.clear()
+            words = line.split(" ")
+            found = self.known[line] = [(rule, about) for rule in self.rules for about in [rule.about(words)] if about is not None]
+        for rule, about in found:
             if rule.failure is None:
-                rule.line(number, line, words, self.now)
+                rule.line(number, line, about, self.now)
 
     def end(self):
         for rule in self.rules:
