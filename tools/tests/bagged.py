@@ -232,11 +232,11 @@ def of_storages(folder):
     for name, part in (
         ("text.db3", "no bag of sqlite3 storage: file is not a database"),
         ("tables.db3", "the tables topics and messages are missing"),
-        ("mcap", "the bag has the storage mcap, and sqlite3 is read"),
-        ("mcap/a.mcap", "the bag has the storage mcap"),
+        ("mcap", "no file of MCAP storage"),
+        ("mcap/a.mcap", "no file of MCAP storage"),
         ("packed", "the bag is compressed"),
         ("zipped", "the bag is compressed"),
-        ("empty", "it has no file NAME.db3"),
+        ("empty", "it has no file NAME.db3 and no NAME.mcap"),
         ("nowhere", "No such file or directory"),
     ):
         status, told = tool.within("feed", folder / name, "--topic", "/x")

@@ -1,4 +1,4 @@
-"""Documents of Virraupez that are written by a program, and what the tools are made of.
+"""Documents of Virraupez that are written and run by a program, and what the tools are made of.
 
     import virraupez
 
@@ -9,11 +9,18 @@
     robot.when_due(until=40)
     robot.write()
 
-docs/write.md has more."""
+    print(virraupez.run(robot))
+
+docs/write.md and docs/python.md have more."""
 import importlib
 
 # Where each name is. A module is read if one of its names is asked for, so that a command begins at once.
-PLACES = {"Document": "build", "DocumentError": "build", "goal_of": "build", "ScriptError": "assemble", "script": "assemble"}
+PLACES = {
+    **dict.fromkeys(("Document", "DocumentError", "goal_of"), "build"),
+    **dict.fromkeys(("ScriptError", "script"), "assemble"),
+    **dict.fromkeys(("Break", "Executor", "Refused", "Rule", "Search", "Transcript", "Verdict", "holds", "run", "search"), "api"),
+    "Trouble": "command",
+}
 __all__ = sorted(PLACES)
 
 

@@ -1,12 +1,15 @@
-"""Bags of ROS 2 (rosbag2) whose storage is sqlite3: their topics, and the messages of some in the order of their times."""
+"""Bags of ROS 2 (rosbag2) whose storage is sqlite3 or MCAP: their topics, and the messages of some in the order of their times."""
 import collections
+import contextlib
 import heapq
 import pathlib
 import re
 import sqlite3
+import struct
 
-from . import cdr, command
+from . import cdr, command, mcap
 
+SQLITE, MCAP = ".db3", ".mcap"
 Topic = collections.namedtuple("Topic", "name type format count")
 COMPRESSED = re.compile("^ *compression_mode: *(FILE|MESSAGE)", re.M | re.I)
 
@@ -14,12 +17,26 @@ COMPRESSED = re.compile("^ *compression_mode: *(FILE|MESSAGE)", re.M | re.I)
 class Bag:
     """A bag, by the name of its folder or of one of its files."""
 
-    def __init__(self, name):
-        self.name, self.types, self.topics = command.shown(name), cdr.Types(), {}
-        self.files = [self.opened(path) for path in files_of(pathlib.Path(name), self.name)]
-        self.first = None
+    def __init__(self, name, paths):
+        self.name, self.types, self.topics, self.first = command.shown(name), cdr.Types(), {}, None
+        self.files = [self.opened(path) for path in paths]
         for file in self.files:
             self.read_topics(file)
+
+    def add(self, topic, first):
+        """Adds a topic of a file, and the time of the file's first message."""
+        before = self.topics.get(topic.name)
+        self.topics[topic.name] = topic._replace(count=topic.count + (before.count if before else 0))
+        if first is not None:
+            self.first = first if self.first is None else min(self.first, first)
+
+    def messages(self, names):
+        """The messages of some topics, as their times in nanoseconds, topics and bytes, in the order of their times."""
+        return heapq.merge(*(self.messages_of(file, names) for file in self.files), key=lambda it: it[0])
+
+
+class Sqlite(Bag):
+    """A bag whose storage is sqlite3."""
 
     def opened(self, path):
         try:
@@ -41,41 +58,64 @@ class Bag:
             for name, encoding, text in self.rows(file, "select topic_type, encoding, encoded_message_definition from message_definitions"):
                 if encoding == "ros2msg" and text:
                     self.types.add(name, text)
+        (first,) = next(self.rows(file, "select min(timestamp) from messages"))
         asked = "select name, type, serialization_format, (select count(*) from messages where topic_id = topics.id) from topics order by name"
         for row in self.rows(file, asked):
-            topic = Topic(*row)
-            before = self.topics.get(topic.name)
-            self.topics[topic.name] = topic._replace(count=topic.count + (before.count if before else 0))
-        (first,) = next(self.rows(file, "select min(timestamp) from messages"))
-        if first is not None:
-            self.first = first if self.first is None else min(self.first, first)
+            self.add(Topic(*row), first)
 
-    def messages(self, names):
-        """The messages of some topics, as their times in nanoseconds, topics and bytes, in the order of their times."""
+    def messages_of(self, file, names):
         marks = ", ".join("?" * len(names))
         asked = f"select messages.timestamp, topics.name, messages.data from messages join topics on topics.id = messages.topic_id where topics.name in ({marks})"
-        found = [self.rows(file, f"{asked} order by messages.timestamp, messages.id", *names) for file in self.files]
-        return heapq.merge(*found, key=lambda it: it[0])
+        return self.rows(file, f"{asked} order by messages.timestamp, messages.id", *names)
+
+
+class Mcap(Bag):
+    """A bag whose storage is MCAP."""
+
+    def opened(self, path):
+        with self.named(path):
+            return path, mcap.File(path)
+
+    def read_topics(self, file):
+        _, held = file
+        for name, encoding, text in held.schemas.values():
+            if encoding == "ros2msg" and text:
+                self.types.add(name, text)
+        for number, (schema, topic, encoding) in sorted(held.channels.items(), key=lambda it: it[1][1]):
+            self.add(Topic(topic, held.schemas.get(schema, ("",))[0], encoding, held.counts.get(number, 0)), held.first)
+
+    def messages_of(self, file, names):
+        path, held = file
+        with self.named(path):
+            yield from held.messages(frozenset(names))
+
+    @contextlib.contextmanager
+    def named(self, path):
+        """What is wrong with a file, with its name."""
+        try:
+            yield
+        except (mcap.Wrong, struct.error, UnicodeDecodeError) as wrong:
+            raise command.Trouble(f"{command.printable(path)}: {wrong}") from None
+
+
+def read(name):
+    """A bag, by the name of its folder or of one of its files."""
+    paths = files_of(pathlib.Path(name), command.shown(name))
+    return (Mcap if paths[0].suffix == MCAP else Sqlite)(name, paths)
 
 
 def files_of(path, name):
-    """The databases of a bag."""
+    """The files of a bag, in the order of their numbers."""
     if path.is_file():
-        demand_storage([path], name)
         return [path]
     if not path.is_dir():
         raise command.Trouble(f"{name}: No such file or directory")
-    files = sorted(path.glob("*.db3"), key=lambda it: [int(part) if part.isdigit() else part for part in re.split("([0-9]+)", it.name)])
+    found = [sorted(path.glob(f"*{suffix}"), key=lambda it: [int(part) if part.isdigit() else part for part in re.split("([0-9]+)", it.name)]) for suffix in (SQLITE, MCAP)]
+    files = found[0] or found[1]
     about = path / "metadata.yaml"
     mode = COMPRESSED.search(about.read_text(errors="replace")) if about.is_file() else None
     if mode or not files and list(path.glob("*.zstd")):
         raise command.Trouble(f"{name}: the bag is compressed: `zstd -d` unpacks files, and `ros2 bag convert` writes one that isn't")
     if not files:
-        demand_storage(sorted(path.iterdir()), name)
-        raise command.Trouble(f"{name}: no bag of sqlite3 storage: it has no file NAME.db3")
+        raise command.Trouble(f"{name}: no bag: it has no file NAME{SQLITE} and no NAME{MCAP}")
     return files
-
-
-def demand_storage(paths, name):
-    if any(path.suffix == ".mcap" for path in paths):
-        raise command.Trouble(f"{name}: the bag has the storage mcap, and sqlite3 is read: `ros2 bag convert` writes it")

@@ -3,6 +3,8 @@ import math
 import re
 import struct
 
+from . import interfaces
+
 # Types that consist of one number each.
 NUMBERS = {
     **{name: ("B", 1) for name in ("bool", "byte", "char", "uint8")},
@@ -24,6 +26,8 @@ DEFINITIONS = {
     + "\n".join(f"float32 {name}" for name in ("angle_min", "angle_max", "angle_increment", "time_increment", "scan_time", "range_min", "range_max"))
     + "\nfloat32[] ranges\nfloat32[] intensities",
 }
+# The field that rosidl gives a type without fields: in CDR such a type takes a byte.
+EMPTY = "structure_needs_at_least_one_member"
 FIELD = re.compile(r"([A-Za-z][A-Za-z0-9_/]*)(?:<=[0-9]+)?(\[(?:<?=?[0-9]+)?\])?\s+([a-z][a-z0-9_]*)(?:\s|$)")
 SECTION = re.compile("^=+\nMSG: *(.+)$", re.M)
 # The orders of bytes, by the first two bytes of a message. Others than these aren't in ROS 2.
@@ -35,10 +39,10 @@ class Unreadable(Exception):
 
 
 class Types:
-    """Definitions of types, by their names without `msg/`."""
+    """Definitions of types, by their names without `msg/`, `srv/` or `action/`."""
 
     def __init__(self):
-        self.texts, self.known = dict(DEFINITIONS), {}
+        self.texts, self.known = {**DEFINITIONS, **interfaces.ACTIONS}, {}
 
     def add(self, name, text):
         """Adds the definition of a type. Those of the types that it names may follow it."""
@@ -47,12 +51,16 @@ class Types:
         for at in range(0, len(rest), 2):
             self.texts[plain(rest[at].strip())] = rest[at + 1]
 
+    def add_missing(self, texts):
+        """Adds definitions of types that have none yet."""
+        self.texts = {**texts, **self.texts}
+
     def fields(self, name):
         """The fields of a type: the type of each, whether it is a list and how long, and its name."""
         if name not in self.known:
             if name not in self.texts:
                 raise Unreadable(f"the type {name} isn't known, and the bag has no definition of it")
-            self.known[name] = list(self.parsed(name))
+            self.known[name] = list(self.parsed(name)) or [("uint8", None, EMPTY)]
         return self.known[name]
 
     def parsed(self, name):
@@ -71,7 +79,7 @@ class Types:
 
 
 def plain(name):
-    return name.replace("/msg/", "/")
+    return re.sub("/(?:msg|srv|action)/", "/", name)
 
 
 class Message:

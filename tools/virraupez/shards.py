@@ -3,7 +3,7 @@ give what one search gives."""
 import collections
 import json
 
-from . import command, search
+from . import command, searching
 
 
 class Lines:
@@ -12,7 +12,7 @@ class Lines:
 
     def __init__(self, made, shard, out):
         self.out, self.changes = out, made.space.changes
-        self.runs, self.counts = 0, {name: collections.Counter() for name in search.COUNTED}
+        self.runs, self.counts = 0, {name: collections.Counter() for name in searching.COUNTED}
         self.line({"search": made.plan, "shard": shard[0], "of": shard[1]})
 
     def line(self, value):
@@ -55,16 +55,16 @@ class Joined:
             raise Wrong("a line before the first line of its shard")
         elif "run" in value:
             taken = [tuple(it) for it in value["taken"]]
-            self.tally.take(search.Broken(value["run"], taken, [tuple(it) for it in value["breaks"]]))
+            self.tally.take(searching.Broken(value["run"], taken, [tuple(it) for it in value["breaks"]]))
         else:
-            counted = [collections.Counter({int(at): count for at, count in value[it].items()}) for it in search.COUNTED]
-            self.tally.add(search.Part(value["runs"], *counted, ()))
+            counted = [collections.Counter({int(at): count for at, count in value[it].items()}) for it in searching.COUNTED]
+            self.tally.add(searching.Part(value["runs"], *counted, ()))
             self.seen[self.open], self.open = value["whole"], None
 
     def begin(self, plan, shard, of):
         if self.plan is None:
             self.plan, self.of = plan, of
-            self.tally = search.Tally(search.Search(plan))
+            self.tally = searching.Tally(searching.Search(plan))
         if plan != self.plan or of != self.of:
             raise Wrong("a shard of another search: its document, rules, words or number of shards differ")
         if shard in self.seen:

@@ -1,7 +1,7 @@
 """The report of a search: which rules break in how many runs, the least change that breaks each, and where it breaks."""
 import fractions
 
-from . import judge, junit, report, rules, search
+from . import judge, junit, report, rules, searching
 from .difference import numbered
 
 # How many changes of a run are reported, how many choices of a rule, and how many ranges of a choice.
@@ -51,7 +51,10 @@ def of_rule(tally, at, paint):
     yield head(search.rules[at], paint, count)
     if found.least.taken:
         changes = search.space.changes(found.least.taken)
-        yield f"  {'least change' if search.is_all else 'change'}, run {found.least.number}: {changes[0]}"
+        which = "least change, run" if search.is_all else "change, run"
+        if found.of and found.of > len(changes):
+            which = f"{len(changes)} of the {found.of} changes of run"
+        yield f"  {which} {found.least.number}: {changes[0]}"
         yield from (f"    and {change}" for change in changes[1:CHANGES])
         if len(changes) > CHANGES:
             yield f"    and {len(changes) - CHANGES} changes more"
@@ -112,7 +115,7 @@ def summary(tally, silent, end):
 def open_ends(made, silent):
     """What the last line says of rules of which the runs say nothing."""
     told = ""
-    for why in (search.UNDECIDED, search.NOTHING):
+    for why in (searching.UNDECIDED, searching.NOTHING):
         names = [made.rules[at].place.rstrip(": ") for at, it in silent if it == why]
         if names:
             more = f" and {len(names) - CHOICES} more" if len(names) > CHOICES else ""

@@ -7,9 +7,10 @@ WHAT is an entry of the feed, as feed[3], counted from 0, or a topic or an actio
 ±N or one number, in ticks. If there are at most as many variations as runs, each is run once; if there are more, some are drawn
 by chance. The same words give the same answer on any machine. docs/search.md has more."""
 import argparse
+import contextlib
 import time
 
-from .. import command, crew, flow, grammar, judge, junit, saved, search, shards, space, table
+from .. import command, crew, flow, grammar, judge, junit, saved, searching, shards, space, table
 
 STATUS = """The status is 0 if no run breaks a rule, 1 if one does or if the runs say nothing of a rule, and 2 if the document or the rules
 are wrong or a run fails. It is 130 after Ctrl-C, and what was found so far is reported."""
@@ -47,9 +48,9 @@ def parser(prog=None):
     made.add_argument("--seed", metavar="N", type=number, default=1, help="a number that chooses what is drawn by chance; 1 if it isn't given")
     made.add_argument("--all", action="store_true", help="count all runs that break a rule, and don't stop at the first")
     undecided = "let a rule pass that no run decides; otherwise the status is 1"
-    made.add_argument("--accept-undecided", dest="accepted", action="append_const", const=search.UNDECIDED, default=[], help=undecided)
+    made.add_argument("--accept-undecided", dest="accepted", action="append_const", const=searching.UNDECIDED, default=[], help=undecided)
     nothing = "let a rule pass that is of nothing in all runs; otherwise the status is 1"
-    made.add_argument("--accept-nothing", dest="accepted", action="append_const", const=search.NOTHING, help=nothing)
+    made.add_argument("--accept-nothing", dest="accepted", action="append_const", const=searching.NOTHING, help=nothing)
     made.add_argument("--save", metavar="DIR", help="save documents and transcripts of runs that break a rule in a folder")
     made.add_argument("--shard", metavar="K/N", type=shard, help="do part K of N, and write JSON lines for --merge")
     made.add_argument("--merge", action="store_true", help="join what all shards wrote, and report it as one search does")
@@ -86,7 +87,7 @@ def run(asked, out):
         raise command.Trouble("one document is searched at a time; --merge joins what shards wrote")
     if not asked.rules and not asked.robust:
         raise command.Trouble("nothing to hold runs to: --rules gives a file of rules, and --robust lines that must stay")
-    return searched(search.Search(plan(asked)), asked, out)
+    return searched(searching.Search(plan(asked)), asked, out)
 
 
 def plan(asked):
@@ -107,7 +108,7 @@ def plan(asked):
 def searched(made, asked, out):
     """Searches, and reports what was found, also if Ctrl-C or a run that fails ends it."""
     judging = judge.Judge(judge.executor(asked.reference), made.rules)
-    tally, folder = search.Tally(made), saved.Folder(asked.save, made, judging)
+    tally, folder = searching.Tally(made), saved.Folder(asked.save, made, judging)
     lines = shards.Lines(made, asked.shard, out) if asked.shard else None
     progress = Progress(tally, asked.shard or (1, 1))
     stopped = None
@@ -121,6 +122,7 @@ def searched(made, asked, out):
     if lines:
         lines.end(stopped is None)
     else:
+        reduce(tally, judging, stopped)
         tell(tally, out, stopped, asked)
     out.flush()
     out.keep()
@@ -136,13 +138,22 @@ def merged(asked, out):
     joined = shards.join(asked.documents)
     missing = list(joined.missing())
     made, tally = joined.tally.search, joined.tally
+    if asked.save or tally.first and not made.is_all:
+        judging = judge.Judge(judge.executor(asked.reference), made.rules)
+        made.own(judging)
+        reduce(tally, judging, missing)
     tell(tally, out, missing, asked)
     out.keep()
     if asked.save:
-        judging = judge.Judge(judge.executor(asked.reference), made.rules)
-        made.own(judging)
         saved.Folder(asked.save, made, judging).end(tally)
     return status(tally, command.Trouble(*missing) if missing else None, any(tally.silent(asked.accepted)))
+
+
+def reduce(tally, judging, stopped):
+    """Finds the fewest changes of a run that ended a search, or as few as are found before Ctrl-C."""
+    if tally.first and not tally.search.is_all and not stopped:
+        with contextlib.suppress(KeyboardInterrupt):
+            searching.reduce(tally, judging)
 
 
 def tell(tally, out, stopped, asked):

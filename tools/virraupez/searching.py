@@ -5,6 +5,8 @@ from . import command, crew, fit, judge, rules, runs, space
 
 # How many runs a process is given at a time.
 CHUNK = 16
+# How many runs look for the fewest changes that break a rule.
+REDUCING = 60
 
 # What came of some runs: how many there were, in how many a rule was of nothing or undecided, in how many a choice had another
 # option than the document, and those that broke a rule.
@@ -81,11 +83,48 @@ class Search:
                 return
 
 
+def reduce(tally, judging):
+    """Finds for each rule that the first run broke as few of its changes as break it too. It takes a few dozen runs."""
+    made, left = tally.search, iter(range(REDUCING))
+    for at, found in sorted(tally.found.items()):
+        number, taken = found.least.number, found.least.taken
+
+        def still(some):
+            if next(left, None) is None:
+                return False
+            try:
+                made.run(judging, number, some)
+            except command.Trouble:
+                return False
+            failure = made.rules[at].failure
+            if failure:
+                found.least, found.says = Broken(number, some, found.least.breaks), judge.said(failure)
+            return bool(failure)
+
+        fewest(taken, made.space.always, still)
+        found.of = len(taken)
+
+
+def fewest(taken, always, still):
+    """Leaves changes out as long as what is left still does it: halves first, and then ever smaller parts. Some are always there."""
+    kept = [it for it in taken if it[0] not in always]
+    size = len(kept) // 2
+    while size:
+        end = len(kept)
+        while end > 0 and len(kept) > 1:
+            rest = kept[: max(end - size, 0)] + kept[end:]
+            if rest and still(sorted(rest + [it for it in taken if it[0] in always])):
+                kept = rest
+            end -= size
+        size //= 2
+
+
 class Found:
-    """What was found of a rule: how many runs broke it, the least change that did, and which options the changes had."""
+    """What was found of a rule: how many runs broke it, the least change that did, and which options the changes had. The least may
+    be some of the changes of a run, of which there were `of`."""
 
     def __init__(self):
-        self.count, self.least, self.says = 0, None, ""
+        self.count, self.least, self.says, self.of = 0, None, "", None
         self.options, self.counts = collections.defaultdict(set), collections.Counter()
         self.cost = None
 
