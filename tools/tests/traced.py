@@ -2,11 +2,14 @@
 each callback is a slice, each item that is taken a flow between two slices, and each state of a goal a span."""
 import collections
 import json
+import pathlib
 import re
 import shutil
 import subprocess
+import sys
+import tempfile
 
-from virraupez import fields, transcript
+from virraupez import fields, mcap, transcript
 
 from . import documented, drawn, tool
 
@@ -29,6 +32,7 @@ def answers(_program):
     for path in sorted((tool.TOP / "examples").glob("*.json")):
         yield from of_lines(path.stem)
         yield from of_trace(path.stem)
+        yield from of_foxglove(path.stem)
     for words, part in WRONG:
         status, told = tool.within(*words)
         yield f"{words}: {told}", (status, part in told, told.startswith("{")), (2, True, False)
@@ -45,6 +49,27 @@ def answers(_program):
 def again(made):
     """The line of an object."""
     return " ".join([made["word"], *(str(made[name]) for name in fields.NAMES[made["word"]] if name in made)])
+
+
+def of_foxglove(name):
+    """The file has each line but those of rounds and the end, as its object, in the order of the lines; and each channel its schema."""
+    words = ("trace", f"examples/{name}.json", f"examples/{name}.txt", "--foxglove", "--tick", "20us")
+    with tempfile.TemporaryDirectory() as folder:
+        path = pathlib.Path(folder) / "it.mcap"
+        ran = subprocess.run([sys.executable, "-B", tool.TOP / "virraupez", *words, "-o", path], cwd=tool.TOP, stdout=subprocess.PIPE, stderr=subprocess.STDOUT)
+        file = mcap.File(path)
+        found = [(time, topic, json.loads(given)) for time, topic, given in file.messages({topic for _, topic, _ in file.channels.values()})]
+    objects = map(json.loads, tool.within("lines", "--json", "--document", f"examples/{name}.json", f"examples/{name}.txt")[1].splitlines())
+    should = [it for it in objects if it["word"] not in ("round", "end")]
+    yield f"the messages of {name}", (ran.returncode, ran.stdout, [it for _, _, it in found]), (0, b"", should)
+    yield f"the moments of {name}", [time // TICK for time, _, _ in found], [it["moment"] for it in should]
+    topics = {"pub": "/topic/", "state": "/goals/", "log": "/log/"}
+    yield f"the topics of {name}", [topic for _, topic, _ in found], [topics[it["word"]] + it["name"] if it["word"] in topics else {"run": "/callbacks", "drop": "/drops"}.get(it["word"], f"/{it['word']}") for it in should]
+    fields_of = {topic: set(json.loads(file.schemas[schema][2])["properties"]) for schema, topic, _ in file.channels.values()}
+    yield f"the schemas of {name}", [(topic, name) for _, topic, it in found for name in it if name not in fields_of[topic]], []
+    kinds = {"integer": int, "string": str}
+    types = {topic: json.loads(file.schemas[schema][2])["properties"] for schema, topic, _ in file.channels.values()}
+    yield f"the types of {name}", [(topic, name) for _, topic, it in found for name, value in it.items() if value is not None and not isinstance(value, kinds[types[topic][name]["type"]])], []
 
 
 def of_lines(name):

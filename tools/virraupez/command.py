@@ -174,6 +174,14 @@ class Output:
         """Keeps what is written, whatever trouble comes after it: a report says what was found up to it."""
         self.is_kept = True
 
+    def write_bytes(self, given):
+        """Writes what is no text. All of an output is one or the other."""
+        PROGRESS.hide()
+        with self.named():
+            if self.stream is None:
+                self.open()
+            self.stream.buffer.write(given)
+
     def line(self, text=""):
         self.write(f"{text}\n")
 

@@ -30,6 +30,10 @@ class Program:
         # Without close_fds Python starts a program in a fraction of the time.
         return subprocess.Popen([self.NAME, *words], executable=self.path, stdin=subprocess.PIPE, stdout=subprocess.PIPE, close_fds=False, **settings)
 
+    def described(self):
+        """By what runs are made: the version of the command, and the sum of the program."""
+        return {"version": shipped.version(), "program": f"{self.NAME} {shipped.sum_of(self.path)}"}
+
     def text(self, given):
         """What the program writes of a document's bytes."""
         with self.start(*self.WORDS, stderr=subprocess.PIPE) as program:
@@ -58,6 +62,9 @@ class Upgrader(Program):
 
 class Reference:
     """The executor in Python, which is written apart from the program; nothing of it is proved."""
+
+    def described(self):
+        return {"version": shipped.version(), "program": "the executor in Python"}
 
     def transcript(self, given):
         from . import executor, refusals

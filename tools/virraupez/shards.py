@@ -10,10 +10,10 @@ class Lines:
     """Writes what a shard finds, a line of JSON for each run that breaks a rule, between a line that says what is searched and one
     that says how much of it was run."""
 
-    def __init__(self, made, shard, out):
+    def __init__(self, made, shard, by, out):
         self.out, self.changes = out, made.space.changes
-        self.runs, self.counts = 0, {name: collections.Counter() for name in searching.COUNTED}
-        self.line({"search": made.plan, "shard": shard[0], "of": shard[1]})
+        self.runs, self.broken, self.counts = 0, 0, {name: collections.Counter() for name in searching.COUNTED}
+        self.line({"search": made.plan, "by": by, "shard": shard[0], "of": shard[1]})
 
     def line(self, value):
         self.out.line(json.dumps(value, separators=(",", ":")))
@@ -22,20 +22,21 @@ class Lines:
         self.runs += part.runs
         for name, counts in self.counts.items():
             counts.update(getattr(part, name))
+        self.broken += len(part.breaks)
         for it in part.breaks:
             self.line({"run": it.number, "taken": it.taken, "changes": self.changes(it.taken), "breaks": it.breaks})
         if part.breaks:
             self.out.flush()
 
     def end(self, is_whole):
-        self.line({"runs": self.runs, **self.counts, "whole": is_whole})
+        self.line({"runs": self.runs, "broken": self.broken, **self.counts, "whole": is_whole})
 
 
 class Joined:
     """What shards wrote, as one search."""
 
     def __init__(self):
-        self.plan, self.tally, self.of, self.seen, self.open, self.cut = None, None, 0, {}, None, []
+        self.plan, self.by, self.tally, self.of, self.seen, self.open, self.broken = None, None, None, 0, {}, None, 0
 
     def take(self, name, number, line):
         """Takes a line of a file. A line without its end is the last of a shard that was stopped, and says nothing."""
@@ -50,27 +51,32 @@ class Joined:
 
     def value(self, value):
         if "search" in value:
-            self.begin(value["search"], value["shard"], value["of"])
+            self.begin(value["search"], value["by"], value["shard"], value["of"])
         elif self.open is None:
             raise Wrong("a line before the first line of its shard")
         elif "run" in value:
+            self.broken += 1
             taken = [tuple(it) for it in value["taken"]]
             self.tally.take(searching.Broken(value["run"], taken, [tuple(it) for it in value["breaks"]]))
         else:
+            if value["broken"] != self.broken:
+                raise Wrong(f"the shard {self.open} found {value['broken']} runs that break a rule, and {self.broken} are there")
             counted = [collections.Counter({int(at): count for at, count in value[it].items()}) for it in searching.COUNTED]
             self.tally.add(searching.Part(value["runs"], *counted, ()))
             self.seen[self.open], self.open = value["whole"], None
 
-    def begin(self, plan, shard, of):
+    def begin(self, plan, by, shard, of):
         if self.plan is None:
-            self.plan, self.of = plan, of
+            self.plan, self.by, self.of = plan, by, of
             self.tally = searching.Tally(searching.Search(plan))
         if plan != self.plan or of != self.of:
             raise Wrong("a shard of another search: its document, rules, words or number of shards differ")
+        if by != self.by:
+            raise Wrong(f"a shard that was run by {described(by)}, and those before it by {described(self.by)}")
         if shard in self.seen:
             raise Wrong(f"the shard {shard} of {of} is there twice")
         self.end()
-        self.seen[shard], self.open = False, shard
+        self.seen[shard], self.open, self.broken = False, shard, 0
 
     def end(self):
         """Ends a shard. One without its last line doesn't say how much of it was run."""
@@ -86,6 +92,11 @@ class Joined:
         cut = [it for it, is_whole in sorted(self.seen.items()) if not is_whole]
         if cut:
             yield f"the shard{'s' * (len(cut) > 1)} {', '.join(map(str, cut[:20]))} of {self.of} ended before all its runs were made"
+
+
+def described(by):
+    """What ran a shard: the version of the command, and the program's sum, or the executor in Python."""
+    return f"{by['program'][:80]} of version {by['version'][:20]}"
 
 
 class Wrong(Exception):

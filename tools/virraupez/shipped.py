@@ -40,10 +40,13 @@ def program(name):
 
 def demand_sum(name, path):
     """Demands that an installed program is the one that was packed."""
+    with open(place("about"), encoding="ascii") as facts:
+        if f"{name} program {sum_of(path)}\n" not in facts:
+            raise command.Trouble(f"{command.printable(path)} isn't the program that was installed: its sum is another one. Install it again")
+
+
+def sum_of(path):
     import hashlib
 
     with open(path, "rb") as file:
-        found = hashlib.sha256(file.read()).hexdigest()
-    with open(place("about"), encoding="ascii") as facts:
-        if f"{name} program {found}\n" not in facts:
-            raise command.Trouble(f"{command.printable(path)} isn't the program that was installed: its sum is another one. Install it again")
+        return hashlib.sha256(file.read()).hexdigest()

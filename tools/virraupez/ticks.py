@@ -1,7 +1,9 @@
-"""How long a tick is, as a person writes it: 20ms, 0.5s or 100us."""
+"""How long a tick is, as a person writes it: 20ms, 0.5s or 100us; and moments."""
 import argparse
 import decimal
 import re
+
+from . import grammar
 
 UNITS = {"ns": 1, "us": 1000, "ms": 1000000, "s": 1000000000}
 LENGTH = re.compile("([0-9]{1,12}(?:[.][0-9]{1,9})?)(ns|us|ms|s)")
@@ -14,3 +16,9 @@ def nanoseconds(text):
     if length <= 0 or length != int(length):
         raise argparse.ArgumentTypeError(f"a time as 10ms, 0.5s or 100us, and not {text[:40]!r}")
     return int(length)
+
+
+def moment(text):
+    if not grammar.is_number(text):
+        raise argparse.ArgumentTypeError(f"a moment, and not {text[:40]!r}")
+    return int(text)

@@ -2,7 +2,7 @@
 import importlib
 
 # The names of the tools, in the order in which a user meets them.
-NAMES = ("run", "explain", "write", "picture", "diff", "holds", "check", "search", "shrink", "lines", "trace", "view", "feed", "upgrade", "schema", "lsp", "completion", "manual")
+NAMES = ("run", "explain", "write", "picture", "diff", "holds", "check", "search", "shrink", "lines", "trace", "view", "feed", "observe", "upgrade", "schema", "lsp", "completion", "manual")
 
 
 def tool(name):

@@ -42,7 +42,7 @@ def parser(prog=None):
     made.add_argument("--field", metavar="FIELD", action=OfTopic, help="the field that is the value, as twist.linear.x or ranges.min; data if it isn't given. Of an action it is a field of its goals, and 0 if it isn't given")
     made.add_argument("--scale", metavar="N", action=OfTopic, type=scale, help="what a number is multiplied by before it is rounded; 1 if it isn't given")
     made.add_argument("--tick", metavar="TIME", type=ticks.nanoseconds, default=1000000, help="how long a tick is, as 20ms; 1ms if it isn't given")
-    made.add_argument("--begin", metavar="MOMENT", type=moment, default=0, help="the moment at which the bag begins; 0 if it isn't given")
+    made.add_argument("--begin", metavar="MOMENT", type=ticks.moment, default=0, help="the moment at which the bag begins; 0 if it isn't given")
     made.add_argument("--types", metavar="DIR", help="a folder of PACKAGE/msg/NAME.msg and the like, for types that the bag doesn't define")
     made.add_argument("--document", metavar="DOCUMENT", help="write this document with the entries, and not the entries alone")
     return made
@@ -52,12 +52,6 @@ def scale(text):
     if not re.fullmatch("-?[0-9]{1,18}(?:[.][0-9]{1,18})?", text) or not decimal.Decimal(text):
         raise argparse.ArgumentTypeError(f"a number as 1000 or 0.5, and not {text[:40]!r}")
     return decimal.Decimal(text)
-
-
-def moment(text):
-    if not grammar.is_number(text):
-        raise argparse.ArgumentTypeError(f"a moment, and not {text[:40]!r}")
-    return int(text)
 
 
 def run(asked, out):

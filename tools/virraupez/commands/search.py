@@ -109,7 +109,7 @@ def searched(made, asked, out):
     """Searches, and reports what was found, also if Ctrl-C or a run that fails ends it."""
     judging = judge.Judge(judge.executor(asked.reference), made.rules)
     tally, folder = searching.Tally(made), saved.Folder(asked.save, made, judging)
-    lines = shards.Lines(made, asked.shard, out) if asked.shard else None
+    lines = shards.Lines(made, asked.shard, judging.program.described(), out) if asked.shard else None
     progress = Progress(tally, asked.shard or (1, 1))
     stopped = None
     try:

@@ -4,7 +4,7 @@ slice. Arrows lead from who sent an item to who took it, the states of goals are
 Callbacks take no time in a run; those of a round share the tick that begins at its moment, in their order. docs/lines.md has more."""
 import json
 
-from .. import command, fit, flow, ticks, trace, transcript
+from .. import command, fit, flow, foxglove, ticks, trace, transcript
 
 STATUS = "The status is 0, and 2 if the transcript can't be read, is cut off, or isn't one of the document."
 
@@ -14,11 +14,16 @@ def parser(prog=None):
     made.add_argument("document", metavar="DOCUMENT", help="a document; - is standard input")
     made.add_argument("transcript", metavar="TRANSCRIPT", help="its transcript; - is standard input")
     made.add_argument("--tick", metavar="TIME", type=ticks.nanoseconds, default=1000000, help="how long a tick is, as 20ms; 1ms if it isn't given")
+    made.add_argument("--foxglove", action="store_true", help="write MCAP with messages in JSON, which Foxglove reads")
     return made
 
 
 def run(asked, out):
     document = flow.read_document(asked.document)
+    if asked.foxglove:
+        for part in foxglove.Recording(document, asked.tick).parts(transcript.lines(asked.transcript, fit.Own(asked.document, document))):
+            out.write_bytes(part)
+        return command.FINE
     made, between = trace.Trace(document, asked.tick / 1000), '{"displayTimeUnit":"ms","traceEvents":[\n'
     encode = json.JSONEncoder(separators=(",", ":")).encode
     for event in made.events(transcript.lines(asked.transcript, fit.Own(asked.document, document))):
