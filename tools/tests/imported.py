@@ -93,7 +93,7 @@ def of_types():
 def of_examples(top):
     """The page and the notebook, run in a folder of their own; and what pytest says of the examples, if it is installed."""
     page = (tool.TOP / "docs/python.md").read_text()
-    for number, code in enumerate(re.findall("```python\n(.*?)```", page, re.S)):
+    for number, code in enumerate(re.findall("```py\n(.*?)```", page, re.S)):
         yield f"the page's code {number}", python(top, code), (0, "")
     notebook = json.loads((PYTHON / "robot.ipynb").read_text())
     code = "\n".join("".join(cell["source"]) for cell in notebook["cells"] if cell["cell_type"] == "code")
