@@ -124,29 +124,37 @@ def event(kind, number, *request):
     return cdr(*info, ("uint32", 1 if request else 0), *request, ("uint32", 0))
 
 
+GOAL, CANCEL, STATUS = (f"/drive/_action/{it}" for it in ("send_goal/_service_event", "cancel_goal/_service_event", "status"))
+TOPICS = {GOAL: ("robot_msgs/action/Drive_SendGoal_Event", "cdr"), CANCEL: ("action_msgs/srv/CancelGoal_Event", "cdr"), STATUS: ("action_msgs/msg/GoalStatusArray", "cdr")}
+
+
+def recorded():
+    """The events of an action's services, and its statuses: of two goals, of which the first is canceled."""
+    uuids = [[("uint8", it) for it in uuid] for uuid in UUIDS]
+    statuses = [
+        (STATUS, 2 * SECOND, cdr(("uint32", 1), *uuids[0], ("int32", 2), ("uint32", 0), ("int8", 2))),
+        (STATUS, 5 * SECOND, cdr(("uint32", 2), *uuids[0], ("int32", 2), ("uint32", 0), ("int8", 3), *uuids[1], ("int32", 5), ("uint32", 0), ("int8", 2))),
+        (STATUS, 6 * SECOND, cdr(("uint32", 2), *uuids[0], ("int32", 2), ("uint32", 0), ("int8", 5), *uuids[1], ("int32", 5), ("uint32", 0), ("int8", 4))),
+    ]
+    events = [
+        (GOAL, SECOND, event(0, 1, *uuids[0], ("float64", 2.5))),
+        (GOAL, SECOND + 9, event(1, 1, *uuids[0], ("float64", 2.5))),
+        (GOAL, 4 * SECOND, event(1, 2, *uuids[1], ("float64", -7.0))),
+        (GOAL, 4 * SECOND + 1, event(2, 2)),
+        (CANCEL, 5 * SECOND, event(1, 1, *uuids[0], ("int32", 0), ("uint32", 0))),
+        (CANCEL, 6 * SECOND, event(1, 2, *[("uint8", 0)] * 16, ("int32", 3), ("uint32", 0))),
+    ]
+    return events, statuses
+
+
 def of_actions(folder):
     """Goals and cancel requests, by the events of an action's services, or by its statuses."""
     (folder / "types/robot_msgs/action").mkdir(parents=True)
     (folder / "types/robot_msgs/action/Drive.action").write_text(ACTION)
-    uuids = [[("uint8", it) for it in uuid] for uuid in UUIDS]
-    goal, cancel, status = (f"/drive/_action/{it}" for it in ("send_goal/_service_event", "cancel_goal/_service_event", "status"))
-    topics = {goal: ("robot_msgs/action/Drive_SendGoal_Event", "cdr"), cancel: ("action_msgs/srv/CancelGoal_Event", "cdr"), status: ("action_msgs/msg/GoalStatusArray", "cdr")}
-    statuses = [
-        (status, 2 * SECOND, cdr(("uint32", 1), *uuids[0], ("int32", 2), ("uint32", 0), ("int8", 2))),
-        (status, 5 * SECOND, cdr(("uint32", 2), *uuids[0], ("int32", 2), ("uint32", 0), ("int8", 3), *uuids[1], ("int32", 5), ("uint32", 0), ("int8", 2))),
-        (status, 6 * SECOND, cdr(("uint32", 2), *uuids[0], ("int32", 2), ("uint32", 0), ("int8", 5), *uuids[1], ("int32", 5), ("uint32", 0), ("int8", 4))),
-    ]
-    events = [
-        (goal, SECOND, event(0, 1, *uuids[0], ("float64", 2.5))),
-        (goal, SECOND + 9, event(1, 1, *uuids[0], ("float64", 2.5))),
-        (goal, 4 * SECOND, event(1, 2, *uuids[1], ("float64", -7.0))),
-        (goal, 4 * SECOND + 1, event(2, 2)),
-        (cancel, 5 * SECOND, event(1, 1, *uuids[0], ("int32", 0), ("uint32", 0))),
-        (cancel, 6 * SECOND, event(1, 2, *[("uint8", 0)] * 16, ("int32", 3), ("uint32", 0))),
-    ]
-    bagged.write(folder / "events.db3", topics, events + statuses)
-    bagged.write(folder / "statuses.db3", topics, statuses)
-    bagged.write(folder / "bare.db3", topics, [(goal, SECOND, event(1, 1))])
+    events, statuses = recorded()
+    bagged.write(folder / "events.db3", TOPICS, events + statuses)
+    bagged.write(folder / "statuses.db3", TOPICS, statuses)
+    bagged.write(folder / "bare.db3", TOPICS, [(GOAL, SECOND, event(1, 1))])
     types = ("--types", folder / "types", "--tick", "1s")
     status, told = tool.within("feed", folder / "events.db3", "--action", "/drive:drive", "--field", "metres", "--scale", "10", *types)
     should = [
@@ -160,6 +168,11 @@ def of_actions(folder):
     should = [f'{{"action":"drive","goal":"{TEXTS[0]}","value":0,"at":0}}', f'{{"action":"drive","cancel":"{TEXTS[0]}","at":3}}', f'{{"action":"drive","goal":"{TEXTS[1]}","value":0,"at":3}}']
     lines = told.split("\n")
     yield "the goals of statuses", (status, sorted(lines[at].strip(" [],") for at in range(3)), "don't say their values" in lines[3]), (0, sorted(should), True)
+    yield from of_documents(folder, types)
+
+
+def of_documents(folder, types):
+    """A document gets the goals and the cancel requests; and what of an action can't be read, or isn't declared, is told."""
     for words, part in (
         ((folder / "bare.db3", "--action", "/drive:drive", *types), "introspection of the service must be set to contents"),
         ((folder / "events.db3", "--action", "/drive:drive"), "the type robot_msgs/Drive_SendGoal_Event isn't known"),

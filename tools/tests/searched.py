@@ -248,7 +248,6 @@ def of_shards(top):
             joined = b"".join((top / name).read_bytes() for name in names)
             yield f"{of} shards {more} in one stream", started(top, "search", "--merge", "-", given=joined), should
     one, two, three = ((top / f"{shard}_of_3").read_text() for shard in (1, 2, 3))
-    lines = two.count("\n")
     for given, status, part in (
         (one + three, 2, "search: this shard of 3 is missing: 2\n"),
         (one, 2, "search: these shards of 3 are missing: 2, 3\n"),
@@ -269,7 +268,7 @@ def of_shards(top):
         ("", 2, "search: no shard in standard input\n"),
     ):
         found, told = started(top, "search", "--merge", "-", given=given.encode())
-        yield f"merge of what is wrong ({lines} lines): {told}", (found, part in told), (status, True)
+        yield f"merge of what is wrong: {told}", (found, part in told), (status, True)
     number = next(json.loads(line)["run"] for line in three.splitlines() if line.startswith('{"run":'))
     told = started(top, "search", "--merge", "-", given=three[: three.rindex('{"runs"') + 9].encode())[1]
     yield f"what a shard that is cut off found: {told}", f"\n  least change, run {number}: " in told, True

@@ -14,8 +14,6 @@ import sys
 import threading
 import time
 
-from . import replacement
-
 FINE, FOUND, TROUBLE = 0, 1, 2
 STANDARD = "-"
 PLACED = re.compile(".+:[0-9]+:[0-9]+: ")
@@ -150,6 +148,9 @@ class Output:
         self.demand_unread()
         file = 1
         if self.name != STANDARD:
+            # It is read if a file is written, so that a run to standard output begins at once.
+            from . import replacement
+
             file = self.name
             with contextlib.suppress(PermissionError):
                 self.new = replacement.Replacement(self.name) if replacement.is_plain(self.name) else None

@@ -88,7 +88,7 @@ def of_trace(name, thread):
                 threads.add(own)
                 if thread in (None, own):
                     yield Event(time, WAIT, "") if point != "callback_start" else graph.event(time, int(of.payload_field["callback"]))
-    except (bt2._Error, ValueError) as wrong:
+    except (bt2._Error, RuntimeError, ValueError) as wrong:
         raise command.Trouble(f"{command.printable(name)}: {str(wrong).splitlines()[0]}") from None
     if thread is None and len(threads) > 1:
         raise command.Trouble(f"{command.printable(name)}: several threads run callbacks: --thread takes one of {', '.join(map(str, sorted(threads)))}")
