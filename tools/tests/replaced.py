@@ -39,8 +39,7 @@ def folder():
     """A folder with the examples, which is the current one."""
     before = os.getcwd()
     with tempfile.TemporaryDirectory() as made:
-        for path in (tool.TOP / "examples").iterdir():
-            shutil.copy(path, made)
+        shutil.copytree(tool.TOP / "examples", made, dirs_exist_ok=True)
         (pathlib.Path(made) / "broken.rules").write_text("never pub base_cmd 0\n")
         os.chdir(made)
         try:
