@@ -21,6 +21,9 @@ def answers(_program):
     with tempfile.TemporaryDirectory() as folder:
         top = pathlib.Path(folder)
         yield from of_lines(top)
+        package = tool.TOP / "examples/ament/my_robot/test"
+        copies = {it.name: it.read_bytes() for it in package.iterdir() if it.suffix in (".json", ".txt", ".rules")}
+        yield "the documents of the package for colcon", copies, {name: (tool.TOP / "examples" / name).read_bytes() for name in ("robot.json", "robot.txt", "robot.rules")}
         yield from of_action(top / "action")
         if not installed.lacks("no hook of pre-commit was run", "pre-commit", "git"):
             yield from of_hooks(top)
@@ -119,4 +122,3 @@ def of_colcon(top):
         status, told = ran(["colcon", "test-result", "--all"], workspace)
         line = next((it for it in told.splitlines() if "behaviour.xunit.xml" in it), told)
         yield f"colcon test-result of {text.strip()}: {told}", should in line, True
-    yield "the names of its documents", sorted(it.name for it in rules.parent.glob("*.json")), ["robot.json"]

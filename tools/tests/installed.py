@@ -22,6 +22,8 @@ def answers(_program):
     with tempfile.TemporaryDirectory() as folder:
         top = pathlib.Path(folder)
         places = [(source(top / name), mask, around) for name, mask, around in BUILDS]
+        version = (tool.TOP / "VERSION").read_text().strip()
+        yield "the version of the Debian package", (tool.TOP / "debian/changelog").read_text().split("\n")[0], f"virraupez ({version}) unstable; urgency=medium"
         yield from of_make(top, places[0][0])
         if not lacks("no wheel was built", "hatchling", "pip", "venv"):
             yield from of_wheels(top, places)
@@ -88,10 +90,12 @@ def of_make(top, place):
     yield from works("make install", [root / "usr/bin/virraupez"], top)
     modes = {oct(it.stat().st_mode & 0o777) for it in root.rglob("*") if "__pycache__" not in it.parts}
     yield "the modes of what make installs", modes, {"0o755", "0o644"}
+    yield "make compile", ran(["make", "-s", "compile", "PREFIX=/usr", f"DESTDIR={root}"], place), (0, "")
+    package = root / "usr/lib/virraupez/tools/virraupez"
+    yield "the byte code that make keeps", {it.name.split(".")[0] for it in package.glob("__pycache__/*.pyc")}, {it.stem for it in package.glob("*.py")}
     shared = [it for it in ("man/man1/virraupez.1", "bash-completion/completions/virraupez", "zsh/site-functions/_virraupez") if not (root / "usr/share" / it).is_file()]
     yield "what make install leaves out", shared, []
-    shipped = root / "usr/lib/virraupez/tools/virraupez/shipped"
-    changed(shipped / "exec_run")
+    changed(package / "shipped/exec_run")
     status, text = ran([root / "usr/bin/virraupez", "run", tool.TOP / "examples/timer.json"], top)
     yield f"an installed program with a changed byte: {text}", (status, "isn't the program that was installed" in text), (2, True)
     yield "make uninstall", ran(["make", "-s", "uninstall", "PREFIX=/usr", f"DESTDIR={root}"], place), (0, "")
