@@ -37,8 +37,9 @@ def of_message(topics, number, topic, time, data):
     return record(5, struct.pack("<HIQQ", list(topics).index(topic) + 1, number, time, time) + data)
 
 
-def chunk(body, times, how, sum_of=None):
-    packed = subprocess.run(["zstd", "-cq"], input=body, stdout=subprocess.PIPE, check=True).stdout if how == "zstd" else body
+def chunk(body, times, how, sum_of=None, packed=None):
+    if packed is None:
+        packed = subprocess.run(["zstd", "-cq"], input=body, stdout=subprocess.PIPE, check=True).stdout if how == "zstd" else body
     head = struct.pack("<QQQI", min(times, default=0), max(times, default=0), len(body), zlib.crc32(body) if sum_of is None else sum_of)
     return record(6, head + text(how) + struct.pack("<Q", len(packed)) + packed)
 
@@ -106,13 +107,15 @@ def of_wrong(folder):
         ("cut", whole[:-60], "it is cut off: `mcap recover` saves what is whole"),
         ("cut_between", whole[: 8 + len(record(1, text("ros2") + text("by hand")))], "it is cut off"),
         ("lz4", file_of([chunk(body, [5], "lz4")]), "a chunk is compressed by lz4, and zstd is read"),
+        ("no_zstd", file_of([chunk(body, [5], "zstd", packed=body)]), "a chunk that is said to be compressed by zstd isn't"),
         ("sum", file_of([chunk(body, [5], "", 7)]), "a chunk hasn't its own sum"),
         ("channel", file_of([of_message(topics, 0, "/x", 5, b"")]), "a message of the channel 1, which there isn't"),
     ):
         path = folder / f"{name}.mcap"
         path.write_bytes(given)
         status, told = tool.within("feed", path, "--topic", "/x:x")
-        yield f"feed of {name}: {told}", (status, part in told, told.count("\n"), "Traceback" in told), (2, True, 1, False)
+        lacks = name == "no_zstd" and "hasn't the program zstd" in told
+        yield f"feed of {name}: {told}", (status, part in told or lacks, told.count("\n"), "Traceback" in told), (2, True, 1, False)
     path = folder / "no_sum.mcap"
     path.write_bytes(file_of([chunk(body, [5], "", 0)]))
     yield "a chunk without a sum", bagged.fed(path, "--topic", "/x:x"), (0, [("x", 1, 0)])

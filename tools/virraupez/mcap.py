@@ -13,6 +13,7 @@ SCHEMA, CHANNEL, MESSAGE, CHUNK, DATA_END = 3, 4, 5, 6, 15
 HEAD, MESSAGE_HEAD, CHUNK_HEAD = struct.Struct("<BQ"), struct.Struct("<HIQQ"), struct.Struct("<QQQI")
 
 
+NO_ZSTD = "a chunk that is said to be compressed by zstd isn't"
 CUT = "it is cut off: `mcap recover` saves what is whole"
 
 
@@ -124,21 +125,36 @@ def unpacked(body):
 
 def of_zstd(packed):
     """What is compressed by zstd, by what this Python or this machine has."""
-    try:
-        from compression import zstd  # Python 3.14
+    for way in (by_python, by_module, by_program):
+        try:
+            return way(packed)
+        except ImportError:
+            continue
+    raise Wrong("a chunk is compressed by zstd, and this machine hasn't the program zstd")
 
+
+def by_python(packed):
+    from compression import zstd  # Python 3.14
+
+    try:
         return zstd.decompress(packed)
-    except ImportError:
-        pass
-    try:
-        import zstandard
+    except zstd.ZstdError:
+        raise Wrong(NO_ZSTD) from None
 
+
+def by_module(packed):
+    import zstandard
+
+    try:
         return zstandard.ZstdDecompressor().decompressobj().decompress(packed)
-    except ImportError:
-        pass
+    except zstandard.ZstdError:
+        raise Wrong(NO_ZSTD) from None
+
+
+def by_program(packed):
     try:
         return subprocess.run(["zstd", "-dcq"], input=packed, stdout=subprocess.PIPE, stderr=subprocess.DEVNULL, check=True).stdout
     except FileNotFoundError:
-        raise Wrong("a chunk is compressed by zstd, and this machine hasn't the program zstd") from None
+        raise ImportError from None
     except subprocess.CalledProcessError:
-        raise Wrong("a chunk is no zstd") from None
+        raise Wrong(NO_ZSTD) from None
