@@ -73,6 +73,18 @@ def of_hooks(top):
     yield f"the hook that upgrades: {text}", (status, "files were modified by this hook" in text), (1, True)
     yield "what it wrote", json.loads((documents / "old.robot.json").read_text())["version"], 2
     yield "the hook that explains what is right", ran(["pre-commit", "try-repo", hooks, "virraupez-explain", "--files", "old.robot.json"], documents)[0], 0
+    yield from of_configuration(hooks, documents)
+
+
+def of_configuration(hooks, documents):
+    """The hook that checks, as a configuration names it with its rules."""
+    revision = ran(["git", "rev-parse", "HEAD"], hooks)[1].strip()
+    hook = "[{id: virraupez-check, args: [--rules, it.rules]}]"
+    (documents / ".pre-commit-config.yaml").write_text(f"repos: [{{repo: {hooks}, rev: {revision}, hooks: {hook}}}]\n")
+    for rule, status, part in (("count round 3 _ at most 1", 0, "Passed"), ("never round 2 2", 1, "it.rules:1:1: fails: never round 2 2")):
+        (documents / "it.rules").write_text(f"{rule}\n")
+        found, text = ran(["pre-commit", "run", "--all-files"], documents)
+        yield f"the hook that checks {rule}: {text}", (found, part in text), (status, True)
 
 
 def of_action(top):
