@@ -104,8 +104,10 @@ def opened(page, folder, *words):
     return path
 
 
-def shown_lines(page):
-    return page.value("[...document.querySelectorAll('#lines li')].map((it) => it.textContent)")
+def shown_lines(page, which="#lines li"):
+    """The lines that are shown, with the identifiers that names of goals have as their titles."""
+    named = "(it) => { const copy = it.cloneNode(true); for (const goal of copy.querySelectorAll('abbr')) goal.textContent = goal.title; return copy.textContent; }"
+    return page.value(f"[...document.querySelectorAll({json.dumps(which)})].map({named})")
 
 
 def focus(page):
@@ -117,6 +119,8 @@ def of_keys(page, folder):
     opened(page, folder, *ROBOT)
     lines = (tool.TOP / ROBOT[1]).read_text().split("\n")[:-2]
     focus(page)
+    page.key("Escape")
+    page.key("Home")
     told = list(shown_lines(page))
     for _ in range(20):
         page.key("ArrowRight")
@@ -150,7 +154,7 @@ def of_pointer(page):
     told = page.text("#tip")
     yield "the tip of a box", told, "run button message 1 0\ncancel navigator 00000000-0000-0000-0000-000000000000 0\ntook what was fed"
     page.pointer(*place, click=True)
-    yield "what a click chooses", (page.text("#where"), page.value("[...document.querySelectorAll('.chosen')].map((it) => it.textContent)")), ("Round 8 at moment 11", told.split("\n")[:2])
+    yield "what a click chooses", (page.text("#where"), shown_lines(page, "li.chosen")), ("Round 8 at moment 11", told.split("\n")[:2])
     without = page.value("(() => { view.box = view.hover = null; view.chosen = 0; draw(); return canvas.toDataURL(); })()")
     lit = page.value("(() => { view.hover = [runs[0], runs[0].boxOf(70)]; draw(); const drawn = canvas.toDataURL(); view.hover = null; return drawn; })()")
     yield "the lines of messages are drawn", without != lit, True
@@ -161,7 +165,7 @@ def of_pointer(page):
     yield "the lines that lead to the chosen round", ([-1, button] in taken, len(taken)), (True, sum(line.startswith("run ") and line.split(" ")[2] not in ("timer", "poll") for line in round_of(8)))
     goal = page.value("(() => { const at = canvas.getBoundingClientRect(); return [x(9.6) + at.left, runs[0].laneTop + 8 + at.top]; })()")
     page.pointer(*goal)
-    yield "the tip of a goal", page.text("#tip"), "goal 00000000-0000-0001-0000-000000000001 of navigate: CANCELED"
+    yield "the tip of a goal", page.text("#tip"), "goal 1.1 of navigate: CANCELED\n00000000-0000-0001-0000-000000000001"
     page.value("canvas.dispatchEvent(new WheelEvent('wheel', { deltaY: -300, ctrlKey: true, bubbles: true, cancelable: true, clientX: 500, clientY: 300 }))")
     yield "zoom by the wheel", page.value("shownColumns() < 20"), True
 
@@ -225,8 +229,7 @@ def of_two(page, folder):
     """Of two transcripts the first difference is chosen and marked, and lines that differ are those that diff tells."""
     opened(page, folder, *ROBOT, LATE)
     yield "the first difference", page.text("#where"), "Round 8 at moment 11, which differs"
-    marked = page.value("[...document.querySelectorAll('.differs')].map((it) => it.textContent)")
-    yield "the lines that differ", marked, [f"−  only here: {line}" for line in ("run button message 1 0", "cancel navigator 00000000-0000-0000-0000-000000000000 0")]
+    yield "the lines that differ", shown_lines(page, ".differs"), [f"−  only here: {line}" for line in ("run button message 1 0", "cancel navigator 00000000-0000-0000-0000-000000000000 0")]
     focus(page)
     page.key("d")
     yield "the next difference", page.text("#where"), "Round 9 at moment 12, which differs"

@@ -3,11 +3,15 @@ second run is shown below the first; their rounds are matched by their moments a
 import json
 import pathlib
 
-from . import alignment, picture, scene, transcript
+from . import alignment, grammar, picture, scene, transcript
 
 PAGE = pathlib.Path(__file__).resolve().parent / "page"
 # The program of the page, in parts that follow one another.
-SCRIPTS = ("run.js", "draw.js", "use.js")
+SCRIPTS = ("run.js", "axis.js", "draw.js", "goals.js", "strip.js", "lines.js", "search.js", "use.js")
+# The families of boxes by their numbers: those of kinds, and what is lost.
+FAMILIES = [family for family, _ in picture.LEGEND]
+# The greatest whole number that a browser holds exactly.
+EXACT = 2**53
 # In how many rounds that differ the lines that differ are marked.
 MARKED = 2000
 
@@ -15,9 +19,10 @@ MARKED = 2000
 class Run:
     """A run that is shown: its rows, rounds, lines, boxes, links and goals."""
 
-    def __init__(self, name, document, own, first, last):
+    def __init__(self, name, document, own, first, last, check=None):
         self.name, self.first, self.last = name, first, last
         text = "".join(transcript.blocks(name, own))
+        self.broken = broken(check, text) if check else []
         self.scene = scene.Scene(document, first, last)
         self.scene.take(text.split("\n")[:-1])
         self.rounds = [it for it in alignment.rounds([text]) if self.is_shown(it)]
@@ -29,6 +34,11 @@ class Run:
     def place(self, column, taken):
         """Places a round in a column. What comes after the last round has the number None."""
         self.columns[taken.number] = column
+
+    def has(self, number):
+        """Whether a line is shown."""
+        last = self.rounds[-1]
+        return self.rounds[0].at <= number <= last.at + bool(last.number) + last.rest.count("\n") - 1
 
     def data(self):
         """What the page draws of it."""
@@ -44,10 +54,10 @@ class Run:
             deepest[row] = max(deepest[row], count + 1)
         return {
             "name": self.name,
-            "rows": [[*row, count] for row, count in zip(self.scene.rows, deepest)],
-            "rounds": [[self.columns[it.number], it.number, None if it.number is None else it.moment, it.at] for it in self.rounds],
+            "rows": [[*row, count, names] for row, count, names in zip(self.scene.rows, deepest, names_of(self.scene.row_of))],
+            "rounds": [[self.columns[it.number], it.number, None if it.number is None else exact(it.moment), it.at] for it in self.rounds],
             "text": "".join(head(it) + it.rest for it in self.rounds),
-            "boxes": [number for box in boxes for number in (stand[box.column], box.row, box.at, box.number, int(box.is_drop))],
+            "boxes": [number for box in boxes for number in (stand[box.column], box.row, box.at, box.number, family(box))],
             "links": [number for origin, box in self.scene.links for number in (at[box.number], sender(origin, at))],
             "goals": [goal_data(goal, stand) for goal in lanes(self.scene.shown_goals(), len(stand))],
         }
@@ -55,6 +65,32 @@ class Run:
 
 def head(taken):
     return "" if taken.number is None else f"round {taken.number} {taken.moment}\n"
+
+
+def exact(number):
+    """A number as a page can have it: as a text if a browser would round it."""
+    return number if abs(number) < EXACT else str(number)
+
+
+def family(box):
+    return FAMILIES.index("lost" if box.is_drop else picture.FAMILIES.get(box.kind, "time"))
+
+
+def names_of(row_of):
+    """The names of the entities of each row."""
+    names = {}
+    for name, row in row_of.items():
+        names.setdefault(row, []).append(name)
+    return [names[row] for row in sorted(names)]
+
+
+def broken(check, text):
+    """The rules that a transcript breaks or leaves undecided: the number of the line that decides each, its text, and what is said of it."""
+    check.begin()
+    check.block(text)
+    check.end()
+    decided = [(rule, rule.failure or rule.open_end) for rule in check.rules if rule.failure or rule.open_end]
+    return [(it.number, rule.text, f"{'fails' if rule.failure else 'is undecided'} in round {it.round}{f' ({it.says})' if it.says else ''}") for rule, it in decided]
 
 
 def sender(origin, at):
@@ -104,15 +140,18 @@ def matched(runs):
     return column + 1, differ
 
 
-def page(runs, title):
-    """The HTML of one run, or of two."""
+def page(runs, title, tick=None, rules=None):
+    """The HTML of one run, or of two. A tick has a length in nanoseconds, if it is known, and the runs are held to so many rules."""
     count, differ = matched(runs)
     data = {
         "title": title,
         "columns": count,
         "differ": differ,
+        "tick": tick,
+        "rules": rules,
+        "broken": [[at, number if run.has(number) else None, *said] for at, run in enumerate(runs) for number, *said in sorted(run.broken)],
         "states": transcript.STATES,
-        "families": picture.FAMILIES,
+        "entities": grammar.ENTITIES_AT_MOST,
         "legend": picture.LEGEND,
         "runs": [run.data() for run in runs],
     }

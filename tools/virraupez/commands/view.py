@@ -2,7 +2,7 @@
 goals as bars, messages as lines, and the lines of a round next to them. One can search, zoom, and go from round to round by keys.
 
 A second transcript is shown below the first, and their first difference is marked. docs/view.md says what the keys do."""
-from .. import command, fit, flow, grammar, view
+from .. import command, fit, flow, grammar, rules, ticks, view
 from . import picture
 
 STATUS = "The status is 0, and 2 if a file is wrong, cut off or another run's, or hasn't these rounds."
@@ -16,18 +16,22 @@ def parser(prog=None):
     made.add_argument("transcript", metavar="TRANSCRIPT", help="its transcript; - is standard input")
     made.add_argument("other", metavar="OTHER", nargs="?", help="a second transcript, which is compared with the first")
     made.add_argument("--document", metavar="DOCUMENT", dest="second", help="the document of OTHER, if it is another one")
+    made.add_argument("--tick", metavar="TIME", type=ticks.nanoseconds, help="how long a tick is, as 20ms: moments are shown as times")
+    made.add_argument("--rules", metavar="RULES", help="a file of rules, as holds has them: the page opens at the first line that breaks one")
     made.add_argument("--rounds", metavar="A-B", type=picture.rounds_of, default=(1, grammar.MOMENTS), help="the rounds to show, as A-B, A- or A; all if none are given")
     return made
 
 
 def run(asked, out):
     document = flow.read_document(asked.document)
-    runs = [view.Run(asked.transcript, document, fit.Own(asked.document, document), *asked.rounds)]
+    own = fit.Own(asked.document, document)
+    check = rules.Check(rules.read(command.text_of(asked.rules), asked.rules, own.kinds)) if asked.rules else None
+    runs = [view.Run(asked.transcript, document, own, *asked.rounds, check)]
     if asked.other:
         other = flow.read_document(asked.second) if asked.second else document
         # Another executor's run of the same document may be compared with the document's own.
         own = fit.Own(asked.second or asked.document, other, is_strict=bool(asked.second))
-        runs.append(view.Run(asked.other, other, own, *asked.rounds))
+        runs.append(view.Run(asked.other, other, own, *asked.rounds, check))
         if own.strayed:
             command.note(f"view: {asked.other} isn't a run of {command.shown(own.name)}: its line {own.strayed[0]} doesn't follow")
     elif asked.second:
@@ -37,5 +41,5 @@ def run(asked, out):
     lines = sum(it.rest.count("\n") for run in runs for it in run.rounds)
     if lines > MANY:
         command.note(f"view: {lines} lines take a browser long to open; --rounds A-B shows a part of them")
-    out.write(view.page(runs, " and ".join(command.shown(it.name) for it in runs)))
+    out.write(view.page(runs, " and ".join(command.shown(it.name) for it in runs), asked.tick, check and len(check.rules)))
     return command.FINE

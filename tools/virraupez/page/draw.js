@@ -1,29 +1,31 @@
-// The places of all that is drawn, and how it is drawn.
+// The places of what is drawn, and how it is drawn: the heads of rounds, callback groups with their callbacks, and lines between them.
+
+// The measures in pixels: the strip over all, the heads of columns, a gap, a lane of goals, and the line of a name.
+const OVER = 62, HEAD = 34, GAP = 3, LANE = 20, NAME = 13, NAMES_AT_MOST = 6;
+const BOLD = "bold 11px Verdana, sans-serif", PLAIN = "10px Verdana, sans-serif";
+const MARKS = { 4: "✓", 5: "■", 6: "✗" };
+const LOST = 4;
+let height = 0;
 
 // ---- places
 
-/** Places the rows and the lanes of goals, from the top, and gives the height of all. */
+/** Places the rows, the lanes of goals and the plots, from the top, and gives the height of all. */
 function stack() {
   let y = OVER + HEAD;
   for (const run of runs) {
     run.top = y;
     if (runs.length > 1) y += 22;
-    run.tops = run.rows.map(([, , , deepest]) => {
+    run.tops = run.rows.map(([, , , deepest, names]) => {
       const top = y, high = deepest > 24 ? 4 : deepest > 8 ? 9 : 17;
-      y += Math.max(deepest * (high + 2) + 2 * GAP, 34);
+      y += Math.max(deepest * (high + 2) + 2 * GAP, 34 + NAME * Math.min(names.length, NAMES_AT_MOST));
       return [top, high];
     });
     run.laneTop = y + 6;
-    y += run.lanes.length * 20 + (run.lanes.length ? 22 : 10);
+    y += run.lanes.length * LANE + (run.lanes.length ? 22 : 10);
     run.bottom = y;
   }
   return y + 4;
 }
-const height = stack();
-const x = (column) => LEFT + (column - view.left) * view.width;
-const shownColumns = () => (canvas.clientWidth - LEFT) / view.width;
-const columnAt = (pixel) => Math.floor(view.left + (pixel - LEFT) / view.width);
-const clamp = (value, low, high) => Math.min(Math.max(value, low), high);
 
 function boxPlace(run, at) {
   const [top, high] = run.tops[run.boxes[at * 5 + 1]];
@@ -35,10 +37,21 @@ function boxAt(pixelX, pixelY) {
   const column = columnAt(pixelX);
   for (const run of runs) {
     for (let at = run.firstBox(column); at < run.count && run.boxes[at * 5] === column; at++) {
-      const [left, top, wide, high] = boxPlace(run, at);
-      if (pixelX >= left - 2 && pixelX <= left + wide + 2 && pixelY >= top - 1 && pixelY <= top + high + 1) return [run, at];
+      const [begin, top, wide, high] = boxPlace(run, at);
+      if (pixelX >= begin - 2 && pixelX <= begin + wide + 2 && pixelY >= top - 1 && pixelY <= top + high + 1) return [run, at];
     }
   }
+  return null;
+}
+
+/** The entity whose name is at a place of the left side. */
+function nameAt(pixelX, pixelY) {
+  if (pixelX >= gutter) return null;
+  for (const run of runs)
+    for (const [row, [top]] of run.tops.entries()) {
+      const at = Math.floor((pixelY - top - 32) / NAME);
+      if (at >= 0 && at < Math.min(run.rows[row][4].length, NAMES_AT_MOST)) return run.rows[row][4][at];
+    }
   return null;
 }
 
@@ -48,10 +61,16 @@ function readColours() {
   const style = getComputedStyle(document.documentElement);
   for (const name of ["ground", "ink", "faint", "stripe", "rule", "chosen", "chosen-ink", "time", "topic", "service", "action", "lost", "hit", "on", "s1", "s2", "s3", "s4", "s5", "s6"])
     view.colours[name] = style.getPropertyValue(`--${name}`).trim();
+  view.families = ["time", "topic", "service", "action", "lost"].map((it) => view.colours[it]);
+  strip.key = "";
 }
 
+/** Gives the picture the size of its window. */
 function fit() {
-  const wide = Math.max(byId("picture").clientWidth, LEFT + 100), sharp = Math.min(window.devicePixelRatio || 1, 16000 / height);
+  const wide = Math.max(byId("picture").clientWidth, 200);
+  gutter = wide < 500 ? 92 : 150;
+  height = stack();
+  const sharp = Math.min(window.devicePixelRatio || 1, 16000 / height);
   canvas.style.width = `${wide}px`;
   canvas.style.height = `${height}px`;
   canvas.width = Math.round(wide * sharp);
@@ -67,7 +86,7 @@ function redraw() {
   requestAnimationFrame(() => { isAsked = false; draw(); });
 }
 
-function words(text, left, top, colour, font, most) {
+function words(text, begin, top, colour, font, most) {
   pen.fillStyle = colour;
   pen.font = font;
   if (most && pen.measureText(text).width > most) {
@@ -75,20 +94,22 @@ function words(text, left, top, colour, font, most) {
     if (signs < 2) return;
     text = `${text.slice(0, signs)}…`;
   }
-  pen.fillText(text, left, top);
+  pen.fillText(text, begin, top);
 }
 
 function draw() {
-  const wide = canvas.clientWidth, colours = view.colours;
-  view.left = clamp(view.left, 0, Math.max(data.columns - shownColumns(), 0));
-  pen.fillStyle = colours.ground;
+  const wide = canvas.clientWidth;
+  keepLeft();
+  pen.fillStyle = view.colours.ground;
   pen.fillRect(0, 0, wide, height);
-  const first = Math.max(Math.floor(view.left), 0), last = Math.min(Math.ceil(view.left + shownColumns()), data.columns - 1);
+  const first = Math.max(Math.floor(view.left), 0), last = Math.min(Math.ceil(endOfShown()), data.columns - 1);
   pen.save();
   pen.beginPath();
-  pen.rect(LEFT, OVER, wide - LEFT, height);
+  pen.rect(gutter, OVER, wide - gutter, height);
   pen.clip();
-  drawColumns(first, last);
+  drawHeads(first, last);
+  drawFolds(first, last);
+  drawChosen(first, last);
   for (const run of runs) {
     drawBoxes(run, first, last);
     drawGoals(run, first, last);
@@ -96,131 +117,140 @@ function draw() {
   drawLinks();
   pen.restore();
   runs.forEach(drawRows);
-  drawOverview(wide);
+  drawStrip(wide);
 }
 
-/** The stripes and the heads of columns, the chosen one, those that differ, and those with a hit. */
-function drawColumns(first, last) {
-  const colours = view.colours, every = [1, 2, 5, 10, 20, 50, 100, 200, 500, 1000, 2000, 5000, 10000, 20000].find((it) => it * view.width >= 62) || 50000;
+/** The heads of columns, with stripes: every so many rounds, and after a fold. Heads that would touch the one before are left out. */
+function drawHeads(first, last) {
+  const colours = view.colours, every = [1, 2, 5, 10, 20, 50, 100, 200, 500, 1000, 2000, 5000, 10000, 20000].find((it) => it * view.width >= 66) || 50000;
+  const heads = [...axis.folds.filter(([, end]) => end > first && end <= last).map(([, end]) => end)];
   for (let column = first - (first % every); column <= last; column += every) {
-    if ((column / every) % 2) {
-      pen.fillStyle = colours.stripe;
-      pen.fillRect(x(column), OVER, view.width * every, height);
-    }
-    const run = runs.find((it) => it.roundAt.has(column));
-    const round = run && run.rounds[run.roundAt.get(column)];
-    if (!round) continue;
-    words(round[1] === null ? "at the end" : `round ${round[1]}`, x(column) + 4, OVER + 13, colours.ink, "bold 11px Verdana, sans-serif", view.width * every - 6);
-    if (round[1] !== null) words(`at ${round[2]}`, x(column) + 4, OVER + 26, colours.faint, "10px Verdana, sans-serif", view.width * every - 6);
+    if (!foldOf(column)) heads.push(column);
+    if ((column / every) % 2 === 0) continue;
+    pen.fillStyle = colours.stripe;
+    pen.fillRect(x(column), OVER, x(Math.min(column + every, data.columns)) - x(column), height);
   }
+  let free = -Infinity;
+  for (const column of heads.sort((one, other) => one - other)) {
+    const run = runs.find((it) => it.roundAt.has(column)), round = run && run.rounds[run.roundAt.get(column)];
+    if (!round || x(column) < free) continue;
+    free = x(column) + 66;
+    words(round[1] === null ? "at the end" : every === 1 ? `round ${round[1]}` : `${round[1]}`, x(column) + 3, OVER + 13, colours.ink, BOLD, 64);
+    if (round[1] !== null) words(momentOf(round[2]).replace("moment", "at"), x(column) + 3, OVER + 26, colours.faint, PLAIN, 62);
+  }
+}
+
+/** Folds, hatched, with the number of the rounds in them. */
+function drawFolds(first, last) {
+  const wide = foldWidth(), top = OVER + HEAD;
+  if (wide < 2) return;
+  for (const [begin, end] of axis.folds) {
+    if (end < first || begin > last) continue;
+    const from = x(begin);
+    pen.fillStyle = view.colours.stripe;
+    pen.fillRect(from, top, wide, height);
+    pen.strokeStyle = view.colours.rule;
+    pen.lineWidth = 1;
+    pen.beginPath();
+    for (let y = top; y < height; y += 12) { pen.moveTo(from, y + 12); pen.lineTo(from + wide, y); }
+    pen.stroke();
+    if (wide < 11) continue;
+    pen.save();
+    pen.translate(from + wide / 2 + 4, top + 6);
+    pen.rotate(Math.PI / 2);
+    const says = lengthOf(begin, end);
+    pen.font = PLAIN;
+    pen.fillStyle = view.colours.ground;
+    pen.fillRect(-3, -2, pen.measureText(says).width + 6, 12);
+    words(says, 0, 8, view.colours.faint, PLAIN);
+    pen.restore();
+  }
+}
+
+/** The column that is chosen, and those that differ. */
+function drawChosen(first, last) {
+  const colours = view.colours, wide = Math.max(x(view.chosen + 1) - x(view.chosen), 2);
   pen.fillStyle = colours.chosen;
   pen.globalAlpha = 0.75;
-  pen.fillRect(x(view.chosen), OVER + HEAD - 4, Math.max(view.width, 2), height);
+  pen.fillRect(x(view.chosen), OVER + HEAD - 4, wide, height);
   pen.globalAlpha = 1;
   pen.strokeStyle = colours["chosen-ink"];
   pen.lineWidth = 2;
-  pen.strokeRect(x(view.chosen), OVER + 1, Math.max(view.width, 2), height - OVER - 2);
-  for (const column of differing) {
-    if (column < first || column > last) continue;
-    pen.fillStyle = colours.lost;
-    pen.fillRect(x(column), OVER + HEAD - 4, Math.max(view.width, 1), 3);
-  }
+  pen.strokeRect(x(view.chosen), OVER + 1, wide, height - OVER - 2);
+  pen.fillStyle = colours.lost;
+  for (const column of differing)
+    if (column >= first && column <= last) pen.fillRect(x(column), OVER + HEAD - 4, Math.max(view.width, 1), 3);
   if (differing.length && differing[0] >= first && differing[0] <= last) {
-    const left = x(differing[0]);
-    pen.fillRect(left - 1, OVER, 3, height);
-    words("first difference", left + 5, OVER + HEAD + 13, colours.lost, "bold 11px Verdana, sans-serif");
+    const begin = x(differing[0]);
+    pen.fillRect(begin - 1, OVER, 3, height);
+    words("first difference", begin + 5, OVER + HEAD + 13, colours.lost, BOLD);
   }
 }
 
 function drawRows(run) {
-  const colours = view.colours, wide = canvas.clientWidth;
+  const colours = view.colours, most = gutter - 12;
   pen.fillStyle = colours.ground;
-  pen.fillRect(0, run.top, LEFT - 1, run.bottom - run.top + 4);
-  if (runs.length > 1) words(run.name, 8, run.top + 15, colours.topic, "bold 12px Verdana, sans-serif", LEFT - 12);
-  run.rows.forEach(([node, group, kind], at) => {
+  pen.fillRect(0, run.top, gutter - 1, run.bottom - run.top + 4);
+  if (runs.length > 1) words(run.name, 8, run.top + 15, colours.topic, "bold 12px Verdana, sans-serif", most);
+  run.rows.forEach(([node, group, kind, , names], at) => {
     const [top] = run.tops[at];
     pen.fillStyle = colours.rule;
-    pen.fillRect(0, top, wide, 1);
-    words(node, 8, top + 14, colours.ink, "bold 11px Verdana, sans-serif", LEFT - 12);
-    words(group ? `${group} (${kind})` : "default group", 8, top + 28, colours.faint, "10px Verdana, sans-serif", LEFT - 12);
+    pen.fillRect(0, top, canvas.clientWidth, 1);
+    words(node, 8, top + 14, colours.ink, BOLD, most);
+    words(group ? `${group} (${kind})` : "default group", 8, top + 28, colours.faint, PLAIN, most);
+    names.slice(0, NAMES_AT_MOST).forEach((name, place) => {
+      const isMore = place === NAMES_AT_MOST - 1 && names.length > NAMES_AT_MOST;
+      words(isMore ? `${name}, and ${names.length - NAMES_AT_MOST} more` : name, 16, top + 42 + place * NAME, colours.topic, PLAIN, most - 8);
+    });
   });
   run.lanes.forEach(([server], at) => {
-    if (at === 0 || run.lanes[at - 1][0] !== server) words(`goals of ${server}`, 8, run.laneTop + at * 20 + 13, colours.ink, "bold 11px Verdana, sans-serif", LEFT - 12);
+    if (at === 0 || run.lanes[at - 1][0] !== server) words(`goals of ${server}`, 8, run.laneTop + at * LANE + 13, colours.ink, BOLD, most);
   });
 }
 
-/** The colour of a box's family. */
-function colourOf(run, at) {
-  if (run.boxes[at * 5 + 4]) return view.colours.lost;
-  return view.colours[data.families[run.line(run.boxes[at * 5 + 3]).split(" ", 3)[2]] || "time"];
-}
+const colourOf = (run, at) => view.families[run.boxes[at * 5 + 4]];
 
 function drawBoxes(run, first, last) {
   const end = run.firstBox(last + 1);
-  // Of boxes on one pixel the first is drawn.
-  let before = "";
+  // Of boxes of a row and a place in it on one pixel the first is drawn.
+  const drawn = new Map();
   for (let at = run.firstBox(first); at < end; at++) {
-    const [left, top, wide, high] = boxPlace(run, at), isDrop = run.boxes[at * 5 + 4];
+    const [begin, top, wide, high] = boxPlace(run, at), colour = colourOf(run, at);
     if (view.width < 1) {
-      const place = `${Math.round(left)} ${top}`;
-      if (place === before) continue;
-      before = place;
+      const pixel = Math.round(begin);
+      if (drawn.get(top) === pixel && run.boxes[at * 5 + 4] !== LOST) continue;
+      drawn.set(top, pixel);
     }
-    const colour = colourOf(run, at);
     pen.fillStyle = view.width < 9 ? colour : view.colours.ground;
-    pen.fillRect(left, top, wide, high);
-    if (view.width < 9) continue;
-    const isLit = view.box && view.box[0] === run && view.box[1] === at;
-    pen.strokeStyle = colour;
-    pen.lineWidth = isLit ? 3.5 : 1.5;
-    pen.strokeRect(left, top, wide, high);
-    if (isDrop) {
-      pen.beginPath();
-      pen.moveTo(left + 3, top + 3); pen.lineTo(left + 9, top + Math.min(high, 12) - 3);
-      pen.moveTo(left + 9, top + 3); pen.lineTo(left + 3, top + Math.min(high, 12) - 3);
-      pen.stroke();
-    }
-    if (view.width >= 40 && high > 10) {
-      const [word, entity, kind, value] = run.line(run.boxes[at * 5 + 3]).split(" ", 4);
-      const says = isDrop ? `lost ${entity} ${value}` : view.width >= 90 ? `${entity} ${kind} ${value}` : entity;
-      words(says, left + (isDrop ? 12 : 4), top + 12, view.colours.ink, "10px Verdana, sans-serif", wide - (isDrop ? 14 : 6));
-    }
+    pen.fillRect(begin, top, wide, high);
+    if (view.width >= 9) drawBox(run, at, [begin, top, wide, high], colour);
   }
 }
 
-/** Where each state of a goal begins and ends: states of one column share it. */
-function stateSpans(run, goal) {
-  const [, , , , states, , expired] = goal, end = expired === null ? data.columns : expired;
-  return states.map(([column, status], at) => {
-    const same = states.filter((it) => it[0] === column).length, place = states.slice(0, at).filter((it) => it[0] === column).length;
-    const begin = column < 0 ? 0 : column + (place + 1) / (same + 1);
-    const next = states[at + 1];
-    return [begin, next ? (next[0] === column ? column + (place + 2) / (same + 1) : next[0] + 1 / (states.filter((it) => it[0] === next[0]).length + 1)) : end, status];
-  });
+/** A box that has room for a rim: its cross if it is a drop, and its value and name as far as there is room. */
+function drawBox(run, at, [begin, top, wide, high], colour) {
+  const isLit = view.box && view.box[0] === run && view.box[1] === at, isDrop = run.boxes[at * 5 + 4] === LOST;
+  pen.strokeStyle = colour;
+  pen.lineWidth = isLit ? 3.5 : 1.5;
+  pen.strokeRect(begin, top, wide, high);
+  if (isDrop) {
+    pen.beginPath();
+    pen.moveTo(begin + 3, top + 3); pen.lineTo(begin + 9, top + Math.min(high, 12) - 3);
+    pen.moveTo(begin + 9, top + 3); pen.lineTo(begin + 3, top + Math.min(high, 12) - 3);
+    pen.stroke();
+  }
+  if (wide < 16 || high <= 10) return;
+  const inset = isDrop ? 12 : 4, says = saidOn(run.head(at).split(" "), isDrop);
+  pen.font = PLAIN;
+  const fits = says.find((it) => pen.measureText(it).width <= wide - inset - 2);
+  words(fits || says[says.length - 1], begin + inset, top + 12, view.colours.ink, PLAIN, wide - inset - 1);
 }
 
-function drawGoals(run, first, last) {
-  for (const goal of run.goals) {
-    const [server, lane, name, , states, feedback, expired] = goal, top = run.laneTop + run.laneAt.get(`${server} ${lane}`) * 20;
-    if (states[0][0] > last || expired !== null && expired < first) continue;
-    for (const [begin, end, status] of stateSpans(run, goal)) {
-      const left = Math.max(x(begin), LEFT - 5), wide = Math.max(Math.min(x(end), canvas.clientWidth + 5) - left, 2), high = MARKS[status] ? 10 : 16;
-      if (left > canvas.clientWidth || x(end) < LEFT) continue;
-      pen.fillStyle = view.colours[`s${status}`];
-      pen.fillRect(left, top + (16 - high) / 2, wide, high);
-      const says = `${MARKS[status] || ""} ${data.states[status].toLowerCase()}`.trim();
-      words(wide > 70 ? says : MARKS[status] || "", left + 3, top + 12, view.colours.on, "10px Verdana, sans-serif", wide - 4);
-    }
-    if (view.width >= 9) {
-      pen.fillStyle = view.colours.ink;
-      for (const [column] of feedback) {
-        pen.beginPath();
-        pen.arc(x(column + 0.5), top + 17, 2.5, 0, 7);
-        pen.fill();
-      }
-      words(name, x(states[0][0] < 0 ? 0 : states[0][0] + 1 / 3) - 24, top + 12, view.colours.faint, "10px Verdana, sans-serif");
-    }
-  }
+/** What a box may say, the longest first: the value that it took before its name. A goal's callback has its goal, and a timer no value. */
+function saidOn([, entity, kind, value, , id], isDrop) {
+  const took = kind === "poll" || kind === "ask" ? goalName(id || "") : kind === "timer" ? "" : value;
+  const all = isDrop ? [`${value} lost by ${entity}`, `${value} ${entity}`, value] : [`${took} ${entity} ${kind}`, `${took} ${entity}`, took || entity];
+  return all.map((it) => it.trim());
 }
 
 /** The lines of messages: those of the callback under the pointer, or of the one that is chosen, or those that lead to the chosen round. */
@@ -238,8 +268,8 @@ function drawLinks() {
 }
 
 function link(run, sender, taker) {
-  const [left, top, , high] = boxPlace(run, taker), y = top + high / 2, isDrop = run.boxes[taker * 5 + 4];
-  let from = [LEFT - 4, y];
+  const [end, top, , high] = boxPlace(run, taker), y = top + high / 2, isDrop = run.boxes[taker * 5 + 4] === LOST;
+  let from = [gutter - 4, y];
   if (sender === -1) from = [x(run.boxes[taker * 5]) + 2, run.top - 2];
   if (sender >= 0) {
     const [itsLeft, itsTop, itsWide, itsHigh] = boxPlace(run, sender);
@@ -250,38 +280,11 @@ function link(run, sender, taker) {
   pen.setLineDash(sender === -1 ? [2, 3] : isDrop ? [6, 3] : []);
   pen.beginPath();
   pen.moveTo(...from);
-  const bend = Math.max((left - from[0]) / 2, 12);
-  pen.bezierCurveTo(from[0] + bend, from[1], left - bend, y, left, y);
+  const bend = Math.max((end - from[0]) / 2, 12);
+  pen.bezierCurveTo(from[0] + bend, from[1], end - bend, y, end, y);
   pen.stroke();
   pen.setLineDash([]);
   pen.beginPath();
-  pen.moveTo(left, y); pen.lineTo(left - 6, y - 4); pen.lineTo(left - 6, y + 4);
+  pen.moveTo(end, y); pen.lineTo(end - 6, y - 4); pen.lineTo(end - 6, y + 4);
   pen.fill();
-}
-
-/** The overview: how many callbacks each part of all rounds has, what differs, the hits, and the part that is shown. */
-function drawOverview(wide) {
-  const colours = view.colours, room = wide - LEFT, scale = room / data.columns;
-  pen.fillStyle = colours.stripe;
-  pen.fillRect(0, 0, wide, OVER - 4);
-  words("all rounds", 8, 16, colours.faint, "10px Verdana, sans-serif");
-  const counts = overviewCounts(Math.floor(room)), most = Math.max(...counts, 1);
-  pen.fillStyle = colours.rule;
-  counts.forEach((count, at) => count && pen.fillRect(LEFT + at, OVER - 6 - 16 * count / most, 1, 16 * count / most));
-  const marks = [[differing, colours.lost, 0], [view.hits.map(([run, number]) => runs[run].columnOf(number)), colours.hit, 5]];
-  for (const [columns, colour, top] of marks) {
-    pen.fillStyle = colour;
-    for (const pixel of new Set(columns.map((it) => Math.floor(LEFT + it * scale)))) pen.fillRect(pixel, top, 2, 5);
-  }
-  pen.strokeStyle = colours.topic;
-  pen.lineWidth = 2;
-  pen.strokeRect(LEFT + view.left * scale, 1, Math.max(Math.min(shownColumns(), data.columns) * scale, 3), OVER - 6);
-}
-
-let counted = [];
-function overviewCounts(room) {
-  if (counted.length === room) return counted;
-  counted = new Array(room).fill(0);
-  for (const run of runs) for (let at = 0; at < run.count; at++) counted[Math.min(Math.floor(run.boxes[at * 5] * room / data.columns), room - 1)]++;
-  return counted;
 }
