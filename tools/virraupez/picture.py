@@ -2,7 +2,7 @@
 beside each."""
 from xml.sax import saxutils
 
-from . import transcript
+from . import plots, transcript
 
 # The families of kinds, by which callbacks and lines are coloured.
 FAMILIES = {
@@ -43,13 +43,14 @@ class Scale:
 
 
 class Picture:
-    def __init__(self, scene):
+    def __init__(self, scene, plotted=()):
         self.scene, self.scale, self.parts = scene, Scale(len(scene.columns)), []
         self.tops, self.bottom = self.stack()
         self.lanes = self.lanes_of(scene.shown_goals())
         self.goal_top = self.bottom + 28
         self.width = max(self.scale.left + self.scale.column * len(scene.columns) + 40, LEAST_WIDTH)
-        self.height = self.goal_top + len(self.lanes) * (self.scale.bar + 6) + 46
+        self.plots, bottom = plots.stacked(plotted, self.goal_top + len(self.lanes) * (self.scale.bar + 6) + 8)
+        self.height = bottom + 38
 
     def stack(self):
         """The top of each row, where the callbacks of a round stand one below the other, and the bottom of all."""
@@ -94,7 +95,7 @@ class Picture:
     def svg(self):
         first, last = self.scene.columns[0][0], self.scene.columns[-1][0]
         self.add(f'<svg xmlns="http://www.w3.org/2000/svg" viewBox="0 0 {self.width} {self.height}" width="{self.width}" height="{self.height}" role="img">')
-        self.add(f"<title>Rounds {first} to {last} of a run</title>\n<style>{STYLE}</style>")
+        self.add(f"<title>Rounds {first} to {last} of a run</title>\n<style>{STYLE}{plots.STYLE if self.plots else ''}</style>")
         self.grid()
         for row, (node, group, kind) in enumerate(self.scene.rows):
             self.row(row, node, group, kind)
@@ -109,6 +110,8 @@ class Picture:
                 self.words(10, y + 13, f"goals of {clip(server, 14)}", "head")
             for goal in goals:
                 self.goal(goal, y)
+        for plot in self.plots:
+            plot.draw(self)
         self.legend()
         self.add("</svg>")
         return "\n".join(self.parts) + "\n"

@@ -1,6 +1,6 @@
 """What a picture of a run shows: callbacks in rows of callback groups and columns of rounds, what was sent from which callback
 to which, and goals with their states. It is read from a transcript as a stream, and holds the rounds that are shown alone."""
-from . import flow, grammar, transcript
+from . import flow, grammar, series, transcript
 
 # How many rounds are shown where none are asked for, and how many lines a tooltip has.
 ROUNDS = 1000
@@ -37,8 +37,10 @@ class Goal:
 
 
 class Scene:
-    def __init__(self, document, first, last):
+    def __init__(self, document, first, last, plotted=()):
         self.first, self.last, self.flow = first, last, flow.Flow(document)
+        # The series of some names, or, with None, of all.
+        self.series = series.Series(document, self.flow, plotted)
         self.rows, self.row_of = rows_of(document)
         self.columns, self.boxes, self.links = [], {}, []
         # Goals that came in the rounds that are shown, as an ordered set, and those that are held.
@@ -66,6 +68,8 @@ class Scene:
                     self.columns.append((words[1], words[2]))
             elif words[0] in ("state", "feedback", "expire"):
                 self.goal_line(words)
+            if self.flow.round <= self.last:
+                self.series.take(number, words, self.column())
             if self.is_shown():
                 self.line(number, line, words)
 
@@ -77,6 +81,7 @@ class Scene:
                 self.links.append((cause, self.box))
         elif words[0] == "drop":
             item, box = self.flow.dropped(), self.add_box(number, line, words)
+            self.series.drop(words, item)
             if box and item:
                 self.links.append((item, box))
         elif words[0] == "pending":

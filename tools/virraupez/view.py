@@ -7,7 +7,7 @@ from . import alignment, grammar, picture, scene, transcript
 
 PAGE = pathlib.Path(__file__).resolve().parent / "page"
 # The program of the page, in parts that follow one another.
-SCRIPTS = ("run.js", "axis.js", "draw.js", "goals.js", "strip.js", "lines.js", "search.js", "use.js")
+SCRIPTS = ("run.js", "axis.js", "draw.js", "goals.js", "plot.js", "strip.js", "lines.js", "search.js", "use.js")
 # The families of boxes by their numbers: those of kinds, and what is lost.
 FAMILIES = [family for family, _ in picture.LEGEND]
 # The greatest whole number that a browser holds exactly.
@@ -23,7 +23,7 @@ class Run:
         self.name, self.first, self.last = name, first, last
         text = "".join(transcript.blocks(name, own))
         self.broken = broken(check, text) if check else []
-        self.scene = scene.Scene(document, first, last)
+        self.scene = scene.Scene(document, first, last, None)
         self.scene.take(text.split("\n")[:-1])
         self.rounds = [it for it in alignment.rounds([text]) if self.is_shown(it)]
         self.columns = {}
@@ -59,6 +59,7 @@ class Run:
             "text": "".join(head(it) + it.rest for it in self.rounds),
             "boxes": [number for box in boxes for number in (stand[box.column], box.row, box.at, box.number, family(box))],
             "links": [number for origin, box in self.scene.links for number in (at[box.number], sender(origin, at))],
+            "plots": [[name, kind, [panel_data(it, stand) for it in panels]] for name, kind, panels in self.scene.series.panels()],
             "goals": [goal_data(goal, stand) for goal in lanes(self.scene.shown_goals(), len(stand))],
         }
 
@@ -118,6 +119,33 @@ def goal_data(goal, stand):
     return [goal.server, goal.lane, goal.name(), goal.identifier, states, [[column(at), int(it)] for at, it in goal.feedback], None if goal.expired is None else column(goal.expired)]
 
 
+# ---- plots
+
+
+def panel_data(panel, stand):
+    """A panel: its title, its kind, and what is plotted. Columns are told as how far each is after the one before."""
+    of, data = panel.of, {}
+    if panel.kind == "feedback":
+        data = {"goals": [[goal, *steps_data(it, stand)] for goal, it in of.items()]}
+    else:
+        columns, values = steps_data(of, stand)
+        data = {"columns": columns, "values": values}
+    if panel.kind == "values":
+        data["lost"] = of.lost
+    elif panel.kind == "queue":
+        data.update(depth=of.depth, lost=[stand[at] for at in of.lost])
+    return [panel.title, panel.kind, data]
+
+
+def steps_data(steps, stand):
+    before, columns = 0, []
+    for at in steps.columns:
+        column = -1 if at < 0 else stand[at]
+        columns.append(column - before)
+        before = column
+    return columns, [exact(it) if isinstance(it, int) else it for it in steps.values]
+
+
 # ---- one run, or two
 
 
@@ -140,8 +168,9 @@ def matched(runs):
     return column + 1, differ
 
 
-def page(runs, title, tick=None, rules=None):
-    """The HTML of one run, or of two. A tick has a length in nanoseconds, if it is known, and the runs are held to so many rules."""
+def page(runs, title, tick=None, rules=None, plotted=None):
+    """The HTML of one run, or of two. A tick has a length in nanoseconds, if it is known, the runs are held to so many rules, and plots
+    of some names are open."""
     count, differ = matched(runs)
     data = {
         "title": title,
@@ -149,6 +178,7 @@ def page(runs, title, tick=None, rules=None):
         "differ": differ,
         "tick": tick,
         "rules": rules,
+        "plotted": plotted,
         "broken": [[at, number if run.has(number) else None, *said] for at, run in enumerate(runs) for number, *said in sorted(run.broken)],
         "states": transcript.STATES,
         "entities": grammar.ENTITIES_AT_MOST,

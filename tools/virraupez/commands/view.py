@@ -2,7 +2,7 @@
 goals as bars, messages as lines, and the lines of a round next to them. One can search, zoom, and go from round to round by keys.
 
 A second transcript is shown below the first, and their first difference is marked. docs/view.md says what the keys do."""
-from .. import command, fit, flow, grammar, rules, ticks, view
+from .. import command, fit, flow, grammar, rules, series, ticks, view
 from . import picture
 
 STATUS = "The status is 0, and 2 if a file is wrong, cut off or another run's, or hasn't these rounds."
@@ -17,6 +17,7 @@ def parser(prog=None):
     made.add_argument("other", metavar="OTHER", nargs="?", help="a second transcript, which is compared with the first")
     made.add_argument("--document", metavar="DOCUMENT", dest="second", help="the document of OTHER, if it is another one")
     made.add_argument("--tick", metavar="TIME", type=ticks.nanoseconds, help="how long a tick is, as 20ms: moments are shown as times")
+    made.add_argument("--plot", metavar="NAME,..", help="topics and entities whose plots are open; some topics if none are given")
     made.add_argument("--rules", metavar="RULES", help="a file of rules, as holds has them: the page opens at the first line that breaks one")
     made.add_argument("--rounds", metavar="A-B", type=picture.rounds_of, default=(1, grammar.MOMENTS), help="the rounds to show, as A-B, A- or A; all if none are given")
     return made
@@ -26,6 +27,7 @@ def run(asked, out):
     document = flow.read_document(asked.document)
     own = fit.Own(asked.document, document)
     check = rules.Check(rules.read(command.text_of(asked.rules), asked.rules, own.kinds)) if asked.rules else None
+    plotted = None if asked.plot is None else series.asked(asked.plot, document)
     runs = [view.Run(asked.transcript, document, own, *asked.rounds, check)]
     if asked.other:
         other = flow.read_document(asked.second) if asked.second else document
@@ -41,5 +43,5 @@ def run(asked, out):
     lines = sum(it.rest.count("\n") for run in runs for it in run.rounds)
     if lines > MANY:
         command.note(f"view: {lines} lines take a browser long to open; --rounds A-B shows a part of them")
-    out.write(view.page(runs, " and ".join(command.shown(it.name) for it in runs), asked.tick, check and len(check.rules)))
+    out.write(view.page(runs, " and ".join(command.shown(it.name) for it in runs), asked.tick, check and len(check.rules), plotted))
     return command.FINE

@@ -24,7 +24,7 @@ function stack() {
     y += run.lanes.length * LANE + (run.lanes.length ? 22 : 10);
     run.bottom = y;
   }
-  return y + 4;
+  return stackPlots(y + 4);
 }
 
 function boxPlace(run, at) {
@@ -44,9 +44,11 @@ function boxAt(pixelX, pixelY) {
   return null;
 }
 
-/** The entity whose name is at a place of the left side. */
+/** The entity whose name is at a place of the left side, or the name of a plot. */
 function nameAt(pixelX, pixelY) {
   if (pixelX >= gutter) return null;
+  const panel = panelAt(pixelY);
+  if (panel) return panel.name;
   for (const run of runs)
     for (const [row, [top]] of run.tops.entries()) {
       const at = Math.floor((pixelY - top - 32) / NAME);
@@ -114,9 +116,11 @@ function draw() {
     drawBoxes(run, first, last);
     drawGoals(run, first, last);
   }
+  drawPlots(first, last);
   drawLinks();
   pen.restore();
   runs.forEach(drawRows);
+  drawPlotNames();
   drawStrip(wide);
 }
 

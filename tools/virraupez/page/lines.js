@@ -144,6 +144,8 @@ function showDetails() {
   if (!view.box) return;
   const [run, at] = view.box, sender = run.into.get(at), takers = run.outOf.get(at) || [];
   const identifier = IDENTIFIER.exec(run.head(at));
+  const [, entity] = run.head(at).split(" ");
+  if (NAMED.some((it) => it.has(entity))) into.append(chooser(`${plots.open.includes(entity) ? "Close the plots of" : "Plot"} ${entity} (p)`, () => { togglePlot(entity); showDetails(); }));
   if (identifier) into.append(made("p", `goal ${goalName(identifier[0])} is ${identifier[0]}`));
   if (sender === -1) into.append(made("p", "it took what was fed"));
   if (sender === -2) into.append(made("p", "what it took was sent before the rounds that are shown"));

@@ -16,8 +16,8 @@ function drawStrip(wide) {
   pen.strokeStyle = colours.topic;
   pen.lineWidth = 2;
   pen.strokeRect(gutter + view.left * scale, 1, Math.max(Math.min(shownColumns(), data.columns) * scale, 3), OVER - 6);
-  pen.fillStyle = colours["chosen-ink"];
-  pen.fillRect(gutter + view.chosen * scale, 1, Math.max(scale, 2), OVER - 6);
+  pen.strokeStyle = colours["chosen-ink"];
+  pen.strokeRect(gutter + view.chosen * scale, 2, Math.max(scale, 1), OVER - 8);
 }
 
 function mark(columns, scale, colour, [top, high], ink = pen) {

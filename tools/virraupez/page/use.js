@@ -11,8 +11,14 @@ const KEYS = {
 const SHIFTED = { ArrowLeft: () => follow(-1), ArrowRight: () => follow(1) };
 const EVERYWHERE = {
   "+": () => zoom(1.5), "=": () => zoom(1.5), "-": () => zoom(1 / 1.5), 0: zoomAll, "/": () => byId("words").focus(),
-  n: () => goToHit(1), N: () => goToHit(-1), d: () => nextDifference(1), D: () => nextDifference(-1), f: toggleFolds,
+  n: () => goToHit(1), N: () => goToHit(-1), d: () => nextDifference(1), D: () => nextDifference(-1), f: toggleFolds, p: plotChosen,
 };
+
+/** Opens the plots of the chosen callback's entity, or closes them. */
+function plotChosen() {
+  if (!view.box) return say("no callback is chosen: ↑ and ↓ choose one");
+  togglePlot(view.box[0].head(view.box[1]).split(" ")[1]);
+}
 
 function onKey(event) {
   const isWriting = event.target === byId("words");
@@ -20,7 +26,7 @@ function onKey(event) {
   if (isWriting && event.key === "Escape") { canvas.focus(); return event.preventDefault(); }
   // Nothing has the focus when the page opens: the keys are the picture's then.
   const isOfPicture = event.target === canvas || event.target === document.body;
-  const isOfField = isWriting || event.target.tagName === "SELECT";
+  const isOfField = isWriting || ["SELECT", "INPUT"].includes(event.target.tagName);
   const does = isOfField ? null : isOfPicture && (event.shiftKey && SHIFTED[event.key] || KEYS[event.key]) || EVERYWHERE[event.key];
   if (!does) return;
   event.preventDefault();
@@ -37,14 +43,24 @@ function onMove(event) {
     return redraw();
   }
   const found = pixelX > gutter && pixelY > OVER ? boxAt(pixelX, pixelY) : null;
+  const cursor = pixelX > gutter && pixelY > OVER ? clamp(columnAt(pixelX), 0, data.columns - 1) : null;
+  if (cursor !== plots.cursor) { plots.cursor = cursor; redraw(); }
+  canvas.style.cursor = nameAt(pixelX, pixelY) ? "pointer" : "";
   const isSame = found ? view.hover && found[0] === view.hover[0] && found[1] === view.hover[1] : !view.hover;
   if (!isSame) { view.hover = found; redraw(); }
-  const says = found ? boxTip(...found) : goalAt(pixelX, pixelY) || foldTip(pixelX, pixelY);
+  const says = found ? boxTip(...found) : goalAt(pixelX, pixelY) || plotTip(pixelX, pixelY) || foldTip(pixelX, pixelY);
   tip.hidden = !says;
   if (!says) return;
   tip.textContent = says;
   tip.style.left = `${clamp(pixelX + 14, 0, Math.max(canvas.clientWidth - 470, 0))}px`;
   tip.style.top = `${pixelY + 18}px`;
+}
+
+function plotTip(pixelX, pixelY) {
+  const panel = panelAt(pixelY);
+  if (!panel || plots.cursor === null) return null;
+  const [title, value] = valuesAt(plots.cursor)[plots.panels.indexOf(panel)];
+  return `${title}: ${value}\nin ${whenOf(plots.cursor)}`;
 }
 
 function foldTip(pixelX, pixelY) {
@@ -65,7 +81,10 @@ function onDown(event) {
 function onUp(event) {
   const was = view.dragged;
   view.dragged = null;
-  if (!was || was.moved || event.offsetX < gutter) return;
+  if (!was || was.moved) return;
+  const name = nameAt(event.offsetX, event.offsetY);
+  if (name) return togglePlot(name);
+  if (event.offsetX < gutter) return;
   const column = columnAt(event.offsetX), found = foldOf(column);
   if (found) {
     view.unfolded.add(found[0]);
@@ -75,7 +94,7 @@ function onUp(event) {
 }
 
 function onLeave() {
-  view.hover = null;
+  view.hover = plots.cursor = null;
   tip.hidden = true;
   redraw();
 }
@@ -125,6 +144,7 @@ function listen() {
   byId("find").addEventListener("submit", (event) => { event.preventDefault(); goToHit(1); });
   const buttons = { before: () => goToHit(-1), in: () => zoom(1.5), out: () => zoom(1 / 1.5), all: zoomAll, fold: toggleFolds, differ: () => nextDifference(1) };
   for (const [id, does] of Object.entries(buttons)) byId(id).addEventListener("click", does);
+  byId("plots").addEventListener("toggle", listNames);
   window.addEventListener("resize", onResize);
   window.addEventListener("hashchange", goToLink);
   matchMedia("(prefers-color-scheme: dark)").addEventListener("change", () => { readColours(); redraw(); });
@@ -161,6 +181,8 @@ function begin() {
   listen();
   fold();
   fit();
+  if (data.plotted) openPlots(data.plotted);
+  else openFirstPlots();
   view.width = view.all = widthOfAll();
   chooseFirst();
   draw();
