@@ -212,7 +212,7 @@ def of_readers(page):
     yield "the lines are a list", sum(role == "listitem" for role, _ in spoken), 5
     order = []
     page.value("document.activeElement.blur()")
-    for _ in range(12):
+    for _ in range(16):
         page.key("Tab")
         order.append(page.value("document.activeElement.id || document.activeElement.tagName"))
     yield f"the order of the key Tab: {order}", all(it in order for it in ("words", "next", "all", "run")), True

@@ -3,11 +3,11 @@ second run is shown below the first; their rounds are matched by their moments a
 import json
 import pathlib
 
-from . import alignment, grammar, picture, scene, transcript
+from . import alignment, diagram, grammar, graph, picture, scene, transcript
 
 PAGE = pathlib.Path(__file__).resolve().parent / "page"
 # The program of the page, in parts that follow one another.
-SCRIPTS = ("run.js", "axis.js", "draw.js", "goals.js", "plot.js", "strip.js", "lines.js", "search.js", "use.js")
+SCRIPTS = ("run.js", "axis.js", "draw.js", "goals.js", "plot.js", "graph.js", "strip.js", "lines.js", "search.js", "use.js")
 # The families of boxes by their numbers: those of kinds, and what is lost.
 FAMILIES = [family for family, _ in picture.LEGEND]
 # The greatest whole number that a browser holds exactly.
@@ -24,7 +24,9 @@ class Run:
         text = "".join(transcript.blocks(name, own))
         self.broken = broken(check, text) if check else []
         self.scene = scene.Scene(document, first, last, None)
-        self.scene.take(text.split("\n")[:-1])
+        lines = text.split("\n")[:-1]
+        self.scene.take(lines)
+        self.graph = graph.Graph(document, graph.Counts(lines))
         self.rounds = [it for it in alignment.rounds([text]) if self.is_shown(it)]
         self.columns = {}
 
@@ -179,6 +181,7 @@ def page(runs, title, tick=None, rules=None, plotted=None):
         "tick": tick,
         "rules": rules,
         "plotted": plotted,
+        "shapes": {key: it.names for key, it in runs[0].graph.shapes.items()},
         "broken": [[at, number if run.has(number) else None, *said] for at, run in enumerate(runs) for number, *said in sorted(run.broken)],
         "states": transcript.STATES,
         "entities": grammar.ENTITIES_AT_MOST,
@@ -187,7 +190,7 @@ def page(runs, title, tick=None, rules=None, plotted=None):
     }
     # A closing tag in the text would end the script.
     text = json.dumps(data, separators=(",", ":")).replace("<", "\\u003c")
-    parts = {"TITLE": picture.escape(title), "STYLE": (PAGE / "view.css").read_text(), "DATA": text, "PROGRAM": "".join((PAGE / name).read_text() for name in SCRIPTS)}
+    parts = {"TITLE": picture.escape(title), "STYLE": (PAGE / "view.css").read_text(), "GRAPH": diagram.svg(runs[0].graph, ""), "DATA": text, "PROGRAM": "".join((PAGE / name).read_text() for name in SCRIPTS)}
     made = (PAGE / "view.html").read_text()
     for name, part in parts.items():
         before, after = made.split(f"<!--{name}-->")

@@ -1,8 +1,9 @@
 """picture: draws a run as SVG: a column a round, a row a callback group with its callbacks, lines from who sent an item to who
-took it, and a bar a goal. docs/picture.md says how to read one."""
+took it, and a bar a goal. With --graph it draws who talks to whom, of a document alone or with what a run did. docs/picture.md says
+how to read them."""
 import argparse
 
-from .. import command, fit, flow, grammar, picture, scene, series
+from .. import command, diagram, fit, flow, grammar, graph, picture, scene, series, transcript
 
 STATUS = "The status is 0, and 2 if there is nothing to draw: a file is wrong, cut off or another run's, or hasn't these rounds."
 
@@ -19,15 +20,22 @@ def rounds_of(text):
 def parser(prog=None):
     made = command.parser(__doc__, STATUS, prog)
     made.add_argument("document", metavar="DOCUMENT", help="a document; - is standard input")
-    made.add_argument("transcript", metavar="TRANSCRIPT", help="its transcript; - is standard input")
+    made.add_argument("transcript", metavar="TRANSCRIPT", nargs="?", help="its transcript; - is standard input. --graph needs none")
     shown = f"the rounds to draw, as A-B, A- or A; the first {scene.ROUNDS} if none are given"
     made.add_argument("--rounds", metavar="A-B", type=rounds_of, default=(1, scene.ROUNDS), help=shown)
     made.add_argument("--plot", metavar="NAME,..", default="", help="plot values of topics, and queues, calls and goals of entities, below the rows")
+    made.add_argument("--graph", action="store_true", help="draw nodes, topics, services and actions, and what goes from one to the other")
     return made
 
 
 def run(asked, out):
     document = flow.read_document(asked.document)
+    if asked.graph:
+        lines = transcript.lines(asked.transcript, fit.Own(asked.document, document)) if asked.transcript else None
+        out.write(diagram.svg(graph.Graph(document, graph.Counts(lines))))
+        return command.FINE
+    if not asked.transcript:
+        raise command.Trouble("a transcript is wanted after the document; --graph needs none")
     plotted = series.asked(asked.plot, document)
     shown = scene.Scene(document, *asked.rounds, plotted)
     shown.read(asked.transcript, fit.Own(asked.document, document))

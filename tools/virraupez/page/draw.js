@@ -200,6 +200,10 @@ function drawRows(run) {
     const [top] = run.tops[at];
     pen.fillStyle = colours.rule;
     pen.fillRect(0, top, canvas.clientWidth, 1);
+    if (view.rows && !isFaint(run, at)) {
+      pen.fillStyle = colours.chosen;
+      pen.fillRect(0, top + 1, gutter - 1, (run.tops[at + 1] || [run.laneTop - 6])[0] - top - 1);
+    }
     words(node, 8, top + 14, colours.ink, BOLD, most);
     words(group ? `${group} (${kind})` : "default group", 8, top + 28, colours.faint, PLAIN, most);
     names.slice(0, NAMES_AT_MOST).forEach((name, place) => {
@@ -225,10 +229,12 @@ function drawBoxes(run, first, last) {
       if (drawn.get(top) === pixel && run.boxes[at * 5 + 4] !== LOST) continue;
       drawn.set(top, pixel);
     }
+    pen.globalAlpha = isFaint(run, run.boxes[at * 5 + 1]) ? 0.25 : 1;
     pen.fillStyle = view.width < 9 ? colour : view.colours.ground;
     pen.fillRect(begin, top, wide, high);
     if (view.width >= 9) drawBox(run, at, [begin, top, wide, high], colour);
   }
+  pen.globalAlpha = 1;
 }
 
 /** A box that has room for a rim: its cross if it is a drop, and its value and name as far as there is room. */

@@ -3,7 +3,7 @@
 const data = JSON.parse(document.getElementById("data").textContent);
 const byId = (id) => document.getElementById(id);
 const canvas = byId("run"), pen = canvas.getContext("2d"), tip = byId("tip");
-const view = { left: 0, width: 1, chosen: 0, box: null, line: null, hover: null, hits: [], hit: -1, colours: {}, dragged: null, isFolded: true, unfolded: new Set() };
+const view = { left: 0, width: 1, chosen: 0, box: null, line: null, hover: null, hits: [], hit: -1, colours: {}, dragged: null, rows: null, isFolded: true, unfolded: new Set() };
 
 /** A run with what is looked up in it. A box has five numbers: its column, row, place in the row, line, and family. */
 function Run(given) {

@@ -11,7 +11,7 @@ const KEYS = {
 const SHIFTED = { ArrowLeft: () => follow(-1), ArrowRight: () => follow(1) };
 const EVERYWHERE = {
   "+": () => zoom(1.5), "=": () => zoom(1.5), "-": () => zoom(1 / 1.5), 0: zoomAll, "/": () => byId("words").focus(),
-  n: () => goToHit(1), N: () => goToHit(-1), d: () => nextDifference(1), D: () => nextDifference(-1), f: toggleFolds, p: plotChosen,
+  n: () => goToHit(1), N: () => goToHit(-1), d: () => nextDifference(1), D: () => nextDifference(-1), f: toggleFolds, p: plotChosen, g: toggleGraph,
 };
 
 /** Opens the plots of the chosen callback's entity, or closes them. */
@@ -142,8 +142,9 @@ function listen() {
   for (const [name, does] of Object.entries({ pointermove: onMove, pointerdown: onDown, pointerup: onUp, pointerleave: onLeave, wheel: onWheel })) canvas.addEventListener(name, does, { passive: false });
   byId("words").addEventListener("input", search);
   byId("find").addEventListener("submit", (event) => { event.preventDefault(); goToHit(1); });
-  const buttons = { before: () => goToHit(-1), in: () => zoom(1.5), out: () => zoom(1 / 1.5), all: zoomAll, fold: toggleFolds, differ: () => nextDifference(1) };
+  const buttons = { before: () => goToHit(-1), in: () => zoom(1.5), out: () => zoom(1 / 1.5), all: zoomAll, fold: toggleFolds, "graph-button": toggleGraph, differ: () => nextDifference(1) };
   for (const [id, does] of Object.entries(buttons)) byId(id).addEventListener("click", does);
+  listenToGraph();
   byId("plots").addEventListener("toggle", listNames);
   window.addEventListener("resize", onResize);
   window.addEventListener("hashchange", goToLink);
