@@ -1,7 +1,10 @@
 """Headless Chromium, for the tests of pages: it is told what to do by the DevTools protocol, through a pair of pipes."""
 import base64
+import contextlib
 import json
 import os
+import pathlib
+import re
 import select
 import shutil
 import signal
@@ -133,14 +136,23 @@ class Browser:
         return self.value(f"document.querySelector({json.dumps(selector)}).innerText")
 
     def picture(self, path):
-        """Keeps what the page looks like."""
+        """Keeps what the page looks like, as WebP."""
         with open(path, "wb") as out:
-            out.write(base64.b64decode(self.ask("Page.captureScreenshot", format="png")["data"]))
+            out.write(base64.b64decode(self.ask("Page.captureScreenshot", format="webp", quality=70)["data"]))
 
     def spoken(self):
         """The roles and names that a screen reader has."""
         nodes = self.ask("Accessibility.getFullAXTree")["nodes"]
         return [(it["role"]["value"], it.get("name", {}).get("value", "")) for it in nodes if not it.get("ignored")]
+
+    def memory(self):
+        """The megabytes of memory of the greatest process of the browser that shows pages."""
+        sizes = [0]
+        for folder in pathlib.Path("/proc").glob("[0-9]*"):
+            with contextlib.suppress(OSError, ValueError):
+                if os.getpgid(int(folder.name)) == self.process.pid and b"--type=renderer" in (folder / "cmdline").read_bytes():
+                    sizes += map(int, re.findall(r"VmRSS:\s+([0-9]+) kB", (folder / "status").read_text()))
+        return round(max(sizes) * 1024 / 1e6)
 
     def wrong(self):
         """What the page complained of, and what it asked the network for."""

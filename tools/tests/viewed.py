@@ -7,9 +7,7 @@ import re
 import subprocess
 import tempfile
 
-import virraupez
-
-from . import browser, documented, drawn, tool
+from . import browser, documented, drawn, pictured, tool
 
 COMMAND = "../virraupez"
 ROBOT = ("examples/robot.json", "examples/robot.txt")
@@ -22,7 +20,8 @@ WRONG = (
     ((*ROBOT, "examples/timer.txt"), "isn't the document of this transcript"),
     (("examples/empty.json", "examples/empty.txt"), "there are no rounds"),
 )
-SECONDS = 2.0
+# What a page of many lines may take: seconds to open it, milliseconds of a frame, and megabytes.
+SECONDS, FRAME, MEGABYTES = 2.0, 1000 / 60, 500
 
 
 def answers(program):
@@ -255,24 +254,33 @@ def of_narrow(page):
     page.ask("Emulation.setDeviceMetricsOverride", width=1400, height=800, deviceScaleFactor=1, mobile=False)
 
 
-def of_much(page, folder, program):
-    """A page of 100,000 lines is there in two seconds."""
-    robot = virraupez.Document(topics=[f"t{at}" for at in range(10)])
-    for at in range(10):
-        node = robot.node(f"node{at}")
-        node.timer(f"beat{at}", period=3 + at % 3, script=f"g0 = g0 + 1\n pub t{at} g0")
-        node.subscription(f"hear{at}", topic=f"t{(at + 3) % 10}", depth=2, script="log in")
-        node.subscription(f"also{at}", topic=f"t{(at + 5) % 10}", depth=1, script="log in")
-    robot.every(1, until=6000, begin=1)
-    document, transcript = folder / "much.json", folder / "much.txt"
-    document.write_text(robot.text())
-    transcript.write_bytes(subprocess.run([program, "1", "1"], input=document.read_bytes(), stdout=subprocess.PIPE).stdout)
-    path = opened(page, folder, document, transcript)
-    count = page.value("runs[0].starts.length - 1")
+def measured(page, path):
+    """What a page takes: the seconds to open it, at best of three, and those of a processor; the milliseconds of a frame while 2,000 rounds
+    are panned, the median of sixty; and the megabytes of its scripts and of its process."""
     seconds = min(page.open(path) for _ in range(3))
-    yield f"a page of {count} lines opens in {seconds:.2f} s", (count > 100000, seconds < SECONDS), (True, True)
+    page.ask("Performance.enable", timeDomain="threadTicks")
+    numbers = lambda: {it["name"]: it["value"] for it in page.ask("Performance.getMetrics")["metrics"]}
+    before = numbers()["TaskDuration"]
+    page.open(path)
+    busy = numbers()["TaskDuration"] - before
+    frame = page.value("""(() => { const times = [];
+      view.isFolded = false; fold(); view.width = room() / 2000; view.left = 10000;
+      for (let at = 0; at < 60; at++) { const begun = performance.now(); pan(40); draw(); times.push(performance.now() - begun); }
+      return times.sort((one, other) => one - other)[30]; })()""")
+    heap = numbers()["JSHeapUsedSize"]
+    return {"lines": page.value("runs[0].starts.length"), "seconds": round(seconds, 2), "of a processor": round(busy, 2), "frame": round(frame, 1), "heap": round(heap / 1e6), "process": page.memory()}
+
+
+def of_much(page, folder, program):
+    """A page of 65,536 rounds and 400,000 lines opens in two seconds, pans 2,000 rounds at 60 frames a second, and takes less than 500 MB."""
+    document, transcript = pictured.long_run(program, folder)
+    found = measured(page, opened(page, folder, document, transcript))
+    lines = transcript.read_text().count("\n")
+    yield "how many lines the page of a long run has", (found["lines"], found["lines"] >= pictured.LINES), (lines, True)
+    yield f"what the page of a long run takes: {found}", (found["of a processor"] < SECONDS, found["frame"] < FRAME, found["process"] < MEGABYTES), (True, True, True)
     focus(page)
-    for key, should in (("End", "Round 6000 at moment 6000"), ("0", "Round 6000 at moment 6000"), ("Home", "Round 1 at moment 1")):
+    page.key("Escape")
+    for key, should in (("End", "Round 65536 at moment 65535"), ("0", "Round 65536 at moment 65535"), ("Home", "Round 1 at moment 0")):
         page.key(key)
         yield f"the round after {key} of many", page.text("#where"), should
     yield "what the page of many lines complains of", page.wrong(), ([], [])

@@ -39,8 +39,8 @@ class Goal:
 class Scene:
     def __init__(self, document, first, last, plotted=()):
         self.first, self.last, self.flow = first, last, flow.Flow(document)
-        # The series of some names, or, with None, of all.
-        self.series = series.Series(document, self.flow, plotted)
+        # The series of some names, or, with None, of all; there are none without names.
+        self.series = series.Series(document, self.flow, plotted) if plotted is None or plotted else None
         self.rows, self.row_of = rows_of(document)
         self.columns, self.boxes, self.links = [], {}, []
         # Goals that came in the rounds that are shown, as an ordered set, and those that are held.
@@ -68,7 +68,7 @@ class Scene:
                     self.columns.append((words[1], words[2]))
             elif words[0] in ("state", "feedback", "expire"):
                 self.goal_line(words)
-            if self.flow.round <= self.last:
+            if self.series and self.flow.round <= self.last:
                 self.series.take(number, words, self.column())
             if self.is_shown():
                 self.line(number, line, words)
@@ -81,7 +81,8 @@ class Scene:
                 self.links.append((cause, self.box))
         elif words[0] == "drop":
             item, box = self.flow.dropped(), self.add_box(number, line, words)
-            self.series.drop(words, item)
+            if self.series:
+                self.series.drop(words, item)
             if box and item:
                 self.links.append((item, box))
         elif words[0] == "pending":

@@ -43,5 +43,5 @@ def run(asked, out):
         raise command.Trouble(f"there are no rounds {asked.rounds[0]} to {asked.rounds[1]}: the transcript has {shown.rounds}")
     if shown.rounds > asked.rounds[1] and asked.rounds == (1, scene.ROUNDS):
         command.note(f"picture: the first {scene.ROUNDS} of {shown.rounds} rounds are drawn; --rounds draws others")
-    out.write(picture.Picture(shown, shown.series.of(plotted)).svg())
+    out.write(picture.Picture(shown, shown.series.of(plotted) if plotted else ()).svg())
     return command.FINE

@@ -78,7 +78,7 @@ function fit() {
   canvas.width = Math.round(wide * sharp);
   canvas.height = Math.round(height * sharp);
   pen.setTransform(sharp, 0, 0, sharp, 0, 0);
-  draw();
+  redraw();
 }
 
 let isAsked = false;
@@ -248,6 +248,10 @@ function drawBox(run, at, [begin, top, wide, high], colour) {
     pen.moveTo(begin + 3, top + 3); pen.lineTo(begin + 9, top + Math.min(high, 12) - 3);
     pen.moveTo(begin + 9, top + 3); pen.lineTo(begin + 3, top + Math.min(high, 12) - 3);
     pen.stroke();
+  }
+  if (isOtherBox(run, at)) {
+    pen.fillStyle = view.colours.lost;
+    pen.fillRect(begin, top + high - 3, wide, 4);
   }
   if (wide < 16 || high <= 10) return;
   const inset = isDrop ? 12 : 4, says = saidOn(run.head(at).split(" "), isDrop);

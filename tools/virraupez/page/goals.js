@@ -40,8 +40,12 @@ function drawState([begin, end, status], top) {
   if (from > canvas.clientWidth || x(end) < gutter) return;
   pen.fillStyle = view.colours[`s${status}`];
   pen.fillRect(from, top + (16 - high) / 2, wide, high);
+  // Pale colours have a rim that stands out from the ground.
+  pen.strokeStyle = view.colours.faint;
+  pen.lineWidth = 0.75;
+  pen.strokeRect(from, top + (16 - high) / 2, wide, high);
   const says = `${MARKS[status] || ""} ${data.states[status].toLowerCase()}`.trim();
-  words(wide > 70 ? says : MARKS[status] || "", from + 3, top + 12, view.colours.on, PLAIN, wide - 4);
+  words(wide > 70 ? says : MARKS[status] || "", Math.max(from, gutter) + 3, top + 12, view.colours.on, PLAIN, wide - 6);
 }
 
 /** What is said of the goal at a place. */

@@ -51,18 +51,31 @@ function showLines() {
     if (runs.length > 1) all.append(made("h3", run.name));
     const lines = run.linesOf(view.chosen);
     if (!lines) { all.append(made("p", "It has no such round.")); return; }
-    const list = made("ol"), changes = differs.get(view.chosen), most = Math.min(lines[1], lines[0] + MOST_LINES);
+    const list = made("ol"), most = Math.min(lines[1], lines[0] + MOST_LINES), isOther = othersOf(run, view.chosen);
     list.start = lines[0];
-    const first = run.line(lines[0]).startsWith("round ") ? lines[0] + 1 : lines[0];
-    for (let number = lines[0]; number < most; number++) {
-      const isOther = differs.has(view.chosen) && (changes === null || changes.some((it) => first + it[side][0] <= number && number < first + it[side][1]));
-      list.append(item(run, side, number, isOther));
-    }
+    for (let number = lines[0]; number < most; number++) list.append(item(run, side, number, isOther(number)));
     all.append(list);
     if (most < lines[1]) all.append(made("p", `and ${lines[1] - most} lines more`));
   });
   const chosen = all.querySelector("[aria-current]") || all.querySelector(".chosen");
   if (chosen) chosen.scrollIntoView({ block: "nearest" });
+}
+
+/** Whether a line of a column differs from the other run's. */
+function othersOf(run, column) {
+  if (!differs.has(column)) return () => false;
+  const changes = differs.get(column), side = runs.indexOf(run), [begin] = run.linesOf(column) || [0];
+  const first = begin + Number(run.line(begin).startsWith("round "));
+  return (number) => changes === null || changes.some((it) => first + it[side][0] <= number && number < first + it[side][1]);
+}
+
+/** Whether a callback has a line that differs. */
+function isOtherBox(run, at) {
+  const column = run.boxes[at * 5];
+  if (!differs.has(column)) return false;
+  const isOther = othersOf(run, column), [begin, end] = run.linesOfBox(at);
+  for (let number = begin; number < end; number++) if (isOther(number)) return true;
+  return false;
 }
 
 function made(name, text) {

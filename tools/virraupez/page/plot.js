@@ -225,8 +225,8 @@ function valueAt(panel, steps, column) {
 function valuesAt(column) {
   return plots.panels.map((panel) => {
     const shown = panel.series.filter((it) => it.end === undefined || it.last(column) >= 0 && column < it.end);
-    const said = shown.map((it) => [it.label, runs.length > 1 ? it.run.name : "", valueAt(panel, it, column)].filter((part) => part).join(": "));
-    return [`${panel.name}, ${panel.title}`, said.join("; ") || "nothing"];
+    const said = shown.map((it) => [it.label, runs.length > 1 ? it.run.name.split("/").pop() : "", valueAt(panel, it, column)].filter((part) => part).join(": "));
+    return [`${panel.name}, ${panel.title}`, said.join("\n") || "nothing"];
   });
 }
 
