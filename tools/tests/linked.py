@@ -1,11 +1,12 @@
-"""How one reads the page of a run in headless Chromium, if that is installed: links to rounds and lines, keys along a row and from cause to
-effect, values before names, short names of goals, search by fields; two runs on one axis; and what a narrow screen, a screen reader and
-eyes that see little contrast need."""
+"""How one reads the page of a run: the links that holds and search print; and in headless Chromium, if that is installed, links, keys
+along a row and from cause to effect, values before names, short names of goals, search by fields, two runs on one axis, and what a
+narrow screen, a screen reader and eyes that see little contrast need."""
 import pathlib
+import re
 import tempfile
 
 from . import browser, tool
-from .viewed import focus, opened, shown_lines
+from .viewed import data_of, focus, opened, shown_lines
 
 NAVIGATION = ("examples/navigation.json", "examples/navigation.txt")
 ROBOT = ("examples/robot.json", "examples/robot.txt")
@@ -17,6 +18,8 @@ SHAPES = [(ink, ground, 3) for ink in ("time", "topic", "service", "action", "lo
 
 
 def answers(_program):
+    with tempfile.TemporaryDirectory() as folder:
+        yield from of_commands(pathlib.Path(folder))
     if not browser.found():
         tool.UNDONE.append("nobody read a page: Chromium isn't installed")
         return
@@ -38,6 +41,29 @@ def lines_of(name):
     return (tool.TOP / name).read_text().splitlines()
 
 
+def of_commands(folder):
+    """holds and search print the links of the lines that decide rules, in the page that is given or written."""
+    rules, page = folder / "rules", folder / "search.html"
+    rules.write_text("never pub cmd_vel 30\nsome state navigate _ ABORTED\nsome state navigate _ CANCELED\n")
+    status, told = tool.within("holds", rules, NAVIGATION[1], "--view", "https://ci/run.html")
+    decided = re.findall(r":([0-9]+):1: in round", told)
+    yield f"the links of holds: {told}", (status, re.findall(r"https://ci/run.html#line=([0-9]+) shows", told)), (1, decided)
+    yield "how many rules it links", len(decided), 2
+    status, told = tool.within("holds", rules, NAVIGATION[1], NAVIGATION[1], "--view", "run.html")
+    yield f"one page of two transcripts: {told}", (status, "--view is the page of one transcript" in told), (2, True)
+    rules.write_text("never state navigate _ SUCCEEDED\n")
+    search = ("search", NAVIGATION[0], "--rules", rules, "--drop", "battery", "--reference", "--view", page)
+    status, told = tool.within(*search)
+    number = int(re.search("  line ([0-9]+), in round", told)[1])
+    yield f"the link of search: {told}", (status, f"  {page}#line={number} shows the line that decides never state navigate _ SUCCEEDED\n" in told), (1, True)
+    data = data_of(page.read_text())
+    yield "the line in the page of search", data["runs"][0]["text"].split("\n")[number - 1], "state navigate 00000000-0000-0001-0000-000000000001 4"
+    yield "the rule in the page of search", [it[:3] for it in data["broken"]], [[0, number, "never state navigate _ SUCCEEDED"]]
+    for words, says in ((("--shard", "1/2"), "--view is of a whole search"), (("--merge",), "it has no run for --view")):
+        status, told = tool.within(*search, *words)
+        yield f"search {words} with --view: {told}", (status, says in told), (2, True)
+
+
 def of_links(page, folder):
     """#round= and #line= lead to what they name, and the address names what is chosen."""
     path = opened(page, folder, *NAVIGATION)
@@ -49,6 +75,8 @@ def of_links(page, folder):
         page.open(f"{path}?{number}#line={number}")
         at = sum(line.startswith("round ") for line in lines[:number])
         yield f"where a link to line {number} leads", (page.text("#where"), page.value(marked), lines[number - 1] in shown_lines(page)), (f"Round {at} at moment {at - 1}", number, True)
+    page.open(f"{path}?end#line={len(lines)}")
+    yield "where a link to the line `end` leads", page.text("#where"), "Round 251 at moment 250"
     page.open(f"{path}?none#line=99999")
     yield "a link to no line", page.text("#where"), "Round 156 at moment 155"
     focus(page)

@@ -19,9 +19,8 @@ MARKED = 2000
 class Run:
     """A run that is shown: its rows, rounds, lines, boxes, links and goals."""
 
-    def __init__(self, name, document, own, first, last, check=None):
+    def __init__(self, name, text, document, first, last, check=None):
         self.name, self.first, self.last = name, first, last
-        text = "".join(transcript.blocks(name, own))
         self.broken = broken(check, text) if check else []
         self.scene = scene.Scene(document, first, last, None)
         lines = text.split("\n")[:-1]
@@ -94,6 +93,14 @@ def broken(check, text):
     check.end()
     decided = [(rule, rule.failure or rule.open_end) for rule in check.rules if rule.failure or rule.open_end]
     return [(it.number, rule.text, f"{'fails' if rule.failure else 'is undecided'} in round {it.round}{f' ({it.says})' if it.says else ''}") for rule, it in decided]
+
+
+def links(page, rules):
+    """The links of a page to the lines that decide rules."""
+    for rule in rules:
+        it = rule.failure or rule.open_end
+        if it:
+            yield f"  {page}#line={it.number} shows the line that decides {rule.text}"
 
 
 def sender(origin, at):

@@ -5,7 +5,7 @@
   at end no pending
 
 Of each rule that doesn't hold the first line that breaks it is told, with its round. docs/holds.md has all rules."""
-from .. import command, fit, judge, junit, report, rules, transcript
+from .. import command, fit, judge, junit, report, rules, transcript, view
 
 STATUS = """The last line is 'N hold, M fail, K undecided'. The status is 0 if all hold, 1 if one fails or is undecided, and 2 if the rules or
 a transcript are wrong."""
@@ -16,6 +16,7 @@ def parser(prog=None):
     made.add_argument("rules", metavar="RULES", help="a file of rules; - is standard input")
     made.add_argument("transcripts", metavar="TRANSCRIPT", nargs="+", help="a transcript; - is standard input")
     made.add_argument("--document", metavar="DOCUMENT", help="the document of the transcripts, by whose names the rules are checked")
+    made.add_argument("--view", metavar="PAGE", help="the page that view wrote of the transcript: links lead to the lines that decide rules")
     made.add_argument("--accept-undecided", action="store_true", help="let undecided rules pass: the status is 1 only if one fails")
     junit.option(made)
     return made
@@ -23,6 +24,8 @@ def parser(prog=None):
 
 def run(asked, out):
     text, own = command.text_of(asked.rules), fit.read(asked.document) if asked.document else None
+    if asked.view and len(asked.transcripts) > 1:
+        raise command.Trouble("--view is the page of one transcript")
     status, wrong, suites = command.FINE, [], []
     for name in asked.transcripts:
         check = rules.Check(rules.read(text, asked.rules, own.kinds if own else None))
@@ -35,6 +38,8 @@ def run(asked, out):
         check.end()
         suites.append((name, [case(asked, name, rule, own) for rule in check.rules]))
         for line in told(asked.rules, name, check, own, out.paint):
+            out.line(line)
+        for line in view.links(asked.view, check.rules) if asked.view else ():
             out.line(line)
         status = max(status, verdict(out, check, f"{name}: " if len(asked.transcripts) > 1 else "", asked.accept_undecided))
     junit.write(asked, suites)

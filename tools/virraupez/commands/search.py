@@ -10,7 +10,7 @@ import argparse
 import contextlib
 import time
 
-from .. import command, crew, flow, grammar, judge, junit, saved, searching, shards, space, table
+from .. import command, crew, flow, grammar, judge, junit, saved, searching, shards, space, table, view
 
 STATUS = """The status is 0 if no run breaks a rule, 1 if one does or if the runs say nothing of a rule, and 2 if the document or the rules
 are wrong or a run fails. It is 130 after Ctrl-C, and what was found so far is reported."""
@@ -52,6 +52,7 @@ def parser(prog=None):
     nothing = "let a rule pass that is of nothing in all runs; otherwise the status is 1"
     made.add_argument("--accept-nothing", dest="accepted", action="append_const", const=searching.NOTHING, help=nothing)
     made.add_argument("--save", metavar="DIR", help="save documents and transcripts of runs that break a rule in a folder")
+    made.add_argument("--view", metavar="PAGE", help="write the page of a run that breaks a rule, as view does, with links to the lines that do")
     made.add_argument("--shard", metavar="K/N", type=shard, help="do part K of N, and write JSON lines for --merge")
     made.add_argument("--merge", action="store_true", help="join what all shards wrote, and report it as one search does")
     made.add_argument("--processes", metavar="N", type=processes, help="how many processes run side by side; as many as there are processors")
@@ -85,6 +86,8 @@ def run(asked, out):
         return merged(asked, out)
     if len(asked.documents) > 1:
         raise command.Trouble("one document is searched at a time; --merge joins what shards wrote")
+    if asked.shard and asked.view:
+        raise command.Trouble("--view is of a whole search, and not of a shard")
     if not asked.rules and not asked.robust:
         raise command.Trouble("nothing to hold runs to: --rules gives a file of rules, and --robust lines that must stay")
     return searched(searching.Search(plan(asked)), asked, out)
@@ -124,6 +127,7 @@ def searched(made, asked, out):
     else:
         reduce(tally, judging, stopped)
         tell(tally, out, stopped, asked)
+        show(asked.view, made, judging, tally, out)
     out.flush()
     out.keep()
     folder.end(tally)
@@ -133,6 +137,8 @@ def searched(made, asked, out):
 
 def merged(asked, out):
     """Joins shards, and reports what they found."""
+    if asked.view:
+        raise command.Trouble("--merge joins what shards wrote, and runs nothing: it has no run for --view")
     if asked.rules or asked.robust or asked.vary or asked.shard:
         raise command.Trouble("--merge joins what shards wrote, with the rules and the words that they were given: it takes none of its own")
     joined = shards.join(asked.documents)
@@ -160,6 +166,20 @@ def tell(tally, out, stopped, asked):
     for line in table.lines(tally, out.paint, "; it ended early" if stopped else "", asked.accepted):
         out.line(line)
     junit.write(asked, [(tally.search.plan["name"], list(table.cases(tally, asked.accepted)))])
+
+
+def show(name, made, judging, tally, out):
+    """Writes the page of the run with the least change that breaks the first of the broken rules, and tells the links to the lines."""
+    first = tally.found[min(tally.found)].least if tally.found else tally.own
+    if not name or first is None:
+        return
+    document = made.space.value(first.taken) if first.taken else made.document
+    title = f"run {first.number} of a search of {command.shown(made.plan['name'])}" if first.number else command.shown(made.plan["name"])
+    shown = view.Run(title, made.run(judging, first.number, first.taken), document, 1, grammar.MOMENTS, judging.check)
+    with command.Output(name) as page:
+        page.write(view.page([shown], title, rules=len(made.rules)))
+    for line in view.links(name, judging.rules):
+        out.line(line)
 
 
 def status(tally, stopped, is_open):

@@ -2,7 +2,7 @@
 goals as bars, messages as lines, and the lines of a round next to them. One can search, zoom, and go from round to round by keys.
 
 A second transcript is shown below the first, and their first difference is marked. docs/view.md says what the keys do."""
-from .. import command, fit, flow, grammar, rules, series, ticks, view
+from .. import command, fit, flow, grammar, rules, series, ticks, transcript, view
 from . import picture
 
 STATUS = "The status is 0, and 2 if a file is wrong, cut off or another run's, or hasn't these rounds."
@@ -23,17 +23,22 @@ def parser(prog=None):
     return made
 
 
+def text_of(name, own):
+    """The text of a transcript, checked."""
+    return "".join(transcript.blocks(name, own))
+
+
 def run(asked, out):
     document = flow.read_document(asked.document)
     own = fit.Own(asked.document, document)
     check = rules.Check(rules.read(command.text_of(asked.rules), asked.rules, own.kinds)) if asked.rules else None
     plotted = None if asked.plot is None else series.asked(asked.plot, document)
-    runs = [view.Run(asked.transcript, document, own, *asked.rounds, check)]
+    runs = [view.Run(asked.transcript, text_of(asked.transcript, own), document, *asked.rounds, check)]
     if asked.other:
         other = flow.read_document(asked.second) if asked.second else document
         # Another executor's run of the same document may be compared with the document's own.
         own = fit.Own(asked.second or asked.document, other, is_strict=bool(asked.second))
-        runs.append(view.Run(asked.other, other, own, *asked.rounds, check))
+        runs.append(view.Run(asked.other, text_of(asked.other, own), other, *asked.rounds, check))
         if own.strayed:
             command.note(f"view: {asked.other} isn't a run of {command.shown(own.name)}: its line {own.strayed[0]} doesn't follow")
     elif asked.second:

@@ -225,7 +225,8 @@ function nextDifference(by) {
 /** Chooses what the address names, as #round=254 or #line=221; whether it names something. */
 function goToLink() {
   const [, what, digits] = /^#(round|line)=([0-9]+)$/.exec(location.hash) || [], number = Number(digits), run = runs[0];
-  if (what === "line" && run.has(number)) choose(run.columnOf(number), boxOrNone(run, number), number);
+  if (what === "line" && number === run.base + run.starts.length - 1) choose(data.columns - 1);
+  else if (what === "line" && run.has(number)) choose(run.columnOf(number), boxOrNone(run, number), number);
   else {
     const found = what === "round" && run.rounds.find((it) => it[1] === number);
     if (!found) return false;
