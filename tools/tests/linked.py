@@ -238,4 +238,33 @@ def of_widths(page, folder):
           return [document.documentElement.scrollWidth, seen.every((it) => it.left >= 0 && it.right <= innerWidth), byId('beside').offsetTop > byId('run-side').offsetTop,
             Math.round(x(data.columns)) - canvas.clientWidth, byId('beside').offsetHeight >= 200, byId('picture').offsetHeight >= 250]; })()"""
         yield f"the page at {wide} pixels", page.value(code), [wide, True, is_below, 0, True, True]
+    yield from of_fingers(page)
     page.ask("Emulation.setDeviceMetricsOverride", width=1500, height=900, deviceScaleFactor=1, mobile=False)
+
+
+def of_fingers(page):
+    """On a phone two fingers zoom, one moves the rounds, and a tap chooses a round."""
+    page.ask("Emulation.setTouchEmulationEnabled", enabled=True, maxTouchPoints=2)
+    top = page.value("canvas.getBoundingClientRect().top + 150")
+    touch = lambda kind, *places: page.ask("Input.dispatchTouchEvent", type=kind, touchPoints=[{"x": x, "y": top, "id": at} for at, x in enumerate(places)])
+    before = page.value("view.width")
+    touch("touchStart", 200)
+    touch("touchStart", 200, 240)
+    for by in range(1, 9):
+        touch("touchMove", 200 - 5 * by, 240 + 5 * by)
+    touch("touchEnd")
+    page.settle()
+    wider, place = page.value("[view.width, placeAt(offset(view.left) + 220 - gutter)]")
+    yield f"two fingers zoom: {wider / before:.2f}", (2.8 < wider / before < 3.2, page.value("touches.size")), (True, 0)
+    touch("touchStart", 300)
+    for by in range(1, 9):
+        touch("touchMove", 300 - 10 * by)
+    touch("touchEnd")
+    page.settle()
+    yield "one finger moves the rounds", page.value("placeAt(offset(view.left) + 220 - gutter)") > place, True
+    column = page.value("columnAt(260)")
+    touch("touchStart", 260)
+    touch("touchEnd")
+    page.settle()
+    yield "a tap chooses a round", page.value("view.chosen"), column
+    page.ask("Emulation.setTouchEmulationEnabled", enabled=False)

@@ -35,8 +35,24 @@ function onKey(event) {
 
 // ---- the pointer
 
+// Where the buttons or fingers are that are down, by their pointers, and how far two fingers were from one another.
+const touches = new Map();
+let apart = 0;
+
+/** Zooms by two fingers; whether there are two. */
+function pinch() {
+  if (touches.size < 2) return false;
+  const [one, other] = touches.values(), distance = Math.max(Math.abs(one - other), 1);
+  if (apart) zoom(distance / apart, Math.max((one + other) / 2, gutter));
+  apart = distance;
+  view.dragged = null;
+  return true;
+}
+
 function onMove(event) {
   const [pixelX, pixelY] = [event.offsetX, event.offsetY];
+  if (touches.has(event.pointerId)) touches.set(event.pointerId, pixelX);
+  if (pinch()) return;
   if (view.dragged) {
     view.dragged.moved = view.dragged.moved || Math.abs(pixelX - view.dragged.at) > 3;
     view.left = placeAt(view.dragged.from - (pixelX - view.dragged.at));
@@ -74,11 +90,19 @@ function onDown(event) {
     view.left = placeAt(offset(column) - room() / 2);
     return choose(column);
   }
-  view.dragged = { at: event.offsetX, from: offset(view.left), moved: false };
+  touches.set(event.pointerId, event.offsetX);
   canvas.setPointerCapture(event.pointerId);
+  if (!pinch()) view.dragged = { at: event.offsetX, from: offset(view.left), moved: false };
+}
+
+/** Forgets a finger that is up, or that the browser took for scrolling. */
+function onRelease(event) {
+  touches.delete(event.pointerId);
+  apart = 0;
 }
 
 function onUp(event) {
+  onRelease(event);
   const was = view.dragged;
   view.dragged = null;
   if (!was || was.moved) return;
@@ -139,7 +163,7 @@ function showRules() {
 
 function listen() {
   document.addEventListener("keydown", onKey);
-  for (const [name, does] of Object.entries({ pointermove: onMove, pointerdown: onDown, pointerup: onUp, pointerleave: onLeave, wheel: onWheel })) canvas.addEventListener(name, does, { passive: false });
+  for (const [name, does] of Object.entries({ pointermove: onMove, pointerdown: onDown, pointerup: onUp, pointercancel: onRelease, pointerleave: onLeave, wheel: onWheel })) canvas.addEventListener(name, does, { passive: false });
   byId("words").addEventListener("input", search);
   byId("find").addEventListener("submit", (event) => { event.preventDefault(); goToHit(1); });
   const buttons = { before: () => goToHit(-1), in: () => zoom(1.5), out: () => zoom(1 / 1.5), all: zoomAll, fold: toggleFolds, "graph-button": toggleGraph, differ: () => nextDifference(1) };
