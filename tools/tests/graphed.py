@@ -9,6 +9,7 @@ import pathlib
 import re
 import shutil
 import tempfile
+import time
 import xml.etree.ElementTree as tree
 
 from . import browser, tool
@@ -33,6 +34,7 @@ def answers(_program):
         yield "dot lays out another picture than layers", tool.within("picture", "--graph", NAVIGATION[0])[1] != in_layers, True
     else:
         tool.UNDONE.append("no graph was laid out by dot: Graphviz isn't installed")
+    yield from of_large()
     yield from of_counts()
     status, told = tool.within("picture", NAVIGATION[0])
     yield f"picture without a transcript: {told}", (status, "a transcript is wanted" in told), (2, True)
@@ -111,6 +113,20 @@ def of_graph(name, how):
     boxes = {key.split(" ")[1]: [its for its_key, its in shapes.items() if its_key.split(" ")[1] == key.split(" ")[1]] for key in shapes}
     loose = [(begin, end) for begin, end, _, first, last, _ in edges if min(gap(box, first) for box in boxes[begin]) > 8 or min(gap(box, last) for box in boxes[end]) > 8]
     yield f"edges of {name} that don't reach from shape to shape {how}", loose, []
+
+
+def of_large():
+    """A large graph is in layers, since dot would take long, and takes seconds itself."""
+    topics = [f"t{at}" for at in range(200)]
+    nodes = [{"name": f"n{at}", "timers": [{"name": f"beat{at}", "period": 1, "script": [["pub", f"t{at * 7 % 200}", 1], ["pub", f"t{at * 11 % 200}", 1]]}]} for at in range(60)]
+    for at in range(240):
+        nodes[at * 13 % 60].setdefault("subscriptions", []).append({"name": f"hear{at}", "topic": f"t{at * 17 % 200}"})
+    with tool.file(json.dumps({"version": 1, "topics": topics, "nodes": nodes, "moments": []})) as name:
+        begun = time.process_time()
+        text = tool.within("picture", "--graph", name)
+        seconds = time.process_time() - begun
+        with hidden_dot():
+            yield f"a large graph, in {seconds:.1f} s", (text == tool.within("picture", "--graph", name), len(read(text[1])[0]), seconds < 10), (True, 260, True)
 
 
 def of_counts():

@@ -1,9 +1,10 @@
-"""Where the shapes of a graph are, and where its edges go: by `dot` of Graphviz, if it is installed, or else in layers."""
+"""Where the shapes of a graph are, and where its edges go: by `dot` of Graphviz, if it is installed and the graph isn't large, or else
+in layers."""
 import json
 import subprocess
 
-# dot's inches, and how long it may take.
-INCH, SECONDS = 72.0, 20
+# dot's inches, how long it may take, and for how many edges it is asked at most: for twice as many it takes longer than a person waits.
+INCH, SECONDS, EDGES = 72.0, 10, 120
 # What is between shapes of a layer, between layers at least, and around all, in pixels.
 BETWEEN, APART, AROUND = 26, 70, 12
 SWEEPS = 6
@@ -18,7 +19,9 @@ def place(graph):
 
 
 def by_dot(graph):
-    """The measures of a graph that dot has placed; None if it isn't installed or fails."""
+    """The measures of a graph that dot has placed; None if it isn't installed, fails, or would take long."""
+    if len(graph.edges) > EDGES:
+        return None
     try:
         ran = subprocess.run(["dot", "-Tjson0"], input=dot_text(graph).encode(), stdout=subprocess.PIPE, stderr=subprocess.DEVNULL, timeout=SECONDS)
         placed = json.loads(ran.stdout) if ran.returncode == 0 else {}
@@ -72,8 +75,13 @@ def by_layers(graph):
     stops = {edge: [edge.begin, *bends(layer, edge), edge.end] for edge in graph.edges}
     layers = ordered(stops.values(), layer)
     # A shape takes as much height as the words of its edges.
-    tall = {it: max([it.high, *(edge.high for edge in graph.edges if it in (edge.begin, edge.end))]) + BETWEEN for it in layer}
+    tall = {it: it.high + BETWEEN for it in layer}
+    for edge in graph.edges:
+        tall.update({it: max(tall[it], edge.high + BETWEEN) for it in (edge.begin, edge.end)})
     high = max((sum(map(tall.get, its)) for its in layers), default=0)
+    widest = {}
+    for edge in graph.edges:
+        widest.update({it: max(widest.get(it, 0), edge.wide + 24) for it in (edge.begin, edge.end)})
     x = AROUND
     for at, its in enumerate(layers):
         wide = max(it.wide for it in its)
@@ -81,7 +89,7 @@ def by_layers(graph):
         for it in its:
             it.x, it.y = x + wide / 2, y + tall[it] / 2
             y += tall[it]
-        words = [edge.wide + 24 for edge in graph.edges if edge.begin in its or edge.end in its]
+        words = [widest[it] for it in its if it in widest]
         x += wide + (max([APART, *words]) if at + 1 < len(layers) else 0)
     ports = ports_of(stops)
     for edge, through in stops.items():
