@@ -1,5 +1,5 @@
 """What a run has that changes over rounds: values of topics, lengths of queues, calls that wait, feedback, and goals by state. Each is
-a list of steps, a column of the scene with what holds from it on. It is read line by line, beside the flow of items."""
+a list of steps, a column of the scene with what holds from it on. It is read line by line, with the flow of items."""
 import collections
 
 from . import command, grammar

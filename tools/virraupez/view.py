@@ -132,7 +132,7 @@ def goal_data(goal, stand):
 
 
 def panel_data(panel, stand):
-    """A panel: its title, its kind, and what is plotted. Columns are told as how far each is after the one before."""
+    """A panel: its title, its kind, and what is plotted. Each column is given as its distance from the one before."""
     of, data = panel.of, {}
     if panel.kind == "feedback":
         data = {"goals": [[goal, *steps_data(it, stand)] for goal, it in of.items()]}
