@@ -1,8 +1,6 @@
 """How the page of a run opens in headless Chromium, if that is installed: all rounds in the window, empty ones folded, moments as times,
 and the first thing worth seeing chosen."""
-import pathlib
 import re
-import tempfile
 
 from . import browser, tool
 from .viewed import focus, opened
@@ -18,18 +16,13 @@ OPENED = (
 
 
 def answers(_program):
-    if not browser.found():
-        tool.UNDONE.append("no page was opened to see how it begins: Chromium isn't installed")
-        return
-    try:
-        with tempfile.TemporaryDirectory() as folder, browser.Browser(1500, 900) as page:
-            folder = pathlib.Path(folder)
-            yield from of_first(page, folder)
-            yield from of_folds(page, folder)
-            yield from of_times(page, folder)
-            yield from of_strip(page, folder)
-    except browser.Silent as wrong:
-        yield "how pages begin in Chromium", str(wrong), "no fault"
+    yield from browser.opened(of_pages, "how pages begin in Chromium", "no page was opened to see how it begins")
+
+
+def of_pages(page, folder):
+    """How pages begin."""
+    for of in (of_first, of_folds, of_times, of_strip):
+        yield from of(page, folder)
 
 
 def lines_of(name):

@@ -159,3 +159,15 @@ class Browser:
         told = [it for it in self.events if it.get("method") in ("Runtime.exceptionThrown", "Log.entryAdded")]
         asked = [it["params"]["request"]["url"] for it in self.events if it.get("method") == "Network.requestWillBeSent"]
         return told, [url for url in asked if not url.startswith("file://")]
+
+
+def opened(answers, what, undone, wide=1500, high=900):
+    """What a function of a page and a folder answers in Chromium. If Chromium isn't installed, that is noted as undone."""
+    if not found():
+        tool.UNDONE.append(f"{undone}: Chromium isn't installed")
+        return
+    try:
+        with tempfile.TemporaryDirectory() as folder, Browser(wide, high) as page:
+            yield from answers(page, pathlib.Path(folder))
+    except Silent as wrong:
+        yield what, str(wrong), "no fault"

@@ -5,10 +5,8 @@ import contextlib
 import itertools
 import json
 import os
-import pathlib
 import re
 import shutil
-import tempfile
 import time
 import xml.etree.ElementTree as tree
 
@@ -38,14 +36,7 @@ def answers(_program):
     yield from of_counts()
     status, told = tool.within("picture", NAVIGATION[0])
     yield f"picture without a transcript: {told}", (status, "a transcript is wanted" in told), (2, True)
-    if not browser.found():
-        tool.UNDONE.append("no graph was clicked on: Chromium isn't installed")
-        return
-    try:
-        with tempfile.TemporaryDirectory() as folder, browser.Browser(1500, 900) as page:
-            yield from of_page(page, pathlib.Path(folder))
-    except browser.Silent as wrong:
-        yield "the graph in Chromium", str(wrong), "no fault"
+    yield from browser.opened(of_page, "the graph in Chromium", "no graph was clicked on")
 
 
 @contextlib.contextmanager

@@ -20,21 +20,13 @@ SHAPES = [(ink, ground, 3) for ink in ("time", "topic", "service", "action", "lo
 def answers(_program):
     with tempfile.TemporaryDirectory() as folder:
         yield from of_commands(pathlib.Path(folder))
-    if not browser.found():
-        tool.UNDONE.append("nobody read a page: Chromium isn't installed")
-        return
-    try:
-        with tempfile.TemporaryDirectory() as folder, browser.Browser(1500, 900) as page:
-            folder = pathlib.Path(folder)
-            yield from of_links(page, folder)
-            yield from of_causes(page, folder)
-            yield from of_boxes(page, folder)
-            yield from of_fields(page, folder)
-            yield from of_two(page, folder)
-            yield from of_access(page, folder)
-            yield from of_widths(page, folder)
-    except browser.Silent as wrong:
-        yield "a page that is read in Chromium", str(wrong), "no fault"
+    yield from browser.opened(of_pages, "a page that is read in Chromium", "nobody read a page")
+
+
+def of_pages(page, folder):
+    """What a reader of pages does."""
+    for of in (of_links, of_causes, of_boxes, of_fields, of_two, of_access, of_widths):
+        yield from of(page, folder)
 
 
 def lines_of(name):

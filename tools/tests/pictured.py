@@ -1,8 +1,6 @@
 """The pictures of docs/view.md, which are taken of pages in headless Chromium, if that is installed: of the navigation, of two runs, and of a
 long run, in light and dark, on a wide screen, a middle one and a narrow one. `bench/page` writes them anew."""
-import pathlib
 import subprocess
-import tempfile
 
 import virraupez
 
@@ -74,16 +72,14 @@ def answers(_program):
     pages = (tool.TOP / "docs/view.md").read_text()
     yield "the pictures that docs/view.md shows", [name for name in PICTURES if f"](pictures/{name}.webp)" not in pages], []
     yield "those that are in docs/pictures", [name for name in PICTURES if measures(tool.TOP / f"docs/pictures/{name}.webp") != PICTURES[name][1:3]], []
-    if not browser.found():
-        tool.UNDONE.append("no picture of a page was taken: Chromium isn't installed")
-        return
-    try:
-        with tempfile.TemporaryDirectory() as folder, browser.Browser() as page:
-            for name, (words, wide, high, is_dark, _) in PICTURES.items():
-                if words:
-                    path = take(page, name, pathlib.Path(folder), words)
-                    ground = page.value("getComputedStyle(document.body).backgroundColor")
-                    yield f"the picture {name}", (measures(path), path.stat().st_size > 10000, ground), ((wide, high), True, "rgb(22, 24, 28)" if is_dark else "rgb(255, 255, 255)")
-                    yield f"what {name} complains of", page.wrong(), ([], [])
-    except browser.Silent as wrong:
-        yield "pictures of pages", str(wrong), "no fault"
+    yield from browser.opened(of_pictures, "pictures of pages", "no picture of a page was taken", 1400, 800)
+
+
+def of_pictures(page, folder):
+    """The pictures of docs/view.md, taken anew."""
+    for name, (words, wide, high, is_dark, _) in PICTURES.items():
+        if words:
+            path = take(page, name, folder, words)
+            ground = page.value("getComputedStyle(document.body).backgroundColor")
+            yield f"the picture {name}", (measures(path), path.stat().st_size > 10000, ground), ((wide, high), True, "rgb(22, 24, 28)" if is_dark else "rgb(255, 255, 255)")
+            yield f"what {name} complains of", page.wrong(), ([], [])

@@ -39,16 +39,14 @@ def answers(_program):
         status, told = tool.within(command, *NAVIGATION, "--plot", "cmd_vel,start")
         yield f"{command} --plot of a timer: {told}", (status, "--plot: start is no topic" in told), (2, True)
     yield from of_pandas()
-    if not browser.found():
-        tool.UNDONE.append("no plot was read back from a page: Chromium isn't installed")
-        return
-    try:
-        with tempfile.TemporaryDirectory() as folder, browser.Browser(1500, 900) as page:
-            yield from of_page(page, pathlib.Path(folder))
-            yield from of_use(page)
-            yield from of_lost(page, pathlib.Path(folder))
-    except browser.Silent as wrong:
-        yield "plots in Chromium", str(wrong), "no fault"
+    yield from browser.opened(of_plots, "plots in Chromium", "no plot was read back from a page")
+
+
+def of_plots(page, folder):
+    """Plots in a page."""
+    yield from of_page(page, folder)
+    yield from of_use(page)
+    yield from of_lost(page, folder)
 
 
 # ---- what a transcript has

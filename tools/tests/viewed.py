@@ -36,26 +36,19 @@ def answers(program):
         told = tool.run(COMMAND, "view", name, "-", given=b"end 0\n")
         yield f"a document with a script in it: {told}", told[0], 2
     yield from of_page()
-    if not browser.found():
-        tool.UNDONE.append("pages weren't opened in a browser: Chromium isn't installed")
-        return
-    try:
-        yield from of_pages(program)
-    except browser.Silent as wrong:
-        yield "pages in Chromium", str(wrong), "no fault"
+    of_program = lambda page, folder: of_pages(page, folder, program)
+    yield from browser.opened(of_program, "pages in Chromium", "pages weren't opened in a browser", 1400, 800)
 
 
-def of_pages(program):
+def of_pages(page, folder, program):
     """What pages do in a browser."""
-    with tempfile.TemporaryDirectory() as folder, browser.Browser() as page:
-        folder = pathlib.Path(folder)
-        yield from of_keys(page, folder)
-        yield from of_pointer(page)
-        yield from of_search(page)
-        yield from of_readers(page)
-        yield from of_two(page, folder)
-        yield from of_narrow(page)
-        yield from of_much(page, folder, program)
+    yield from of_keys(page, folder)
+    yield from of_pointer(page)
+    yield from of_search(page)
+    yield from of_readers(page)
+    yield from of_two(page, folder)
+    yield from of_narrow(page)
+    yield from of_much(page, folder, program)
 
 
 def of_page():
