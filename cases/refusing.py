@@ -1,8 +1,8 @@
 """A library that is loaded before the C library's own functions: it counts what a program asks for, allocations and starts of
-threads, and can refuse one of either. It also counts the started threads that asked for an allocation, and can have a thread that
-wakes another wait a little, so that the other one works meanwhile. It can have standard input give, and standard output take, a few
-bytes at a time, have one call of either fail, and interrupt each call of either some times before it does anything. `cc` compiles
-it.
+threads, and can refuse one of either. It also counts the started threads that asked for an allocation, and can have each start wait until
+its thread runs, so that threads have their share on a busy machine too. It can have standard input
+give, and standard output take, a few bytes at a time, have one call of either fail, and interrupt each call of either some times
+before it does anything. `cc` compiles it.
 
 It ends a program with the status 99 if a thread that began wasn't joined, or hadn't ended when it was."""
 import subprocess
@@ -15,9 +15,8 @@ LIBRARY = r"""
 #include <dlfcn.h>
 #include <errno.h>
 #include <fcntl.h>
-#include <linux/futex.h>
 #include <pthread.h>
-#include <stdarg.h>
+#include <sched.h>
 #include <stdatomic.h>
 #include <stdio.h>
 #include <stdlib.h>
@@ -29,18 +28,16 @@ enum { UNWRITTEN = 98, UNJOINED = 99 };
 extern void *__libc_malloc(size_t), *__libc_calloc(size_t, size_t), *__libc_realloc(void *, size_t);
 extern void __libc_free(void *);
 
-struct start { void *(*run)(void *); void *given; };
+struct start { void *(*run)(void *); void *given; atomic_int *runs; };
 
 static int (*create)(pthread_t *, const pthread_attr_t *, void *(*)(void *), void *);
 static int (*wait_for)(pthread_t, void **);
-static long (*call)(long, ...);
 static atomic_long allocations, starts, begun, ended, joined, working, reads, writes, interruptions;
 static _Thread_local int has_asked;
 
 __attribute__((constructor)) static void find(void) {
   create = dlsym(RTLD_NEXT, "pthread_create");
   wait_for = dlsym(RTLD_NEXT, "pthread_join");
-  call = dlsym(RTLD_NEXT, "syscall");
 }
 
 static long number(const char *name) {
@@ -67,6 +64,7 @@ void *realloc(void *block, size_t size) { return refuses_memory() ? NULL : __lib
 static void *run(void *handed) {
   struct start start = *(struct start *)handed;
   __libc_free(handed);
+  if (start.runs) atomic_store(start.runs, 1);
   void *result = start.run(start.given);
   atomic_fetch_add(&working, has_asked);
   atomic_fetch_add(&ended, 1);
@@ -76,32 +74,22 @@ static void *run(void *handed) {
 int pthread_create(pthread_t *thread, const pthread_attr_t *how, void *(*body)(void *), void *given) {
   struct start *start = refuses(&starts, "REFUSED_START") ? NULL : __libc_malloc(sizeof *start);
   if (!start) return EAGAIN;
-  *start = (struct start){body, given};
+  atomic_int runs = !number("WAITS");
+  *start = (struct start){body, given, runs ? NULL : &runs};
   int status = create(thread, how, run, start);
-  if (status)
+  if (status) {
     __libc_free(start);
-  else
-    atomic_fetch_add(&begun, 1);
-  return status;
+    return status;
+  }
+  atomic_fetch_add(&begun, 1);
+  while (!atomic_load(&runs)) sched_yield();
+  return 0;
 }
 
 int pthread_join(pthread_t thread, void **result) {
   int status = wait_for(thread, result);
   if (!status) atomic_fetch_add(&joined, 1);
   return status;
-}
-
-// The call by which threads wake others. After a wake it waits for so many milliseconds as the environment says.
-long syscall(long name, ...) {
-  long words[6];
-  va_list all;
-  va_start(all, name);
-  for (int at = 0; at < 6; at++) words[at] = va_arg(all, long);
-  va_end(all);
-  long result = call(name, words[0], words[1], words[2], words[3], words[4], words[5]);
-  long waits = name == SYS_futex && (words[1] & FUTEX_CMD_MASK) == FUTEX_WAKE ? number("WAITS") : 0;
-  if (waits) usleep(1000 * waits);
-  return result;
 }
 
 // How many bytes, of so many, a stream gives or takes at once.
@@ -167,22 +155,22 @@ def compiled(folder):
     return library
 
 
-def refused(library, program, words, given, **numbers):
+def refused(library, program, words, given, waits=0, **numbers):
     """What is answered if the allocation, start, read or write of this number is refused, each from 1."""
-    return changed(library, program, words, given, **{f"refused_{name}": number for name, number in numbers.items()})
+    return changed(library, program, words, given, waits=waits, **{f"refused_{name}": number for name, number in numbers.items()})
 
 
 def changed(library, program, words, given, **numbers):
     """What is answered in an environment with these numbers: `step`, how many bytes a stream gives or takes at a time,
-    `empty_write`, which write takes nothing, `interruptions`, how often each read and write is interrupted before, and those of
-    `refused`."""
+    `empty_write`, which write takes nothing, `interruptions`, how often each read and write is interrupted before, `waits`, whether a
+    start waits until its thread runs, and those of `refused`."""
     around = {name.upper(): str(number) for name, number in numbers.items()}
     return answer(program, words, given, around={"LD_PRELOAD": library, **around})
 
 
-def counted(library, program, words, given, waits=0):
-    """What is answered; and how many allocations and starts of threads were asked for, and in how many of the started threads
-    allocations were, or nothing if the run left no counts. A thread that wakes another waits for so many milliseconds."""
+def counted(library, program, words, given, **numbers):
+    """What is answered in an environment with these numbers; and how many allocations and starts of threads were asked for, and in how
+    many of the started threads allocations were, or nothing if the run left no counts."""
     with tempfile.NamedTemporaryFile("r") as counts:
-        found = answer(program, words, given, around={"LD_PRELOAD": library, "COUNTS": counts.name, "WAITS": str(waits)})
+        found = changed(library, program, words, given, counts=counts.name, **numbers)
         return found, tuple(map(int, counts.read().split()))

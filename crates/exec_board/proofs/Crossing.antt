@@ -7,6 +7,7 @@ use denote.Struct.Struct.{Struct}
 use Rattle.std.proofs.Crossing.{crosses}
 use Rattle.std.specs.declared.alloc.Allocator as alloc
 use Rattle.std.specs.contracts.option.Option as Option
+use Rattle.atomic_table.proofs.owned.Table.TheSendSync as table
 use Rattle.atomic_table.proofs.Rights.{right_send}
 use Rattle.atomic_table.proofs.Sent.{seat_keyless, shares_keyless}
 use Rattle.atomic_table.specs.declared.shared.TableRule.{Ghosts}
@@ -51,3 +52,9 @@ board_fields = recorded_sync board_inside.the_field.row _ _ board_inside.the_typ
 
 pub Board-sync : IsSync Board.the_row
 Board-sync = view_sync board_inside.the_row _ _ _ _ board_fields
+
+board_parts : IsSend board_inside.the_row
+board_parts = recorded_send board_inside.the_field.row _ _ board_inside.the_type.to_one (struct_send (shape board_inside.the_type) (search (sendable, crosses, table.the_field_send, option_send, LaneBox-send) depth 20, tt))
+
+pub Board-send : IsSend Board.the_row
+Board-send = view_send board_inside.the_row _ _ _ _ board_parts

@@ -27,6 +27,14 @@ pub record IsSwept (quantum : ℕ) (before after : SeatView) : Type 0 where
   pub ran : (segments : List Segment) × (after.segments ≡ before.segments ++ segments) × All (IsWithinQuantum quantum) segments
   pub asked : (refusals : List Refusal) × (after.busy ≡ before.busy ++ refusals) × All IsBusy refusals
 
+-- a pass whose caller swept a board, or had others sweep it, kept its opening and its share, and holds no lane
+pub record IsSweptPass (before after : SeatView) : Type 0 where
+  pub opening : after.opening ≡ before.opening
+  pub passes : after.passes ≡ before.passes
+  pub start : after.start ≡ before.start
+  pub stop : after.stop ≡ before.stop
+  pub holds : after.holds ≡ []
+
 -- the numbers from 0 up to, not including, this one
 abbrev pub numbers : ℕ → List ℕ
 numbers zero = []

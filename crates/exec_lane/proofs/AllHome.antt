@@ -8,9 +8,8 @@ use Rattle.std.proofs.lemmas.List.Sorted.{IsPermutation-append_left, IsPermutati
 use Rattle.exec_msg.specs.Numbers.{EntityNo}
 use Rattle.exec_lane.proofs.ComingHome.{AreApart, ComesBehind, NonePolls, all_with_callback, apart_with_callback, comes_behind, did_with, home_after, home_of, homes_of, lanes_past, put_beside, ran_of, ran_with, same_for}
 use Rattle.exec_lane.proofs.Putting.{left_by_home, left_by_put, out_is, polled_home, task_put, work_twice}
-use Rattle.exec_lane.specs.Gather.{all_ran, ran_each, ran_in}
+use Rattle.exec_lane.specs.Gather.{Ran, all_ran, ran_each, ran_in}
 use Rattle.exec_lane.specs.Lane.{AreFinished, IsFinished, Lane, LaneCallback, LaneState, entry_in, lane_at, lane_home, lanes_home, lanes_of, opened, opened_lanes, run_entry, task_home, tasks_home, tasks_out, variables_for_lane, variables_home, with_callback, without_task}
-use Rattle.exec_lane.specs.declared.gathering.Ran.{Ran}
 use Rattle.exec_script.specs.declared.effects.Effect.{Effect}
 use Rattle.exec_rules.specs.Callback.{AfterCallback}
 use Rattle.exec_rules.specs.Calls.{AreHome, HaveVariables, IsHomeFor, polls_same, away}

@@ -10,9 +10,8 @@ use Rattle.std.proofs.lemmas.List.Sorted.{IsPermutation-append_comm, IsPermutati
 use Rattle.std.proofs.lemmas.List.Sums.{fold-append}
 use Rattle.exec_msg.specs.Numbers.{EntityNo}
 use Rattle.exec_lane.proofs.Putting.{put_past, task_put, variables_left, variables_put, variables_turned, variables_twice}
-use Rattle.exec_lane.specs.Gather.{ran_each}
+use Rattle.exec_lane.specs.Gather.{Ran, ran_each}
 use Rattle.exec_lane.specs.Lane.{LaneCallback, LaneState, LeftByCallback, entry_in, goes_into, is_beside, left_by_callback, run_entry, task_home, tasks_home, variables_for_lane, variables_home, with_callback}
-use Rattle.exec_lane.specs.declared.gathering.Ran.{Ran}
 use Rattle.exec_msg.specs.Lists.{change_first}
 use Rattle.exec_script.specs.declared.effects.Effect.{Effect}
 use Rattle.exec_script.specs.Zeros.{zeros}

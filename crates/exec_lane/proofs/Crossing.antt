@@ -1,13 +1,14 @@
 -- A lane may go to another thread.
 use denote.Param.Send.{IsSend, sendable, recorded_send, struct_send, view_send}
 use denote.Struct.Declared.{shape}
-use Rattle.std.proofs.Crossing.{Vec-send, crosses}
+use Rattle.std.proofs.Crossing.{Arc-send, Box-send, Vec-send, Vec-sync, crosses}
 use Rattle.std.proofs.alloc.Global.TheSendSync as heap
-use Rattle.exec_lane.proofs.lane_box.CallbackSlot.TheSendSync as slot
 use Rattle.exec_lane.specs.contracts.lane_box.LaneBox as LaneBox
 use Rattle.exec_lane.specs.contracts.lane_box.LaneBox.TheInside as inside
-use Rattle.exec_lane.specs.contracts.lane_box.CallbackSlot as CallbackSlot
-use Rattle.exec_task.proofs.poller.Poller.TheSendSync as poller
+use Rattle.exec_rules.proofs.ready.Ready.TheSendSync as ready
+use Rattle.exec_rules.specs.contracts.ready.Ready as Ready
+use Rattle.exec_world.proofs.lane_buffer.LaneBuffer.TheSendSync as buffer
+use Rattle.exec_world.specs.contracts.lane_buffer.LaneBuffer as LaneBuffer
 
 -- its fields may, one by one
 fields_send : IsSend inside.the_row
@@ -16,11 +17,8 @@ fields_send =
     struct_send (shape inside.the_type) (
       heap.the_field_send,
       (
-        poller.the_field_send,
-        (
-          search crosses,
-          (search crosses, (search (sendable, crosses) depth 20, (Vec-send CallbackSlot.the_row slot.the_send, (search sendable, (search sendable, tt))))),
-        ),
+        Arc-send _ (Vec-send Ready.the_row ready.the_send) (Vec-sync Ready.the_row ready.the_sync),
+        (search crosses, (Box-send LaneBuffer.the_row buffer.the_send, (search sendable, tt))),
       ),
     )
     )

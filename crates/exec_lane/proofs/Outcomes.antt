@@ -1,38 +1,23 @@
 -- What the callbacks of a lane did, one by one.
-use Rattle.std.proofs.Common.{◌≡◌, ℕ, zero, suc, ◌+◌, ◌-◌, ◌<◌, ◌≤◌, Bool, List, [], ◌∷◌, ◌++◌, append-nil, append_assoc, drop, get_or, length, map, take, Some, sym, ap, ◌∙◌, arith}
+use Rattle.std.proofs.Common.{◌≡◌, ℕ, zero, suc, ◌+◌, ◌-◌, ◌≤◌, List, [], ◌∷◌, ◌++◌, append-nil, append_assoc, drop, length, map, take, Some, sym, ap, ◌∙◌, arith}
 use Rattle.std.specs.List.{fold, slice_get}
 use Rattle.std.proofs.Math.Seq.{take-add}
-use Rattle.std.proofs.lemmas.List.{length-map}
+use Rattle.std.proofs.lemmas.List.{length-map, length_push}
 use Rattle.std.proofs.lemmas.List.Sums.{fold-append}
-use Rattle.exec_lane.proofs.Stepping.{as_many, left_so_many}
 use Rattle.exec_lane.specs.Gather.{outcome_of, outcomes_in, ran_each, ran_in}
 use Rattle.exec_lane.specs.Lane.{Lane, LaneCallback, LaneState, LeftByCallback, lane_at, left_by_callback, run_entry, state_of}
 use Rattle.exec_lane.specs.declared.outcome.Outcome.{Outcome}
-use Rattle.exec_lane.specs.inner.Slots.{SlotState, entries_of, slots_at}
 use Rattle.exec_rules.specs.Run.{apart_with}
 use Rattle.exec_script.specs.Script.{Variables}
-use Rattle.exec_script.specs.declared.effects.Effects.{Effects}
 
--- a slot whose callback ran has what the callback did
-pub did_at : (done : List LeftByCallback) (slots : List SlotState) (i : ℕ) (slot : SlotState) → i < length done → length done ≤ length slots → slot ≡ get_or (slots_at done slots) i slot →
-    (did : Effects) × (slot.did ≡ Some did) × (slice_get (map outcome_of (ran_each (entries_of slots) done)) i ≡ Some (record { position = slot.ready.position; effects = did }))
-did_at [] slots i slot within fits is = absurd (omega (arith, within))
-did_at (did ∷ done) [] i slot within fits is = absurd (omega (arith, fits))
-did_at (did ∷ done) (first ∷ slots) zero slot within fits is = (
-  did.effects,
-  ap (λ (one : SlotState). one.did) is,
-  ap (λ (position : ℕ). Some (record { position = position; effects = did.effects })) (ap (λ (one : SlotState). one.ready.position) (sym is)),
-)
-did_at (did ∷ done) (first ∷ slots) (suc i) slot within fits is = did_at done slots i slot (omega (arith, within)) (omega (arith, fits)) is
-
--- what a box has of a callback that ran is what the lane has
-pub did_in_box : (variables : Variables) (opened slots : List SlotState) (n i : ℕ) (failed : Bool) (slot : SlotState) → slots ≡ slots_at (lane_at variables (entries_of opened) n).left opened → n ≤ length opened → i < n →
-    slot ≡ get_or slots i slot → (did : Effects) × (slot.did ≡ Some did)
-    × (slice_get (outcomes_in (record { variables = variables; entries = entries_of opened; done = n; failed = failed })) i ≡ Some (record { position = slot.ready.position; effects = did }))
-did_in_box variables opened slots n i failed slot are within before is =
-    let many = as_many opened in
-    let left = left_so_many (record { variables = variables; left = [] }) n (entries_of opened) (omega (arith, within, many)) in
-    did_at (lane_at variables (entries_of opened) n).left opened i slot (omega (arith, left, before)) (omega (arith, left, within)) (is ∙ ap (λ (some : List SlotState). get_or some i slot) are)
+-- as many callbacks left something as ran
+left_so_many : (state : LaneState) (n : ℕ) (entries : List LaneCallback) → n ≤ length entries → length (fold run_entry state (take n entries)).left ≡ length state.left + n
+left_so_many state zero entries within = omega arith
+left_so_many state (suc n) [] within = absurd (omega (arith, within))
+left_so_many state (suc n) (entry ∷ entries) within =
+    let rest = left_so_many (run_entry state entry) n entries (omega (arith, within)) in
+    let one = length_push state.left (left_by_callback entry.work (apart_with entry.ready entry.work state.variables)) in
+    omega (arith, rest, one)
 
 -- callbacks add to what a lane left
 adds : (state : LaneState) (entries : List LaneCallback) → (more : List LeftByCallback) × ((fold run_entry state entries).left ≡ state.left ++ more)

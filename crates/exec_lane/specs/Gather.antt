@@ -2,10 +2,14 @@
 use Rattle.std.specs.Prelude.{List, [], ◌∷◌, map, IsPermutation, IsSortedByKey}
 use Rattle.std.specs.Ordering.{nat_cmp}
 use Rattle.exec_lane.specs.Lane.{Lane, LaneCallback, LeftByCallback, state_of}
-use Rattle.exec_lane.specs.declared.gathering.Ran.{Ran}
 use Rattle.exec_lane.specs.declared.outcome.Outcome.{Outcome}
 use Rattle.exec_script.specs.declared.effects.Effects.{Effects}
 use Rattle.exec_rules.specs.declared.ready.Ready.{Ready}
+
+-- a ready callback that ran, with what it did
+pub record Ran : Type 0 where
+  pub ready : Ready
+  pub effects : Effects
 
 -- the callbacks that ran, each with what it did
 abbrev pub ran_each : List LaneCallback → List LeftByCallback → List Ran

@@ -2,5 +2,4 @@ pub mod Examples
 pub mod Gather
 pub mod Lane
 pub mod Opening
-pub mod Portions
 pub mod inner

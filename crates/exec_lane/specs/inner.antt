@@ -1,5 +1,4 @@
+pub mod Buffered
+pub mod Copies
 pub mod Cuts
-pub mod Dealing
-pub mod Homing
-pub mod Pieces
-pub mod Slots
+pub mod Spots

@@ -9,9 +9,9 @@ pub trait Gate: Sync {
     /// What the callback at this position did has come to the collector of a streamed round through the queue.
     fn took(&self, position: usize);
 
-    /// Whether nobody watches. The round may then run in any way that gives its transcript.
-    fn is_open(&self) -> bool {
-        false
+    /// Whether somebody watches. A run gives its rounds all workers then, and otherwise as many as save time.
+    fn is_watched(&self) -> bool {
+        true
     }
 }
 
@@ -24,8 +24,8 @@ impl Gate for Open {
 
     fn took(&self, _position: usize) {}
 
-    fn is_open(&self) -> bool {
-        true
+    fn is_watched(&self) -> bool {
+        false
     }
 }
 

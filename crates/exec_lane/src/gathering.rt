@@ -1,31 +1,92 @@
 //! How lanes come home.
-ghost use Rattle.std.specs.Prelude.{◌≡◌, [], ◌∷◌, ◌++◌, true, IfOk, OnErr, OnOk};
+ghost use Rattle.std.specs.Prelude.{◌≡◌, ◌<◌, [], ◌++◌, drop, length, map, true, IfOk, OnErr, OnOk};
 ghost use Rattle.std.specs.List.{flat_map};
-ghost use Rattle.std.specs.Option.{option_map};
 ghost use Rattle.exec_lane.specs.Gather.{AreGathered, ran_in};
-ghost use Rattle.exec_lane.specs.Lane.{lane_home, lanes_home, task_home, variables_home};
-ghost use Rattle.exec_lane.specs.inner.Homing.{ran_first, slot_home, slots_home};
-ghost use Rattle.exec_lane.specs.inner.Slots.{entries_of};
-ghost use Rattle.exec_rules.specs.World.{work_of};
+ghost use Rattle.exec_lane.specs.Lane.{lanes_home};
+ghost use Rattle.exec_lane.specs.inner.Spots.{all_spots, ran_at, spot_ran, spots_from};
 
-use crate::lane_box::{CallbackSlot, LaneBox};
-use exec_msg::{EntityNo, Lines, Memory};
-use exec_script::{Bank, Effects};
-use exec_task::GoalTask;
-use exec_world::{Cause, Ready, World};
+use crate::lane_box::LaneBox;
+use crate::lane_home::LaneHome;
+use exec_msg::{Lines, Memory};
+use exec_script::Effects;
+use exec_world::{Ready, World};
 use std::alloc::Global;
+use std::marker::Model;
 
-/// A ready callback that ran, with what it did.
-#[derive(Drop)]
-pub struct Ran {
-    /// The callback.
-    pub ready: Ready,
-    /// Its effects, and what closes it.
-    pub effects: Effects,
+// Where a callback is that ran: its lane, and its place there, both from 0. Its position in the ready list is from 1.
+#[derive(Clone, Copy)]
+pub(crate) struct Spot {
+    position: usize,
+    lane: usize,
+    index: usize,
 }
 
-/// The callbacks of a round that ran, in ready order.
-pub type Gathered = Vec<Ran>;
+/// The callbacks of a round that ran, each with what it did, in ready order. They stay in their lanes.
+#[derive(Drop)]
+pub struct Gathered {
+    lanes: Vec<LaneHome>,
+    spots: Vec<Spot>,
+}
+
+impl Model for Gathered {
+    ghost use Rattle.std.specs.Prelude.{List, map};
+    ghost use Rattle.std.specs.List.{AllByRecursion};
+    ghost use Rattle.exec_lane.specs.Gather.{Ran};
+    ghost use Rattle.exec_lane.specs.inner.Spots.{IsSpotOf, spot_ran};
+
+    ghost Value = { List Ran };
+
+    ghost view = { λ all. map (spot_ran all.lanes.items) all.spots.items };
+
+    ghost invariant = { λ all. AllByRecursion (IsSpotOf all.lanes.items) all.spots.items };
+}
+
+impl Gathered {
+    ghost use Rattle.std.specs.Prelude.{◌≡◌, ◌<◌, length};
+    ghost use Rattle.exec_lane.specs.inner.Spots.{ran_at};
+
+    /// How many callbacks ran.
+    pub fn len(&self) -> usize
+        ensures { result ≡ length self.now }
+    {
+        self.spots.len()
+    }
+
+    /// The callback at this place, from 0.
+    pub fn ready(&self, index: usize) -> &Ready
+        requires { index < length self.now }
+        ensures { result.now ≡ (ran_at self.now index).ready }
+    {
+        let spot = self.spots[index];
+        self.lanes[spot.lane].ready(spot.index)
+    }
+
+    /// What it did.
+    pub fn effects(&self, index: usize) -> &Effects
+        requires { index < length self.now }
+        ensures { result.now ≡ (ran_at self.now index).effects }
+    {
+        let spot = self.spots[index];
+        self.lanes[spot.lane].effects(spot.index)
+    }
+
+    /// Lets lanes of later rounds use its memory.
+    ///
+    /// # Errors
+    /// [`Memory`] if a growth was refused.
+    pub fn end<L: Lines>(self, world: &mut World<L>) -> Result<(), Memory>
+        ensures { world.new ≡ world.old }
+    {
+        let Gathered {
+            mut lanes,
+            spots: _,
+        } = self;
+        while let Some(lane) = lanes.pop() {
+            lane.end(world)?;
+        }
+        Ok(())
+    }
+}
 
 /// Brings home what [`split`](crate::split) took: the variables of each lane's group, and the tasks of its goals. Gives the
 /// callbacks that ran, each with what it did, in ready order. Each may then be committed.
@@ -37,7 +98,7 @@ pub fn gather<L: Lines>(
     lanes: Vec<LaneBox>,
     world: &mut World<L>,
 ) -> Result<Gathered, Memory>
-    ensures gathered { IfOk result (λ all. AreGathered (flat_map ran_in lanes.items) all.items) }
+    ensures gathered { IfOk result (λ all. AreGathered (flat_map ran_in lanes.items) all) }
     ensures home { OnOk result (world.new ≡ record world.old { state = lanes_home lanes.items world.old.state }) }
     ensures failed { OnErr result (world.new.failed ≡ true) }
 {
@@ -56,110 +117,54 @@ fn gather_all<L: Lines>(
     lanes: Vec<LaneBox>,
     world: &mut World<L>,
 ) -> Result<Gathered, Memory>
-    ensures gathered { IfOk result (λ all. AreGathered (flat_map ran_in lanes.items) all.items) }
+    ensures gathered { IfOk result (λ all. AreGathered (flat_map ran_in lanes.items) all) }
     ensures home { OnOk result (world.new ≡ record world.old { state = lanes_home lanes.items world.old.state }) }
 {
-    let mut all = Vec::new(alloc);
-    bring_lanes_home(lanes, world, &mut all)?;
-    all.sort_unstable_by_key(|one| one.ready.position);
-    Ok(all)
+    let lanes = bring_lanes_home(alloc, lanes, world)?;
+    let mut spots = list_spots(alloc, lanes.as_slice())?;
+    spots.sort_unstable_by_key(|spot| spot.position);
+    Ok(Gathered { lanes, spots })
 }
 
-// Brings home what each lane took, in their order, and lists the callbacks that ran.
+// Brings home what each lane took, in their order.
 fn bring_lanes_home<L: Lines>(
+    alloc: Global,
     lanes: Vec<LaneBox>,
     world: &mut World<L>,
-    all: &mut Vec<Ran>,
-) -> Result<(), Memory>
-    ensures ran { OnOk result (all.new.items ≡ all.old.items ++ flat_map ran_in lanes.items) }
+) -> Result<Vec<LaneHome>, Memory>
+    ensures ran { IfOk result (λ homes. homes.items ≡ map ran_in lanes.items) }
     ensures home { OnOk result (world.new ≡ record world.old { state = lanes_home lanes.items world.old.state }) }
 {
     let mut left = lanes;
+    let mut homes = Vec::with_capacity(alloc, left.len())?;
     left.reverse();
     while let Some(lane) = left.pop() {
-        bring_lane_home(lane, world, all)?;
+        homes.push(lane.bring_home(world))?;
+    }
+    Ok(homes)
+}
+
+// Where all callbacks are that ran, lane by lane.
+fn list_spots(alloc: Global, lanes: &[LaneHome]) -> Result<Vec<Spot>, Memory>
+    ensures { IfOk result (λ spots. spots.items ≡ all_spots 0 lanes.now) }
+{
+    let mut spots = Vec::new(alloc);
+    for number in 0..lanes.len() {
+        add_spots(&lanes[number], number, &mut spots)?;
+    }
+    Ok(spots)
+}
+
+// Adds those of the lane with this number.
+fn add_spots(lane: &LaneHome, number: usize, spots: &mut Vec<Spot>) -> Result<(), Memory>
+    ensures { OnOk result (spots.new.items ≡ spots.old.items ++ spots_from number 0 lane.now) }
+{
+    for index in 0..lane.len() {
+        spots.push(Spot {
+            position: lane.ready(index).position,
+            lane: number,
+            index,
+        })?;
     }
     Ok(())
-}
-
-// Brings home the variables of a lane's group and the tasks of its goals, and lists its callbacks that ran.
-fn bring_lane_home<L: Lines>(
-    lane: LaneBox,
-    world: &mut World<L>,
-    all: &mut Vec<Ran>,
-) -> Result<(), Memory>
-    ensures ran { OnOk result (all.new.items ≡ all.old.items ++ ran_in lane) }
-    ensures home { OnOk result (world.new ≡ record world.old { state = lane_home world.old.state lane }) }
-{
-    let (bank, slots, done) = lane.into_parts();
-    bring_bank_home(slots.as_slice(), bank, world);
-    bring_slots_home(slots, done, world, all)?;
-    Ok(())
-}
-
-// Each callback of a reentrant group begins with variables of 0, so those of such a lane are dropped.
-fn bring_bank_home<L: Lines>(slots: &[CallbackSlot], bank: Bank, world: &mut World<L>)
-    ensures { world.new ≡ record world.old { state = variables_home (entries_of slots.now) bank world.old.state } }
-{
-    if let Some(first) = slots.first()
-        && first.ready.exclusive
-    {
-        world.put_bank(first.ready.group, bank);
-    }
-}
-
-// Brings home the tasks of the callbacks' goals, in their order. Lists the first `done` callbacks, which are those that ran.
-fn bring_slots_home<L: Lines>(
-    slots: Vec<CallbackSlot>,
-    done: usize,
-    world: &mut World<L>,
-    all: &mut Vec<Ran>,
-) -> Result<(), Memory>
-    ensures ran { OnOk result (all.new.items ≡ all.old.items ++ ran_first done slots.items) }
-    ensures home { OnOk result (world.new ≡ record world.old { state = slots_home slots.items world.old.state }) }
-{
-    let mut left = slots;
-    let mut still = done;
-    left.reverse();
-    while let Some(slot) = left.pop() {
-        bring_slot_home(slot, still, world, all)?;
-        still = still.saturating_sub(1);
-    }
-    Ok(())
-}
-
-// The same of one callback. It ran if there are still some that did.
-fn bring_slot_home<L: Lines>(
-    slot: CallbackSlot,
-    still: usize,
-    world: &mut World<L>,
-    all: &mut Vec<Ran>,
-) -> Result<(), Memory>
-    ensures ran { OnOk result (all.new.items ≡ all.old.items ++ ran_first still (slot ∷ [])) }
-    ensures home { OnOk result (world.new ≡ record world.old { state = slot_home world.old.state slot }) }
-{
-    let CallbackSlot { ready, task, did } = slot;
-    bring_task_home(ready.entity, &ready.cause, task, world);
-    if still > 0
-        && let Some(effects) = did
-    {
-        all.push(Ran { ready, effects })?;
-    }
-    Ok(())
-}
-
-// If the callback polls no goal, nothing changes.
-fn bring_task_home<L: Lines>(
-    server: EntityNo,
-    cause: &Cause,
-    task: Option<GoalTask>,
-    world: &mut World<L>,
-)
-    ensures { world.new ≡ record world.old { state = task_home server cause.now (option_map work_of task) world.old.state } }
-{
-    if let Cause::Woke { id, .. } = cause
-        && let Some(task) = task
-    {
-        world.put_task(server, *id, task);
-    }
 }

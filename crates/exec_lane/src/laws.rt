@@ -4,7 +4,6 @@ ghost use Rattle.std.specs.List.{filter, flat_map, list_any};
 ghost use Rattle.exec_plan.specs.Plan.{PlanData};
 ghost use Rattle.exec_lane.specs.Gather.{all_ran, outcomes_in, ran_in};
 ghost use Rattle.exec_lane.specs.Lane.{AreFinished, Lane, as_lane, has_exclusive, is_of_exclusive, lanes_home, lanes_of, opened_lanes, tasks_out};
-ghost use Rattle.exec_lane.specs.Portions.{AreWhole, HasRun, IsGiven, PortionState, all_ran_apart, of_owner, run_owned};
 ghost use Rattle.exec_lane.specs.declared.outcome.Outcome.{Outcome};
 ghost use Rattle.exec_msg.specs.declared.kind.Kind.{Kind};
 ghost use Rattle.exec_msg.specs.declared.kind.Kind.TheVariants as kind;
@@ -62,13 +61,4 @@ pub fn lanes_come_home_as_one_thread_leaves_them()
     ensures ran { (list : List Ready) (world : WorldState) (lanes : List Lane) → AreHome list world → HaveVariables list world
         → AreFinished (opened_lanes list world) lanes →
         IsPermutation (flat_map ran_in lanes) (all_ran list (all_apart list world)) }
-{}
-
-/// A worker that runs the callbacks of a list that it owns, from what it was given, does what they do that run one after another
-/// among the others.
-pub fn a_worker_runs_its_callbacks_as_one_thread_does()
-    ensures { (list : List Ready) (world : WorldState) (owners : List ℕ) (worker : ℕ) (portion : PortionState) → AreWhole owners list
-        → AreHome list world → HaveVariables list world →
-        IsGiven world (of_owner worker owners list) portion
-        → HasRun (of_owner worker owners (all_ran_apart list world)) (run_owned worker owners list portion) }
 {}

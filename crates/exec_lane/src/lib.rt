@@ -2,20 +2,18 @@
 #![tactic(auto)]
 
 mod cut;
-mod dealing;
 pub mod examples;
 mod gate;
 mod gathering;
 mod lane_box;
+mod lane_home;
 pub mod laws;
 mod outcome;
-mod portion;
+mod places;
 mod splitting;
 
-pub use dealing::{Dealt, commit_dealt, deal};
 pub use gate::{Gate, Open};
-pub use gathering::{Gathered, Ran, gather};
+pub use gathering::{Gathered, gather};
 pub use lane_box::LaneBox;
-pub use outcome::Outcome;
-pub use portion::Portion;
+pub use outcome::{CopiedEffects, Outcome};
 pub use splitting::split;

@@ -1,3 +1,4 @@
-pub mod Portioned
+pub mod Crossing
+pub mod Following
 pub mod Seating
 pub mod Steps

@@ -1,9 +1,9 @@
 -- What a seat has between two calls and between two steps.
-use Rattle.std.proofs.Common.{◌≡◌, [], ◌∷◌, sym, ap, subst, ◌∙◌}
-use Rattle.std.specs.Prelude.{Option, None, Some, IfSome}
+use Rattle.std.proofs.Common.{◌≡◌, [], ◌∷◌, refl, sym, ap, subst, ◌∙◌}
+use Rattle.std.specs.Prelude.{Option, None, Some, IfSome, unwrap_or}
 use Rattle.atomic_table.specs.Seated.{TableId}
 use Rattle.atomic_table.specs.Table.{rest}
-use Rattle.exec_pool.specs.Job.{IsRunOf}
+use Rattle.exec_pool.specs.Job.{IsRunOf, MayRun}
 use Rattle.exec_pool.specs.Pair.{CameBack, IsCaller, IsWorker, View, caller, caller_slots, job_of, worker, worker_slots}
 use Rattle.exec_pool.specs.Plays.{Mine, in_hand}
 use Rattle.exec_pool.specs.declared.job.Job.{Job}
@@ -28,3 +28,16 @@ pub came_back : (view : View) (me : Mine) (first job : Job) (taken out : Option 
 came_back view me first job taken out knows posted run is has =
     let same : taken ≡ Some job = ap in_hand (sym has ∙ ap (λ (m : Mine). m.1) is) in
     subst (λ (some : Option Job). IfSome some (CameBack out)) (sym same) (first, sym knows ∙ ap job_of posted, run)
+
+-- a job that no worker has begun is as it was
+pub runs_as_it_was : (job : Job) → MayRun job → IsRunOf job job
+runs_as_it_was job may = record {
+  may = may;
+  stream = refl;
+  share = record { pass = record { opening = refl; passes = refl; start = refl; stop = refl; holds = may.at.holds }; parts = refl };
+}
+
+-- a job that is taken out of the slot may run
+pub found_may : (me : Mine) (view : View) (first job : Job) (taken : Option Job) → MayRun first → me ≡ (view, (0, Some first) ∷ []) → me.1 ≡ (0, taken) ∷ rest me.1 → taken ≡ Some job → MayRun job
+found_may me view first job taken may is has found =
+    subst (λ (some : Option Job). MayRun (unwrap_or some first)) (sym (ap in_hand (sym has ∙ ap (λ (m : Mine). m.1) is)) ∙ found) may

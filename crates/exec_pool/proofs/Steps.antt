@@ -5,7 +5,7 @@ use mathlib.Core.Option.{none, some, some-injective, some-ne-none}
 use prog.Atomic.{either}
 use lib.ListN.{get_elem?}
 use Rattle.atomic_table.specs.Table.{Act, Allows, Splits, State, Valid, carried_after, gives, keeps, opening, step, stepped, takes}
-use Rattle.exec_pool.specs.Job.{IsRunOf}
+use Rattle.exec_pool.specs.Job.{IsRunOf, MayRun}
 use Rattle.exec_pool.specs.Pair.{IsFair, PairRule, Stage, View, alone, begun, caller, closed, idle, opened, opener, posted, ran, standing, taken, views_of, worker}
 use Rattle.exec_pool.specs.Plays.{Mine, answered_so, begun_so, closed_so, collected_so, posted_so, taken_back_so, taken_so}
 use Rattle.exec_pool.specs.declared.job.Job.{Job}
@@ -119,15 +119,15 @@ begins slots id = allowed (λ _. 0) slots 0 id (opener, []) (begun_so (step slot
     each (taken x) fair at = let no : 3 ≡ 0 = alike at in absurd (omega (arith, no))
     each (ran x y) fair at = let no : 3 ≡ 0 = alike at in absurd (omega (arith, no))
 
-pub posts : (slots id : ℕ) (job : Job) → Allows PairRule slots id (caller None, (0, Some job) ∷ []) 0 (λ _. 1) (λ _. posted_so (step slots 0 1 0 none) (caller None, (0, Some job) ∷ []) 1)
-posts slots id job = allowed (λ _. 1) slots 0 id (caller None, (0, Some job) ∷ []) (λ _. posted_so (step slots 0 1 0 none) (caller None, (0, Some job) ∷ []) 1) (λ stage at. caller_at stage None id at) each
+pub posts : (slots id : ℕ) (job : Job) → MayRun job → Allows PairRule slots id (caller None, (0, Some job) ∷ []) 0 (λ _. 1) (λ _. posted_so (step slots 0 1 0 none) (caller None, (0, Some job) ∷ []) 1)
+posts slots id job may = allowed (λ _. 1) slots 0 id (caller None, (0, Some job) ∷ []) (λ _. posted_so (step slots 0 1 0 none) (caller None, (0, Some job) ∷ []) 1) (λ stage at. caller_at stage None id at) each
   where
     each : (stage : Stage) → IsFair stage → get_elem? (views_of stage) 0 ≡ some (caller None)
         → Goes (λ _. 1) 0 (caller None, (0, Some job) ∷ []) (λ _. posted_so (step slots 0 1 0 none) (caller None, (0, Some job) ∷ []) 1) (standing stage)
     each opened fair at = let no : 0 ≡ 2 = alike at in absurd (omega (arith, no))
     each begun fair at = let no : 1 ≡ 2 = alike at in absurd (omega (arith, no))
-    each idle fair at = (caller (Some job), gives, tt, (posted job, tt, refl), refl)
-    each closed fair at = (caller (Some job), gives, tt, (posted job, tt, refl), refl)
+    each idle fair at = (caller (Some job), gives, tt, (posted job, may, refl), refl)
+    each closed fair at = (caller (Some job), gives, tt, (posted job, may, refl), refl)
     each (posted x) fair at = let no : 3 ≡ 2 = alike at in absurd (omega (arith, no))
     each (taken x) fair at = let no : 3 ≡ 2 = alike at in absurd (omega (arith, no))
     each (ran x y) fair at = let no : 3 ≡ 2 = alike at in absurd (omega (arith, no))
@@ -154,9 +154,9 @@ takes_back slots id out = allowed (λ n. either (n == 1) 0 n) slots 0 id (caller
     each begun fair at = let no : 1 ≡ 3 = alike at in absurd (omega (arith, no))
     each idle fair at = let no : 2 ≡ 3 = alike at in absurd (omega (arith, no))
     each closed fair at = let no : 2 ≡ 3 = alike at in absurd (omega (arith, no))
-    each (posted x) fair at = (caller None, takes 0 (Some x), refl, (idle, tt, refl), (λ _. (x, sym (some-injective _ _ at), refl), λ gap. absurd (gap refl)))
+    each (posted x) fair at = (caller None, takes 0 (Some x), refl, (idle, tt, refl), (λ _. (x, sym (some-injective _ _ at), fair, refl), λ gap. absurd (gap refl)))
     each (taken x) fair at =
-        (caller (Some x), keeps, tt, (taken x, tt, refl), (λ one. absurd (omega (arith, one)), λ _. ap (λ (v : View). (v, [])) (some-injective _ _ at)))
+        (caller (Some x), keeps, tt, (taken x, fair, refl), (λ one. absurd (omega (arith, one)), λ _. ap (λ (v : View). (v, [])) (some-injective _ _ at)))
     each (ran x y) fair at =
         (caller (Some x), keeps, tt, (ran x y, fair, refl), (λ one. absurd (omega (arith, one)), λ _. ap (λ (v : View). (v, [])) (some-injective _ _ at)))
 
@@ -170,9 +170,9 @@ collects slots id out = allowed (λ n. either (n == 3) 0 n) slots 0 id (caller (
     each idle fair at = let no : 2 ≡ 3 = alike at in absurd (omega (arith, no))
     each closed fair at = let no : 2 ≡ 3 = alike at in absurd (omega (arith, no))
     each (posted x) fair at =
-        (caller (Some x), keeps, tt, (posted x, tt, refl), (λ three. absurd (omega (arith, three)), λ _. ap (λ (v : View). (v, [])) (some-injective _ _ at)))
+        (caller (Some x), keeps, tt, (posted x, fair, refl), (λ three. absurd (omega (arith, three)), λ _. ap (λ (v : View). (v, [])) (some-injective _ _ at)))
     each (taken x) fair at =
-        (caller (Some x), keeps, tt, (taken x, tt, refl), (λ three. absurd (omega (arith, three)), λ _. ap (λ (v : View). (v, [])) (some-injective _ _ at)))
+        (caller (Some x), keeps, tt, (taken x, fair, refl), (λ three. absurd (omega (arith, three)), λ _. ap (λ (v : View). (v, [])) (some-injective _ _ at)))
     each (ran x y) fair at = (caller None, takes 0 (Some y), refl, (idle, tt, refl), (λ _. (x, y, sym (some-injective _ _ at), fair, refl), λ gap. absurd (gap refl)))
 
 pub takes_job : (slots id : ℕ) → Allows PairRule slots id (worker None, []) 0 (λ n. either (n == 1) 2 n) (taken_so (step slots 0 1 2 none) (worker None, []))
@@ -184,7 +184,7 @@ takes_job slots id = allowed (λ n. either (n == 1) 2 n) slots 1 id (worker None
     each begun fair at = absurd (some-ne-none (worker None) (sym at))
     each idle fair at = (worker None, keeps, tt, (idle, tt, refl), (λ one. absurd (omega (arith, one)), λ _. refl))
     each closed fair at = (worker None, keeps, tt, (closed, tt, refl), (λ one. absurd (omega (arith, one)), λ _. refl))
-    each (posted x) fair at = (worker (Some x), takes 0 (Some x), refl, (taken x, tt, refl), (λ _. (x, refl), λ gap. absurd (gap refl)))
+    each (posted x) fair at = (worker (Some x), takes 0 (Some x), refl, (taken x, fair, refl), (λ _. (x, fair, refl), λ gap. absurd (gap refl)))
     each (taken x) fair at = let no : 5 ≡ 4 = alike at in absurd (omega (arith, no))
     each (ran x y) fair at = (worker None, keeps, tt, (ran x y, fair, refl), (λ one. absurd (omega (arith, one)), λ _. refl))
 

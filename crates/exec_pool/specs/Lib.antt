@@ -1,3 +1,4 @@
 pub mod Job
 pub mod Pair
 pub mod Plays
+pub mod inner

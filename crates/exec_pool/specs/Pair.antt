@@ -4,7 +4,7 @@ use mathlib.Core.Option.{some, none}
 use mathlib.Core.Option as place
 use Rattle.atomic_table.specs.Table.{Me, State}
 use Rattle.atomic_table.specs.Seated.{TableId}
-use Rattle.exec_pool.specs.Job.{IsRunOf}
+use Rattle.exec_pool.specs.Job.{IsRunOf, MayRun}
 use Rattle.exec_pool.specs.declared.handoff.Found.{Found}
 use Rattle.exec_pool.specs.declared.handoff.Found.TheVariants as found
 use Rattle.exec_pool.specs.declared.job.Job.{Job}
@@ -59,8 +59,10 @@ views_of (ran first job) = caller (Some first) ∷ worker None ∷ []
 abbrev pub standing : Stage → State (Option Job) View
 standing stage = record { words = word_of stage ∷ []; homes = home_of stage ∷ []; views = views_of stage }
 
--- a job that is said to have run has run
+-- a job may run, and one that is said to have run has run
 abbrev pub IsFair : Stage → Type 0
+IsFair (posted job) = MayRun job
+IsFair (taken job) = MayRun job
 IsFair (ran first job) = IsRunOf first job
 IsFair _ = ⊤
 

@@ -1,12 +1,15 @@
 //! A caller and its worker.
 ghost use Rattle.std.specs.Prelude.{◌≡◌, None, Some, IfNone, IfOk, IfSome};
 ghost use Rattle.exec_pool.specs.Pair.{CameBack, IsOut, found_out};
+ghost use Rattle.exec_pool.specs.Job.{MayRun};
+ghost use Rattle.exec_pool.specs.declared.handoff.Found.TheVariants as found;
 
 use crate::job::Job;
 use crate::rule::{
     Answer, Begin, CLOSED, Close, Collect, Hire, IDLE, OPENED, POSTED, PairSeat, PairTable, Post,
     RAN, TAKEN, Take, TakeBack,
 };
+use exec_lane::Gate;
 use exec_msg::Memory;
 use std::alloc::Global;
 use std::hint::spin_loop;
@@ -84,7 +87,8 @@ pub(crate) fn pair(alloc: Global) -> Result<(Caller, Worker), Memory>
 impl Caller {
     /// Posts a job, and wakes the worker if it sleeps.
     pub fn post(&mut self, job: Job)
-        requires { self.old ≡ None }
+        requires idle { self.old ≡ None }
+        requires may { MayRun job }
         ensures { self.new ≡ Some job }
     {
         self.table.shared.exchange(&mut self.seat, 0, Some(job));
@@ -95,7 +99,8 @@ impl Caller {
     // Takes back the job that is out as it was, if the worker hasn't taken it.
     fn take_back(&mut self) -> Option<Job>
         requires { IsOut self.old }
-        ensures back { IfSome result (λ job. (self.old ≡ Some job) × (self.new ≡ None)) }
+        ensures back { IfSome result (λ job. CameBack self.old job) }
+        ensures home { IfSome result (λ _. self.new ≡ None) }
         ensures out { IfNone result (self.new ≡ self.old) }
     {
         let word = self
@@ -128,14 +133,13 @@ impl Caller {
         self.table.shared.exchange(&mut self.seat, 0, None)
     }
 
-    /// Has the job that is out run: by the worker, or here if the worker hasn't begun.
+    /// Gets back the job that is out: as it was if the worker hasn't begun, and otherwise when it ran.
     pub fn finish<R: Wait>(&mut self, rt: &R) -> Job
         requires { IsOut self.old }
         ensures back { CameBack self.old result }
         ensures home { self.new ≡ None }
     {
-        if let Some(mut job) = self.take_back() {
-            job.run();
+        if let Some(job) = self.take_back() {
             return job;
         }
         let mut looks = 0;
@@ -166,17 +170,16 @@ enum Found {
 }
 
 impl Worker {
-    /// Takes jobs and answers them, until its caller posts no more.
-    pub fn serve<R: Wait>(self, rt: &R)
+    /// Takes jobs, runs them and gives them back, until its caller posts no more.
+    pub fn serve<R: Wait, G: Gate>(self, rt: &R, gate: &G)
         requires { self ≡ None }
     {
         let mut worker = self;
         let mut looks = 0;
         for _ in rt.forever() {
             match worker.take() {
-                Found::Job(mut job) => {
-                    job.run();
-                    worker.answer(job);
+                Found::Job(job) => {
+                    worker.answer(job.run(rt, gate));
                     looks = 0;
                 }
                 Found::Nothing => looks = worker.rest(rt, looks),
@@ -188,7 +191,8 @@ impl Worker {
     // Takes the job that is posted, if one is.
     fn take(&mut self) -> Found
         requires { self.old ≡ None }
-        ensures { self.new ≡ found_out result }
+        ensures found { self.new ≡ found_out result }
+        ensures may { (job : _) → result ≡ found.Job job → MayRun job }
     {
         let seen = self.table.shared.peek(0);
         if seen == CLOSED {

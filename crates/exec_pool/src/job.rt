@@ -1,27 +1,65 @@
 //! What a worker is to do.
-ghost use Rattle.exec_pool.specs.Job.{IsRunOf};
+ghost use Rattle.std.specs.Prelude.{◌≡◌, OnOk};
+ghost use Rattle.exec_pool.specs.Job.{IsRunOf, MayRun};
+ghost use Rattle.exec_pool.specs.inner.Shares.{IsNext, joined, share_of};
 
-use crate::dealt::DealtRound;
-use exec_lane::Portion;
-use std::sync::Arc;
+use exec_lane::Gate;
+use exec_msg::Memory;
+use exec_stream::{Runner, StreamedRound};
+use std::sync::{Arc, Wait};
 
-/// The callbacks of a round that one worker owns, and what it has for them.
+/// A round, the runner that a worker is to be, and what came of its work.
 #[derive(Drop)]
 pub struct Job {
-    pub round: Arc<DealtRound>,
-    pub worker: usize,
-    pub portion: Portion,
+    pub stream: Arc<StreamedRound>,
+    pub runner: Runner,
+    pub ended: Result<(), Memory>,
 }
 
 impl Job {
-    /// Runs the callbacks. If memory is refused, the portion is marked as failed.
-    pub fn run(&mut self)
-        ensures { IsRunOf self.old self.new }
+    /// Works until no lane is open. If memory is refused, it says so.
+    pub fn run<R: Wait, G: Gate>(self, rt: &R, gate: &G) -> Job
+        requires { MayRun self }
+        ensures { IsRunOf self result }
     {
-        self.portion.run(
-            self.worker,
-            self.round.list.as_slice(),
-            self.round.owners.as_slice(),
-        );
+        let Job {
+            stream,
+            mut runner,
+            ended,
+        } = self;
+        let ended = match ended {
+            Ok(()) => runner.work(rt, &stream, gate),
+            Err(Memory) => Err(Memory),
+        };
+        Job {
+            stream,
+            runner,
+            ended,
+        }
+    }
+
+    /// Joins another job to it, whose share is the next one. If memory is refused, it says so.
+    pub fn join(self, other: Job) -> Job
+        requires may { MayRun self × MayRun other }
+        requires next { IsNext (share_of self) (share_of other) }
+        ensures may { MayRun result }
+        ensures joined { share_of result ≡ joined (share_of self) (share_of other) }
+    {
+        let Job {
+            stream,
+            runner,
+            ended,
+        } = self;
+        let Job {
+            stream: _,
+            runner: next,
+            ended: later,
+        } = other;
+        let (runner, joined) = runner.join(&stream, next);
+        Job {
+            stream,
+            runner,
+            ended: ended.and(later).and(joined),
+        }
     }
 }

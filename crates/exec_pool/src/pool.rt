@@ -1,13 +1,15 @@
 //! Workers that last.
-ghost use Rattle.std.specs.Prelude.{◌≡◌, ◌+◌, ◌<◌, ◌≤◌, None, length, slice_index_or, vec_capacity, IfOk, OnErr, OnOk};
+ghost use Rattle.std.specs.Prelude.{◌≡◌, ◌+◌, ◌<◌, ◌≤◌, None, length, slice_index_or, IfOk, OnErr, OnOk};
 ghost use Rattle.std.specs.Arc.{arc_value};
-ghost use Rattle.exec_pool.specs.Job.{AreRun};
+ghost use Rattle.exec_stream.specs.Sending.{Collects, MayCollect, queue_id};
+ghost use Rattle.exec_stream.specs.Streams.{HasSentAll, IsRunnerAt, KeepsShare, MayBegin};
 
-use crate::dealt::DealtRound;
 use crate::handoff::{Caller, Worker, pair};
 use crate::job::Job;
-use exec_lane::Portion;
+use crate::jobs::{list_jobs, run_jobs};
+use exec_lane::Gate;
 use exec_msg::Memory;
+use exec_stream::{Collector, Runner, StreamedRound};
 use std::alloc::Global;
 use std::sync::{Arc, Wait};
 
@@ -57,22 +59,40 @@ impl Pool {
         self.callers.pop();
     }
 
-    /// Runs the callbacks of a round, where this many workers have portions, at most one more than are in the pool. The first
-    /// one's are run here, and those of each other one by a worker of the pool, or here if it hasn't begun by then.
+    /// Runs the callbacks of a round by the calling thread and workers of the pool, as many as the runner's share has numbers,
+    /// at most one more than are in the pool. The calling thread takes what they send on as soon as it finds no lane open. A
+    /// worker that hasn't begun by then does nothing, and lanes may be left unfinished.
     ///
     /// # Errors
-    /// [`Memory`] if a share of the round was refused. No worker is at work then.
-    pub fn run<R: Wait>(
+    /// [`Memory`] if a growth or a copy was refused. No worker is at work then.
+    pub fn run<R: Wait, G: Gate>(
         &mut self,
         rt: &R,
-        round: &Arc<DealtRound>,
-        portions: Vec<Portion>,
-    ) -> Result<Vec<Portion>, Memory>
-        requires { length portions.items ≤ length self.old.callers.items + 1 }
-        ensures run { IfOk result (λ ran. AreRun 0 (arc_value round.now).owners.items (arc_value round.now).list.items portions.items ran.items) }
+        alloc: Global,
+        stream: &Arc<StreamedRound>,
+        runner: Runner,
+        collector: &mut Collector,
+        gate: &G,
+    ) -> Result<Runner, Memory>
+        requires runner { MayBegin (arc_value stream.now).board (queue_id (arc_value stream.now).queue) runner }
+        requires some { runner.pass.view.start < runner.pass.view.stop }
+        requires many { runner.pass.view.stop ≤ runner.pass.view.start + length self.old.callers.items + 1 }
+        requires collector { MayCollect (queue_id (arc_value stream.now).queue) collector.old }
+        ensures at { IfOk result (λ after. IsRunnerAt (arc_value stream.now).board (queue_id (arc_value stream.now).queue) after) }
+        ensures share { IfOk result (λ after. KeepsShare runner after) }
+        ensures sent { IfOk result (λ after. HasSentAll after) }
+        ensures collects { Collects collector.old collector.new }
         ensures same { length self.new.callers.items ≡ length self.old.callers.items }
     {
-        run_portions(rt, &mut self.callers, round, portions)
+        let mut jobs = Vec::new(alloc);
+        list_jobs(alloc, stream, runner, &mut jobs)?;
+        let Job {
+            stream: _,
+            runner,
+            ended,
+        } = run_jobs(rt, &mut self.callers, jobs, collector, gate);
+        ended?;
+        Ok(runner)
     }
 
     /// Lets all workers end.
@@ -82,55 +102,4 @@ impl Pool {
             caller.close();
         }
     }
-}
-
-// Runs portions: the last one's callbacks by the last caller's worker, while the others are run.
-fn run_portions<R: Wait>(
-    rt: &R,
-    callers: &mut Vec<Caller>,
-    round: &Arc<DealtRound>,
-    mut portions: Vec<Portion>,
-) -> Result<Vec<Portion>, Memory>
-    requires idle { (place : _) → place < length callers.old.items → slice_index_or callers.old.items place None ≡ None }
-    requires many { length portions.items ≤ length callers.old.items + 1 }
-    ensures run { IfOk result (λ ran. AreRun 0 (arc_value round.now).owners.items (arc_value round.now).list.items portions.items ran.items) }
-    ensures room { IfOk result (λ ran. vec_capacity ran ≡ vec_capacity portions) }
-    ensures callers { callers.new.items ≡ callers.old.items }
-    ensures kept { vec_capacity callers.new ≡ vec_capacity callers.old }
-{
-    let Some(portion) = portions.pop() else {
-        return Ok(portions);
-    };
-    let worker = portions.len();
-    let mut job = Job {
-        round: round.clone()?,
-        worker,
-        portion,
-    };
-    if worker == 0 {
-        job.run();
-        portions.push_reserved(portion_of(job));
-        return Ok(portions);
-    }
-    let Some(mut caller) = callers.pop() else {
-        unreachable!()
-    };
-    caller.post(job);
-    let ran = run_portions(rt, callers, round, portions);
-    let job = caller.finish(rt);
-    callers.push_reserved(caller);
-    let mut ran = ran?;
-    ran.push_reserved(portion_of(job));
-    Ok(ran)
-}
-
-fn portion_of(job: Job) -> Portion
-    ensures { result ≡ job.portion }
-{
-    let Job {
-        round: _,
-        worker: _,
-        portion,
-    } = job;
-    portion
 }

@@ -1,6 +1,6 @@
 -- A list that is sorted by numbers that rise by one is told by its elements.
 use Rattle.std.proofs.Common.{◌≡◌, ℕ, zero, suc, ◌+◌, ◌-◌, ◌<◌, ◌≤◌, ◌⊎◌, List, [], ◌∷◌, length, map, get_or, refl, sym, ap, ◌∙◌, arith, All, inl, inr}
-use Rattle.std.specs.Prelude.{⊤}
+use Rattle.exec_round.specs.inner.Commits.{RiseFrom}
 use Rattle.std.specs.List.{sum_by}
 use Rattle.std.specs.List.Sorted.{IsNonDecreasingBy, IsPermutation, IsSortedByKey}
 use Rattle.std.specs.Ordering.{nat_cmp}
@@ -8,11 +8,6 @@ use Rattle.std.proofs.lemmas.Bool.{cases_lt}
 use Rattle.std.proofs.lemmas.List.{get_or-map, get_or_default, length-map}
 use Rattle.std.proofs.lemmas.List.Sorted.{All-permutation, IsNonDecreasingBy-drop, IsNonDecreasingBy-from_sort, IsPermutation-map, IsPermutation-sym, sum_by-IsPermutation}
 use Rattle.std.proofs.lemmas.List.Sums.{sum_by-cons}
-
--- the numbers rise by one from here
-abbrev pub RiseFrom : ℕ → List ℕ → Type 0
-RiseFrom first [] = ⊤
-RiseFrom first (n ∷ ns) = (n ≡ first) × RiseFrom (suc first) ns
 
 -- ---- numbers
 
@@ -69,7 +64,7 @@ same_numbers first (n ∷ ns) (m ∷ ms) rise order weigh =
 -- ---- elements
 
 -- an element of a list whose numbers rise by one stands where its number says
-stands_at : {X : Type 0} (key : X → ℕ) (first : ℕ) (xs : List X) → RiseFrom first (map key xs) → (i : ℕ) (d : X) → i < length xs → key (get_or xs i d) ≡ first + i
+pub stands_at : {X : Type 0} (key : X → ℕ) (first : ℕ) (xs : List X) → RiseFrom first (map key xs) → (i : ℕ) (d : X) → i < length xs → key (get_or xs i d) ≡ first + i
 stands_at key first [] rise i d within = absurd (omega (arith, within))
 stands_at key first (x ∷ xs) rise zero d within = omega (arith, rise.0)
 stands_at key first (x ∷ xs) rise (suc i) d within = let rest = stands_at key (suc first) xs rise.1 i d (omega (arith, within)) in omega (arith, rest)

@@ -1,13 +1,6 @@
-pub mod Balances
-pub mod Collected
-pub mod Crossing
 pub mod Dealing
-pub mod DealtRounds
-pub mod GoingOn
 pub mod HeldLanes
 pub mod InOrder
 pub mod Openings
-pub mod Places
 pub mod Rounding
 pub mod Sends
-pub mod Sent

@@ -5,11 +5,11 @@ use Rattle.std.specs.Prelude.{Bool, if◌then◌else◌}
 use Rattle.std.proofs.lemmas.Bool.{ne_eqb}
 use Rattle.std.proofs.lemmas.List.Sorted.{IsPermutation-sym, IsPermutation-trans}
 use Rattle.exec_msg.specs.Numbers.{EntityNo}
-use Rattle.exec_lane.specs.Gather.{AreGathered, all_ran, ran_in}
+use Rattle.exec_lane.specs.Gather.{AreGathered, Ran, all_ran, ran_in}
 use Rattle.exec_lane.specs.Lane.{Lane, lanes_home, tasks_out}
-use Rattle.exec_lane.specs.declared.gathering.Ran.{Ran}
-use Rattle.exec_round.proofs.InOrder.{RiseFrom, sorted_is}
-use Rattle.exec_round.specs.inner.Commits.{after_commits, committed}
+use Rattle.exec_round.proofs.InOrder.{sorted_is}
+use Rattle.exec_round.specs.inner.Begun.{IsListed}
+use Rattle.exec_round.specs.inner.Commits.{RiseFrom, after_commits, committed}
 use Rattle.exec_rules.proofs.Pairs.{all_weaker}
 use Rattle.exec_rules.specs.Calls.{IsHeldFor, IsHomeFor, WorldData, after_round, after_snapshot, moment_of, ready_in, state_at, with_uncommitted}
 use Rattle.exec_rules.specs.Ready.{placed_from, take_inputs}
@@ -139,3 +139,12 @@ all_left number world taken out home list lanes all count is begun left came gat
 pub some_ready : {A : Type 0} (list : List A) (none : Bool) → none ≡ (length list == 0) → none ≡ false → 0 < length list
 some_ready [] none is not = absurd (true≢false (sym is ∙ not))
 some_ready (x ∷ list) none is not = omega arith
+
+-- ---- a round that is listed
+
+-- a round of listed callbacks whose lanes ran and came home
+pub listed_is : (round : ℕ) (before taken out home after : WorldData) (list : List Ready) (lanes : List Lane) (all : List Ran) → IsListed round list before taken →
+    out ≡ record taken { state = tasks_out list taken.state } → home ≡ record out { state = lanes_home lanes out.state } → AreGathered (flat_map ran_in lanes) all → after ≡ after_commits all home →
+    lanes_home lanes (tasks_out list taken.state) ≡ all_home list taken.state → IsPermutation (flat_map ran_in lanes) (all_ran list (all_apart list taken.state)) →
+    run_all list taken.state ≡ commit_all list (all_apart list taken.state) (all_home list taken.state) → after ≡ after_round round before
+listed_is round before taken out home after list lanes all listed = round_is round before taken out home after list lanes all listed.ready listed.some listed.taken

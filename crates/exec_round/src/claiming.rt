@@ -1,7 +1,7 @@
 //! How lanes are claimed by workers.
 ghost use Rattle.std.specs.Prelude.{◌≡◌, ◌<◌, [], IfOk, IsOk};
 ghost use Rattle.exec_lane.specs.Lane.{AreFinished};
-ghost use Rattle.exec_round.specs.inner.Division.{IsSweptPass};
+ghost use Rattle.exec_board.specs.Sweeps.{IsSweptPass};
 ghost use denote.Param.Send.{IsSync};
 
 use exec_board::{Board, Pass};

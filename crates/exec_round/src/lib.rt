@@ -2,20 +2,16 @@
 #![tactic(auto)]
 
 mod claiming;
-mod collecting;
-mod keeping;
+mod crew;
+mod forking;
 pub mod laws;
-mod outcomes;
-mod portions;
+mod policy;
 mod rounds;
 mod running;
-mod sending;
 mod sharing;
 mod streaming;
 #[cfg(test)]
 mod tests;
-mod weighing;
-mod workers;
 
 pub use exec_io::{Out, OutFailed, Through};
 pub use rounds::{round_claimed, round_forked, round_streamed};

@@ -6,11 +6,12 @@ ghost use Rattle.exec_doc.specs.declared.refused.Refused.TheVariants as refused;
 ghost use Rattle.exec_plan.specs.Plan.{PlanData};
 ghost use Rattle.exec_round.specs.Run.{IsRefusalOf};
 ghost use Rattle.exec_round.specs.declared.running.RunFault.TheVariants as fault;
-ghost use Rattle.exec_rules.specs.Calls.{new_world};
+ghost use Rattle.exec_rules.specs.Calls.{IsNext, after_round, new_world};
 ghost use Rattle.exec_rules.specs.Transcript.{lines_of, text_of};
 
-use crate::keeping::run_kept;
-use crate::rounds::{Division, run_round, stream_round};
+use crate::crew::stream_rounds;
+use crate::policy::{Policy, START, Work};
+use crate::rounds::{Division, begin, run_list};
 use crate::sharing::Sharing;
 use exec_doc::{Refused, read_document};
 use exec_io::{Out, OutFailed, put_pieces};
@@ -180,7 +181,7 @@ fn transcribe<R: Threads + Sync, G: Gate>(
     Ok(PlanTranscript { plan, lines })
 }
 
-// Runs all rounds of a plan by workers. If there is one worker and nobody watches, the calling thread runs them.
+// Runs all rounds of a plan by workers that claim lanes.
 fn run_by<L: Lines, R: Threads + Sync, G: Gate>(
     rt: &R,
     plan: Arc<Plan>,
@@ -190,25 +191,13 @@ fn run_by<L: Lines, R: Threads + Sync, G: Gate>(
     requires { L.lines lines ≡ [] }
     ensures { IfOk result (λ lines. L.lines lines ≡ lines_of (arc_value plan)) }
 {
-    if sharing.workers == 1 && sharing.gate.is_open() {
+    let policy = Policy::of(rt, sharing.workers, sharing.gate);
+    if policy.is_alone() {
         return run_plan(sharing.alloc, plan, lines);
     }
-    run_rounds(rt, plan, lines, sharing)
-}
-
-// Runs the rounds of a plan one after another, each claimed by workers.
-fn run_rounds<L: Lines, R: Threads + Sync, G: Gate>(
-    rt: &R,
-    plan: Arc<Plan>,
-    lines: L,
-    sharing: &Sharing<'_, G>,
-) -> Result<L, Memory>
-    requires { L.lines lines ≡ [] }
-    ensures { IfOk result (λ lines. L.lines lines ≡ lines_of (arc_value plan)) }
-{
     let rounds = plan.moments().len();
     let mut world = World::with_lines(sharing.alloc, plan, lines)?;
-    if run_each(rt, &mut world, rounds, sharing).is_err() {
+    if run_each(rt, &mut world, rounds, policy, sharing).is_err() {
         return Err(world.give_up());
     }
     Ok(world.into_lines())
@@ -219,6 +208,7 @@ fn run_each<L: Lines, R: Threads + Sync, G: Gate>(
     rt: &R,
     world: &mut World<L>,
     rounds: usize,
+    policy: Policy,
     sharing: &Sharing<'_, G>,
 ) -> Result<(), Memory>
     requires new { world.old ≡ new_world world.old.plan }
@@ -228,10 +218,41 @@ fn run_each<L: Lines, R: Threads + Sync, G: Gate>(
 {
     exec_rules::laws::rounds_follow_one_another();
     for done in 0..rounds {
-        run_round(rt, world, done + 1, Division::Claimed, sharing)?;
+        run_next(rt, world, done + 1, policy, sharing)?;
     }
     world.finish()?;
     Ok(())
+}
+
+// Runs a round by as many workers as its policy says. They start and end with it.
+fn run_next<L: Lines, R: Threads + Sync, G: Gate>(
+    rt: &R,
+    world: &mut World<L>,
+    round: usize,
+    policy: Policy,
+    sharing: &Sharing<'_, G>,
+) -> Result<(), Memory>
+    requires { IsNext round world.old }
+    ensures { OnOk result (world.new ≡ after_round round world.old) }
+{
+    let Some(heavy) = begin(world, round, policy.light(START))? else {
+        return Ok(());
+    };
+    let work = Work {
+        instructions: heavy.instructions,
+        callbacks: heavy.list.len(),
+    };
+    let Some(workers) = policy.workers(work, policy.most, START) else {
+        world.run_ready(heavy.list.as_slice())?;
+        return Ok(());
+    };
+    let sharing = Sharing {
+        alloc: sharing.alloc,
+        workers,
+        quantum: sharing.quantum,
+        gate: sharing.gate,
+    };
+    run_list(rt, heavy.list, Division::Claimed, &sharing, world)
 }
 
 // Runs a document by workers that send on what callbacks did, and gives its transcript.
@@ -251,8 +272,7 @@ fn transcribe_streamed<R: Threads + Wait + Sync, G: Gate>(
     Ok(PlanTranscript { plan, lines })
 }
 
-// Runs all rounds of a plan by workers. If somebody watches, they send on what callbacks did. Otherwise they last, or
-// the calling thread runs all if there is one worker.
+// Runs all rounds of a plan by workers that last, which send on what callbacks did.
 fn stream_by<L: Lines, R: Threads + Wait + Sync, G: Gate>(
     rt: &R,
     plan: Arc<Plan>,
@@ -262,49 +282,9 @@ fn stream_by<L: Lines, R: Threads + Wait + Sync, G: Gate>(
     requires { L.lines lines ≡ [] }
     ensures { IfOk result (λ lines. L.lines lines ≡ lines_of (arc_value plan)) }
 {
-    if !sharing.gate.is_open() {
-        return stream_rounds(rt, plan, lines, sharing);
-    }
-    if sharing.workers == 1 {
+    let policy = Policy::of(rt, sharing.workers, sharing.gate);
+    if policy.is_alone() {
         return run_plan(sharing.alloc, plan, lines);
     }
-    run_kept(rt, sharing.alloc, plan, lines, sharing.workers)
-}
-
-// Runs the rounds of a plan one after another, each by workers that send on what callbacks did.
-fn stream_rounds<L: Lines, R: Threads + Wait + Sync, G: Gate>(
-    rt: &R,
-    plan: Arc<Plan>,
-    lines: L,
-    sharing: &Sharing<'_, G>,
-) -> Result<L, Memory>
-    requires { L.lines lines ≡ [] }
-    ensures { IfOk result (λ lines. L.lines lines ≡ lines_of (arc_value plan)) }
-{
-    let rounds = plan.moments().len();
-    let mut world = World::with_lines(sharing.alloc, plan, lines)?;
-    if stream_each(rt, &mut world, rounds, sharing).is_err() {
-        return Err(world.give_up());
-    }
-    Ok(world.into_lines())
-}
-
-// Runs `rounds` such rounds and closes the transcript. They are all rounds of the plan, and the world is new.
-fn stream_each<L: Lines, R: Threads + Wait + Sync, G: Gate>(
-    rt: &R,
-    world: &mut World<L>,
-    rounds: usize,
-    sharing: &Sharing<'_, G>,
-) -> Result<(), Memory>
-    requires new { world.old ≡ new_world world.old.plan }
-    requires all { rounds ≡ length world.old.plan.moments }
-    ensures unfailed { OnOk result (world.new.failed ≡ false) }
-    ensures lines { OnOk result (world.new.state.lines ≡ lines_of world.old.plan) }
-{
-    exec_rules::laws::rounds_follow_one_another();
-    for done in 0..rounds {
-        stream_round(rt, world, done + 1, sharing)?;
-    }
-    world.finish()?;
-    Ok(())
+    stream_rounds(rt, plan, lines, policy, sharing)
 }

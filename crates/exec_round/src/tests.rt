@@ -8,6 +8,7 @@ mod lanes;
 mod meeting;
 mod outcomes;
 mod transcripts;
+mod unwatched;
 
 ghost use Rattle.std.specs.Prelude.{◌≡◌, ◌<◌, ◌≤◌, true, false};
 ghost use Rattle.exec_rules.specs.Calls.{IsNext};

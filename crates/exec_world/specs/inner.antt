@@ -1,6 +1,7 @@
 pub mod Adding
 pub mod Arrivals
 pub mod Banks
+pub mod Buffers
 pub mod Lending
 pub mod Mail
 pub mod Parts

@@ -7,6 +7,7 @@ mod closing;
 mod fault;
 mod first_world;
 mod fronts;
+mod lane_buffer;
 mod mail;
 mod scratch;
 mod scripts;
@@ -17,5 +18,6 @@ mod world;
 
 pub use exec_rules::{Cause, Item, Ready};
 pub use fault::WorldFault;
+pub use lane_buffer::LaneBuffer;
 pub use weighing::{Heavy, Light};
 pub use world::{World, run_plan};

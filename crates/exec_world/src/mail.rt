@@ -26,7 +26,7 @@ impl<L: Lines> Model for Mail<L> {
 }
 
 impl<L: Lines> Mail<L> {
-    ghost use Rattle.std.specs.Prelude.{◌≡◌, ◌++◌, ◌&&◌, map, IfOk, OnOk};
+    ghost use Rattle.std.specs.Prelude.{◌≡◌, ◌+◌, ◌^◌, ◌≤◌, ◌++◌, ◌&&◌, map, IfOk, OnErr, OnOk};
     ghost use Rattle.std.specs.Option.{option_to_list};
     ghost use Rattle.exec_rules.specs.World.{drop_line};
     ghost use Rattle.exec_rules.specs.Ready.{queue_taken};
@@ -60,7 +60,8 @@ impl<L: Lines> Mail<L> {
     // below 2^60, and no run of a lawful plan gets there (law `numbers_stay_below_their_limit`).
     #[inline(always)]
     fn count_arrival(&mut self) -> Result<(), Memory>
-        ensures { OnOk result (self.new ≡ with_next self.old) }
+        ensures counted { OnOk result (self.new ≡ with_next self.old) }
+        ensures memory { OnErr result (2 ^ 60 ≤ self.old.arrivals + 1) }
     {
         if let Order::Arrival = self.order {
             self.arrivals = number_after(self.arrivals)?;
@@ -72,6 +73,7 @@ impl<L: Lines> Mail<L> {
     pub(crate) fn arrive(&mut self) -> Result<u64, Memory>
         ensures number { IfOk result (λ number. number ≡ next_number self.old) }
         ensures counted { OnOk result (self.new ≡ with_next self.old) }
+        ensures memory { OnErr result (2 ^ 60 ≤ self.old.arrivals + 1) }
     {
         self.count_arrival()?;
         Ok(self.arrivals)

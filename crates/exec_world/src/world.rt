@@ -4,6 +4,7 @@ ghost use Rattle.std.specs.Option.{option_map_or};
 ghost use Rattle.exec_rules.specs.Transcript.{lines_of};
 
 use crate::fault::WorldFault;
+use crate::lane_buffer::LaneBuffer;
 use crate::scratch::Scratch;
 use crate::state::{Round, WorldBody};
 use crate::weighing::{Heavy, Light};
@@ -30,6 +31,8 @@ pub struct World<L: Lines = LineList> {
     uncommitted: usize,
     failed: bool,
     scratch: Scratch,
+    // What lanes of earlier rounds were kept in.
+    buffers: Vec<Box<LaneBuffer>>,
 }
 
 impl<L: Lines> Model for World<L> {
@@ -85,6 +88,7 @@ impl<L: Lines> World<L> {
     ghost use Rattle.std.specs.Arc.{arc_value};
     ghost use Rattle.exec_world.specs.Faults.{HasFailed};
     ghost use Rattle.exec_world.specs.Heavy.{IsBegun};
+    ghost use Rattle.exec_world.specs.inner.Buffers.{no_callbacks};
     ghost use Rattle.exec_rules.specs.Calls.{AreHome, HaveVariables, IsNext, away, ready_in};
     ghost use Rattle.exec_rules.specs.Calls.{after_all, after_commit, after_finish, after_round, after_snapshot, new_world, world_after};
     ghost use Rattle.exec_world.specs.declared.fault.WorldFault.TheVariants as fault;
@@ -112,6 +116,7 @@ impl<L: Lines> World<L> {
             uncommitted: 0,
             failed: false,
             scratch: Scratch::new(alloc),
+            buffers: Vec::new(alloc),
         })
     }
 
@@ -289,6 +294,32 @@ impl<L: Lines> World<L> {
             return Err(WorldFault::Memory);
         }
         self.uncommitted = 0;
+        Ok(())
+    }
+
+    /// What a lane is kept in. It has no callbacks. [`put_buffer`](World::put_buffer) lets later lanes use its memory again.
+    ///
+    /// # Errors
+    /// [`Memory`] if a growth was refused.
+    pub fn take_buffer(&mut self) -> Result<Box<LaneBuffer>, Memory>
+        ensures empty { IfOk result (λ buffer. buffer.value ≡ no_callbacks) }
+        ensures same { self.new ≡ self.old }
+    {
+        let Some(mut buffer) = self.buffers.pop() else {
+            return Ok(Box::new(self.alloc, LaneBuffer::new(self.alloc)?)?);
+        };
+        buffer.clear();
+        Ok(buffer)
+    }
+
+    /// Keeps what a lane was kept in, for lanes of later rounds.
+    ///
+    /// # Errors
+    /// [`Memory`] if a growth was refused.
+    pub fn put_buffer(&mut self, buffer: Box<LaneBuffer>) -> Result<(), Memory>
+        ensures { self.new ≡ self.old }
+    {
+        self.buffers.push(buffer)?;
         Ok(())
     }
 

@@ -1,7 +1,7 @@
 // Calls of a board, by one pass and by two.
 ghost use Rattle.std.specs.Prelude.{◌≡◌, ◌+◌, ◌<◌, ◌≤◌, [], IfOk};
 ghost use Rattle.exec_board.specs.Seats.{IsLast};
-ghost use Rattle.exec_round.specs.inner.Division.{IsSweptPass};
+ghost use Rattle.exec_board.specs.Sweeps.{IsSweptPass};
 
 use super::fixture::{have_run, lanes_in, open, run_some, visit};
 use super::lanes::EXCLUSIVE;

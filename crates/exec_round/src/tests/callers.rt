@@ -1,7 +1,7 @@
 // Many threads that claim, run and release the lanes of one board.
 ghost use Rattle.std.specs.Prelude.{◌≡◌, ◌<◌, []};
 ghost use Rattle.exec_board.specs.Seats.{IsLast};
-ghost use Rattle.exec_round.specs.inner.Division.{IsSweptPass};
+ghost use Rattle.exec_board.specs.Sweeps.{IsSweptPass};
 ghost use denote.Param.Send.{IsSync};
 
 use super::fixture::{open, visit};

@@ -1,6 +1,6 @@
 // One pass that holds all lanes of a board at once.
 ghost use Rattle.std.specs.Prelude.{◌≡◌, ◌<◌, ◌⊎◌, ◌↔◌, ◌++◌, [], length, option_to_list, IsSome};
-ghost use Rattle.exec_round.specs.inner.Division.{IsSweptPass};
+ghost use Rattle.exec_board.specs.Sweeps.{IsSweptPass};
 
 use super::fixture::{open, run_some};
 use exec_board::{Board, Claim, Pass};

@@ -3,8 +3,9 @@ use super::fixture::have_run;
 use super::transcripts::first_lines;
 use super::world_of;
 use exec_doc::Refused;
-use exec_lane::{Gate, Gathered, LaneBox, Open, Ran, gather, split};
+use exec_lane::{Gate, Gathered, LaneBox, Open, gather, split};
 use exec_msg::{Line, Memory};
+use exec_script::Effects;
 use exec_world::World;
 use std::alloc::Global;
 use std::sync::atomic::AtomicU64;
@@ -22,12 +23,15 @@ const REENTRANT: &[u8] =
 // The positions that were reported to it, one after another, each as a decimal digit.
 #[derive(Drop)]
 pub(super) struct Told {
+    is_watched: bool,
     digits: AtomicU64,
 }
 
 impl Told {
-    pub(super) fn new() -> Told {
+    // One that says that it watches, or that nobody does.
+    pub(super) fn new(is_watched: bool) -> Told {
         Told {
+            is_watched,
             digits: AtomicU64::new(0),
         }
     }
@@ -47,6 +51,10 @@ impl Gate for Told {
     }
 
     fn took(&self, _position: usize) {}
+
+    fn is_watched(&self) -> bool {
+        self.is_watched
+    }
 }
 
 // The lanes of the first round.
@@ -77,33 +85,32 @@ fn run_next<G: Gate>(lanes: &mut Vec<LaneBox>, number: usize, gate: &G) -> Resul
     }
 }
 
-fn are_at(all: &[Ran], positions: &[usize]) -> bool {
-    all.len() == positions.len()
-        && all
-            .iter()
-            .zip(positions.iter())
-            .all(|(one, position)| one.ready.position == *position)
+fn are_at(all: &Gathered, positions: &[usize]) -> bool {
+    if all.len() != positions.len() {
+        return false;
+    }
+    for index in 0..all.len() {
+        if all.ready(index).position != positions[index] {
+            return false;
+        }
+    }
+    true
 }
 
 // Commits callbacks that ran.
-fn commit(all: Gathered, world: &mut World) -> Result<(), Memory> {
-    for one in all {
-        commit_one(one, world)?;
+fn commit(alloc: Global, all: Gathered, world: &mut World) -> Result<(), Memory> {
+    for index in 0..all.len() {
+        let effects = Effects::copy_of(alloc, all.effects(index))?;
+        if world.count_uncommitted() == 0 || world.commit(all.ready(index), effects).is_err() {
+            return Err(Memory);
+        }
     }
-    Ok(())
-}
-
-fn commit_one(one: Ran, world: &mut World) -> Result<(), Memory> {
-    let Ran { ready, effects } = one;
-    if world.count_uncommitted() == 0 || world.commit(&ready, effects).is_err() {
-        return Err(Memory);
-    }
-    Ok(())
+    all.end(world)
 }
 
 // Runs the next callback of each of these lanes. Gives the positions that were reported to the gate.
 fn run_each(lanes: &mut Vec<LaneBox>, numbers: &[usize]) -> Result<u64, Memory> {
-    let gate = Told::new();
+    let gate = Told::new(true);
     for number in numbers {
         run_next(lanes, *number, &gate)?;
     }
@@ -114,7 +121,7 @@ fn run_each(lanes: &mut Vec<LaneBox>, numbers: &[usize]) -> Result<u64, Memory> 
 fn come_home(alloc: Global, lanes: Vec<LaneBox>, world: &mut World) -> Result<bool, Memory> {
     let all = gather(alloc, lanes, world)?;
     let ordered = are_at(&all, &[1, 2]);
-    commit(all, world)?;
+    commit(alloc, all, world)?;
     Ok(ordered)
 }
 

@@ -11,9 +11,10 @@ use std::test::Fail;
 use std::thread::Threads;
 
 // Marks each position that comes. Positions up to `held`, and those of the second half alike, are held until all of their half
-// are marked, for a limited number of turns.
+// are marked, for a limited number of turns. It says of itself that it watches, or that nobody does.
 #[derive(Drop)]
 struct Meeting {
+    is_watched: bool,
     half: u64,
     held: usize,
     first: AtomicU64,
@@ -25,7 +26,12 @@ struct Meeting {
 
 impl Meeting {
     fn of(half: u64, held: usize) -> Meeting {
+        Meeting::with(true, half, held)
+    }
+
+    fn with(is_watched: bool, half: u64, held: usize) -> Meeting {
         Meeting {
+            is_watched,
             half,
             held,
             first: AtomicU64::new(0),
@@ -70,6 +76,10 @@ impl Gate for Meeting {
         let digit = (position % 16) as u32;
         self.taken.fetch_add(1u64.rotate_left(4 * digit), SeqCst);
     }
+
+    fn is_watched(&self) -> bool {
+        self.is_watched
+    }
 }
 
 // Two timers of period 1 in two mutually exclusive groups.
@@ -79,38 +89,75 @@ const TWO_GROUPS: &[u8] =
 const OF_TWO_GROUPS: &[u8] =
     b"round 1 1\nrun s timer 1 0\nlog s 1\nrun t timer 1 0\nlog t 7\nend 1\n";
 
-// Whether the first round of a document is run by workers that meet at a gate.
+// Both wait for each other.
+const TWO: Halves = Halves {
+    half: 2,
+    held: 2,
+    both: false,
+    told: 0x110,
+};
+
+// Which positions meet: those of one half, or of two, with so many each. Those up to `held` are held. `told` is what the gate is
+// told of all of them by a queue.
+#[derive(Clone, Copy)]
+struct Halves {
+    half: u64,
+    held: usize,
+    both: bool,
+    told: u64,
+}
+
+// Whether the workers of a document's first round meet, whether the gate watches or not, and whether the gate is told what a
+// streamed round collects, and nothing of another one.
 fn meet_in_a_round<R: Threads + Wait + Sync>(
     rt: &R,
     alloc: Global,
     document: &[u8],
     setting: Setting,
-    gate: &Meeting,
-    both: bool,
+    halves: Halves,
 ) -> Result<bool, Refused> {
-    let world = world_of(alloc, document)?;
-    Ok(next(rt, alloc, world, 1, setting, gate).is_ok() && gate.met(both))
+    let told = match setting.way {
+        Way::Streamed(_) => halves.told,
+        Way::Forked | Way::Claimed(_) => 0,
+    };
+    for is_watched in [true, false] {
+        let gate = Meeting::with(is_watched, halves.half, halves.held);
+        let world = world_of(alloc, document)?;
+        let ran = next(rt, alloc, world, 1, setting, &gate).is_ok();
+        if !ran || !gate.met(halves.both) || gate.taken.load(SeqCst) != told {
+            return Ok(false);
+        }
+    }
+    Ok(true)
 }
 
 #[test]
-fn two_workers_run_at_once(rt: HostRuntime) -> Result<(), Fail> {
-    for way in [Way::Forked, Way::Claimed(1), Way::Claimed(1024)] {
-        let setting = Setting { workers: 2, way };
-        let gate = Meeting::of(2, 2);
-        assert!(rt; meet_in_a_round(&rt, rt.alloc(), TWO_GROUPS, setting, &gate, false)?);
-        assert!(rt; gate.taken.load(SeqCst) == 0);
-    }
+fn two_workers_of_a_forked_round_run_at_once(rt: HostRuntime) -> Result<(), Fail> {
+    let setting = Setting {
+        workers: 2,
+        way: Way::Forked,
+    };
+    assert!(rt; meet_in_a_round(&rt, rt.alloc(), TWO_GROUPS, setting, TWO)?);
     Ok(())
 }
 
 #[test]
-fn what_a_streamed_round_collects_is_told(rt: HostRuntime) -> Result<(), Fail> {
+fn two_workers_of_a_claimed_round_run_at_once(rt: HostRuntime) -> Result<(), Fail> {
+    for quantum in [1, 1024] {
+        let way = Way::Claimed(quantum);
+        let setting = Setting { workers: 2, way };
+        assert!(rt; meet_in_a_round(&rt, rt.alloc(), TWO_GROUPS, setting, TWO)?);
+    }
+    Ok(())
+}
+
+// What they did goes by the queue.
+#[test]
+fn two_workers_of_a_streamed_round_run_at_once(rt: HostRuntime) -> Result<(), Fail> {
     for quantum in [1, 1024] {
         let way = Way::Streamed(quantum);
         let setting = Setting { workers: 2, way };
-        let gate = Meeting::of(2, 2);
-        assert!(rt; meet_in_a_round(&rt, rt.alloc(), TWO_GROUPS, setting, &gate, false)?);
-        assert!(rt; gate.taken.load(SeqCst) == 0x110);
+        assert!(rt; meet_in_a_round(&rt, rt.alloc(), TWO_GROUPS, setting, TWO)?);
     }
     Ok(())
 }
@@ -138,13 +185,30 @@ fn two_workers_run_at_once_in_a_run_that_is_written(rt: HostRuntime) -> Result<(
 const THREE_GROUPS: &[u8] =
     br#"{"version":1,"nodes":[{"name":"n","groups":[{"name":"a","kind":"exclusive"},{"name":"b","kind":"exclusive"},{"name":"c","kind":"exclusive"}],"timers":[{"name":"s","period":1,"group":"a","script":[]},{"name":"t","period":1,"group":"b","script":[]},{"name":"u","period":1,"group":"c","script":[]}]}],"moments":[1]}"#;
 
+const THREE: Halves = Halves {
+    half: 3,
+    held: 1,
+    both: false,
+    told: 0x1110,
+};
+
 #[test]
-fn a_worker_claims_what_another_leaves(rt: HostRuntime) -> Result<(), Fail> {
-    for way in [Way::Claimed(1), Way::Streamed(1)] {
-        let setting = Setting { workers: 2, way };
-        let gate = Meeting::of(3, 1);
-        assert!(rt; meet_in_a_round(&rt, rt.alloc(), THREE_GROUPS, setting, &gate, false)?);
-    }
+fn a_worker_of_a_claimed_round_claims_what_another_leaves(rt: HostRuntime) -> Result<(), Fail> {
+    let setting = Setting {
+        workers: 2,
+        way: Way::Claimed(1),
+    };
+    assert!(rt; meet_in_a_round(&rt, rt.alloc(), THREE_GROUPS, setting, THREE)?);
+    Ok(())
+}
+
+#[test]
+fn a_worker_of_a_streamed_round_claims_what_another_leaves(rt: HostRuntime) -> Result<(), Fail> {
+    let setting = Setting {
+        workers: 2,
+        way: Way::Streamed(1),
+    };
+    assert!(rt; meet_in_a_round(&rt, rt.alloc(), THREE_GROUPS, setting, THREE)?);
     Ok(())
 }
 
@@ -164,13 +228,30 @@ fn a_worker_claims_what_another_leaves_in_a_run(rt: HostRuntime) -> Result<(), F
 const FOUR_GROUPS: &[u8] =
     br#"{"version":1,"nodes":[{"name":"n","groups":[{"name":"a","kind":"exclusive"},{"name":"b","kind":"exclusive"},{"name":"c","kind":"exclusive"},{"name":"d","kind":"exclusive"}],"timers":[{"name":"t1","period":1,"group":"a","script":[]},{"name":"t2","period":1,"group":"b","script":[]},{"name":"t3","period":1,"group":"c","script":[]},{"name":"t4","period":1,"group":"d","script":[]},{"name":"t5","period":1,"group":"a","script":[]},{"name":"t6","period":1,"group":"b","script":[]},{"name":"t7","period":1,"group":"c","script":[]},{"name":"t8","period":1,"group":"d","script":[]}]}],"moments":[1]}"#;
 
+const FOUR_AND_FOUR: Halves = Halves {
+    half: 4,
+    held: 4,
+    both: true,
+    told: 0x1_1111_1110,
+};
+
 #[test]
-fn four_workers_run_all_of_their_claims(rt: HostRuntime) -> Result<(), Fail> {
-    for way in [Way::Claimed(2), Way::Streamed(2)] {
-        let setting = Setting { workers: 4, way };
-        let gate = Meeting::of(4, 4);
-        assert!(rt; meet_in_a_round(&rt, rt.alloc(), FOUR_GROUPS, setting, &gate, true)?);
-    }
+fn four_workers_of_a_claimed_round_run_all_of_their_claims(rt: HostRuntime) -> Result<(), Fail> {
+    let setting = Setting {
+        workers: 4,
+        way: Way::Claimed(2),
+    };
+    assert!(rt; meet_in_a_round(&rt, rt.alloc(), FOUR_GROUPS, setting, FOUR_AND_FOUR)?);
+    Ok(())
+}
+
+#[test]
+fn four_workers_of_a_streamed_round_run_all_of_their_claims(rt: HostRuntime) -> Result<(), Fail> {
+    let setting = Setting {
+        workers: 4,
+        way: Way::Streamed(2),
+    };
+    assert!(rt; meet_in_a_round(&rt, rt.alloc(), FOUR_GROUPS, setting, FOUR_AND_FOUR)?);
     Ok(())
 }
 
@@ -189,12 +270,18 @@ fn four_workers_run_all_of_their_claims_in_a_run(rt: HostRuntime) -> Result<(), 
 const EIGHT_GROUPS: &[u8] =
     br#"{"version":1,"nodes":[{"name":"n","groups":[{"name":"a","kind":"exclusive"},{"name":"b","kind":"exclusive"},{"name":"c","kind":"exclusive"},{"name":"d","kind":"exclusive"},{"name":"e","kind":"exclusive"},{"name":"f","kind":"exclusive"},{"name":"g","kind":"exclusive"},{"name":"h","kind":"exclusive"}],"timers":[{"name":"t1","period":1,"group":"a"},{"name":"t2","period":1,"group":"b"},{"name":"t3","period":1,"group":"c"},{"name":"t4","period":1,"group":"d"},{"name":"t5","period":1,"group":"e"},{"name":"t6","period":1,"group":"f"},{"name":"t7","period":1,"group":"g"},{"name":"t8","period":1,"group":"h"}]}],"moments":[1]}"#;
 
+const EIGHT: Halves = Halves {
+    half: 8,
+    held: 8,
+    both: false,
+    told: 0x1_1111_1110,
+};
+
 #[test]
 fn eight_workers_run_at_once(rt: HostRuntime) -> Result<(), Fail> {
     for way in [Way::Forked, Way::Claimed(1), Way::Streamed(1)] {
         let setting = Setting { workers: 8, way };
-        let gate = Meeting::of(8, 8);
-        assert!(rt; meet_in_a_round(&rt, rt.alloc(), EIGHT_GROUPS, setting, &gate, false)?);
+        assert!(rt; meet_in_a_round(&rt, rt.alloc(), EIGHT_GROUPS, setting, EIGHT)?);
     }
     Ok(())
 }

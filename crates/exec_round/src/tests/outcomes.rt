@@ -1,13 +1,13 @@
 // Calls of a queue of outcomes, and what a lane gives of its callbacks.
-ghost use Rattle.std.specs.Prelude.{◌≡◌, ◌<◌, ◌∷◌, ◌++◌, [], true, map, MatchOption};
+ghost use Rattle.std.specs.Prelude.{◌≡◌, ◌<◌, ◌∷◌, ◌++◌, [], true, map, IfOk, MatchOption};
 ghost use Rattle.exec_lane.specs.declared.outcome.Outcome.{Outcome};
-ghost use Rattle.exec_round.specs.Outcomes.{first_hand};
+ghost use Rattle.exec_stream.specs.Outcomes.{first_hand};
 ghost use Rattle.crossbeam_queue.specs.Passes.{IsPassOf, view};
 
 use super::lanes::{EXCLUSIVE, split_first};
 use super::world_of;
 use crate::laws::{OutcomePass, OutcomeQueue, outcome_queue, put_outcome, take_outcome};
-use exec_lane::{LaneBox, Open, Outcome};
+use exec_lane::{CopiedEffects, LaneBox, Open, Outcome};
 use exec_msg::Memory;
 use exec_script::{Close, Effect, EffectList, Effects};
 use exec_world::World;
@@ -15,16 +15,18 @@ use std::alloc::Global;
 use std::sync::Wait;
 use std::test::Fail;
 
-fn outcome(alloc: Global, position: usize) -> Outcome
-    ensures { result.position ≡ position }
+// An outcome of a callback that did nothing.
+fn outcome(alloc: Global, position: usize) -> Result<Outcome, Memory>
+    ensures { IfOk result (λ outcome. outcome.position ≡ position) }
 {
-    Outcome {
+    let nothing = Effects {
+        list: EffectList::new(alloc),
+        close: Close::Nothing,
+    };
+    Ok(Outcome {
         position,
-        effects: Effects {
-            list: EffectList::new(alloc),
-            close: Close::Nothing,
-        },
-    }
+        effects: CopiedEffects::of(alloc, &nothing)?,
+    })
 }
 
 // Puts an outcome with this position, and answers the position of what came back.
@@ -34,19 +36,20 @@ fn put<R: Wait>(
     queue: &OutcomeQueue,
     pass: &mut OutcomePass,
     position: usize,
-) -> Option<usize>
+) -> Result<Option<usize>, Memory>
     requires queue { IsPassOf queue.now pass.old }
     requires parts { 0 < (view pass.old).parts }
     ensures queue { IsPassOf queue.now pass.new }
     ensures parts { (view pass.new).parts ≡ (view pass.old).parts }
     ensures took { (view pass.new).took ≡ (view pass.old).took }
-    ensures put { MatchOption result
+    ensures put { IfOk result (λ back. MatchOption back
         (map (λ (one : Outcome). one.position) (view pass.new).put ≡ map (λ (one : Outcome). one.position) (view pass.old).put ++ position ∷ [])
-        (λ _. (view pass.new).put ≡ (view pass.old).put) }
+        (λ _. (view pass.new).put ≡ (view pass.old).put)) }
 {
-    match put_outcome(rt, queue, pass, outcome(alloc, position)) {
-        Ok(()) => None,
-        Err(back) => Some(back.position),
+    let outcome = outcome(alloc, position)?;
+    match put_outcome(rt, queue, pass, outcome) {
+        Ok(()) => Ok(None),
+        Err(back) => Ok(Some(back.position)),
     }
 }
 
@@ -79,13 +82,13 @@ fn puts_and_takes<R: Wait>(
     ensures put { result ≡ true → map (λ (one : Outcome). one.position) (view pass.new).put ≡ 1 ∷ 2 ∷ 3 ∷ [] }
     ensures took { result ≡ true → map (λ (one : Outcome). one.position) (view pass.new).took ≡ 1 ∷ 2 ∷ 3 ∷ [] }
 {
-    let None = put(rt, alloc, queue, pass, 1) else {
+    let Ok(None) = put(rt, alloc, queue, pass, 1) else {
         return false;
     };
-    let None = put(rt, alloc, queue, pass, 2) else {
+    let Ok(None) = put(rt, alloc, queue, pass, 2) else {
         return false;
     };
-    let Some(3) = put(rt, alloc, queue, pass, 3) else {
+    let Ok(Some(3)) = put(rt, alloc, queue, pass, 3) else {
         return false;
     };
     let Some(1) = take(rt, queue, pass) else {
@@ -97,7 +100,7 @@ fn puts_and_takes<R: Wait>(
     let None = take(rt, queue, pass) else {
         return false;
     };
-    let None = put(rt, alloc, queue, pass, 3) else {
+    let Ok(None) = put(rt, alloc, queue, pass, 3) else {
         return false;
     };
     let Some(3) = take(rt, queue, pass) else {
@@ -131,8 +134,8 @@ fn run_both(lane: &mut LaneBox) -> Result<(Outcome, Outcome), Memory> {
 
 fn is_log(outcome: &Outcome, position: usize, value: i64) -> bool {
     outcome.position == position
-        && outcome.effects.list.as_slice() == [Effect::Log(value)].as_slice()
-        && matches!(&outcome.effects.close, Close::Nothing)
+        && outcome.effects.list() == [Effect::Log(value)].as_slice()
+        && matches!(outcome.effects.close(), Close::Nothing)
 }
 
 // Whether the two callbacks of the first lane of a world's first round logged these values.

@@ -250,17 +250,35 @@ fn lines_at_last<R: Threads + Wait + Sync, G: Gate>(
     lines_of(next(rt, alloc, world, 20, setting, gate)?)
 }
 
-#[test]
-fn three_callbacks_of_the_last_round_meet(rt: HostRuntime) -> Result<(), Fail> {
-    let alone = first_lines(rt.alloc(), SIXTEEN_GOALS, 20)?;
+// Whether three callbacks of the last round meet, with three workers and with 64, and the lines are those of one thread.
+fn three_meet<R: Threads + Wait + Sync>(rt: &R, alloc: Global, way: Way) -> Result<bool, Refused> {
+    let alone = first_lines(alloc, SIXTEEN_GOALS, 20)?;
     for workers in [3, 64] {
-        for way in [Way::Forked, Way::Claimed(1), Way::Streamed(1)] {
-            let setting = Setting { workers, way };
-            let gate = Three::new();
-            let world = world_of(rt.alloc(), SIXTEEN_GOALS)?;
-            let lines = lines_at_last(&rt, rt.alloc(), world, setting, &gate)?;
-            assert!(rt; gate.met() && lines.as_slice() == alone.as_slice());
+        let setting = Setting { workers, way };
+        let gate = Three::new();
+        let world = world_of(alloc, SIXTEEN_GOALS)?;
+        let lines = lines_at_last(rt, alloc, world, setting, &gate)?;
+        if !gate.met() || lines.as_slice() != alone.as_slice() {
+            return Ok(false);
         }
     }
+    Ok(true)
+}
+
+#[test]
+fn three_callbacks_of_the_last_forked_round_meet(rt: HostRuntime) -> Result<(), Fail> {
+    assert!(rt; three_meet(&rt, rt.alloc(), Way::Forked)?);
+    Ok(())
+}
+
+#[test]
+fn three_callbacks_of_the_last_claimed_round_meet(rt: HostRuntime) -> Result<(), Fail> {
+    assert!(rt; three_meet(&rt, rt.alloc(), Way::Claimed(1))?);
+    Ok(())
+}
+
+#[test]
+fn three_callbacks_of_the_last_streamed_round_meet(rt: HostRuntime) -> Result<(), Fail> {
+    assert!(rt; three_meet(&rt, rt.alloc(), Way::Streamed(1))?);
     Ok(())
 }

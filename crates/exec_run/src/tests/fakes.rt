@@ -74,6 +74,30 @@ impl Write for Sink {
     }
 }
 
+/// Holds what it takes until it is flushed. Its first flushes are interrupted.
+#[derive(Drop)]
+pub struct Holding {
+    pub held: Vec<u8>,
+    pub given: Vec<u8>,
+    pub interruptions: usize,
+}
+
+impl Write for Holding {
+    fn write(&mut self, buf: &[u8]) -> io::Result<usize> {
+        self.held.extend_from_slice(buf)?;
+        Ok(buf.len())
+    }
+
+    fn flush(&mut self) -> io::Result<()> {
+        if self.interruptions > 0 {
+            self.interruptions -= 1;
+            return Err(io::Error::from(ErrorKind::Interrupted));
+        }
+        self.given.append(&mut self.held)?;
+        Ok(())
+    }
+}
+
 /// The words that a program is started with, its own name first.
 #[derive(Clone, Copy)]
 pub struct Arguments<'a, 'b>(pub &'a [&'b [u8]]);

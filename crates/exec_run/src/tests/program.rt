@@ -1,5 +1,5 @@
-use super::fakes::{Arguments, End, Sink, Source, Spaces};
-use exec_io::{InputStream, WordsFault, read_words};
+use super::fakes::{Arguments, End, Holding, Sink, Source, Spaces};
+use exec_io::{InputStream, Uninterrupted, WordsFault, read_words};
 use exec_lane::{Gate, Open};
 use exec_program::{Status, execute};
 use exec_round::{Out, RunFault, Through, run_into};
@@ -349,6 +349,33 @@ fn a_writer_that_fails_has_a_front(rt: HostRuntime) {
             }
         }
     }
+}
+
+#[test]
+fn flushes_until_it_is_not_interrupted(rt: HostRuntime) -> Result<(), Fail> {
+    let alloc = rt.alloc();
+    let mut input = InputStream::new(TIMER.as_bytes());
+    let mut output = Through::new(Uninterrupted {
+        stream: Holding {
+            held: Vec::new(alloc),
+            given: Vec::new(alloc),
+            interruptions: 3,
+        },
+    });
+    let mut errors = Through::new(Vec::new(alloc));
+    let status = execute(
+        &rt,
+        alloc,
+        Ok(words(alloc, &["1", "1"])?),
+        &Open,
+        &mut input,
+        &mut output,
+        &mut errors,
+    );
+    let Holding { held, given, .. } = output.writer.stream;
+    assert!(rt; status == Status::Written && held.is_empty());
+    assert!(rt; given.as_slice() == TRANSCRIPT.as_bytes());
+    Ok(())
 }
 
 #[test]

@@ -1,10 +1,7 @@
-use Rattle.std.proofs.Common.{◌≡◌, ◌≤◌, reverse, vec_len}
+use Rattle.std.proofs.Common.{◌≡◌, ◌+◌, ◌≤◌, drop, length}
 use Rattle.exec_round.specs.inner.Commits.{after_commits}
 use Rattle.exec_round.proofs.rounds.commit_each.Given as goal
 
 -- what is left to commit, from here, is all, from the start
-abbrev pub invariant-loop-one : goal.invariant-loop-one
-invariant-loop-one g l = (after_commits (reverse l.left.items) l.world ≡ after_commits l.fn.all.items l.fn.world) × (vec_len l.left ≤ l.world.uncommitted)
-
-abbrev pub decreases-loop-one : goal.decreases-loop-one
-decreases-loop-one g l = vec_len l.left
+abbrev pub invariant-loop-index : goal.invariant-loop-index
+invariant-loop-index g l = (after_commits (drop l.index l.fn.all) l.world ≡ after_commits l.fn.all l.fn.world) × (length l.fn.all ≤ l.world.uncommitted + l.index)

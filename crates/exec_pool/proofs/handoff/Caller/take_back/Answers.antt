@@ -5,7 +5,7 @@ use prog.Atomic.{either}
 use Rattle.atomic_table.specs.Table.{Allows, step}
 use Rattle.exec_pool.specs.Pair.{PairRule}
 use Rattle.exec_pool.specs.Plays.{Mine, taken_back_so}
-use Rattle.exec_pool.proofs.Seating.{caller_has, in_slot}
+use Rattle.exec_pool.proofs.Seating.{came_back, caller_has, in_slot, runs_as_it_was}
 use Rattle.exec_pool.proofs.Steps.{takes_back}
 use Rattle.exec_pool.proofs.handoff.Caller.take_back.Goals as goal
 
@@ -23,4 +23,9 @@ compare_exchange-word-requires c =
 pub exchange-requires : goal.exchange-requires
 exchange-requires c =
     let won = c.compare_exchange-word.ensures.2.0 c.if-word-ne-POSTED.false in
-    (c.compare_exchange-word.ensures.0 ∙ c.self.invariant.same ∙ sym (ap (λ t. t.shared.table_id) c.deref-2.ensures), in_slot c.compare_exchange-word.new.seat.me _ _ won.2)
+    (c.compare_exchange-word.ensures.0 ∙ c.self.invariant.same ∙ sym (ap (λ t. t.shared.table_id) c.deref-2.ensures), in_slot c.compare_exchange-word.new.seat.me _ _ won.3)
+
+pub returns-clause-back : goal.returns-clause-back
+returns-clause-back c =
+    let won = c.compare_exchange-word.ensures.2.0 c.if-word-ne-POSTED.false in
+    came_back c.self.inside.seat.me.0 c.compare_exchange-word.new.seat.me won.0 won.0 c.exchange.result c.args.self.now c.self.view_is won.1 (runs_as_it_was won.0 won.2) won.3 c.exchange.ensures.2

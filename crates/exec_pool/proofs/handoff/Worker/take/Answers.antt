@@ -23,4 +23,4 @@ compare_exchange-word-requires c =
 pub exchange-requires : goal.exchange-requires
 exchange-requires c =
     let won = c.compare_exchange-word.ensures.2.0 c.if-word-ne-POSTED.false in
-    (c.compare_exchange-word.ensures.0 ∙ c.self.invariant.same ∙ sym (ap (λ t. t.shared.table_id) c.deref-3.ensures), in_slot c.compare_exchange-word.new.seat.me _ _ won.1)
+    (c.compare_exchange-word.ensures.0 ∙ c.self.invariant.same ∙ sym (ap (λ t. t.shared.table_id) c.deref-3.ensures), in_slot c.compare_exchange-word.new.seat.me _ _ won.2)

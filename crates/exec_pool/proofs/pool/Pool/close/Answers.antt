@@ -1,5 +1,5 @@
 use Rattle.std.proofs.Common.{subst}
-use Rattle.exec_pool.proofs.Portioned.{AreIdle, front_idle, last_idle}
+use Rattle.exec_pool.proofs.Following.{AreIdle, front_idle, last_idle}
 use Rattle.exec_pool.proofs.pool.Pool.close.Goals as goal
 
 pub loop-caller-init : goal.loop-caller-init

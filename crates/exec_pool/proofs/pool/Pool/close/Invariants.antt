@@ -1,4 +1,4 @@
-use Rattle.exec_pool.proofs.Portioned.{AreIdle}
+use Rattle.exec_pool.proofs.Following.{AreIdle}
 use Rattle.exec_pool.proofs.pool.Pool.close.Given as goal
 
 -- no job is out

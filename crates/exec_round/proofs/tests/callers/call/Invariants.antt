@@ -1,5 +1,5 @@
 use Rattle.std.proofs.Common.{◌≡◌}
-use Rattle.exec_round.specs.inner.Division.{IsSweptPass}
+use Rattle.exec_board.specs.Sweeps.{IsSweptPass}
 use Rattle.exec_round.proofs.tests.callers.call.Given as goal
 
 -- it is the pass that it was, of the same share

@@ -1,4 +1,0 @@
-use Rattle.exec_round.proofs.keeping.Crew.end.Given as goal
-
-abbrev pub decreases-loop-thread : goal.decreases-loop-thread
-decreases-loop-thread g l = goal.left-loop-thread g l

@@ -1,5 +1,0 @@
-use Rattle.exec_round.proofs.Balances.{merges}
-use Rattle.exec_round.proofs.laws.join_pass.Goals as goal
-
-pub absorb-requires-clause-rule : goal.absorb-requires-clause-rule
-absorb-requires-clause-rule c = merges _ _ _ _ c.requires.parts

@@ -1,5 +1,0 @@
-use Rattle.exec_round.proofs.Balances.{begins}
-use Rattle.exec_round.proofs.laws.outcome_queue.Goals as goal
-
-pub ruled-requires-clause-rule : goal.ruled-requires-clause-rule
-ruled-requires-clause-rule c = begins

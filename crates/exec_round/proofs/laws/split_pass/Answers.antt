@@ -1,5 +1,0 @@
-use Rattle.exec_round.proofs.Balances.{forks}
-use Rattle.exec_round.proofs.laws.split_pass.Goals as goal
-
-pub another-requires-clause-rule : goal.another-requires-clause-rule
-another-requires-clause-rule c = forks _ _ c.requires.parts

@@ -1,0 +1,4 @@
+pub mod Outcomes
+pub mod Sending
+pub mod Sent
+pub mod Streams
