@@ -3,7 +3,11 @@ one of release/. If neither is that of the sources, it is proved and built first
 refused, the places of its faults are told, as explain tells them.
 
 The proved program is for Linux on x86-64. With --reference an executor in Python runs the document, on any machine. It is
-written apart from the program, by docs/rules.md alone. Nothing of it is proved; tests compare both byte by byte."""
+written apart from the program, by docs/rules.md alone. Nothing of it is proved; tests compare both byte by byte.
+
+With --definitions the definitions of which the theorem speaks are read from docs/HEADLINE.md, as the page prints them, and
+computed. --trace shows what they say of one round, step by step, with the line of each on the page. --ask computes an expression,
+in which `plan` is the document's plan."""
 import argparse
 import os
 
@@ -15,12 +19,15 @@ CHUNK = 1 << 20
 
 def parser(prog=None):
     made = command.parser(__doc__, STATUS, prog)
-    made.add_argument("document", metavar="DOCUMENT", help="a document; - is standard input")
+    made.add_argument("document", metavar="DOCUMENT", nargs="?", help="a document; - is standard input. --ask does without it")
     workers = "how many workers run the callbacks of a round at most, 1 to 64; 1 if it isn't given. The transcript is the same"
     made.add_argument("--workers", metavar="N", type=number_up_to(64), default=1, help=workers)
     quantum = "how many callbacks a worker runs at a time at most, 1 to 1024; 1 if it isn't given. The transcript is the same"
     made.add_argument("--quantum", metavar="N", type=number_up_to(1024), default=1, help=quantum)
     made.add_argument("--reference", action="store_true", help="run it by the executor in Python, of which nothing is proved")
+    made.add_argument("--definitions", action="store_true", help="compute its transcript by the definitions of docs/HEADLINE.md")
+    made.add_argument("--trace", metavar="ROUND", type=number_up_to(65536), help="show what the definitions say of this round, step by step")
+    made.add_argument("--ask", metavar="EXPRESSION", help="compute an expression by the definitions, as 'length plan.moments'")
     return made
 
 
@@ -34,11 +41,18 @@ def number_up_to(most):
 
 
 def run(asked, out):
+    if asked.document is None:
+        if asked.ask is None:
+            raise command.Trouble("a DOCUMENT is wanted, or - for standard input")
+        return by_definitions(asked, None, out)
     with command.source(asked.document) as stream:
         given = stream.read(grammar.MOST_BYTES + 1)
     if len(given) > grammar.MOST_BYTES:
         raise command.Trouble(f"{command.shown(asked.document)}: more than {grammar.MOST_BYTES} bytes; the program reads no longer document")
-    refused = by_reference(given, out) if asked.reference else by_program(asked, given, out)
+    if asked.definitions or asked.trace or asked.ask is not None:
+        refused = by_definitions(asked, given, out)
+    else:
+        refused = by_reference(given, out) if asked.reference else by_program(asked, given, out)
     if refused:
         tell_faults(asked.document, given)
         if asked.output != command.STANDARD and os.path.isfile(asked.output):
@@ -87,4 +101,21 @@ def by_reference(given, out):
         return True
     command.note("run: this is the transcript of the executor in Python, and not of the proved program")
     out.write(text)
+    return False
+
+
+# ---- the definitions
+
+
+def by_definitions(asked, given, out):
+    """Answers what is asked of the definitions; True if the document was refused."""
+    from ..definitions import program
+
+    try:
+        out.write(program.answer(given, asked.trace, asked.ask))
+    except program.Refused as refused:
+        command.note(f"refused {refused}")
+        return True
+    if not asked.trace and asked.ask is None:
+        command.note("run: this is what the definitions of docs/HEADLINE.md give, computed in Python, and not the proved program's transcript")
     return False

@@ -1,0 +1,136 @@
+"""Answers of the definitions: what a document's bytes are by them, and what an expression gives."""
+import functools
+import sys
+import threading
+
+from .. import command
+from . import compiler, library, names, page, steps, syntax, tree
+from .values import NONE, Pair, shown, tag
+
+# What the definitions recur takes this much of the stack in a Python before 3.11, where the longest list has 65,536 elements.
+STACK = 1 << 29
+DEEP = 1 << 24
+# The definitions of which the theorem speaks.
+DOCUMENT, TEXT, REFUSAL = "document_of", "text_of", "refusal_of"
+
+
+class Program:
+    """The definitions of a page as Python functions, in `space` by their names there."""
+
+    def __init__(self, read):
+        self.names = names.Names(read)
+        self.compiler = compiler.Compiler(self.names)
+        lines = []
+        for item in self.names.definitions:
+            if not item.is_type():
+                lines += self.compiler.definition(item)
+        for item in self.names.constants:
+            lines += self.compiler.constant(item)
+        self.space = {"NONE": NONE, "Pair": Pair, "Unfit": Unfit, "constant": functools.lru_cache(None), "kept": kept}
+        self.space.update((made.__name__, made) for made in library.FUNCTIONS.values())
+        self.run("\n".join(lines))
+
+    def run(self, text):
+        for name in self.compiler.used:
+            self.space[f"T_{name}"], self.space[f"VT_{name}"] = tag(name), tag(name).alone
+        exec(compile(text, page.PAGE, "exec"), self.space)
+
+    def python(self, name):
+        """The name in `space` of the function of a definition."""
+        return self.compiler.python[id(self.names.named(name))]
+
+    def ask(self, name, *given):
+        return self.space[self.python(name)](*given)
+
+    # ---- what is asked
+
+    def plan(self, document):
+        """The plan that a document's bytes say. Refused is raised if they say none."""
+        found = self.ask(DOCUMENT, tuple(document))
+        if found is NONE:
+            raise Refused(self.names.number(self.ask(REFUSAL, tuple(document))[1][0].name))
+        return found[1]
+
+    def text(self, document):
+        """The transcript of a document's bytes."""
+        return bytes(self.ask(TEXT, self.plan(document))).decode("ascii")
+
+    def steps(self, document, number):
+        """What the definitions say of the round of a number, step by step."""
+        return "".join(steps.Steps(self, self.plan(document), number).lines_of_round())
+
+    def value(self, text, document=None):
+        """What an expression gives. In it `plan` is the plan of a document, if there is one."""
+        parser = syntax.Parser(syntax.tokens_of([page.Line(1, 1, text)]), self.names.operators)
+        try:
+            made = parser.expression()
+            parser.demand_end()
+            is_of_plan = document is not None and "plan" in tree.free(made)
+            body = self.compiler.expression(made, {"plan": "asked_plan"} if is_of_plan else {})
+        except page.Unknown as wrong:
+            raise command.Trouble(f"{text}: {wrong.says}") from None
+        if is_of_plan:
+            self.space["asked_plan"] = self.plan(document)
+        self.run(f"def asked():\n    return {body}")
+        try:
+            return shown(self.space["asked"]())
+        except (ArithmeticError, AttributeError, LookupError, TypeError, ValueError, Unfit):
+            raise command.Trouble(f"{text}: a definition is asked of what has another type") from None
+
+
+def answer(document, number=None, expression=None):
+    """What the definitions of the page that is shipped answer: of the round of a number, of an expression, or else the transcript."""
+
+    def work():
+        made = Program(page.read())
+        if expression is not None:
+            return f"{made.value(expression, document)}\n"
+        return made.steps(document, number) if number else made.text(document)
+
+    return deeply(work)
+
+
+class Refused(Exception):
+    """A document is refused; it has the number of the code."""
+
+
+class Unfit(command.Trouble):
+    """No equation of a definition fits, which the prover doesn't allow."""
+
+    def __init__(self, name, line):
+        super().__init__(f"{command.place(page.PAGE, line)}no equation of {name} fits what it is asked of")
+
+
+def kept(function):
+    """A function of one argument that knows its last answer."""
+    last, answer = object(), None
+
+    def asked(given):
+        nonlocal last, answer
+        if given is not last:
+            answer = function(given)
+            last = given
+        return answer
+
+    return asked
+
+
+def deeply(work):
+    """Does work whose calls go deep, on a thread with a stack for that, and gives what it gives."""
+    found = []
+
+    def within():
+        try:
+            found.append((work(), None))
+        except BaseException as wrong:
+            found.append((None, wrong))
+
+    sys.setrecursionlimit(DEEP)
+    threading.stack_size(STACK)
+    thread = threading.Thread(target=within, daemon=True)
+    thread.start()
+    thread.join()
+    made, wrong = found[0]
+    if wrong:
+        raise wrong
+    return made
