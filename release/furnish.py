@@ -8,7 +8,8 @@ import sys
 
 TOP = pathlib.Path(__file__).resolve().parent.parent
 PROGRAMS = "exec_run", "exec_upgrade"
-FILES = "VERSION", "release/about", "release/NOTICES.md"
+# What else the package reads, by its name in the repository and in the folder.
+FILES = {"VERSION": "VERSION", "release/about": "about", "release/NOTICES.md": "NOTICES.md", "docs/HEADLINE.md": "docs/HEADLINE.md"}
 
 
 def program(name):
@@ -23,12 +24,12 @@ def program(name):
 
 
 def furnish(folder):
-    folder.mkdir(parents=True)
+    (folder / "docs").mkdir(parents=True)
     for name in PROGRAMS:
         (folder / name).write_bytes(program(name))
         (folder / name).chmod(0o755)
-    for name in FILES:
-        shutil.copyfile(TOP / name, folder / pathlib.Path(name).name)
+    for name, there in FILES.items():
+        shutil.copyfile(TOP / name, folder / there)
 
 
 if __name__ == "__main__":

@@ -10,7 +10,7 @@ from . import tool
 
 # What is built from, of the repository.
 FOLDERS = "debian", "tools/virraupez", "release"
-FILES = "Makefile", "pyproject.toml", ".gitignore", "README.md", "VERSION", "virraupez", "docs/virraupez.1"
+FILES = "Makefile", "pyproject.toml", ".gitignore", "README.md", "VERSION", "virraupez", "docs/virraupez.1", "docs/HEADLINE.md"
 # The places in which each is built, with what differs there.
 BUILDS = (("one", "022", {"TZ": "UTC", "LC_ALL": "C.UTF-8"}), ("another one", "077", {"TZ": "Asia/Tokyo", "LC_ALL": "C"}))
 PYTHON, PATH = "/usr/bin/python3", "/usr/sbin:/usr/bin:/sbin:/bin"
@@ -66,6 +66,8 @@ def works(what, command, top, **around):
     shutil.copy(tool.TOP / "examples/timer.json", room)
     timer = (tool.TOP / "examples/timer.txt").read_text()
     yield f"run by {what}", ran([*command, "run", "timer.json"], room, **around), (0, timer)
+    yield f"run --definitions by {what}", ran([*command, "run", "--definitions", "timer.json", "-o", "own.txt"], room, **around)[0], 0
+    yield f"what {what} computes", (room / "own.txt").read_text(), timer
     yield f"the version of {what}", ran([*command, "--version"], room, **around), (0, f"virraupez {(tool.TOP / 'VERSION').read_text()}")
     (room / "same.rules").write_text("never drop _\n")
     status, text = ran([*command, "search", "timer.json", "--rules", "same.rules", "--period", "t", "9..11"], room, **around)

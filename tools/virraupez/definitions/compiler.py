@@ -36,10 +36,10 @@ class Compiler:
         name, given = self.python[id(item)], [self.fresh("given") for _ in range(item.arity())]
         head = "@constant" if not given else "@kept" if len(given) == 1 and item.words[0] in READ and item.words[1] == "→" else None
         lines = [*([head] if head else []), f"def {name}({', '.join(given)}):"]
-        ends = Ends(self, item, given if has_loop else None)
+        closing = Ends(self, item, given if has_loop else None)
         begin = INDENT
         if has_loop and given:
-            lines.append(f"{INDENT}while True:")
+            lines += closing.begin()
             begin += INDENT
         for equation in item.equations:
             if len(equation.patterns) != len(given):
@@ -51,7 +51,7 @@ class Compiler:
             for step in steps:
                 lines.append(margin + step)
                 margin += INDENT if step.startswith("if ") else ""
-            lines += ends.lines(equation.body, scope, margin)
+            lines += closing.lines(equation.body, scope, margin)
             if margin == begin:
                 return lines
         return [*lines, f"{begin}raise Unfit({item.name!r}, {item.at})"]
@@ -108,7 +108,18 @@ class Compiler:
     def of_apply(self, node, scope):
         if isinstance(node.function, tree.Name) and node.function.name == "codes" and isinstance(node.given[0], tree.Text):
             return repr(library.codes(node.given[0].value))
+        if isinstance(node.function, tree.Name) and node.function.name == "◌∷◌":
+            return self.list(node, scope)
         return self.called(node.function, [self.expression(it, scope) for it in node.given], scope)
+
+    def list(self, node, scope):
+        """A list whose first elements are there."""
+        firsts = []
+        while isinstance(node, tree.Apply) and isinstance(node.function, tree.Name) and node.function.name == "◌∷◌":
+            firsts.append(self.expression(node.given[0], scope) + ",")
+            node = node.given[1]
+        others = self.expression(node, scope)
+        return f"({' '.join(firsts)})" if others == "()" else f"(({' '.join(firsts)}) + {others})"
 
     def of_lambda(self, node, scope):
         self.has_closure = True
@@ -155,7 +166,7 @@ class Compiler:
             return self.variant(shape, self.names.count(shape, len(given), function.at), given)
         if name in library.IN_PLACE:
             template = library.IN_PLACE[name][0]
-            return self.applied(lambda args: template.format(*args), template.count("{}"), given)
+            return self.applied(lambda args: template.format(*args), template.count("{"), given)
         if name in library.FUNCTIONS:
             made = library.FUNCTIONS[name]
             count = len(inspect.signature(made).parameters)
@@ -166,7 +177,8 @@ class Compiler:
 
     def variant(self, name, count, given):
         if name in SHAPES:
-            return self.applied(lambda args: SHAPES[name].made.format(*args), count, given)
+            made = SHAPES[name].made
+            return self.applied(lambda args: made.format(*args), count, given)
         made = self.tag(name)
         return self.applied(lambda args: f"({made}, {', '.join(args)})" if args else f"V{made}", count, given)
 
@@ -187,10 +199,15 @@ class Compiler:
 
 
 class Ends:
-    """The lines that end a function: a `return`, or one step round its loop, whose variables are `given`."""
+    """The lines that end a function: a `return`, or one step round its loop, whose variables are `given`. Where a function ends by a
+    list whose first element is there and whose others it asks itself for, the loop keeps the first in `made`."""
 
     def __init__(self, compiler, item, given):
         self.compiler, self.item, self.given = compiler, item, given
+        self.has_made = bool(given) and any(self.rest_of(end, {}) for equation in item.equations for end in ends(equation.body))
+
+    def begin(self):
+        return [f"{INDENT}made = []"] * self.has_made + [f"{INDENT}while True:"]
 
     def lines(self, node, scope, margin):
         make = self.compiler.expression
@@ -200,16 +217,34 @@ class Ends:
         if isinstance(node, tree.Let):
             name = self.compiler.fresh(node.name)
             return [f"{margin}{name} = {make(node.value, scope)}", *self.lines(node.body, {**scope, node.name: name}, margin)]
-        if self.given and self.asks_itself(node, scope):
-            values = ", ".join(make(it, scope) for it in node.given)
-            return [f"{margin}{', '.join(self.given)}, = {values},", f"{margin}continue"]
-        return [f"{margin}return {make(node, scope)}"]
+        rest = self.rest_of(node, scope)
+        if rest:
+            return [f"{margin}made.append({make(node.given[0], scope)})", *self.again(rest, scope, margin)]
+        if self.asks_itself(node, scope):
+            return self.again(node, scope, margin)
+        return [f"{margin}return {'tuple(made) + ' * self.has_made}{make(node, scope)}"]
+
+    def again(self, node, scope, margin):
+        values = ", ".join(self.compiler.expression(it, scope) for it in node.given)
+        return [f"{margin}{', '.join(self.given)}, = {values},", f"{margin}continue"]
+
+    def rest_of(self, node, scope):
+        """What an expression asks of its own function, where it is that behind a first element."""
+        is_list = isinstance(node, tree.Apply) and isinstance(node.function, tree.Name) and node.function.name == "◌∷◌"
+        return node.given[1] if is_list and self.asks_itself(node.given[1], scope) else None
 
     def asks_itself(self, node, scope):
-        if not isinstance(node, tree.Apply) or not isinstance(node.function, tree.Name) or len(node.given) != len(self.given):
+        if not self.given or not isinstance(node, tree.Apply) or not isinstance(node.function, tree.Name) or len(node.given) != len(self.given):
             return False
         name = node.function.name
         return name not in scope and self.compiler.names.value(name, self.item.file, self.item.at) is self.item
+
+
+def ends(node):
+    """The expressions with one of which another one ends."""
+    if isinstance(node, tree.If):
+        return [*ends(node.yes), *ends(node.no)]
+    return ends(node.body) if isinstance(node, tree.Let) else [node]
 
 
 def each(given):

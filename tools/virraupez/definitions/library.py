@@ -1,31 +1,34 @@
 """What the definitions take from the toolchain's libraries. All of this is trusted: a test compares it with the libraries' own
 definitions where the toolchain is. Each function says in a sentence what it is; one that is given to it takes one argument at a time.
 
-FUNCTIONS has them by their names. Of IN_PLACE each is written where it is used, as Python text, and takes only what it needs."""
+FUNCTIONS has them by their names. Of IN_PLACE each is written where it is used, as Python text, and computes only what it needs."""
 import re
 
 from .. import json_text
-from .values import NONE, SHAPES, VARIANTS, some, tag
+from .values import NONE, some, tag
 
 IN_PLACE = {
-    "◌+◌": ("({} + {})", "The sum of two natural numbers."),
-    "◌*◌": ("({} * {})", "Their product."),
-    "◌^◌": ("({} ** {})", "A natural number to the power of another."),
-    "◌==◌": ("({} == {})", "Whether two natural numbers are the same."),
-    "nat_le": ("({} <= {})", "Whether a natural number is at most another."),
-    "max": ("max({}, {})", "The greater of two natural numbers."),
-    "int_eq": ("({} == {})", "Whether two integers are the same."),
-    "int_lt": ("({} < {})", "Whether an integer is less than another."),
-    "int_min": ("min({}, {})", "The lesser of two integers."),
-    "int_max": ("max({}, {})", "The greater of two integers."),
-    "not": ("(not {})", "What is true where a Bool is false."),
-    "◌&&◌": ("({} and {})", "Whether both of two Bools are true."),
-    "◌||◌": ("({} or {})", "Whether one of two Bools is true, or both."),
-    "◌++◌": ("({} + {})", "The elements of a list, and then those of another."),
-    "length": ("len({})", "How many elements a list has."),
-    "bytes_eq": ("({} == {})", "Whether two lists of numbers are the same."),
-    "is_some": ("({} is not NONE)", "Whether an Option has something."),
-    "is_none": ("({} is NONE)", "Whether an Option has nothing."),
+    "◌+◌": ("({0} + {1})", "The sum of two natural numbers."),
+    "◌*◌": ("({0} * {1})", "Their product."),
+    "◌^◌": ("({0} ** {1})", "A natural number to the power of another."),
+    "◌==◌": ("({0} == {1})", "Whether two natural numbers are the same."),
+    "nat_le": ("({0} <= {1})", "Whether a natural number is at most another."),
+    "max": ("max({0}, {1})", "The greater of two natural numbers."),
+    "int_eq": ("({0} == {1})", "Whether two integers are the same."),
+    "int_lt": ("({0} < {1})", "Whether an integer is less than another."),
+    "int_min": ("min({0}, {1})", "The lesser of two integers."),
+    "int_max": ("max({0}, {1})", "The greater of two integers."),
+    "not": ("(not {0})", "What is true where a Bool is false."),
+    "◌&&◌": ("({0} and {1})", "Whether both of two Bools are true."),
+    "◌||◌": ("({0} or {1})", "Whether one of two Bools is true, or both."),
+    "◌++◌": ("({0} + {1})", "The elements of a list, and then those of another."),
+    "length": ("len({0})", "How many elements a list has."),
+    "take": ("{1}[:{0}]", "The first so many elements of a list, or all where there are fewer."),
+    "drop": ("{1}[{0}:]", "The elements behind them."),
+    "replicate": ("(({1},) * {0})", "A list of so many elements that are all the same."),
+    "bytes_eq": ("({0} == {1})", "Whether two lists of numbers are the same."),
+    "is_some": ("({0} is not NONE)", "Whether an Option has something."),
+    "is_none": ("({0} is NONE)", "Whether an Option has nothing."),
 }
 # Numbers that have a name: how many bits a word has, and the code of the letter by which digits beyond 9 begin.
 CONSTANTS = {"w64": 64, "w128": 128, "lower": ord("a")}
@@ -183,24 +186,6 @@ def fold(f, first, items):
 def sum_by(f, items):
     """The sum of the numbers that a function gives of the elements."""
     return sum([f(it) for it in items])
-
-
-@given
-def take(count, items):
-    """The first so many elements, or all where there are fewer."""
-    return items[:count]
-
-
-@given
-def drop(count, items):
-    """The others."""
-    return items[count:]
-
-
-@given
-def replicate(count, value):
-    """A list of so many elements that are all the same."""
-    return (value,) * count
 
 
 @given
@@ -389,4 +374,23 @@ def as_i64(number):
     return some(number) if isinstance(number, int) and number < 2**63 else NONE
 
 
-NAMES = {*IN_PLACE, *CONSTANTS, *STATED, *LANGUAGE, *FUNCTIONS, *VARIANTS, *SHAPES}
+
+# ---- a definition of the page that counts
+
+# From how many steps on it isn't counted.
+MANY = 100_000
+
+
+def first_reached(more, time, period, now):
+    """The first of time, time + period, time + 2 * period, .. that is at or after now, with so many steps at most. The definition of
+    this name takes them one after another, which for a timer that is late by 2^60 periods would take years."""
+    late = now - time if now > time else 0
+    return time + min(more, -(-late // period) if period else more) * period
+
+
+def counted(definition):
+    """The definition of that name, which for many steps is computed by a division."""
+    return lambda *given: (first_reached if given[0] > MANY else definition)(*given)
+
+
+NAMES = {*IN_PLACE, *CONSTANTS, *STATED, *LANGUAGE, *FUNCTIONS}

@@ -12,7 +12,7 @@ class Names:
     def __init__(self, page):
         self.page, self.definitions, self.constants, self.enums, self.worded = page, [], [], [], {}
         for name, at in page.library.items():
-            if name not in library.NAMES:
+            if name not in library.NAMES and name not in VARIANTS and name not in SHAPES:
                 raise Unknown(at, f"the library has {name}, which isn't in definitions/library.py")
         self.operators = syntax.operators_of(page.parts)
         for part in page.parts:

@@ -29,6 +29,8 @@ class Program:
         self.space = {"NONE": NONE, "Pair": Pair, "Unfit": Unfit, "constant": functools.lru_cache(None), "kept": kept}
         self.space.update((made.__name__, made) for made in library.FUNCTIONS.values())
         self.run("\n".join(lines))
+        counting = self.python("first_reached")
+        self.space[counting] = library.counted(self.space[counting])
 
     def run(self, text):
         for name in self.compiler.used:
@@ -62,6 +64,7 @@ class Program:
     def value(self, text, document=None):
         """What an expression gives. In it `plan` is the plan of a document, if there is one."""
         parser = syntax.Parser(syntax.tokens_of([page.Line(1, 1, text)]), self.names.operators)
+        self.compiler.file = None
         try:
             made = parser.expression()
             parser.demand_end()

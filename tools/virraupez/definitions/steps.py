@@ -81,7 +81,7 @@ class Steps:
     def ready(self, given, made):
         """The ready list: each callback with its place, its entity, its rank in the order, and why it is ready."""
         _, world = given
-        yield f"ready_list gives {len(made)} callbacks, in the order {in_line(world['order'])}"
+        yield f"ready_list gives {len(made)} callback{'s' * (len(made) != 1)}, in the order {in_line(world['order'])}"
         for one in made:
             rank = self.program.ask("rank_under", world["order"], world, one)
             candidates = f", candidates {in_line(one['candidates'])}" if one["candidates"] else ""

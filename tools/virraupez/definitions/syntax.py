@@ -8,6 +8,7 @@ from .page import Unknown
 
 TOKEN = re.compile(r'"(?:[^"\\]|\\.)*"|[(){};,]|[^\s(){};,"]+')
 OPEN, CLOSE = ("(", "{"), (")", "}")
+STARTS = ("abbrev", "unfoldable", "pub", "infix", "infixl", "infixr")
 # What ends an expression, and what begins one that reaches as far as it can.
 ENDS = {*CLOSE, ";", ",", "=", "then", "else", "in", "←", ":", "|"}
 BEGINS = ("λ", "let", "if", "do")
@@ -43,11 +44,12 @@ def tokens_of(lines):
 
 
 def pieces(tokens):
-    """The pieces of a part: each begins at the left edge, and a bracket that closes there ends what it closes."""
+    """The pieces of a part: each begins at the left edge. A line in open brackets may begin there too, unless it begins a definition."""
     found, depth = [], 0
     for token in tokens:
-        if token.column == 0 and depth == 0 and token.text not in CLOSE:
+        if token.column == 0 and (token.text in STARTS or depth == 0 and token.text not in CLOSE):
             found.append([])
+            depth = 0
         found[-1].append(token)
         depth += (token.text in OPEN) - (token.text in CLOSE)
     return found
@@ -69,10 +71,10 @@ def items(part, operators):
         words = [token.text for token in piece]
         if words[:2] == ["pub", "data"]:
             yield data(part.file, piece)
-        elif words[0] in ("abbrev", "unfoldable", "pub") and words[:2] != ["pub", "record"]:
+        elif words[0] in STARTS[:3] and words[:2] != ["pub", "record"]:
             name = words[words.index(":") - 1]
             made[name] = tree.Definition(name, part.file, piece[0].at, words[words.index(":") + 1 :])
-        elif words[:2] != ["pub", "record"] and not words[0].startswith("infix"):
+        elif words[:2] != ["pub", "record"] and words[0] not in STARTS:
             add_equation(piece, operators, made)
     yield from made.values()
 

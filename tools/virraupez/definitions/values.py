@@ -43,9 +43,9 @@ SHAPES = {
     "false": Shape("not {}", (), "False"),
     "tt": Shape("True", (), "()"),
     "[]": Shape("not {}", (), "()"),
-    "∷": Shape("{}", ("{}[0]", "{}[1:]"), "({}, *{})"),
+    "∷": Shape("{}", ("{}[0]", "{}[1:]"), "(({},) + {})"),
     "no_items": Shape("not {}", (), "()"),
-    "item": Shape("{}", ("{}[0]", "{}[1:]"), "({}, *{})"),
+    "item": Shape("{}", ("{}[0]", "{}[1:]"), "(({},) + {})"),
 }
 # The other variants of the library, with how many fields each has.
 VARIANTS = {"None": 0, "Some": 1, "Ok": 1, "Err": 1, "null": 0, "boolean": 1, "number": 1, "string": 1, "array": 1, "object": 1}
