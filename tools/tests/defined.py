@@ -88,7 +88,7 @@ def of_page():
 def answer(made, given):
     """What the definitions say of a document's bytes: its transcript, or the code of its refusal."""
     try:
-        return made.text(given)
+        return made.text(given).decode()
     except program.Refused as refused:
         return f"refused {refused}\n"
 
@@ -139,7 +139,7 @@ def of_command():
     for expression, says in WRONG:
         yield f"run --ask {expression!r}", tool.within("run", "--ask", expression), (2, f"virraupez run: {says}\n")
     yield "run --ask of the plan of what is refused", tool.within("run", "cases/limits_513_timers.json", "--ask", "plan.moments")[0], 1
-    yield "run of no document", tool.within("run"), (2, "virraupez run: a DOCUMENT is wanted, or - for standard input\n")
+    yield "run of no document", tool.within("run"), (2, "virraupez run: this word is required: DOCUMENT, or --ask EXPRESSION\n")
     status, text = tool.within("run", "examples/keep_last.json", "--trace", 1)
     steps = [re.fullmatch(r"docs/HEADLINE\.md:(\d+): ((?: *(\w+)).*)", line).groups() for line in text.splitlines()]
     yield f"run --trace: {text}", (status, [line for line in TRACED.split("\n") if line not in [step for _, step, _ in steps]]), (0, [])

@@ -81,7 +81,7 @@ def of_installed(package):
     timer = (tool.TOP / "examples/timer.txt").read_text()
     yield "run by an installed program", started(package, "run", "examples/timer.json"), (0, timer)
     yield "run --reference of an installed package", started(package, "run", "--reference", "examples/timer.json")[1].endswith(timer), True
-    yield "run --definitions of an installed package", started(package, "run", "--definitions", "examples/timer.json")[1].startswith(timer), True
+    yield "run --definitions of an installed package", started(package, "run", "--definitions", "examples/timer.json")[1].endswith(timer), True
     yield "the version of an installed package", started(package, "--version"), (0, f"virraupez {(tool.TOP / 'VERSION').read_text()}")
     file = package / "shipped/exec_run"
     held = bytearray(file.read_bytes())

@@ -43,7 +43,7 @@ def number_up_to(most):
 def run(asked, out):
     if asked.document is None:
         if asked.ask is None:
-            raise command.Trouble("a DOCUMENT is wanted, or - for standard input")
+            raise command.Trouble("this word is required: DOCUMENT, or --ask EXPRESSION")
         return by_definitions(asked, None, out)
     with command.source(asked.document) as stream:
         given = stream.read(grammar.MOST_BYTES + 1)

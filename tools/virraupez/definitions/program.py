@@ -55,7 +55,7 @@ class Program:
 
     def text(self, document):
         """The transcript of a document's bytes."""
-        return bytes(self.ask(TEXT, self.plan(document))).decode("ascii")
+        return bytes(self.ask(TEXT, self.plan(document)))
 
     def steps(self, document, number):
         """What the definitions say of the round of a number, step by step."""
@@ -88,7 +88,7 @@ def answer(document, number=None, expression=None):
         made = Program(page.read())
         if expression is not None:
             return f"{made.value(expression, document)}\n"
-        return made.steps(document, number) if number else made.text(document)
+        return made.steps(document, number) if number else made.text(document).decode("ascii")
 
     return deeply(work)
 
