@@ -29,8 +29,9 @@ class Program:
         self.space = {"NONE": NONE, "Pair": Pair, "Unfit": Unfit, "constant": functools.lru_cache(None), "kept": kept}
         self.space.update((made.__name__, made) for made in library.FUNCTIONS.values())
         self.run("\n".join(lines))
-        counting = self.python("first_reached")
-        self.space[counting] = library.counted(self.space[counting])
+        if library.first_reached.__name__ in self.names.values:
+            counting = self.python(library.first_reached.__name__)
+            self.space[counting] = library.counted(self.space[counting])
 
     def run(self, text):
         for name in self.compiler.used:
