@@ -36,7 +36,7 @@ class Program:
     def run(self, text):
         for name in self.compiler.used:
             self.space[f"T_{name}"], self.space[f"VT_{name}"] = tag(name), tag(name).alone
-        exec(compile(text, page.PAGE, "exec"), self.space)
+        exec(compile(text, f"<{page.PAGE}>", "exec"), self.space)
 
     def python(self, name):
         """The name in `space` of the function of a definition."""
