@@ -33,7 +33,7 @@ CHANGES = (
     ("operation.Add a b = int_wrapping_add w64 a b", "operation.Add a b = int_wrapping_sub w64 a b", "wrapping"),
     ("Lt a b = if int_lt a b", "Lt a b = if int_lt b a", "comparisons"),
     ("skipped_by (step.Skip count) left = count", "skipped_by (step.Skip count) left = 0", "skips"),
-    ("nat_le goal.stamp (suc before)\n23", "nat_le goal.stamp before\n23", "run_cancel_up_to_a_stamp"),
+    ("selects zero (suc before) goal = nat_le goal.stamp (suc before)", "selects zero (suc before) goal = nat_le goal.stamp before", "run_cancel_up_to_a_stamp"),
     ("= has_id (suc id) goal || nat_le goal.stamp (suc before)", "= has_id (suc id) goal", "run_cancel_by_identifier_or_stamp"),
     ("nat_le (goal.ended + timeout) moment", "nat_le (goal.ended + timeout + 1) moment", "result_expires"),
     (" || (turn.canceling && not task.knows_canceling))", ")", "run_wait_that_a_cancel_ends"),

@@ -144,7 +144,7 @@ class Compiler:
         return "{" + ", ".join(base + [f"{name!r}: {self.expression(it, scope)}" for name, it in node.fields]) + "}"
 
     def of_field(self, node, scope):
-        return f"{self.expression(node.record, scope)}[{node.name if node.name.isdigit() else repr(node.name)}]"
+        return f"{self.expression(node.record, scope)}[{int(node.name) if node.name.isdecimal() else repr(node.name)}]"
 
     # ---- calls
 

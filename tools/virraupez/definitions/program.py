@@ -77,7 +77,7 @@ class Program:
             self.space["asked_plan"] = self.plan(document)
         self.run(f"def asked():\n    return {body}")
         try:
-            return shown(self.space["asked"]())
+            return self.space["asked"]()
         except (ArithmeticError, AttributeError, LookupError, TypeError, ValueError, Unfit):
             raise command.Trouble(f"{text}: a definition is asked of what has another type") from None
 
@@ -88,7 +88,7 @@ def answer(document, number=None, expression=None):
     def work():
         made = Program(page.read())
         if expression is not None:
-            return f"{made.value(expression, document)}\n"
+            return f"{shown(made.value(expression, document))}\n"
         return made.steps(document, number) if number else made.text(document).decode("ascii")
 
     return deeply(work)

@@ -240,7 +240,7 @@ class Parser:
             base = None if self.here() == "{" else self.atom()
             self.take("{")
             return self.fields(tree.Record(base, self.bracketed("}", self.assignments)))
-        if word.isdigit():
+        if word.isdecimal():
             return tree.Number(int(word))
         if word.startswith('"'):
             return tree.Text(word[1:-1])
