@@ -44,7 +44,8 @@ def run(asked, out):
     if asked.document is None:
         if asked.ask is None:
             raise command.Trouble("this word is required: DOCUMENT, or --ask EXPRESSION")
-        return by_definitions(asked, None, out)
+        by_definitions(asked, None, out)
+        return command.FINE
     with command.source(asked.document) as stream:
         given = stream.read(grammar.MOST_BYTES + 1)
     if len(given) > grammar.MOST_BYTES:
