@@ -116,6 +116,16 @@ def of_words():
     for words in ((), ("examples/empty.json", "examples/empty.txt"), ("examples/timer.json", "nowhere"), ("examples/timer.json", "README.md")):
         yield f"picture {words}", tool.run("picture", *words)[0], 2
     yield "rounds that are none", drawn("timer", "--rounds", "9-12")[0], 2
-    for rounds in ("x", "²", "1-²", "-2", "1" * 5000):
+    for rounds, status, says in (
+        ("2-3", 0, ""),
+        ("4", 0, ""),
+        ("3-", 0, ""),
+        ("3-5", 2, "there are no rounds 3 to 5: the transcript has 4\n"),
+        ("5-", 2, "there are no rounds 5 to 1004: the transcript has 4\n"),
+        ("5", 2, "there are no rounds 5 to 5: the transcript has 4\n"),
+    ):
+        found, text = drawn("timer", "--rounds", rounds)
+        yield f"the rounds {rounds} of four: {text[-99:]}", (found, text.endswith(says or "</svg>\n")), (status, True)
+    for rounds in ("x", "²", "1-²", "-2", "0", "0-2", "3-2", "1" * 5000):
         status, text = drawn("timer", f"--rounds={rounds}")
         yield f"the rounds {rounds[:40]}, that are no numbers", (status, "rounds are A-B" in text), (2, True)

@@ -40,6 +40,7 @@ def answers(program):
     yield from of_words()
     yield from of_faults()
     yield from of_reference()
+    yield from of_warnings()
     yield from of_machines()
     with sandbox.with_program(program) as top:
         yield from of_program(top)
@@ -87,15 +88,39 @@ def of_faults():
         yield "Ctrl-C at once", started(top, "schema"), (130, "")
 
 
+# One line of run says what explain would warn of.
+WARNING = re.compile(r"\S+:[0-9]+:[0-9]+: [0-9]+ warnings?, the first of .*\n$")
+
+
+def unwarned(found):
+    """What a run says, without what explain would warn of."""
+    return found[0], WARNING.sub("", found[1])
+
+
+def of_warnings():
+    """What explain would warn of is said once, behind the transcript."""
+    for name, says in (
+        ("examples/empty.json", "examples/empty.json:1:1: 1 warning, the first of moments: there are no `moments`: no round is run\n"),
+        ("cases/order_of_version_1.json", "cases/order_of_version_1.json:1:14: "),
+        ("examples/timer.json", None),
+    ):
+        told = tool.within("run", "--reference", name)[1]
+        found = WARNING.search(told)
+        yield f"what run says of {name}: {told}", bool(found) and found[0].startswith(says) if says else found, True if says else None
+    for words, status in (((), 0), (("--warnings-are-errors",), 1)):
+        yield f"explain {words} of a warning", tool.within("explain", *words, "examples/empty.json")[0], status
+    yield "explain --warnings-are-errors of no warning", tool.within("explain", "--warnings-are-errors", "examples/timer.json")[0], 0
+
+
 def of_reference():
     """The executor in Python gives the transcripts of the examples, and says that it isn't the program."""
     says = "run: this is the transcript of the executor in Python, and not of the proved program\n"
     for document in sorted((tool.TOP / "examples").glob("*.json")):
         should = document.with_suffix(".txt").read_text() + says
-        yield f"run --reference {document.name}", tool.run(COMMAND, "run", "--reference", document), (0, should)
+        yield f"run --reference {document.name}", unwarned(tool.run(COMMAND, "run", "--reference", document)), (0, should)
     for document in sorted((tool.TOP / "cases").glob("arrival_*.json")):
         should = document.with_suffix(".txt").read_text() + says
-        yield f"run --reference {document.name}", tool.within("run", "--reference", document), (0, should)
+        yield f"run --reference {document.name}", unwarned(tool.within("run", "--reference", document)), (0, should)
     given = (tool.TOP / "examples/timer.json").read_bytes()
     yield "run --reference -", tool.run(COMMAND, "run", "--reference", "-", given=given)[1], (tool.TOP / "examples/timer.txt").read_text() + says
     yield "run --reference of a refused document", tool.run(COMMAND, "run", "--reference", MISTAKE), (1, f"refused 4\n{tool.run('explain', MISTAKE)[1]}")
@@ -129,7 +154,7 @@ def of_program(top):
     """The program gives the transcripts of the examples, whatever the workers."""
     for document in sorted((tool.TOP / "examples").glob("*.json")):
         should = 0, document.with_suffix(".txt").read_text()
-        yield f"run {document.name}", started(top, "run", f"examples/{document.name}", "--workers", "4", "--quantum", "3"), should
+        yield f"run {document.name}", unwarned(started(top, "run", f"examples/{document.name}", "--workers", "4", "--quantum", "3")), should
     given = (tool.TOP / "examples/timer.json").read_bytes()
     yield "run -", started(top, "run", "-", given=given), (0, (tool.TOP / "examples/timer.txt").read_text())
     status = started(top, "run", "-o", "kept.txt", "examples/timer.json")

@@ -13,13 +13,18 @@ from virraupez import runs
 from . import sandbox, tool
 
 STRANGER = "#!/bin/sh\ncat >/dev/null\necho a stranger was here\n"
-# What a run reads of the package, and no more: it begins at once.
+# What a run reads of the package before the program has its document, and no more: it begins at once.
 READ = "command commands commands.run grammar launcher runs shipped virraupez".split()
 START = "import sys; from virraupez import launcher; sys.exit(launcher.entry())"
 LISTING = """import sys
-from virraupez import launcher
+from virraupez import launcher, runs
+feed, told = runs.feed, []
+def fed(*given):
+    told.extend(sorted(it.partition('.')[2] or it for it in sys.modules if it.startswith('virraupez')))
+    feed(*given)
+runs.feed = fed
 launcher.main(['run', 'examples/timer.json'])
-print(*sorted(it.partition('.')[2] or it for it in sys.modules if it.startswith('virraupez')))"""
+print(*told)"""
 
 
 def answers(program):

@@ -140,8 +140,8 @@ WRONG = (
     ("count state a ID CANCELED is 1", 15, "ID is a variable that is used once"),
     ("at end no pending C", 19, "C is a variable that is used once"),
     # Rules that hold whatever happens.
-    ("never drop c reply", 14, "nothing of the kind reply is ever dropped"),
-    ("never drop t timer", 14, "nothing of the kind timer is ever dropped"),
+    ("never drop c reply", 14, "no run has such a line: nothing of the kind reply is ever dropped"),
+    ("some drop t timer", 13, "no run has such a line: nothing of the kind timer is ever dropped"),
     ("never pub X X", 13, "no word is the name of a topic and a value, and X would be both"),
     ("never state A ID 4 after goal A ID", 31, "and A would be both"),
     ("never log s after pending c", 13, "this holds whatever happens: no line `log` comes after"),
@@ -179,6 +179,8 @@ UNDECLARED = (
     ("never run laser message", 17, "no kind of callback there; there is timer"),
     ("never log base_cmd", 11, "base_cmd is a topic"),
     ("some state navigator ID 5", 12, "navigator is an action client"),
+    ("never run motor timer", 17, "'timer' is no kind of callback there; there is message"),
+    ("some run motor reply", 16, "'reply' is no kind of callback there; there is message"),
 )
 
 
@@ -280,6 +282,15 @@ def of_statuses():
     ):
         with tool.file(rule) as name:
             yield f"the status of holds {words} by {rule!r}", tool.run("holds", *words, name, "-", given=given)[0], status
+    for words in (("--rules", "examples/robot.rules", "examples/robot.txt"), ("examples/robot.txt", "--rules", "examples/robot.rules")):
+        yield f"holds {words}", tool.within("holds", *words), (0, "7 hold, 0 fail, 0 undecided\n")
+    exchanged = "virraupez holds: examples/robot.txt: this is a transcript, and no file of rules: the rules come before the transcripts\n"
+    yield "holds of exchanged files", tool.within("holds", "examples/robot.txt", "examples/robot.rules"), (2, exchanged)
+    yield "holds without a transcript", tool.within("holds", "examples/robot.rules")[0], 2
+    with tool.file("never log nobody\nsome log motor\nnever log motor") as name:
+        for line, status, part in (("2", 0, "1 hold, 0 fail"), ("3", 1, "0 hold, 1 fail"), ("1", 2, "declares no 'nobody'"), ("4", 2, "has no rule in line 4")):
+            found, told = tool.within("holds", "--document", "examples/robot.json", "--rule", line, name, "examples/robot.txt")
+            yield f"holds --rule {line}: {told}", (found, part in told), (status, True)
     counted = tool.run("holds", "tools/tests/held/any.rules", "examples/timer.txt", "examples/topic.txt")[1].split("\n")
     yield "holds of two transcripts", [line.split(":")[0] for line in counted if " hold, " in line], ["examples/timer.txt", "examples/topic.txt"]
 

@@ -291,6 +291,8 @@ def of_folders(top):
     joined = started(top, "search", "--merge", "shard", "--save", "joined")
     yield f"what is saved of shards: {joined}", sorted(it.name for it in (top / "joined").iterdir()), ["rule_5.json", "rule_5.txt"]
     yield "what is told of that", joined[1].split("\n")[-2], "search: joined has the least change of each rule: rule_5.json"
+    again = started(top, "search", "late.json", "--rules", NAVIGATION, "--move", "feed[19]", "155..156", "--all", "--save", "found")
+    yield f"what is told of files of an earlier search: {again[1]}", again[1].endswith("search: found has 202 files of an earlier search too: robust_1.json, robust_1.txt, rule_2.json, rule_2.txt ..\n"), True
     first = started(top, "search", "late.json", "--rules", NAVIGATION, "--move", "feed[19]", "155..156", "--save", "first")
     yield "what is told of one run", first[1].split("\n")[-2], "search: first has 1 run that breaks a rule, and the least change of each rule: rule_5.json"
     nowhere = started(top, "search", "small.json", "--robust", "log", "--drop", "x", "--save", "small.json/in")

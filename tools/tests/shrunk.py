@@ -34,6 +34,8 @@ WRONG = (
     (("shrink", "later.json", "--rules", RULES, "--unless", "later.json"), "later.json breaks the rule too: line 357"),
     (("shrink", "later.json", "--rules", RULES, "--unless", "examples/robot.json"), "its nodes or its order are others"),
     (("shrink", "later.json", "--rules", RULES, "--unless", "nowhere"), "nowhere: No such file or directory"),
+    (("shrink", "late.json", "--rules", "open.rules", "--unless", "short.json"), "short.json leaves the rule undecided: "),
+    (("shrink", "later.json", "--rules", RULES, "--rule", "99"), f"{RULES} has no rule in line 99"),
 )
 
 
@@ -45,7 +47,13 @@ def answers(program):
         held = json.loads((top / "late.json").read_text())
         held["feed"][19]["round"] = 156
         (top / "later.json").write_text(json.dumps(held))
+        # A rule that the robot breaks, and that is undecided in a run which ends before the time is over.
+        (top / "open.rules").write_text("every run start timer then log nav within 150 rounds\n".replace("log nav", "log motor 99"))
+        early = json.loads((top / "late.json").read_text())
+        early["feed"] = [it for it in early["feed"] if it["round"] <= 60]
+        (top / "short.json").write_text(json.dumps({**early, "moments": early["moments"][:60]}))
         yield from of_navigation(top)
+        yield from of_names(top)
         yield from of_kept(top)
         yield from of_orders(top)
         for words, part in WRONG:
@@ -86,6 +94,16 @@ def of_navigation(top):
     for document in left_out:
         late, ever = failing(top, document, "late.rules"), failing(top, document, "ever.rules")
         yield f"what more could be left out: {document}", "late.rules:1:1: fails" in late and ever.startswith("1 hold"), False
+
+
+def of_names(top):
+    """A shrunk document is taken with its own rules by the line of the broken one: others may name what is gone."""
+    status, told, _small = shrunk(top, "later.json", "--rules", RULES)
+    for name, words in (("holds", ("small.txt", "--document", "small.json")), ("search", ("small.json", "--miss", "0..100", "--runs", "20", "--all"))):
+        searched.started(top, "run", "small.json", "-o", "small.txt")
+        for rule, wanted in (((), 2), (("--rule", "5"), 1)):
+            status, told = searched.started(top, name, *words, "--rules", RULES, *rule)
+            yield f"{name} of a shrunk document {rule}: {told}", (status, "declares no" in told), (wanted, wanted == 2)
 
 
 def of_kept(top):

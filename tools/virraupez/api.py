@@ -150,7 +150,8 @@ def search(document: DocumentLike, text: Text, vary: Words, *, runs: int = 10000
     from . import table
 
     value = json.loads(lawful(document))
-    plan = {"name": DOCUMENT, "document": value, "rules": name_of(text, RULES), "text": text_of(text), "robust": [], "vary": list(map(list, vary)), "runs": runs, "seed": seed, "all": all}
+    ruled = {"rules": name_of(text, RULES), "text": text_of(text), "rule": None, "robust": []}
+    plan = {"name": DOCUMENT, "document": value, **ruled, "vary": list(map(list, vary)), "runs": runs, "seed": seed, "all": all}
     made = searching.Search(plan)
     tally, judging = searching.Tally(made), judge.Judge(judge.executor(reference), made.rules)
     for part in made.parts(judging, 1, 1, processes):

@@ -36,6 +36,16 @@ def place(name, line, column=1):
 
 # ---- words
 
+# The greatest number that a user may ask for.
+MOST = 10**12
+
+
+def number(text, most=MOST):
+    """A number from 1 on, as argparse asks for it."""
+    if not (text.isascii() and text.isdigit() and len(text) <= 20 and 1 <= int(text) <= most):
+        raise argparse.ArgumentTypeError(f"a number from 1 to {most}, and not {text[:40]!r}")
+    return int(text)
+
 
 class Parser(argparse.ArgumentParser):
     def print_help(self, file=None):

@@ -5,6 +5,8 @@ no integer of 64 bits is FRACTION, since nobody asks which. places(text, paths) 
 read. Offsets count characters. Reading takes time in proportion to the text, and nesting is bounded before it is followed."""
 import re
 
+from . import ticks
+
 LEVELS = 127
 WHITE = re.compile(r"[ \t\n\r]*").match
 PLAIN = re.compile(r'"([^"\\\x00-\x1f]*)"').match
@@ -229,7 +231,8 @@ class Reader:
         hint = f"write {number}, in decimal digits" if number is not None else "a text stands in double quotes"
         unit = re.fullmatch("(-?(?:0|[1-9][0-9]{0,17}))([a-zA-Z]+)", word)
         if number is None and unit:
-            hint = f"write {unit[1]} without the unit, since a tick is what you say it is"
+            found, says = ticks.unitless(int(unit[1]), unit[2])
+            hint = f"write {found} {says}" if found is not None else "write how many ticks this is, without a unit"
         return NotJson(at, "a number in decimal digits", hint)
 
 

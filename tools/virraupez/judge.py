@@ -40,9 +40,10 @@ def robust(text, number, declared):
     return rule
 
 
-def read(name, text, patterns, declared):
-    """The rules of a text, whose file has a name, and those of the patterns of --robust. Each has a place and a label."""
-    found = rules.read(text, name, declared) if name else []
+def read(name, text, patterns, declared, only=None):
+    """The rules of a text, whose file has a name, or that of one line, and those of the patterns of --robust. Each has a place and a
+    label."""
+    found = rules.read(text, name, declared, only) if name else []
     for rule in found:
         rule.place, rule.label = command.place(name, rule.number, rule.column), f"rule_{rule.number}"
     return found + [robust(it, number, declared) for number, it in enumerate(patterns, 1)]

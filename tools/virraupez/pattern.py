@@ -188,7 +188,7 @@ class Pattern:
             of = " ".join(self.words[:1] if is_open(self.words[0]) else [self.words[0]])
             return Wrong(column, f"a line {of} has {longest + 1} words, and this is one more")
         forms = [forms[at - 1] for _, forms in shapes if at <= len(forms)]
-        return Wrong(column, fault_of(word, forms, self.declared))
+        return Wrong(column, fault_of(word, forms, self.declared, self.words[0]))
 
 
 def grouped(expressions):
@@ -231,13 +231,13 @@ def meant(word, names):
     return f"; {hint}" if hint else ""
 
 
-def fault_of(word, forms, declared):
+def fault_of(word, forms, declared, first):
     """What is wrong with a word at a place of some forms."""
     wanted = " or ".join(dict.fromkeys(form.says for form in forms))
     named = next((form for form in forms if getattr(form, "names", None)), None)
     if all(isinstance(form, transcript.Kind) for form in forms):
-        if word in (*transcript.KEPT, *transcript.UNQUEUED):
-            return f"this holds whatever happens: nothing of the kind {word} is ever dropped"
+        if first == "drop" and word in (*transcript.KEPT, *transcript.UNQUEUED):
+            return f"no run has such a line: nothing of the kind {word} is ever dropped"
         kinds = [form.word for form in forms]
         return f"{shorter(word)} is no kind of callback there" + (meant(word, kinds) or f"; there {'is' if len(kinds) == 1 else 'are'} {', '.join(kinds)}")
     if named and not BOUND.match(word) and not DECIMAL.fullmatch(word):

@@ -5,7 +5,8 @@ Each begins with what to do at the place of the fault: `write X` is X in place o
 import json
 import re
 
-from . import assemble, grammar as g
+from . import assemble, ticks
+from . import grammar as g
 
 # What users write in place of a field that is required.
 ALIASES = {
@@ -88,8 +89,9 @@ def of_single(value, form, field):
             return write(value["name"], "a name alone stands there")
         return ""
     if form in ("count", "value") and g.is_text(value):
-        number = re.fullmatch(r"\s*(-?(?:0|[1-9][0-9]{0,17}))\s*(?:[a-zA-Z]+|%)\s*", value)
-        return write(int(number[1]), "without a unit, since a tick is what you say it is") if number else ""
+        number = re.fullmatch(r"\s*(-?(?:0|[1-9][0-9]{0,17}))\s*([a-zA-Z]+|%)\s*", value)
+        found, says = ticks.unitless(int(number[1]), number[2]) if number else (None, "")
+        return write(found, says) if found is not None else ""
     if form in g.OBJECTS and g.is_text(value) and g.REQUIRED[form] == ("name",):
         return write({"name": value})
     return ""

@@ -317,12 +317,16 @@ class Reader:
         return Count([made], 0 if how == "at most" else count, None if how == "at least" else count)
 
 
-def read(text, name="the rules", declared=None):
-    """The rules of a text: a rule a line; # begins a remark. All faults are told at once."""
+def read(text, name="the rules", declared=None, only=None):
+    """The rules of a text: a rule a line; # begins a remark. All faults are told at once. Only may be the number of a line: the others
+    aren't read then, and may be of another document."""
+    lines = text.split("\n")
+    if transcript.is_line(lines[0]) and lines[0].startswith(("round ", "end ")):
+        raise command.Trouble(f"{command.shown(name)}: this is a transcript, and no file of rules: the rules come before the transcripts")
     rules, wrong = [], []
-    for number, line in enumerate(text.split("\n"), 1):
+    for number, line in enumerate(lines, 1):
         words = pattern.tokens(line)
-        if not words:
+        if not words or only not in (None, number):
             continue
         try:
             rule = Reader(declared).rule(words)
@@ -332,6 +336,8 @@ def read(text, name="the rules", declared=None):
             wrong.append(f"{command.place(name, number, fault.column)}{fault}")
     if wrong:
         raise command.Trouble(*wrong)
+    if not rules and only is not None:
+        raise command.Trouble(f"{command.shown(name)} has no rule in line {only}")
     if not rules:
         raise command.Trouble(f"{command.shown(name)}: no rule in it, so that nothing would be checked")
     return rules

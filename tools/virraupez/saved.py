@@ -1,19 +1,25 @@
 """The folder of --save: documents and transcripts of runs that break a rule."""
 import os
+import re
 
 from . import command, made
+from .difference import numbered
 
 # How many runs are saved, apart from the least of each rule.
 SAVED = 100
+# The names of files that a search saves.
+SAVES = re.compile(r"(?:run|rule|robust)_[0-9]+\.(?:json|txt)").fullmatch
 
 
 class Folder:
     """A folder in which a search saves runs: the first that break a rule, by their numbers, and the least of each rule."""
 
     def __init__(self, name, search, judging):
-        self.name, self.search, self.judging, self.count = name, search, judging, 0
+        self.name, self.search, self.judging, self.count, self.written = name, search, judging, 0, set()
+        self.before = set()
         if name is not None:
             os.makedirs(name, exist_ok=True)
+            self.before = {it for it in os.listdir(name) if SAVES(it)}
 
     def add(self, part):
         """Saves the runs of a part that break a rule."""
@@ -36,11 +42,15 @@ class Folder:
             has.append("the least change of each rule: " + ", ".join(f"{self.search.rules[at].label}.json" for at in sorted(tally.found)))
         if has:
             command.note(f"search: {command.printable(self.name)} has {', and '.join(has)}")
+        old = sorted(self.before - self.written)
+        if old:
+            command.note(f"search: {command.printable(self.name)} has {numbered(len(old), 'file')} of an earlier search too: {', '.join(old[:4])}{' ..' * (len(old) > 4)}")
 
     def write(self, name, broken):
         """Writes the document and the transcript of a run."""
         document = self.search.space.value(broken.taken) if broken.taken else self.search.document
         text = self.search.run(self.judging, broken.number, broken.taken)
         for ending, held in (("json", made.layout(document) + "\n"), ("txt", text)):
+            self.written.add(f"{name}.{ending}")
             with command.Output(os.path.join(self.name, f"{name}.{ending}")) as out:
                 out.write(held)

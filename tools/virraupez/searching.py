@@ -25,7 +25,7 @@ class Search:
         self.plan, self.document, self.is_all = plan, plan["document"], plan["all"]
         self.space = space.Space(self.document, plan["vary"])
         self.own_names = fit.Own(plan["name"], self.document)
-        self.rules = judge.read(plan["rules"], plan["text"], plan["robust"], self.own_names.kinds)
+        self.rules = judge.read(plan["rules"], plan["text"], plan["robust"], self.own_names.kinds, plan["rule"])
         self.is_whole = self.space.size <= plan["runs"]
         self.runs = self.space.size if self.is_whole else plan["runs"]
 

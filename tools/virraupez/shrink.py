@@ -45,7 +45,7 @@ class Shrinker:
         if lines is None or self.way.of_last_run() != self.wanted or most is not None and lines > most:
             return False
         found = judge.said(self.way.rule.failure)
-        if good is not None and (self.lines_of(good) is None or self.way.rule.failure):
+        if good is not None and (self.lines_of(good) is None or self.way.rule.failure or self.way.rule.open_end):
             return False
         self.document, self.good, self.lines, self.found = document, good, lines, found
         return True

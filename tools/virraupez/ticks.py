@@ -9,6 +9,15 @@ UNITS = {"ns": 1, "us": 1000, "ms": 1000000, "s": 1000000000}
 LENGTH = re.compile("([0-9]{1,12}(?:[.][0-9]{1,9})?)(ns|us|ms|s)")
 
 
+def unitless(number, unit):
+    """How a number with a unit is written without it: times in milliseconds, so that all hints of a document are of one tick. Gives
+    the number and what is to be said of it; no number if it is no whole one."""
+    if unit not in UNITS:
+        return number, "without the unit"
+    length = number * UNITS[unit]
+    return (None if length % UNITS["ms"] else length // UNITS["ms"]), "without the unit, if a tick is 1 ms"
+
+
 def nanoseconds(text):
     """The nanoseconds of a tick, a whole number of them."""
     found = LENGTH.fullmatch(text)

@@ -8,7 +8,8 @@ import sys
 
 from .. import command, grammar, report, sarif
 
-STATUS = "The status is 0 if no document is refused, 1 if one is, and 2 if one can't be read."
+STATUS = """The status is 0 if no document is refused, 1 if one is, and 2 if one can't be read. With --warnings-are-errors it is 1 for a
+warning too."""
 
 
 def parser(prog=None):
@@ -17,6 +18,7 @@ def parser(prog=None):
     form = made.add_mutually_exclusive_group()
     form.add_argument("--json", action="store_true", help="tell it as JSON for editors, one object for each document")
     form.add_argument("--sarif", action="store_true", help="tell it as SARIF for code scanning, one log for all documents")
+    made.add_argument("--warnings-are-errors", action="store_true", help="let a document with a warning have the status 1, as a refused one has")
     made.add_argument("--all", action="store_true", help=f"tell every place, and not only the first {report.TOLD} of each code")
     return made
 
@@ -46,7 +48,8 @@ def run(asked, out):
         else:
             for line in report.lines(told, name, out.paint):
                 out.line(line)
-        status = max(status, command.FOUND if told.code else command.FINE)
+        is_wrong = told.code or asked.warnings_are_errors and told.counts
+        status = max(status, command.FOUND if is_wrong else command.FINE)
     if asked.sarif:
         out.line(sarif.text(all_told))
     if wrong:

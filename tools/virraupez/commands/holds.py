@@ -13,8 +13,9 @@ a transcript are wrong."""
 
 def parser(prog=None):
     made = command.parser(__doc__, STATUS, prog)
-    made.add_argument("rules", metavar="RULES", help="a file of rules; - is standard input")
-    made.add_argument("transcripts", metavar="TRANSCRIPT", nargs="+", help="a transcript; - is standard input")
+    made.add_argument("files", metavar="FILE", nargs="+", help="a file of rules, unless --rules names it, and transcripts; - is standard input")
+    made.add_argument("--rules", metavar="RULES", help="the file of rules")
+    made.add_argument("--rule", metavar="LINE", type=command.number, help="the line of the rule, if only one is asked for; the others may be of another document")
     made.add_argument("--document", metavar="DOCUMENT", help="the document of the transcripts, by whose names the rules are checked")
     made.add_argument("--view", metavar="PAGE", help="the page that view wrote of the transcript: links lead to the lines that decide rules")
     made.add_argument("--accept-undecided", action="store_true", help="let undecided rules pass: the status is 1 only if one fails")
@@ -23,12 +24,15 @@ def parser(prog=None):
 
 
 def run(asked, out):
-    text, own = command.text_of(asked.rules), fit.read(asked.document) if asked.document else None
-    if asked.view and len(asked.transcripts) > 1:
+    file, *names = [asked.rules, *asked.files] if asked.rules else asked.files
+    if not names:
+        raise command.Trouble("no transcript is named: the rules come before the transcripts")
+    if asked.view and len(names) > 1:
         raise command.Trouble("--view is the page of one transcript")
+    text, own = command.text_of(file), fit.read(asked.document) if asked.document else None
     status, wrong, suites = command.FINE, [], []
-    for name in asked.transcripts:
-        check = rules.Check(rules.read(text, asked.rules, own.kinds if own else None))
+    for name in names:
+        check = rules.Check(rules.read(text, file, own.kinds if own else None, asked.rule))
         try:
             for block in transcript.blocks(name, own):
                 check.block(block)
@@ -36,12 +40,12 @@ def run(asked, out):
             wrong += trouble.lines
             continue
         check.end()
-        suites.append((name, [case(asked, name, rule, own) for rule in check.rules]))
-        for line in told(asked.rules, name, check, own, out.paint):
+        suites.append((name, [case(asked, file, name, rule, own) for rule in check.rules]))
+        for line in told(file, name, check, own, out.paint):
             out.line(line)
         for line in view.links(asked.view, check.rules) if asked.view else ():
             out.line(line)
-        status = max(status, verdict(out, check, f"{name}: " if len(asked.transcripts) > 1 else "", asked.accept_undecided))
+        status = max(status, verdict(out, check, f"{name}: " if len(names) > 1 else "", asked.accept_undecided))
     junit.write(asked, suites)
     if wrong:
         out.keep()
@@ -49,11 +53,11 @@ def run(asked, out):
     return status
 
 
-def case(asked, name, rule, own):
+def case(asked, file, name, rule, own):
     """The case of a rule. One that is about nothing passes, and one that is undecided may."""
     outcome = rule.outcome(own)
     passes = outcome in (rules.HOLDS, rules.NOTHING) or outcome == rules.UNDECIDED and asked.accept_undecided
-    return junit.of_rule(rule, asked.rules, outcome, [] if passes else told_of(asked.rules, name, rule, own))
+    return junit.of_rule(rule, file, outcome, [] if passes else told_of(file, name, rule, own))
 
 
 COLOURS = {rules.FAILS: "fault", rules.UNDECIDED: "warning", rules.NOTHING: "hint"}

@@ -11,10 +11,24 @@ STATUS = "The status is 0, and 2 if there is nothing to draw: a file is wrong, c
 def rounds_of(text):
     """The first and the last round of A-B, A- or A."""
     first, between, last = text.partition("-")
-    if not grammar.is_number(first) or last and not grammar.is_number(last):
-        raise argparse.ArgumentTypeError("rounds are A-B, A- or A")
-    first = max(int(first), 1)
-    return first, int(last) if last else first + scene.ROUNDS - 1 if between else first
+    if not grammar.is_number(first) or last and not grammar.is_number(last) or int(first) < 1 or last and int(last) < int(first):
+        raise argparse.ArgumentTypeError(f"rounds are A-B, A- or A, counted from 1, and not {text[:40]!r}")
+    return Rounds(int(first), int(last) if last else int(first) + scene.ROUNDS - 1 if between else int(first), is_open=between and not last)
+
+
+class Rounds(tuple):
+    """The first and the last round that are asked for. If they are open, there may be fewer."""
+
+    def __new__(cls, first, last, is_open):
+        made = super().__new__(cls, (first, last))
+        made.is_open = bool(is_open)
+        return made
+
+    def demand(self, count):
+        """Demands that a run of so many rounds has them."""
+        first, last = self
+        if first > count or last > count and not self.is_open:
+            raise command.Trouble(f"there are no rounds {first} to {last}: the transcript has {count}")
 
 
 def parser(prog=None):
@@ -22,7 +36,7 @@ def parser(prog=None):
     made.add_argument("document", metavar="DOCUMENT", help="a document; - is standard input")
     made.add_argument("transcript", metavar="TRANSCRIPT", nargs="?", help="its transcript; - is standard input. --graph needs none")
     shown = f"the rounds to draw, as A-B, A- or A; the first {scene.ROUNDS} if none are given"
-    made.add_argument("--rounds", metavar="A-B", type=rounds_of, default=(1, scene.ROUNDS), help=shown)
+    made.add_argument("--rounds", metavar="A-B", type=rounds_of, default=Rounds(1, scene.ROUNDS, True), help=shown)
     made.add_argument("--plot", metavar="NAME,..", default="", help="plot values of topics, and queues, calls and goals of entities, below the rows")
     made.add_argument("--graph", action="store_true", help="draw nodes, topics, services and actions, and what goes from one to the other")
     return made
@@ -39,8 +53,7 @@ def run(asked, out):
     plotted = series.asked(asked.plot, document)
     shown = scene.Scene(document, *asked.rounds, plotted)
     shown.read(asked.transcript, fit.Own(asked.document, document))
-    if not shown.columns:
-        raise command.Trouble(f"there are no rounds {asked.rounds[0]} to {asked.rounds[1]}: the transcript has {shown.rounds}")
+    asked.rounds.demand(shown.rounds)
     if shown.rounds > asked.rounds[1] and asked.rounds == (1, scene.ROUNDS):
         command.note(f"picture: the first {scene.ROUNDS} of {shown.rounds} rounds are drawn; --rounds draws others")
     out.write(picture.Picture(shown, shown.series.of(plotted) if plotted else ()).svg())

@@ -8,36 +8,28 @@ written apart from the program, by docs/rules.md alone. Nothing of it is proved;
 With --definitions the definitions of which the theorem speaks are read from docs/HEADLINE.md, as the page prints them, and
 computed. --trace shows what they say of one round, step by step, with the line of each on the page. --ask computes an expression,
 in which `plan` is the document's plan."""
-import argparse
 import os
 
 from .. import command, grammar, runs
 
 STATUS = "The status is 0, 1 if the document is refused, and 2 if it can't be run."
 CHUNK = 1 << 20
+# A document of more bytes is run without a look at what explain would warn of, which takes longer.
+WARNED = 1 << 18
 
 
 def parser(prog=None):
     made = command.parser(__doc__, STATUS, prog)
     made.add_argument("document", metavar="DOCUMENT", nargs="?", help="a document; - is standard input. --ask does without it")
     workers = "how many workers run the callbacks of a round at most, 1 to 64; 1 if it isn't given. The transcript is the same"
-    made.add_argument("--workers", metavar="N", type=number_up_to(64), default=1, help=workers)
+    made.add_argument("--workers", metavar="N", type=lambda text: command.number(text, 64), default=1, help=workers)
     quantum = "how many callbacks a worker runs at a time at most, 1 to 1024; 1 if it isn't given. The transcript is the same"
-    made.add_argument("--quantum", metavar="N", type=number_up_to(1024), default=1, help=quantum)
+    made.add_argument("--quantum", metavar="N", type=lambda text: command.number(text, 1024), default=1, help=quantum)
     made.add_argument("--reference", action="store_true", help="run it by the executor in Python, of which nothing is proved")
     made.add_argument("--definitions", action="store_true", help="compute its transcript by the definitions of docs/HEADLINE.md")
-    made.add_argument("--trace", metavar="ROUND", type=number_up_to(65536), help="show what the definitions say of this round, step by step")
+    made.add_argument("--trace", metavar="ROUND", type=lambda text: command.number(text, 65536), help="show what the definitions say of this round, step by step")
     made.add_argument("--ask", metavar="EXPRESSION", help="compute an expression by the definitions, as 'length plan.moments'")
     return made
-
-
-def number_up_to(most):
-    def number(text):
-        if not grammar.is_number(text) or not 1 <= int(text) <= most:
-            raise argparse.ArgumentTypeError(f"a number from 1 to {most}, and not {text[:40]!r}")
-        return int(text)
-
-    return number
 
 
 def run(asked, out):
@@ -54,11 +46,23 @@ def run(asked, out):
         refused = by_definitions(asked, given, out)
     else:
         refused = by_reference(given, out) if asked.reference else by_program(asked, given, out)
+    if not refused and len(given) <= WARNED:
+        out.flush()
+        command.note(*warning(asked.document, given))
     if refused:
         tell_faults(asked.document, given)
         if asked.output != command.STANDARD and os.path.isfile(asked.output):
             command.note(f"run: {command.shown(asked.output)} stays, and is no transcript of this document")
     return command.FOUND if refused else command.FINE
+
+
+def warning(name, given):
+    """One line if explain would warn of a document: how often, and of what first."""
+    from .. import faults, report
+
+    told = report.Report(given, 1)
+    for entry in told.entries:
+        yield f"{command.place(name, entry.line, entry.column)}{report.warned(told)}, the first of {report.shown(faults.path_text(entry.path))}: {report.shown(entry.wanted)}"
 
 
 def tell_faults(name, given):

@@ -15,8 +15,8 @@ from .. import command, crew, flow, grammar, judge, junit, saved, searching, sha
 STATUS = """The status is 0 if no run breaks a rule, 1 if one does or if the runs say nothing of a rule, and 2 if the document or the rules
 are wrong or a run fails. It is 130 after Ctrl-C, and what was found so far is reported."""
 RUNS, INTERRUPTED = 10000, 130
-# The greatest number of runs, of shards, and of processes that a user may ask for.
-MOST, PROCESSES = 10**12, 1024
+# The greatest number of processes that a user may ask for.
+PROCESSES = 1024
 # The options that say what may vary, with what each takes and what it does.
 VARIES = {
     "move": (("WHAT", "A..B"), "let an entry come at each moment of a range"),
@@ -41,11 +41,12 @@ def parser(prog=None):
     made = command.parser(__doc__, STATUS, prog)
     made.add_argument("documents", metavar="DOCUMENT", nargs="+", help="a document, or with --merge what shards wrote; - is standard input")
     made.add_argument("--rules", metavar="RULES", help="a file of rules, as holds has them")
+    made.add_argument("--rule", metavar="LINE", type=command.number, help="the line of the rule, if only one is searched for; the others may be of another document")
     made.add_argument("--robust", metavar="PATTERN", action="append", default=[], help="lines that must stay those of the document's own run, as 'result navigate'")
     for name, (takes, says) in VARIES.items():
         made.add_argument(f"--{name}", metavar=takes, nargs=len(takes), action=Varies, help=says)
-    made.add_argument("--runs", metavar="N", type=number, default=RUNS, help=f"how many runs there are at most; {RUNS} if it isn't given")
-    made.add_argument("--seed", metavar="N", type=number, default=1, help="a number that chooses what is drawn by chance; 1 if it isn't given")
+    made.add_argument("--runs", metavar="N", type=command.number, default=RUNS, help=f"how many runs there are at most; {RUNS} if it isn't given")
+    made.add_argument("--seed", metavar="N", type=command.number, default=1, help="a number that chooses what is drawn by chance; 1 if it isn't given")
     made.add_argument("--all", action="store_true", help="count all runs that break a rule, and don't stop at the first")
     undecided = "let a rule pass that no run decides; otherwise the status is 1"
     made.add_argument("--accept-undecided", dest="accepted", action="append_const", const=searching.UNDECIDED, default=[], help=undecided)
@@ -64,19 +65,13 @@ def parser(prog=None):
     return made
 
 
-def number(text, most=MOST):
-    if not grammar.is_number(text) or not 1 <= int(text) <= most:
-        raise argparse.ArgumentTypeError(f"a number from 1 to {most}, and not {text[:40]!r}")
-    return int(text)
-
-
 def processes(text):
-    return number(text, PROCESSES)
+    return command.number(text, PROCESSES)
 
 
 def shard(text):
     part, between, of = text.partition("/")
-    if not between or not 1 <= number(part) <= number(of):
+    if not between or not 1 <= command.number(part) <= command.number(of):
         raise argparse.ArgumentTypeError(f"K/N with K from 1 to N, and not {text[:40]!r}")
     return int(part), int(of)
 
@@ -100,6 +95,7 @@ def plan(asked):
         "document": flow.read_document(asked.documents[0]),
         "rules": asked.rules,
         "text": command.text_of(asked.rules) if asked.rules else None,
+        "rule": asked.rule,
         "robust": asked.robust,
         "vary": asked.vary,
         "runs": asked.runs,

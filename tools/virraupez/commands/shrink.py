@@ -17,7 +17,7 @@ def parser(prog=None):
     made = command.parser(__doc__, STATUS, prog)
     made.add_argument("document", metavar="DOCUMENT", help="a document that breaks a rule; - is standard input")
     made.add_argument("--rules", metavar="RULES", required=True, help="a file of rules, as holds has them")
-    made.add_argument("--rule", metavar="LINE", type=search.number, help="the line of the rule, if the document breaks several")
+    made.add_argument("--rule", metavar="LINE", type=command.number, help="the line of the rule, if the document breaks several")
     made.add_argument("--unless", metavar="DOCUMENT", help="a document with another timing that keeps the rule: it is cut in the same way, and must keep it")
     made.add_argument("--keep", metavar="PATTERN", action="append", default=[], help="a line that the run must keep, as 'state navigate _ CANCELED'")
     made.add_argument("--reference", action="store_true", help="run by the executor in Python, of which nothing is proved")
@@ -27,7 +27,7 @@ def parser(prog=None):
 def run(asked, out):
     document, program = flow.read_document(asked.document), judge.executor(asked.reference)
     declared = fit.Own(asked.document, document).kinds
-    rule = broken(asked, document, judge.Judge(program, judge.read(asked.rules, command.text_of(asked.rules), [], declared)))
+    rule = broken(asked, document, judge.Judge(program, judge.read(asked.rules, command.text_of(asked.rules), [], declared, asked.rule)))
     way = shrink.Way(rule, [kept(it, declared) for it in asked.keep])
     good = other_timing(asked, document, judge.Judge(program, [rule])) if asked.unless else None
     shrinker = shrink.Shrinker(program, document, way, good)
@@ -51,9 +51,7 @@ def broken(asked, document, judging):
         judging.run(document)
     except runs.Refused as refused:
         raise command.Trouble(f"{command.shown(asked.document)}: refused {refused}") from None
-    if asked.rule and not any(rule.number == asked.rule for rule in judging.rules):
-        raise command.Trouble(f"{command.shown(asked.rules)} has no rule in line {asked.rule}")
-    found = [rule for rule in judging.rules if rule.failure and asked.rule in (None, rule.number)]
+    found = [rule for rule in judging.rules if rule.failure]
     if not found:
         which = f"doesn't break the rule of line {asked.rule}" if asked.rule else "breaks no rule"
         raise command.Trouble(f"{command.shown(asked.document)} {which}: there is nothing to shrink")
@@ -68,6 +66,8 @@ def other_timing(asked, document, judging):
     judging.run(good)
     if judging.rules[0].failure:
         raise command.Trouble(f"{command.shown(asked.unless)} breaks the rule too: {judge.said(judging.rules[0].failure)}")
+    if judging.rules[0].open_end:
+        raise command.Trouble(f"{command.shown(asked.unless)} leaves the rule undecided: {judge.said(judging.rules[0].open_end)}")
     return good
 
 

@@ -19,7 +19,7 @@ def parser(prog=None):
     made.add_argument("--tick", metavar="TIME", type=ticks.nanoseconds, help="how long a tick is, as 20ms: moments are shown as times")
     made.add_argument("--plot", metavar="NAME,..", help="topics and entities whose plots are open; some topics if none are given")
     made.add_argument("--rules", metavar="RULES", help="a file of rules, as holds has them: the page opens at the first line that breaks one")
-    made.add_argument("--rounds", metavar="A-B", type=picture.rounds_of, default=(1, grammar.MOMENTS), help="the rounds to show, as A-B, A- or A; all if none are given")
+    made.add_argument("--rounds", metavar="A-B", type=picture.rounds_of, default=picture.Rounds(1, grammar.MOMENTS, True), help="the rounds to show, as A-B, A- or A; all if none are given")
     return made
 
 
@@ -43,8 +43,7 @@ def run(asked, out):
             command.note(f"view: {asked.other} isn't a run of {command.shown(own.name)}: its line {own.strayed[0]} doesn't follow")
     elif asked.second:
         raise command.Trouble("--document is the document of a second transcript, and there is none")
-    if not any(it.scene.columns for it in runs):
-        raise command.Trouble(f"there are no rounds {asked.rounds[0]} to {asked.rounds[1]}: the transcript has {runs[0].scene.rounds}")
+    asked.rounds.demand(max(it.scene.rounds for it in runs))
     lines = sum(it.rest.count("\n") for run in runs for it in run.rounds)
     if lines > MANY:
         command.note(f"view: {lines} lines take a browser long to open; --rounds A-B shows a part of them")
