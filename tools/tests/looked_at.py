@@ -1,7 +1,7 @@
 """That rules look at few lines, and find the same whatever the blocks in which a transcript comes."""
 import random
 
-from virraupez import rules
+from virraupez import rulebook, rules
 
 from . import tool
 
@@ -32,7 +32,7 @@ def answers(_program):
 
 def found(blocks):
     """What rules find of a transcript, and again of the same after another one."""
-    check = rules.Check(rules.read(RULES))
+    check = rules.Check(rulebook.read(RULES))
     said = []
     for _ in range(2):
         check.begin()
@@ -47,18 +47,18 @@ def found(blocks):
 def of_lines():
     """Lines that no pattern may match cost nothing, and each other one is read once."""
     text = (tool.TOP / "examples/robot.txt").read_text()
-    check = rules.Check(rules.read((tool.TOP / "examples/robot.rules").read_text()))
+    check = rules.Check(rulebook.read((tool.TOP / "examples/robot.rules").read_text()))
     taken, read = [], []
     line = check.line
     check.line = lambda number, text: taken.append(text) or line(number, text)
     for rule in check.rules:
-        rule.about = lambda words, of=rule: read.append(words) or type(of).about(of, words)
+        rule.about = lambda words, by, of=rule: read.append((id(of), *words)) or type(of).about(of, words, by)
     for _ in range(3):
         check.begin()
         check.block(text)
         check.end()
     yield f"how many of {text.count(chr(10))} lines rules take", len(taken) // 3 < text.count("\n") // 8, True
-    yield "how often a line is read", len(read), len(set(taken)) * len(check.rules)
-    check.known = {str(number): [] for number in range(rules.KNOWN)}
+    yield "how often a rule reads a line", len(read), len(set(read))
+    check.known = {(str(number), ()): [] for number in range(rules.KNOWN)}
     check.block(text)
     yield "how many lines are known", len(check.known) < 100, True

@@ -5,7 +5,7 @@ import re
 import subprocess
 import tempfile
 
-from virraupez import command, fit, rules, transcript
+from virraupez import command, fit, rulebook, rules, transcript
 
 from . import tool
 
@@ -88,7 +88,7 @@ RULES = (
 )
 # Wrong rules, each with the column of its fault and a part of what is told.
 WRONG = (
-    ("nevr drop s", 1, "no rule; there are: never PATTERN"),
+    ("nevr drop s", 1, "no rule; there are: never P [before Q"),
     ("never dorp s", 7, "did you mean drop?"),
     ("never drop s mesage", 14, "did you mean message?"),
     ("never", 6, "a pattern is missing"),
@@ -186,7 +186,7 @@ UNDECLARED = (
 
 def verdict(text):
     """What becomes of a rule in TEXT, and the line that decides it if one does."""
-    check = rules.Check(rules.read(text))
+    check = rules.Check(rulebook.read(text))
     for block in transcript.checked(io.StringIO(TEXT), "it"):
         check.block(block)
     check.end()
@@ -199,7 +199,7 @@ def verdict(text):
 def fault(text, declared=None):
     """What is told of rules that are wrong."""
     try:
-        rules.read(text, "it", declared)
+        rulebook.read(text, "it", declared)
     except command.Trouble as wrong:
         return str(wrong)
     return "no fault"

@@ -36,6 +36,14 @@ class Run:
             yield from lines
 
 
+class Kinds(dict):
+    """The kind of each name of a document, with the node of each entity."""
+
+    def __init__(self, kinds):
+        super().__init__(kinds)
+        self.owners = {}
+
+
 class Own:
     """The names of a document with their kinds, its moments, and its run. A transcript that is to be the document's must be that run,
     line by line. If it may be another executor's, or of another version of the document, only names and moments must be the same,
@@ -43,9 +51,10 @@ class Own:
 
     def __init__(self, name, document, is_strict=True):
         self.name, self.document, self.is_strict = name, document, is_strict
-        self.kinds = {topic: "topics" for topic in document.get("topics", [])}
+        self.kinds = Kinds((topic, "topics") for topic in document.get("topics", []))
         for node in document.get("nodes", []):
             self.kinds.update({it["name"]: kind for kind in grammar.ENTITIES for it in node.get(kind, [])})
+            self.kinds.owners.update({it["name"]: node["name"] for kind in grammar.ENTITIES for it in node.get(kind, [])})
         self.moments = document.get("moments", [])
         self.known, self.writes = set(), set(written(document))
 

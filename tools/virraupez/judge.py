@@ -1,38 +1,48 @@
 """Runs of documents that are held to rules, many of them: which rules each one breaks, and by which line."""
 import json
 
-from . import command, pattern, rules, runs
+from . import command, event, pattern, rulebook, rules, runs
 
 
 class Same(rules.Rule):
-    """The lines of a pattern are those of another run, in their order. Lines have no moments, so that they may come at others."""
+    """The lines of an event are those of another run, in their order. Lines have no moments, so that they may come at others."""
 
-    def __init__(self, patterns, lines=()):
-        super().__init__(patterns)
-        self.lines = list(lines)
+    def __init__(self, of):
+        super().__init__(of)
+        # Those of the other run, once they are known, and those of this one.
+        self.lines = None
 
     def begin(self):
         super().begin()
-        self.count = 0
+        self.taken = []
 
-    def line(self, number, line, _about, now):
-        wanted = self.lines[self.count] if self.count < len(self.lines) else None
-        if line != wanted:
-            self.fail(number, line, now, f"the document's own run has {wanted or 'no more of these lines'}")
-        self.count += 1
+    def line(self, number, line, about, now):
+        if self.lines is not None and self.lines[len(self.taken) : len(self.taken) + 1] != [line]:
+            self.fail(number, line, now, f"the document's own run has {self.wanted()}")
+        self.taken.append(line)
+
+    def wanted(self):
+        return self.lines[len(self.taken)] if len(self.taken) < len(self.lines) else "no more of these lines"
 
     def end(self, number, now):
-        if self.count < len(self.lines):
-            self.fail(number, "the end", now, f"the document's own run has {self.lines[self.count]}")
+        if self.lines is not None and len(self.taken) < len(self.lines):
+            self.fail(number, "the end", now, f"the document's own run has {self.wanted()}")
 
     def unmet(self):
-        return None if self.lines or self.count else self.patterns[0]
+        return None if self.lines or self.taken else self.events[0]
+
+
+def event_of(text, declared):
+    """The event of a text that is no rule, but only lines."""
+    of = event.read(pattern.tokens(text), 1, declared)
+    rulebook.demand_variables([of], [])
+    return of
 
 
 def robust(text, number, declared):
     """The rule that the lines of a pattern stay the same, whatever varies."""
     try:
-        rule = Same([pattern.Pattern(pattern.tokens(text), 1, declared)])
+        rule = Same(event_of(text, declared))
     except pattern.Wrong as wrong:
         raise command.Trouble(f"--robust {text!r}, at its character {wrong.column}: {wrong}") from None
     rule.number = 0
@@ -43,7 +53,7 @@ def robust(text, number, declared):
 def read(name, text, patterns, declared, only=None):
     """The rules of a text, whose file has a name, or that of one line, and those of the patterns of --robust. Each has a place and a
     label."""
-    found = rules.read(text, name, declared, only) if name else []
+    found = rulebook.read(text, name, declared, only) if name else []
     for rule in found:
         rule.place, rule.label = command.place(name, rule.number, rule.column), f"rule_{rule.number}"
     return found + [robust(it, number, declared) for number, it in enumerate(patterns, 1)]
@@ -67,17 +77,16 @@ class Judge:
         self.check.end()
         return text
 
-    def keep(self, text):
-        """Keeps the lines of a transcript that must stay the same."""
-        lines = text.split("\n")[:-1]
+    def keep(self):
+        """Keeps the lines of the last run that must stay the same."""
         for rule in self.rules:
             if isinstance(rule, Same):
-                rule.lines = [line for line in lines if rule.about(line.split(" "))]
+                rule.lines = rule.taken
 
 
 def lacking(rule):
     """What there isn't, so that a rule holds of nothing."""
-    return f"no line is {' '.join(rule.unmet().words)}" if rule.unmet() else f"no script writes a line {' '.join(rule.patterns[0].words[:2])}"
+    return f"no line is {' '.join(rule.unmet().words)}" if rule.unmet() else f"no script writes a line {' '.join(rule.events[0].words[:2])}"
 
 
 def said(finding):

@@ -9,10 +9,10 @@ from . import grammar, hints, transcript
 
 COMPARED = {">": lambda one, other: one > other, ">=": lambda one, other: one >= other, "<": lambda one, other: one < other, "<=": lambda one, other: one <= other}
 BOUND = re.compile("([<>]=?)(.*)")
-VARIABLE = re.compile("[A-Z]+")
+VARIABLE = re.compile("[A-Z]+[0-9]*")
 DECIMAL = re.compile("0|-?[1-9][0-9]{0,19}")
 # The words of the rules, which are no names unless `=` stands before them.
-RESERVED = ("then", "within", "before", "after", "is")
+RESERVED = ("then", "within", "before", "after", "is", "until", "or", "by", "not", "where", "only", "later", "for")
 # Each line's first word with the forms of its other words, once for each of its shapes that a run can have.
 SHAPES = [(word, forms) for word, shapes in transcript.FORMS.items() for forms in shapes if word != "drop" or forms[1].word not in transcript.KEPT]
 NAMED = {name for it in (transcript.STATUS, transcript.DECISION, transcript.CODE) for name in it.names}
@@ -54,7 +54,9 @@ class Pattern:
     def __init__(self, words, column, declared=None):
         if not words:
             raise Wrong(column, "a pattern is missing")
-        self.words, self.declared = words, declared
+        words, self.negated = negations(words)
+        # By whose callback a line is written, if that is asked for.
+        self.words, self.declared, self.by = words, declared, None
         self.alternatives = [[word] if is_open(word) else split(word) for word in words]
         self.shapes = self.narrowed()
         self.demand_alternatives()
@@ -121,7 +123,7 @@ class Pattern:
         for at in range(1, len(self.words)):
             texts, compared = self.meanings(first, at)
             if texts is not None:
-                tests += [(at, it) for it in compared] or [(at, texts.__contains__)]
+                tests += [(at, opposite(it) if at in self.negated else it) for it in compared or [texts.__contains__]]
         return tests
 
     def meanings(self, first, at):
@@ -131,11 +133,12 @@ class Pattern:
         return None if any(map(is_open, texts)) else frozenset(texts), compared
 
     def expression(self, first):
-        """A regular expression of the lines of a first word that it may match. Numbers are compared by its tests alone."""
+        """A regular expression of the lines of a first word that it may match. Numbers, and what `not` stands before, are tested alone."""
         words = [first]
         for at in range(1, len(self.words)):
             texts, compared = self.meanings(first, at)
-            words.append(r"\S+" if texts is None or compared else grouped(map(re.escape, texts)))
+            is_any = texts is None or compared or at in self.negated
+            words.append(r"\S+" if is_any else grouped(map(re.escape, texts)))
         return " ".join(words)
 
     def matches(self, words):
@@ -159,7 +162,8 @@ class Pattern:
 
     def begins(self):
         """The first two words of the lines that it matches; `_` is any."""
-        names = [it.lstrip("=") for it in self.alternatives[1]] if len(self.words) > 1 and not self.is_variable(1) else ["_"]
+        is_named = len(self.words) > 1 and not self.is_variable(1) and 1 not in self.negated
+        names = [it.lstrip("=") for it in self.alternatives[1]] if is_named else ["_"]
         return [(first, name) for first in self.firsts() for name in names]
 
     def is_every(self, first):
@@ -168,7 +172,7 @@ class Pattern:
 
     def is_first_round(self):
         """Whether it matches the line of the first round alone."""
-        return self.words[0] == "round" and len(self.words) > 1 and self.words[1] in ("1", "=1", "<=1", "<2")
+        return self.words[0] == "round" and len(self.words) > 1 and 1 not in self.negated and self.words[1] in ("1", "=1", "<=1", "<2")
 
     def has_first_round(self):
         """Whether it matches the line of the first round, whatever its moment is."""
@@ -195,6 +199,24 @@ def grouped(expressions):
     """A regular expression of some."""
     some = sorted(set(expressions))
     return some[0] if len(some) == 1 else f"(?:{'|'.join(some)})"
+
+
+def negations(words):
+    """The words without each `not`, and the places of those that it stands before."""
+    kept, negated = [], set()
+    for at, word in enumerate(words):
+        if word == "not":
+            behind = words[at + 1] if at + 1 < len(words) else "_"
+            if at == 0 or is_open(behind) or behind == "not":
+                raise Wrong(word.column, "`not` stands before a word that names or compares something: run not motor message")
+            negated.add(len(kept))
+        else:
+            kept.append(word)
+    return kept, negated
+
+
+def opposite(test):
+    return lambda word: not test(word)
 
 
 def split(word):

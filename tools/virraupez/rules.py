@@ -1,26 +1,12 @@
-"""Rules that a transcript is held to (docs/holds.md), read from a text with a rule a line, and checked line by line.
-
-A rule that holds of every transcript, whatever happens in it, is a fault of the rules."""
+"""Rules that a transcript is held to (docs/holds.md), and their check line by line. `rulebook` reads them from a text."""
 import collections
 import re
 
-from . import command, pattern, transcript
-from .pattern import Pattern, Wrong
+from . import pattern, transcript
+from .event import ROUNDS, Silence
 
-# The rules' forms, as a person writes them.
-FORMS = (
-    "never PATTERN",
-    "never PATTERN before PATTERN",
-    "never PATTERN after PATTERN",
-    "some PATTERN",
-    "every PATTERN then PATTERN [within N rounds|ticks]",
-    "count PATTERN is|at least|at most N",
-    "at end no pending [PATTERN]",
-)
 # What becomes of a rule: it may hold only because there is nothing that it is about.
 HOLDS, FAILS, UNDECIDED, NOTHING = "holds", "fails", "undecided", "holds of nothing"
-ROUNDS, TICKS = 0, 1
-UNITS = {"round": ROUNDS, "rounds": ROUNDS, "tick": TICKS, "ticks": TICKS}
 
 
 class Finding:
@@ -34,9 +20,8 @@ class Finding:
 class Rule:
     """A rule with the first line that breaks it, if any did, or the line of which the end leaves open whether it does."""
 
-    def __init__(self, patterns):
-        self.patterns = patterns
-        demand_variables(patterns)
+    def __init__(self, *events):
+        self.events, self.condition = events, None
         self.begin()
 
     def begin(self):
@@ -47,124 +32,262 @@ class Rule:
         if self.failure is None:
             self.failure = Finding(*finding)
 
-    def about(self, words):
-        """What a line says to the rule; None if it isn't about the line."""
-        return self.patterns[0].matches(words) and self.patterns[0].bound(words) is not None or None
+    def about(self, words, by):
+        """What the variables of each of its events stand for on a line of some callback, None for an event that it is no line of; None
+        if it is a line of none of them."""
+        found = [it.found(words, by) for it in self.events]
+        return None if found.count(None) == len(found) else found
 
     def line(self, number, line, about, now):
         """Takes a line that it is about."""
+
+    def round(self, number, line, now):
+        """Takes the begin of a round. Only rules on the time without a line are given it."""
 
     def end(self, number, now):
         """Takes the end of the transcript."""
 
     def unmet(self):
-        """The pattern that no line matched, so that the rule holds of nothing; None if it holds of something."""
+        """The event that there is no line of, so that the rule holds of nothing; None if it holds of something."""
         return None
 
     def outcome(self, own=None):
         """What became of the rule, beside what a document's scripts may write, if that is given."""
         if self.failure or self.open_end:
             return FAILS if self.failure else UNDECIDED
-        return NOTHING if self.unmet() or own and not own.may_write(self.patterns[0]) else HOLDS
+        first = self.events[0]
+        return NOTHING if self.unmet() or own and not isinstance(first, Silence) and not own.may_write(first) else HOLDS
+
+    def allows(self, *found):
+        """Whether the rule's condition holds of what variables stand for."""
+        return self.condition is None or self.condition.holds({name: it for each in found for name, it in each.items()})
 
 
 class Never(Rule):
-    def line(self, number, line, _about, now):
-        self.fail(number, line, now)
+    """No line of an event."""
+
+    def line(self, number, line, about, now):
+        if self.allows(*about):
+            self.fail(number, line, now)
 
 
-class Pair(Rule):
-    """A rule on lines of two patterns, which belong together if they have the same words for the same variables."""
-
-    def __init__(self, patterns):
-        super().__init__(patterns)
-        first, second = ({name for _, name in it.variables} for it in patterns)
-        self.shared = sorted(first & second)
-
-    def key(self, of, words):
-        """What the shared variables stand for on a line of a pattern; None on any other line."""
-        found = of.bound(words) if of.matches(words) else None
-        return None if found is None else tuple(found[name] for name in self.shared)
-
-    def about(self, words):
-        keys = [self.key(it, words) for it in self.patterns]
-        return None if keys == [None, None] else keys
-
-
-class Order(Pair):
-    """No line of a pattern before, or after, the first line of another that belongs to it."""
-
-    def __init__(self, patterns, fails_after):
-        super().__init__(patterns)
-        self.fails_after = fails_after
+class NeverSilent(Rule):
+    """No time without a line of an event."""
 
     def begin(self):
         super().begin()
-        self.seen = set()
+        self.events[0].begin()
 
     def line(self, number, line, about, now):
-        first, second = about
-        if first is not None and (first in self.seen) == self.fails_after:
-            self.fail(number, line, now, "" if self.fails_after else "before any of the others")
+        self.events[0].ends(now)
+
+    def round(self, number, line, now):
+        if self.events[0].comes(now):
+            self.fail(number, line, now, "there was none in this time")
+
+
+class Keyed(Rule):
+    """A rule on lines that belong together if they have the same words for the variables that its first two events share."""
+
+    def __init__(self, first, second, *more):
+        self.shared = sorted(first.variables & second.variables) if not isinstance(first, Silence) else []
+        super().__init__(first, second, *more)
+
+    def key(self, found):
+        return tuple(found[name] for name in self.shared)
+
+
+class Order(Keyed):
+    """No line of an event before, or after, a line of another that belongs to it; after it up to one of a third, if that is given."""
+
+    def __init__(self, fails_after, *events):
+        self.fails_after = fails_after
+        super().__init__(*events)
+
+    def begin(self):
+        super().begin()
+        self.seen, self.was = {}, False
+
+    def line(self, number, line, about, now):
+        first, second, *third = about
+        if first is not None:
+            held = self.seen.get(self.key(first))
+            if (held is not None) == self.fails_after and self.allows(held or {}, first):
+                self.fail(number, line, now, "" if self.fails_after else "before any of the others")
+        if third and third[0] is not None:
+            gone = [key for key, held in self.seen.items() if all(held.get(name, it) == it for name, it in third[0].items())]
+            for key in gone:
+                del self.seen[key]
         if second is not None:
-            self.seen.add(second)
+            self.was = True
+            self.seen.setdefault(self.key(second), second)
 
     def unmet(self):
-        return self.patterns[1] if not self.seen else None
+        return None if self.was else self.events[1]
 
 
 class Count(Rule):
-    def __init__(self, patterns, least, most):
-        super().__init__(patterns)
-        self.least, self.most = least, most
+    """So many lines of an event, in the whole run or in each window of some rounds or ticks."""
+
+    def __init__(self, event, least, most, window=None, unit=ROUNDS):
+        self.least, self.most, self.window, self.unit = least, most, window, unit
+        super().__init__(event)
 
     def begin(self):
         super().begin()
-        self.count = 0
+        self.count, self.last = 0, collections.deque()
 
-    def line(self, number, line, _about, now):
+    def line(self, number, line, about, now):
+        if not self.allows(*about):
+            return
         self.count += 1
-        if self.most is not None and self.count > self.most:
-            self.fail(number, line, now, f"number {self.count} of these lines")
+        if self.window is None:
+            over = self.most is not None and self.count > self.most
+        else:
+            self.last.append(now[self.unit])
+            over = len(self.last) > self.most and now[self.unit] - self.last.popleft() < self.window
+        if over:
+            self.fail(number, line, now, f"number {self.most + 1 if self.window else self.count} of these lines")
 
     def end(self, number, now):
         if self.count < self.least:
             self.fail(number, "the end", now, f"there are {self.count} of these lines")
 
 
-class Then(Pair):
-    """After every line of a pattern comes one of another that belongs to it."""
+class AtOnce(Keyed):
+    """No more than so many lines of an event of which none has had its line of another."""
 
-    def __init__(self, patterns, within, unit):
-        super().__init__(patterns)
-        self.within, self.unit = within, unit
+    def __init__(self, most, *events):
+        self.most = most
+        super().__init__(*events)
 
     def begin(self):
         super().begin()
-        self.is_met, self.open = False, collections.OrderedDict()
+        self.open, self.was = collections.Counter(), False
+
+    def line(self, number, line, about, now):
+        first, second = about
+        if second is not None:
+            key = self.key(second)
+            self.open[key] -= 1
+            if self.open[key] <= 0:
+                del self.open[key]
+        if first is not None:
+            self.was = True
+            # What has a name of its own is open once, however often its line comes.
+            self.open[self.key(first)] = 1 if self.shared else self.open[()] + 1
+            count = sum(self.open.values())
+            if count > self.most:
+                self.fail(number, line, now, f"{count} are open")
+
+    def unmet(self):
+        return None if self.was else self.events[0]
+
+
+class OnlyIf(Keyed):
+    """Each line of an event comes after one of another that belongs to it, and not too long after the last of them."""
+
+    def __init__(self, within, unit, *events):
+        self.within, self.unit = within, unit
+        super().__init__(*events)
+
+    def begin(self):
+        super().begin()
+        self.seen, self.was = {}, False
+
+    def line(self, number, line, about, now):
+        first, second = about
+        if first is not None:
+            self.was = True
+            last, held = self.seen.get(self.key(first), (None, {}))
+            if last is None or not self.allows(held, first):
+                self.fail(number, line, now, "none of the others came before" if last is None else "the last of the others isn't so")
+            elif self.within is not None and now[self.unit] - last[self.unit] > self.within:
+                self.fail(number, line, now, f"the last of the others came in round {last[0]} at moment {last[1]}")
+        if second is not None:
+            self.seen[self.key(second)] = now, second
+
+    def unmet(self):
+        return None if self.was else self.events[0]
+
+
+# A line that waits for an answer: its number and text, when it came, and what its variables stand for.
+Waiting = collections.namedtuple("Waiting", "number line begun found")
+
+
+class Then(Keyed):
+    """After every line of an event comes one of another that belongs to it. How is `one` if each line needs one of its own, `next` if
+    the next one of the other has to do, and empty if one answers all that wait."""
+
+    def __init__(self, how, within, unit, *events, later=None):
+        """Later is a number of rounds or ticks, with their unit, that must be over before the answer."""
+        self.how, self.within, self.unit, self.later = how, within, unit, later
+        super().__init__(*events)
+
+    def begin(self):
+        super().begin()
+        # Those that wait, by what they have in common with their answer, and the same by their numbers, the oldest first.
+        self.is_met, self.open, self.oldest = False, {}, collections.OrderedDict()
+        if isinstance(self.events[0], Silence):
+            self.events[0].begin()
 
     def line(self, number, line, about, now):
         self.overdue(now)
         first, second = about
         if second is not None:
-            self.open.pop(second, None)
-        if first is not None:
-            self.is_met = True
-            self.open.setdefault(first, (number, line, now))
+            self.answer(number, line, second, now)
+        if first is not None and isinstance(self.events[0], Silence):
+            self.events[0].ends(now)
+        elif first is not None:
+            self.wait(number, line, first, now)
+
+    def wait(self, number, line, found, now):
+        self.is_met = True
+        waiting = self.open.setdefault(self.key(found), [])
+        # If one answer is for all that wait, only the first of them is kept, which waits longest.
+        if not waiting or self.how or self.condition or self.later:
+            waiting.append(Waiting(number, line, now, found))
+            self.oldest[number] = waiting[-1]
+
+    def answer(self, number, line, found, now):
+        key = self.key(found)
+        waiting = self.open.pop(key, [])
+        if self.how == "one" and not waiting:
+            self.fail(number, line, now, "it answers none of the others")
+        asked = 1 if self.how == "one" else len(waiting)
+        left = [it for it in waiting[:asked] if not self.answers(it, number, line, found, now)] + waiting[asked:]
+        if left:
+            self.open[key] = left
+
+    def answers(self, it, number, line, found, now):
+        """Whether a line is the answer to one that waits, which waits no longer then."""
+        is_answer = self.allows(it.found, found)
+        if is_answer and self.later and now[self.later[1]] - it.begun[self.later[1]] <= self.later[0]:
+            self.fail(number, line, now, f"too early after line {it.number}")
+        if not is_answer and self.how == "next":
+            self.fail(number, line, now, f"it is the next after line {it.number}: {it.line}")
+        if is_answer:
+            del self.oldest[it.number]
+        return is_answer
 
     def overdue(self, now):
         """Fails if the time of the oldest line is over."""
-        if self.within is None or not self.open:
-            return
-        number, line, begun = next(iter(self.open.values()))
-        if now[self.unit] - begun[self.unit] > self.within:
-            self.fail(number, line, begun, "nothing followed in time")
+        if self.within is not None and self.oldest:
+            number, line, begun, _ = next(iter(self.oldest.values()))
+            if now[self.unit] - begun[self.unit] > self.within:
+                self.fail(number, line, begun, "nothing followed in time")
+
+    def round(self, number, line, now):
+        self.overdue(now)
+        if self.events[0].comes(now):
+            self.wait(number, line, {}, now)
 
     def end(self, number, now):
         self.overdue(now)
-        if not self.open or self.failure:
+        # The next one need not come, unless a time is given.
+        if self.failure or not self.oldest or self.how == "next" and self.within is None:
             return
-        number, line, begun = next(iter(self.open.values()))
+        number, line, begun, _ = next(iter(self.oldest.values()))
         # A further round could stand at the last moment, but none has the number of the last.
         if self.within is None or self.unit == ROUNDS and now[ROUNDS] - begun[ROUNDS] >= self.within:
             self.fail(number, line, begun, "nothing followed before the end")
@@ -172,198 +295,69 @@ class Then(Pair):
             self.open_end = Finding(number, line, begun, f"the run ends in round {now[0]} at moment {now[1]}, before the time is over")
 
     def unmet(self):
-        return None if self.is_met else self.patterns[0]
-
-
-# ---- what a rule must not be
-
-
-def demand_variables(patterns):
-    """Refuses variables that are used once, as one that is misspelt, and those that can't be the same word."""
-    places = collections.OrderedDict()
-    for of in patterns:
-        for at, name in of.variables:
-            places.setdefault(name, []).append((of, at))
-    for name, found in places.items():
-        if len(found) == 1:
-            of, at = found[0]
-            raise Wrong(of.words[at].column, f"{name} is a variable that is used once: `_` is any word{hint_of(of, at, name, places)}")
-        for at, one in enumerate(found):
-            for other in found[at + 1 :]:
-                if not can_meet(one, other):
-                    says = f"no word is {says_of(*one)} and {says_of(*other)}, and {name} would be both"
-                    raise Wrong(other[0].words[other[1]].column, says)
-
-
-def hint_of(of, at, name, places):
-    """What a variable that is used once may be meant for: the name of one of a few, another variable, or the name itself."""
-    if at == 0 or all(isinstance(form, transcript.Kind) or getattr(form, "names", None) for form in of.forms_at(at)):
-        return pattern.meant(name, transcript.WORDS if at == 0 else [it for form in of.forms_at(at) for it in getattr(form, "names", None) or [form.word]])
-    near = pattern.meant(name, [it for it in places if it != name])
-    return near or (f"; ={name} is the word itself" if any(isinstance(form, transcript.Name) for form in of.forms_at(at)) else "")
-
-
-def can_meet(one, other):
-    """Whether a word may stand at both of two places, each of a pattern."""
-    if one[1] == 0 or other[1] == 0:
-        return one[1] == other[1] and bool(one[0].firsts() & other[0].firsts())
-    return any(form.meets(it) for form in one[0].forms_at(one[1]) for it in other[0].forms_at(other[1]))
-
-
-def says_of(of, at):
-    return "the first word of a line" if at == 0 else of.forms_at(at)[0].says
-
-
-def rank(first):
-    """Where a line stands: those of rounds before the calls that are pending, and these before the end."""
-    return {"pending": 1, "end": 2}.get(first, 0)
-
-
-def demand_order(patterns, fails_after, column):
-    """Refuses `never P after Q` if no line of P stands after one of Q, and `before` if none stands before."""
-    of, other = (it.firsts() for it in patterns)
-    if fails_after:
-        is_kept = max(map(rank, of)) < min(map(rank, other)) or other == {"end"} or patterns[0].is_first_round()
-    else:
-        is_kept = "end" not in of and patterns[1].has_first_round() and not patterns[1].variables
-    if is_kept:
-        how = "after" if fails_after else "before"
-        says = f"no line `{patterns[0].words[0]}` comes {how} a line `{patterns[1].words[0]}`"
-        raise Wrong(column, f"this holds whatever happens: {says}{'' if fails_after else ', with which a run begins'}")
-
-
-def demand_end(of, column):
-    """Refuses a rule that is kept by the line `end`, which every transcript has."""
-    if of.is_every("end"):
-        raise Wrong(column, "this holds whatever happens: every transcript ends with one line `end`")
-
-
-# ---- reading
-
-
-class Reader:
-    """Reads rules, beside the names that a document declares."""
-
-    def __init__(self, declared=None):
-        self.declared = declared
-
-    def pattern(self, words, column):
-        return Pattern(words, column, self.declared)
-
-    def rule(self, words):
-        """A rule by its words."""
-        head, rest = words[0], words[1:]
-        behind = words[-1].column + len(words[-1])
-        if head == "never":
-            return self.never(rest, behind)
-        if head == "some":
-            of = self.pattern(rest, behind)
-            demand_end(of, head.column)
-            return Count([of], 1, None)
-        if head == "every":
-            return self.then(head, rest, behind)
-        if head == "count":
-            return self.count(head, rest, behind)
-        if words[:3] == ["at", "end", "no"]:
-            return self.at_end(words[3:], behind)
-        raise Wrong(head.column, "no rule; there are: " + "; ".join(FORMS))
-
-    def never(self, rest, behind):
-        for word in ("before", "after"):
-            if word in rest:
-                at = rest.index(word)
-                patterns = [self.pattern(rest[:at], rest[at].column), self.pattern(rest[at + 1 :], behind)]
-                demand_order(patterns, word == "after", rest[at].column)
-                return Order(patterns, word == "after")
-        return Never([self.pattern(rest, behind)])
-
-    def at_end(self, rest, behind):
-        of = self.pattern(rest, behind)
-        if of.firsts() != {"pending"}:
-            raise Wrong(rest[0].column, "only lines `pending` stand at the end; `never` is of all lines")
-        return Never([of])
-
-    def then(self, head, rest, behind):
-        if "then" not in rest:
-            raise Wrong(head.column, "every needs a then: " + FORMS[4])
-        at = rest.index("then")
-        first, second, within, unit = rest[:at], rest[at + 1 :], None, ROUNDS
-        if "within" in second:
-            limit = second.index("within")
-            within, unit = self.limit(second[limit], second[limit + 1 :])
-            behind, second = second[limit].column, second[:limit]
-        patterns = [self.pattern(first, rest[at].column), self.pattern(second, behind)]
-        demand_end(patterns[1], rest[at].column)
-        return Then(patterns, within, unit)
-
-    def limit(self, word, rest):
-        """How long a rule waits, and in what."""
-        if len(rest) != 2 or not pattern.DECIMAL.fullmatch(rest[0]) or int(rest[0]) < 0 or rest[1] not in UNITS:
-            raise Wrong(word.column, "within takes a number of rounds or of ticks, at the end of the rule")
-        return int(rest[0]), UNITS[rest[1]]
-
-    def count(self, head, rest, behind):
-        text, of = " ".join(rest), len(rest)
-        found = re.search("(?:^| )(is|at least|at most) (0|[1-9][0-9]{0,17})$", text)
-        if not found:
-            raise Wrong(head.column, "a count ends with is N, at least N or at most N, and N is a number")
-        of -= len(found[0].split())
-        count, how = int(found[2]), found[1]
-        made = self.pattern(rest[:of], rest[of].column)
-        if how == "at least" and count == 0:
-            raise Wrong(rest[of].column, "this holds whatever happens: there are never fewer than 0 lines")
-        if how != "at most" and count == 1 or how == "at most" and count:
-            demand_end(made, head.column)
-        return Count([made], 0 if how == "at most" else count, None if how == "at least" else count)
-
-
-def read(text, name="the rules", declared=None, only=None):
-    """The rules of a text: a rule a line; # begins a remark. All faults are told at once. Only may be the number of a line: the others
-    aren't read then, and may be of another document."""
-    lines = text.split("\n")
-    if transcript.is_line(lines[0]) and lines[0].startswith(("round ", "end ")):
-        raise command.Trouble(f"{command.shown(name)}: this is a transcript, and no file of rules: the rules come before the transcripts")
-    rules, wrong = [], []
-    for number, line in enumerate(lines, 1):
-        words = pattern.tokens(line)
-        if not words or only not in (None, number):
-            continue
-        try:
-            rule = Reader(declared).rule(words)
-            rule.number, rule.column, rule.text = number, words[0].column, " ".join(words)
-            rules.append(rule)
-        except Wrong as fault:
-            wrong.append(f"{command.place(name, number, fault.column)}{fault}")
-    if wrong:
-        raise command.Trouble(*wrong)
-    if not rules and only is not None:
-        raise command.Trouble(f"{command.shown(name)} has no rule in line {only}")
-    if not rules:
-        raise command.Trouble(f"{command.shown(name)}: no rule in it, so that nothing would be checked")
-    return rules
+        return None if self.is_met else self.events[0]
 
 
 # ---- checking
 
-
 ROUND = "\nround "
 # How many lines are known at most.
 KNOWN = 10000
+# Of more words than these the lines of a first word are all looked at: a regular expression tries one word after the other.
+WORDS = 32
+# The lines by which a rule knows whose callback runs.
+OF_CALLBACKS = ("round", "run", "pending", "end")
 
 
 class Check:
     """Rules beside a transcript that is read by blocks of lines. Only lines that a pattern of a rule may match are looked at."""
 
     def __init__(self, rules):
-        self.rules, self.now, self.number = rules, (0, 0), 0
-        # What lines say to rules: the runs of a search have many lines that are the same.
+        self.rules = rules
+        # The rules that lines of a first word may concern: of any name, and of each name that some pattern has.
+        self.of_any = {word: [] for word in transcript.WORDS}
+        self.of_name = {word: {} for word in transcript.WORDS}
+        self.list_by_begins()
+        # What lines of a callback say to rules: the runs of a search have many lines that are the same.
         self.known = {}
-        lines = {of.expression(first) for rule in rules for of in rule.patterns for first in of.firsts()}
-        self.concerned = re.compile(f"\n{pattern.grouped(lines)}(?!\\S).*").finditer
+        self.timed = [rule for rule in rules if isinstance(rule.events[0], Silence)]
+        # Whose callback writes a line must be known if a rule asks.
+        asking = [of for of in self.patterns() if of.by]
+        self.is_by, self.owners = bool(asking), getattr(asking[0].declared, "owners", {}) if asking else {}
+        self.concerned = re.compile(f"\n{pattern.grouped(self.expressions()) if rules else '(?!)'}(?!\\S).*").finditer
+        self.begin()
+
+    def patterns(self):
+        return [of for rule in self.rules for it in rule.events for of in it.patterns]
+
+    def list_by_begins(self):
+        """Lists the rules by the first two words of the lines that may concern them."""
+        for rule in self.rules:
+            begins = set().union(*(it.begins() for it in rule.events))
+            for first in {first for first, _ in begins}:
+                names = {name for of, name in begins if of == first}
+                if "_" in names or first in ("round", "end"):
+                    self.of_any[first].append(rule)
+                else:
+                    for name in names:
+                        self.of_name[first].setdefault(name, []).append(rule)
+        for first, named in self.of_name.items():
+            for name, found in named.items():
+                named[name] = sorted(found + self.of_any[first], key=self.rules.index) if self.of_any[first] else found
+
+    def expressions(self):
+        """The regular expressions of the lines that are looked at."""
+        found = collections.defaultdict(set)
+        for of in self.patterns():
+            for first in of.firsts():
+                found[first].add(of.expression(first))
+        found.update((word, {word}) for word in (OF_CALLBACKS if self.is_by else ("round",) if self.timed else ()))
+        texts = ((word, pattern.grouped(it)) for word, it in found.items())
+        return [text if text.count("|") < WORDS else word for word, text in texts]
 
     def begin(self):
         """Forgets all lines, so that another transcript may be taken."""
-        self.now, self.number = (0, 0), 0
+        self.now, self.by, self.number = (0, 0), (), 0
         for rule in self.rules:
             rule.begin()
 
@@ -388,15 +382,32 @@ class Check:
             self.now = int(number), int(moment)
 
     def line(self, number, line):
-        found = self.known.get(line)
-        if found is None:
-            if len(self.known) >= KNOWN:
-                self.known.clear()
-            words = line.split(" ")
-            found = self.known[line] = [(rule, about) for rule in self.rules for about in [rule.about(words)] if about is not None]
-        for rule, about in found:
+        if self.timed and line.startswith(ROUND[1:]):
+            for rule in self.timed:
+                if rule.failure is None:
+                    rule.round(number, line, self.now)
+        if self.is_by:
+            self.by = self.whose(line.split(" ", 2))
+        found = self.known.get((line, self.by))
+        for rule, about in self.read(line) if found is None else found:
             if rule.failure is None:
                 rule.line(number, line, about, self.now)
+
+    def whose(self, words):
+        """The names of the entity whose callback a line is of, and of its node; none of a line outside of callbacks."""
+        if words[0] not in OF_CALLBACKS:
+            return self.by
+        return (words[1], self.owners.get(words[1])) if words[0] == "run" else ()
+
+    def read(self, line):
+        """Reads a line: the rules that it concerns, with what it says to them."""
+        words = line.split(" ")
+        if len(self.known) >= KNOWN:
+            self.known.clear()
+        asked = self.of_name[words[0]].get(words[1], self.of_any[words[0]])
+        found = [(rule, about) for rule in asked for about in [rule.about(words, self.by)] if about is not None]
+        self.known[line, self.by] = found
+        return found
 
     def end(self):
         for rule in self.rules:

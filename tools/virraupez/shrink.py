@@ -4,6 +4,7 @@ import difflib
 import re
 
 from . import cuts, grammar, judge, made, rules, runs
+from .event import ROUNDS, Event
 
 
 class Way:
@@ -11,8 +12,7 @@ class Way:
 
     def __init__(self, rule, keep):
         self.rule = rule
-        late = rules.Then(rule.patterns, None, rules.ROUNDS) if isinstance(rule, rules.Then) and rule.within is not None else None
-        self.late = [late] if late else []
+        self.late = [late_of(rule)] if isinstance(rule, rules.Then) and rule.within is not None and isinstance(rule.events[0], Event) else []
         self.rules, self.keep = [rule, *self.late, *keep], keep
 
     def of_last_run(self):
@@ -22,6 +22,13 @@ class Way:
             return None
         names = tuple(it for it in found.line.split(" ") if not re.fullmatch("-?[0-9]+|[0-9a-f-]{36}|\\(?there", it))
         return names, re.sub("[0-9]+", "", found.says), [bool(it.failure) for it in self.late]
+
+
+def late_of(rule):
+    """The rule that an answer comes, be it too late."""
+    made = rules.Then(rule.how, None, ROUNDS, *rule.events)
+    made.condition = rule.condition
+    return made
 
 
 class Shrinker:

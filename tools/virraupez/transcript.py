@@ -159,8 +159,11 @@ WORDS = tuple(FORMS)
 
 def regex(word, exact=True):
     """The regular expression of the lines of a first word."""
-    shapes = [" ".join(form.regex(exact) for form in forms) for forms in FORMS[word]]
-    return f"{word} (?:{'|'.join(shapes)})"
+    shapes = [[form.regex(exact) for form in forms] for forms in FORMS[word]]
+    # What all shapes begin with is tried once, and not once a shape.
+    first = f"{word} {shapes[0][0]}" if len({shape[0] for shape in shapes}) == 1 else word
+    rests = [" ".join(shape[first != word :]) for shape in shapes]
+    return f"{first} (?:{'|'.join(rests)})" if all(rests) else first
 
 
 @functools.lru_cache(None)

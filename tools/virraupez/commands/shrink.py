@@ -74,7 +74,7 @@ def other_timing(asked, document, judging):
 def kept(text, declared):
     """The rule that a line stays."""
     try:
-        rule = rules.Count([pattern.Pattern(pattern.tokens(text), 1, declared)], 1, None)
+        rule = rules.Count(judge.event_of(text, declared), 1, None)
     except pattern.Wrong as wrong:
         raise command.Trouble(f"--keep {text!r}, at its character {wrong.column}: {wrong}") from None
     return rule

@@ -2,7 +2,7 @@
 goals as bars, messages as lines, and the lines of a round next to them. One can search, zoom, and go from round to round by keys.
 
 A second transcript is shown below the first, and their first difference is marked. docs/view.md says what the keys do."""
-from .. import command, fit, flow, grammar, rules, series, ticks, transcript, view
+from .. import command, fit, flow, grammar, rulebook, rules, series, ticks, transcript, view
 from . import picture
 
 STATUS = "The status is 0, and 2 if a file is wrong, cut off or another run's, or hasn't these rounds."
@@ -31,7 +31,7 @@ def text_of(name, own):
 def run(asked, out):
     document = flow.read_document(asked.document)
     own = fit.Own(asked.document, document)
-    check = rules.Check(rules.read(command.text_of(asked.rules), asked.rules, own.kinds)) if asked.rules else None
+    check = rules.Check(rulebook.read(command.text_of(asked.rules), asked.rules, own.kinds)) if asked.rules else None
     plotted = None if asked.plot is None else series.asked(asked.plot, document)
     runs = [view.Run(asked.transcript, text_of(asked.transcript, own), document, *asked.rounds, check)]
     if asked.other:
