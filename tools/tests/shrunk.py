@@ -8,6 +8,7 @@ import subprocess
 import sys
 import time
 
+import virraupez
 from virraupez import cuts, shrink
 
 from . import sandbox, searched, tool
@@ -53,6 +54,7 @@ def answers(program):
         early["feed"] = [it for it in early["feed"] if it["round"] <= 60]
         (top / "short.json").write_text(json.dumps({**early, "moments": early["moments"][:60]}))
         yield from of_navigation(top)
+        yield from of_causes(top)
         yield from of_names(top)
         yield from of_kept(top)
         yield from of_orders(top)
@@ -96,6 +98,34 @@ def of_navigation(top):
         yield f"what more could be left out: {document}", "late.rules:1:1: fails" in late and ever.startswith("1 hold"), False
 
 
+# Robots that break a rule, and the lines that are the cause: a drop, and what led to the line.
+CAUSES = (
+    ("burst", "every pub x V then run hear message V within 1 round", ("drop hear message", "run beat timer", "pub x", "run hear message")),
+    ("chain", "never pub z >5", ("run beat timer", "pub x", "run hear message", "pub y", "run meet message", "pub z")),
+    ("call", "every call ask N _ then run ask reply _ N within 9 rounds", ("drop plan request", "call ask", "run beat timer")),
+)
+
+
+def of_causes(top):
+    """What the broken rule's line comes from stays, and so do the drops of what it sent: the smallest document has the planted cause."""
+    for name, rule, kept in CAUSES:
+        robot = virraupez.Document(topics=["x", "y", "z"])
+        node = robot.node("n")
+        node.timer("beat", period=5, script="pub x 1\n pub x 7\n call ask 1\n call ask 2\n log now")
+        node.subscription("hear", topic="x", depth=1, script="if in < 5 goto end\n pub y in")
+        node.subscription("meet", topic="y", script="pub z in")
+        node.service("plan", depth=1, script="reply 1")
+        node.client("ask", service="plan")
+        robot.every(1, until=60)
+        (top / f"{name}.json").write_text(robot.text())
+        (top / f"{name}.rules").write_text(rule)
+        status, told, small = shrunk(top, f"{name}.json", "--rules", f"{name}.rules")
+        (top / "small.json").write_text(json.dumps(small))
+        ran = searched.started(top, "run", "small.json")[1]
+        yield f"the causes of {rule!r}: {told}", (status, [it for it in kept if f"\n{it} " not in ran]), (0, [])
+        yield f"what is gone is said: {told}", "shrink: the run no longer has " in told and "log beat" in told, True
+
+
 def of_names(top):
     """A shrunk document is taken with its own rules by the line of the broken one: others may name what is gone."""
     status, told, _small = shrunk(top, "later.json", "--rules", RULES)
@@ -124,7 +154,7 @@ def of_kept(top):
     most = searched.started(top, "shrink", "-", *searched.ruled(top, "some log t"), given=(top / "examples/robot.json").read_bytes())
     yield f"a rule with an unknown name: {most}", (most[0], "did you mean" in most[1] or "declares no" in most[1]), (2, True)
     empty = searched.started(top, "shrink", "examples/robot.json", *searched.ruled(top, "some log motor 99"))
-    yield f"what needs nothing at all: {empty}", (empty[0], empty[1].split("\n")[0], empty[1].endswith(", 1 entry became 0\n")), (0, '{"version":1}', True)
+    yield f"what needs nothing at all: {empty}", (empty[0], empty[1].split("\n")[0], ", 1 entry became 0\n" in empty[1]), (0, '{"version":1}', True)
 
 
 def of_orders(top):

@@ -149,6 +149,8 @@ class Traffic:
 
     def __init__(self, declared):
         self.sent, self.scripts, self.clients, self.named = {}, [], {}, set()
+        # Whether a client of a service or a server sends to it by a word, once it was asked.
+        self.asked = {}
         for entity in declared.entities:
             if entity.refers_to() is not None and entity.name is not None:
                 self.clients.setdefault((entity.kind, entity.refers_to()), []).append(entity.name)
@@ -173,7 +175,10 @@ class Traffic:
 
     def through(self, kind, name, word):
         """Whether a client of a service or a server sends to it."""
-        return any(self.has(client, word) for client in self.clients.get((kind, name), ()))
+        key = kind, name, word
+        if key not in self.asked:
+            self.asked[key] = any(self.has(client, word) for client in self.clients.get((kind, name), ()))
+        return self.asked[key]
 
 
 def texts(value):

@@ -2,6 +2,7 @@
 
 They go over a value that json_text has read, and over what it declares. A part of a wrong form counts as a fault of Shape, and
 as missing for all greater codes."""
+import functools
 import itertools
 import json
 import re
@@ -145,9 +146,9 @@ def entry_shape(fields, path):
 def with_moment(fault, declared):
     """The fault of an entry without its round, with the round of the moment that the entry has."""
     if fault.missing == "round":
-        fields = next((it for path, it in declared.feed if path == fault.path), {})
+        fields = declared.entries().get(fault.path, {})
         moment = next((fields[it] for it in repairs.ALIASES["round"] if g.is_count(fields.get(it))), None)
-        number, says = repairs.of_moment(moment, [it for _, it in declared.moments]) if moment is not None else (None, "")
+        number, says = repairs.of_moment(moment, *declared.all_moments()) if moment is not None else (None, "")
         if number:
             fault.hint = f'add "round": {number}, since {says}'
     return fault
@@ -195,6 +196,11 @@ class Node:
         self.groups = [(path + ("groups", at), group) for at, group in listed(fields, "groups", "group")]
         self.kinds = {it["name"]: it.get("kind") for _, it in self.groups if g.is_text(it.get("name"))}
 
+    @functools.lru_cache(None)
+    def is_plain(self):
+        """Whether it has no field that isn't known."""
+        return all(name in g.OBJECTS["node"] for name in self.fields)
+
 
 class Declared:
     """What a document declares, as far as it has its forms."""
@@ -220,6 +226,17 @@ class Declared:
         for entity in self.entities:
             if entity.name is not None:
                 self.named[entity.kind].setdefault(entity.name, entity)
+
+    @functools.lru_cache(None)
+    def entries(self):
+        """The entries of the feed by their paths."""
+        return dict(self.feed)
+
+    @functools.lru_cache(None)
+    def all_moments(self):
+        """The moments, and the highest of those up to each."""
+        moments = [moment for _, moment in self.moments]
+        return moments, list(itertools.accumulate(moments, max))
 
     def what(self, name):
         """What a name is declared as, in words."""
@@ -273,7 +290,7 @@ def name_hint(name):
 def references(declared, entity):
     if "group" in entity.fields and g.is_text(entity.fields["group"]) and entity.fields["group"] not in entity.node.kinds:
         none = f"the node {entity.node.name} has no `groups`; leave the field out for its default group"
-        is_plain = declared.is_whole and not entity.node.kinds and set(entity.node.fields) <= set(g.OBJECTS["node"])
+        is_plain = declared.is_whole and not entity.node.kinds and entity.node.is_plain()
         hint = none if is_plain else ""
         yield Fault(4, entity.path + ("group",), f"a named group of the node {entity.node.name}", hint, entity.node.kinds)
     field, kind = g.REFERS.get(entity.kind, (None, None))
@@ -356,7 +373,7 @@ def round_hint(number, declared):
     """A hint for a number that no round has: it may be a moment."""
     if number == 0:
         return "rounds are counted from 1" if declared.rounds else ""
-    found, says = repairs.of_moment(number, [moment for _, moment in declared.moments])
+    found, says = repairs.of_moment(number, *declared.all_moments())
     return f"write {found}, since {says}" if found else ""
 
 

@@ -79,16 +79,28 @@ ORDERS = {
 }
 # The texts that a form has, with what is often written for them.
 TEXTS = {"kind": (("exclusive", "reentrant"), KINDS), "order": (g.ORDERS, ORDERS)}
-# A word that is compared with more names than these takes too long.
-NAMES = 2000
+# A word that is compared with more names than these takes too long, and so do names of more characters in all the work on a document.
+NAMES, CHARACTERS = 2000, 100000
+
+
+class Left:
+    """How many characters of names may still be compared."""
+
+    characters = CHARACTERS
+
+    @staticmethod
+    def begin():
+        """Begins the work on a document."""
+        Left.characters = CHARACTERS
 
 
 def nearest(word, names, least=0.6):
-    """The name that is nearest to a word, or None if none is near."""
+    """The name that is nearest to a word, or None if none is near or too much was compared."""
     among = {}
     for name in names:
-        if len(among) == NAMES:
+        if len(among) == NAMES or Left.characters <= 0:
             break
+        Left.characters -= len(str(name))
         among.setdefault(str(name).lower(), name)
     found = difflib.get_close_matches(word.lower()[:80], among, 1, least)
     return among[found[0]] if found else None

@@ -2,6 +2,7 @@
 
 Each begins with what to do at the place of the fault: `write X` is X in place of what stands there, `rename A to B` is of a field,
 `add X` is a field of the object, and `in place of the instruction write X` is of the whole instruction."""
+import bisect
 import json
 import re
 
@@ -298,10 +299,11 @@ def of_entry(fields):
     return f'add "cancel": "{g.hyphenated(0)}", which cancels all goals'
 
 
-def of_moment(moment, moments):
-    """The round of a moment: the first one at or after it, as a number from 1, and a hint that says so."""
-    found = next((number for number, it in enumerate(moments, 1) if it >= moment), None)
-    if found is None:
+def of_moment(moment, moments, highest):
+    """The round of a moment: the first one at or after it, as a number from 1, and a hint that says so. The highest of all moments up
+    to each are known."""
+    found = bisect.bisect_left(highest, moment) + 1
+    if found > len(moments):
         return None, ""
     how = "is the moment of" if moments[found - 1] == moment else "is before the moment of"
     return found, f"{moment} {how} round {found}"

@@ -26,6 +26,7 @@ class Report:
         """Of is what gives the faults and warnings of a document's value: all, unless it is given."""
         self.most, self.entries, self.counts, self.rounds = most, [], {}, 0
         self.of = of or every
+        hints.Left.begin()
         try:
             text = given.decode()
             document = json_text.read(text)

@@ -3,7 +3,7 @@ accepted and its run breaks the rule in the same way."""
 import difflib
 import re
 
-from . import cuts, grammar, judge, made, rules, runs
+from . import ancestry, cuts, grammar, judge, made, rules, runs
 from .event import ROUNDS, Event
 
 
@@ -37,9 +37,12 @@ class Shrinker:
 
     def __init__(self, program, document, way, good=None):
         self.judging, self.way, self.document, self.good, self.runs = judge.Judge(program, way.rules), way, document, good, 0
-        self.lines = self.judging.run(document).count("\n")
+        self.text = self.judging.run(document)
+        self.lines = self.text.count("\n")
         self.wanted = way.of_last_run()
         self.found = judge.said(way.rule.failure) if self.wanted else None
+        # Unless lines are named that the run must keep, it keeps what the line comes from that breaks the rule.
+        self.kept = [] if way.keep or not self.wanted else ancestry.Ancestry(document, self.text).of(way.rule.failure.number)
         self.tried = set()
 
     def accepts(self, document, good, most=None):
@@ -51,6 +54,8 @@ class Shrinker:
         lines = self.lines_of(document)
         if lines is None or self.way.of_last_run() != self.wanted or most is not None and lines > most:
             return False
+        if any(f"\n{name} " not in self.text for name in self.kept):
+            return False
         found = judge.said(self.way.rule.failure)
         if good is not None and (self.lines_of(good) is None or self.way.rule.failure or self.way.rule.open_end):
             return False
@@ -61,9 +66,10 @@ class Shrinker:
         """Runs a document, and gives how many lines its transcript has; None if it is refused."""
         self.runs += 1
         try:
-            return self.judging.run(document).count("\n")
+            self.text = self.judging.run(document)
         except runs.Refused:
             return None
+        return self.text.count("\n")
 
     def shrink(self):
         """Leaves out whatever can be left out, until nothing can."""

@@ -13,7 +13,7 @@ a transcript are wrong."""
 
 def parser(prog=None):
     made = command.parser(__doc__, STATUS, prog)
-    made.add_argument("files", metavar="FILE", nargs="+", help="a file of rules, unless --rules names it, and transcripts; - is standard input")
+    made.add_argument("files", metavar="TRANSCRIPT", nargs="+", help="transcripts, behind the file of rules unless --rules names it; - is standard input")
     made.add_argument("--rules", metavar="RULES", help="the file of rules")
     made.add_argument("--rule", metavar="LINE", type=command.number, help="the line of the rule, if only one is asked for; the others may be of another document")
     made.add_argument("--document", metavar="DOCUMENT", help="the document of the transcripts, by whose names the rules are checked")

@@ -4,13 +4,17 @@ accepted.
 
 The rule is the first of the file that the document breaks, or that of --rule. If an answer comes too late, it comes too late in
 the smallest document too. With --unless, another timing of the smallest document still keeps the rule. docs/search.md has more."""
+import json
 import re
 
-from .. import command, fit, flow, judge, made, pattern, rules, runs, shrink
+from .. import ancestry, command, fit, flow, judge, made, pattern, rules, runs, shrink
 from . import search
 
 STATUS = """The status is 0, and 2 if the document breaks no rule or something is wrong. It is 130 after Ctrl-C, and what is smallest so far is
 written."""
+
+# How many kinds of lines are named that the run no longer has.
+GONE = 6
 
 
 def parser(prog=None):
@@ -41,7 +45,7 @@ def run(asked, out):
         status = search.INTERRUPTED
     out.write(made.layout(shrinker.document) + "\n")
     out.flush()
-    tell(rule, shrinker, document)
+    tell(rule, shrinker, document, list(gone(program, document, shrinker.document)))
     return status
 
 
@@ -80,8 +84,14 @@ def kept(text, declared):
     return rule
 
 
-def tell(rule, shrinker, document):
-    """Tells on standard error what became smaller, and how the document breaks its rule now."""
+def gone(program, before, after):
+    """The first words of the lines that the run no longer has, drops first."""
+    one, other = (ancestry.names(program.transcript(json.dumps(it).encode())) for it in (before, after))
+    return sorted((name for name in one if name not in other), key=lambda name: not name.startswith("drop "))
+
+
+def tell(rule, shrinker, document, lost):
+    """Tells on standard error what became smaller, how the document breaks its rule now, and what its run no longer has."""
     sizes = [len(made.layout(it)) + 1 for it in (document, shrinker.document)]
     parts = changed(document, shrinker.document)
     command.note(
@@ -89,6 +99,9 @@ def tell(rule, shrinker, document):
         f"  {shrinker.found}",
         f"shrink: {sizes[0]} bytes became {sizes[1]}, in {shrinker.runs} runs" + f": {', '.join(parts)}" * bool(parts),
     )
+    if lost:
+        more = f" and {len(lost) - GONE} more" if len(lost) > GONE else ""
+        command.note(f"shrink: the run no longer has {', '.join(lost[:GONE])}{more}; --keep keeps a line")
 
 
 def changed(before, after):

@@ -1,0 +1,105 @@
+"""That the work on hostile documents and long rules grows as they do, and not as their square: what is counted are the lines of the tools
+that are run, and the characters that are compared, and no seconds."""
+import io
+import json
+import sys
+
+from virraupez import hints, report, rulebook, rules, transcript
+
+from . import tool
+
+HERE = str(tool.TOOLS / "virraupez")
+# The work on twice as much may be this many times as much.
+TIMES = 2.4
+
+
+def node(**fields):
+    return {"version": 1, "nodes": [{"name": "n", **fields}]}
+
+
+# Documents of so many parts: each took time as the square of them.
+DOCUMENTS = {
+    "entries without a round": lambda count: {"version": 1, "topics": ["x"], "moments": list(range(count)), "feed": [{"topic": "x", "value": 1, "at": count - 2}] * count},
+    "services of one name": lambda count: node(services=[{"name": "s"}] * count, clients=[{"name": f"c{at}", "service": "s"} for at in range(count)]),
+    "servers of one name": lambda count: node(actions=[{"name": "s"}] * count, action_clients=[{"name": f"c{at}", "action": "s"} for at in range(count)]),
+    "unknown groups": lambda count: node(timers=[{"name": f"t{at}", "period": 1, "group": "g"} for at in range(count)], **{f"f{at}": 1 for at in range(count)}),
+}
+
+
+class Fields(dict):
+    """An object of a document that counts how often a name of it is taken."""
+
+    taken = 0
+
+    def __iter__(self):
+        for name in super().__iter__():
+            Fields.taken += 1
+            yield name
+
+
+def steps(work):
+    """How many lines of the tools some work runs."""
+    count = 0
+
+    def trace(frame, event, _argument):
+        nonlocal count
+        if not frame.f_code.co_filename.startswith(HERE):
+            return None
+        count += event == "line"
+        return trace
+
+    before = sys.gettrace()
+    sys.settrace(trace)
+    try:
+        work()
+    finally:
+        sys.settrace(before)
+    return count
+
+
+def answers(_program):
+    for name, made in DOCUMENTS.items():
+        texts = [json.dumps(made(count)).encode() for count in (300, 600)]
+        one, two = (steps(lambda text=text: report.Report(text)) for text in texts)
+        yield f"the work on {name}: {one} and {two} lines", two <= TIMES * one, True
+    yield from of_fields()
+    yield from of_names()
+    yield from of_rules()
+
+
+def of_fields():
+    """The fields of a node aren't looked through once for each of its entities."""
+    counts = []
+    for count in (200, 400):
+        document = DOCUMENTS["unknown groups"](count)
+        document["nodes"][0] = Fields(document["nodes"][0])
+        Fields.taken = 0
+        list(report.every(document))
+        counts.append(Fields.taken)
+    yield f"how often a field is taken: {counts}", counts[1] <= TIMES * counts[0], True
+
+
+def of_names():
+    """Of many long names that are near, no more characters are compared than a bound."""
+    long = "n" * 50
+    topics = [f"{long}{at:04}" for at in range(2000)]
+    unknown = [{"name": f"s{at}", "topic": f"{long}x{at}"} for at in range(40)]
+    report.Report(json.dumps({**node(subscriptions=unknown), "topics": topics}).encode(), 40)
+    yield "what may still be compared", -64 * 40 <= hints.Left.characters <= 0, True
+    near = report.Report(json.dumps({**node(subscriptions=[{"name": "s", "topic": "scam"}]), "topics": ["scan"]}).encode())
+    yield "the next document has hints", near.entries[0].hint, "did you mean scan?"
+
+
+def of_rules():
+    """A line is held only to the rules of its name, however many there are."""
+    text = "".join(f"round {at} {at}\nrun t{at % 50} timer {at} 0\nlog t{at % 50} {at}\n" for at in range(1, 201)) + "end 200\n"
+    counts = []
+    for count in (50, 400):
+        check = rules.Check(rulebook.read("\n".join(f"never log t{at} -{at + 1}" for at in range(count))))
+
+        def work(check=check):
+            for block in transcript.checked(io.StringIO(text), "it"):
+                check.block(block)
+
+        counts.append(steps(work))
+    yield f"the work of 50 and of 400 rules: {counts}", counts[1] <= 1.2 * counts[0], True
