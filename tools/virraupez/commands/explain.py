@@ -4,9 +4,10 @@ Where the program refuses a document, the first line begins 'FILE:LINE:COLUMN: r
 codes come after it, and then warnings: what no code refuses and nobody means. A document that the program runs is told
 'not refused', with its warnings. docs/explain.md has more."""
 import gc
+import json
 import sys
 
-from .. import command, grammar, report, sarif
+from .. import command, cuts, faults, grammar, listing, report, sarif
 
 STATUS = """The status is 0 if no document is refused, 1 if one is, and 2 if one can't be read. With --warnings-are-errors it is 1 for a
 warning too."""
@@ -18,6 +19,7 @@ def parser(prog=None):
     form = made.add_mutually_exclusive_group()
     form.add_argument("--json", action="store_true", help="tell it as JSON for editors, one object for each document")
     form.add_argument("--sarif", action="store_true", help="tell it as SARIF for code scanning, one log for all documents")
+    form.add_argument("--scripts", action="store_true", help="show each script of a document that isn't refused, with labels in place of skips")
     made.add_argument("--warnings-are-errors", action="store_true", help="let a document with a warning have the status 1, as a refused one has")
     made.add_argument("--all", action="store_true", help=f"tell every place, and not only the first {report.TOLD} of each code")
     return made
@@ -32,12 +34,21 @@ def given_by(name):
     return given
 
 
+def scripts(document):
+    """The lines of each script of a document, below the place and the name of what it is of."""
+    for path in cuts.scripts(document):
+        yield f"{faults.path_text(path)} of {cuts.part(document, path[:-1])['name']}:"
+        instructions = cuts.part(document, path)
+        yield from listing.lines_of(instructions) or map(json.dumps, instructions)
+
+
 def run(asked, out):
     gc.disable()  # a document is read into no cycles, and looking for them takes a third of the time
     status, wrong, all_told = command.FINE, [], []
     for name in asked.documents:
         try:
-            told = report.Report(given_by(name), sys.maxsize if asked.all else report.TOLD)
+            given = given_by(name)
+            told = report.Report(given, sys.maxsize if asked.all else report.TOLD)
         except command.Trouble as trouble:
             wrong += trouble.lines
             continue
@@ -47,6 +58,9 @@ def run(asked, out):
             out.line(report.as_json(told, name))
         else:
             for line in report.lines(told, name, out.paint):
+                out.line(line)
+        if asked.scripts and not told.code:
+            for line in scripts(json.loads(given)):
                 out.line(line)
         is_wrong = told.code or asked.warnings_are_errors and told.counts
         status = max(status, command.FOUND if is_wrong else command.FINE)

@@ -3,11 +3,12 @@ counting. What the program writes goes to standard output once its document is t
 written: what is wrong is told at the program's lines, as explain tells it.
 
 Words after the program's name are its own; those that begin with - come after a --. With --script, FILE is a script with labels,
-and its instructions are written as a document has them. docs/write.md has both."""
+and its instructions are written as a document has them. With --back, FILE is a document, and a program that writes it is written;
+with both it is a list of instructions, and a script with labels is. docs/write.md has all of that."""
 import gc
 import json
 
-from .. import assemble, command, program
+from .. import assemble, command, cuts, flow, grammar, listing, program, upgrades
 
 STATUS = "The status is 0, 1 if the program or the script is wrong, and 2 if a file can't be read. A program that ends itself with another status has that."
 
@@ -15,6 +16,7 @@ STATUS = "The status is 0, 1 if the program or the script is wrong, and 2 if a f
 def parser(prog=None):
     made = command.parser(__doc__, STATUS, prog)
     made.add_argument("--script", action="store_true", help="assemble a script with labels")
+    made.add_argument("--back", action="store_true", help="write a program of a document, or with --script a script of instructions")
     made.add_argument("file", metavar="FILE", help="a Python program, or a script; - is standard input")
     made.add_argument("words", metavar="WORD", nargs="*", help="words for the program, in its sys.argv")
     # So -o may stand between the words too.
@@ -24,7 +26,9 @@ def parser(prog=None):
 
 def run(asked, out):
     try:
-        if asked.script:
+        if asked.back:
+            out.write("".join(f"{line}\n" for line in way_back(asked)))
+        elif asked.script:
             out.line(instructions(asked.file))
         else:
             gc.disable()  # a document is made of no cycles, and looking for them takes a third of the time
@@ -42,6 +46,34 @@ def written(text, to, out):
         return command.FINE
     command.note("write: the program wrote to files of its own, and nothing to standard output")
     return command.FINE if to == command.STANDARD else command.FOUND
+
+
+def way_back(asked):
+    """The lines of a program that writes a document, or of a script."""
+    if asked.script:
+        try:
+            made = listing.lines_of(json.loads(command.text_of(asked.file)))
+        except (ValueError, LookupError, TypeError):
+            made = None
+        if made is None:
+            raise program.Stopped(command.FOUND, command.place(asked.file, 1) + "no list of instructions that a script with labels can say")
+        return made
+    document = flow.read_document(asked.file)
+    tell_changes(asked.file, document)
+    return listing.program_of(document)
+
+
+def tell_changes(name, document):
+    """Says what the document will have in another way if it is written again."""
+    rounds = [it["round"] for it in document.get("feed", [])]
+    if rounds != sorted(rounds):
+        command.note(f"write: {command.shown(name)}: the feed will be sorted by its rounds")
+    if document["version"] == grammar.SINCE["order"] and "order" not in document:
+        command.note(f"write: {command.shown(name)}: the order will be named: kind")
+    if any(upgrades.kept(document, "document").get(field) != it for field, it in document.items()):
+        command.note(f"write: {command.shown(name)}: fields that are ignored go; explain names them")
+    if cuts.tidy(document) != document:
+        command.note(f"write: {command.shown(name)}: empty lists go")
 
 
 def instructions(file):
