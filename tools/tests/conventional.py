@@ -39,11 +39,25 @@ def answers(_program):
             yield from of_streams(name, each)
         yield from of_files(name, words)
     yield from of_several()
+    yield from of_names()
     yield from of_colours()
     yield from of_progress()
     for name in commands.NAMES:
         parser = commands.tool(name).parser(f"virraupez {name}")
         yield f"the words of {name}", ("usage: virraupez " + name in parser.format_help(), bool(parser.epilog)), (True, True)
+
+
+def of_names():
+    """A file's name with characters that control a terminal is told without them, be there such a file or not."""
+    for name, shown in (("a\x1b[31mb", "a\\u001b[31mb"), ("a\nb", "a\\u000ab"), ("a\tb", "a\\u0009b")):
+        yield f"explain of {name!r}, which isn't there", tool.within("explain", name), (2, f"virraupez explain: {shown}: No such file or directory\n")
+        with tempfile.TemporaryDirectory() as folder:
+            path = pathlib.Path(folder) / name
+            path.write_text('{"version":1}')
+            for command_name in ("explain", "run"):
+                words = ("--reference",) if command_name == "run" else ()
+                told = tool.within(command_name, *words, path)[1]
+                yield f"{command_name} of {name!r}: {told!r}", (f"/{shown}:1:1: " in told, "\x1b" in told, "\t" in told), (True, False, False)
 
 
 def of_streams(name, words):

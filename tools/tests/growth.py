@@ -4,7 +4,7 @@ import io
 import json
 import sys
 
-from virraupez import hints, report, rulebook, rules, transcript
+from virraupez import alignment, hints, report, rulebook, rules, transcript
 
 from . import tool
 
@@ -65,6 +65,14 @@ def answers(_program):
     yield from of_fields()
     yield from of_names()
     yield from of_rules()
+    yield from of_alike()
+
+
+def of_alike():
+    """Lines that repeat are matched only if they are few: each would be compared with all that are the same."""
+    many = ["log s 2", *["log s 1", "log s 4"] * 150, "log s 2"]
+    other = ["log s 3", *["log s 4", "log s 1"] * 150, "log s 3"]
+    yield "lines that repeat often", alignment.changes(many, other), [((0, 302), (0, 302))]
 
 
 def of_fields():

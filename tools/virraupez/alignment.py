@@ -5,8 +5,9 @@ import difflib
 import itertools
 import re
 
-# How many rounds of one moment are looked through for one that is the same, and how many lines of a round are matched.
-AHEAD, MATCHED = 16, 400
+# How many rounds of one moment are looked through for one that is the same, how many lines of a round are matched, and with how many
+# lines that are the same each of them on average: to match lines that repeat takes time as the square of them.
+AHEAD, MATCHED, ALIKE = 16, 400, 16
 
 
 class Round:
@@ -125,11 +126,17 @@ def middle(one, other):
     return before, behind
 
 
+def alike(one, other):
+    """How many pairs of lines of both are the same."""
+    counts = collections.Counter(other)
+    return sum(count * counts[line] for line, count in collections.Counter(one).items())
+
+
 def changes(one, other):
     """The places of two lists of lines at which they differ: as (begin, end) of each, in order."""
     before, behind = middle(one, other)
     ours, theirs = one[before : len(one) - behind], other[before : len(other) - behind]
-    if len(ours) > MATCHED or len(theirs) > MATCHED:
+    if len(ours) > MATCHED or len(theirs) > MATCHED or alike(ours, theirs) > ALIKE * (len(ours) + len(theirs)):
         return [((before, before + len(ours)), (before, before + len(theirs)))]
     found = difflib.SequenceMatcher(None, ours, theirs, autojunk=False).get_opcodes()
     return [((before + a, before + b), (before + c, before + d)) for how, a, b, c, d in found if how != "equal"]

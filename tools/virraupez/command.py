@@ -31,7 +31,7 @@ class Trouble(Exception):
 
 def place(name, line, column=1):
     """A place as editors find it; lines and columns are counted from 1, and columns count characters."""
-    return f"{name}:{line}:{column}: "
+    return f"{printable(name)}:{line}:{column}: "
 
 
 # ---- words
@@ -112,8 +112,8 @@ def said(wrong):
 
 
 def printable(name):
-    """A file's name as standard error can have it: a name may be bytes of no encoding."""
-    return str(name).encode("utf-8", "backslashreplace").decode()
+    """A file's name as a terminal may have it: a name may be bytes of no encoding, or have characters that control the terminal."""
+    return "".join(sign if sign.isprintable() else f"\\u{ord(sign):04x}" for sign in str(name))
 
 
 def tell(prog, lines):
@@ -126,7 +126,7 @@ def note(*lines):
     """Writes lines to standard error, be there one or not."""
     with contextlib.suppress(OSError, ValueError, AttributeError):
         PROGRESS.hide()
-        sys.stderr.write("".join(f"{printable(line)}\n" for line in lines))
+        sys.stderr.write("".join(f"{line}\n" for line in lines).encode("utf-8", "backslashreplace").decode())
         sys.stderr.flush()
 
 

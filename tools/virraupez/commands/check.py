@@ -79,7 +79,7 @@ def judged(asked, name, program, text, made):
     given = explain.given_by(name)
     told = report.Report(given)
     if told.code:
-        made.add(verdict.RUN, f"refused {report.named(told.code)}", rules.FAILS, list(report.lines(told, name)))
+        made.add(verdict.RUN, f"refused {report.named(told.code)}", rules.FAILS, list(report.lines(told, command.printable(name))))
         return
     document = flow.parsed(given)
     own = fit.Own(name, document)

@@ -57,7 +57,7 @@ def run(asked, out):
         elif asked.json:
             out.line(report.as_json(told, name))
         else:
-            for line in report.lines(told, name, out.paint):
+            for line in report.lines(told, command.printable(name), out.paint):
                 out.line(line)
         if asked.scripts and not told.code:
             for line in scripts(json.loads(given)):

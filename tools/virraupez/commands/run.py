@@ -71,7 +71,7 @@ def tell_faults(name, given):
 
     told = report.Report(given)
     if told.code:
-        command.note(*report.lines(told, name))
+        command.note(*report.lines(told, command.printable(name)))
 
 
 # ---- the proved program

@@ -74,7 +74,7 @@ def tell_lost(name, given, asked):
     """Tells each field that an upgrade leaves out, with its place, and gives how many there are."""
     lost = report.Report(given, sys.maxsize, report.ignored)
     for entry in lost.entries:
-        head, *more = report.entry_lines(entry, 0, f"{name}:", report.unpainted)
+        head, *more = report.entry_lines(entry, 0, f"{command.printable(name)}:", report.unpainted)
         command.note(head.replace(" warning: ", " goes: ", 1), *more)
     count = len(lost.entries)
     if asked.compact and grammar.SCHEMA in json_text.read(given.decode()):
@@ -88,7 +88,7 @@ def tell_lost(name, given, asked):
 def tell_refusal(name, given, refused):
     """Tells the places of a document's faults on standard error, or the code alone if there is no place, as for want of memory."""
     told = report.Report(given)
-    command.note(*(report.lines(told, name) if told.code else [f"{command.shown(name)}: refused {refused}"]))
+    command.note(*(report.lines(told, command.printable(name)) if told.code else [f"{command.shown(name)}: refused {refused}"]))
 
 
 def replace(name, text):
