@@ -3,6 +3,7 @@ that are run, and the characters that are compared, and no seconds."""
 import io
 import json
 import sys
+import tracemalloc
 
 from virraupez import alignment, hints, report, rulebook, rules, transcript
 
@@ -65,6 +66,7 @@ def answers(_program):
     yield from of_fields()
     yield from of_names()
     yield from of_rules()
+    yield from of_lines()
     yield from of_alike()
 
 
@@ -111,3 +113,27 @@ def of_rules():
 
         counts.append(steps(work))
     yield f"the work of 50 and of 400 rules: {counts}", counts[1] <= 1.2 * counts[0], True
+
+
+def of_lines():
+    """However long a transcript is, the same is held of it, and each of its lines is as much work."""
+    counts = [steps(lambda rounds=rounds: hold(rounds)) for rounds in (500, 2000)]
+    yield f"the work of four times as many lines: {counts}", counts[1] <= 4.4 * counts[0], True
+    peaks = []
+    for rounds in (4000, 16000):
+        tracemalloc.start()
+        hold(rounds)
+        peaks.append(tracemalloc.get_traced_memory()[1])
+        tracemalloc.stop()
+    yield f"what is held of four times as many lines: {peaks}", peaks[1] <= 1.1 * peaks[0], True
+
+
+def hold(rounds):
+    """Holds a transcript of so many rounds to four rules, of which each is about each round."""
+    text = "every pub x V then run y message V within 3 ticks\nnever log y <0\ncount run _ message at least 9\nnever no pub x for 5 rounds\n"
+    check = rules.Check(rulebook.read(text))
+    for begin in range(1, rounds + 1, 500):
+        check.block("".join(f"round {at} {at}\nrun t timer {at} 0\npub x {at}\nrun y message {at - 1} 0\nlog y {at}\n" for at in range(begin, begin + 500)))
+    check.block(f"end {rounds}\n")
+    check.end()
+    assert [rule.outcome() for rule in check.rules] == [rules.UNDECIDED, rules.HOLDS, rules.HOLDS, rules.HOLDS]
