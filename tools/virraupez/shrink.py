@@ -20,8 +20,14 @@ class Way:
         found = self.rule.failure
         if found is None or any(it.failure for it in self.keep):
             return None
-        names = tuple(it for it in found.line.split(" ") if not re.fullmatch("-?[0-9]+|[0-9a-f-]{36}|\\(?there", it))
-        return names, re.sub("[0-9]+", "", found.says), [bool(it.failure) for it in self.late]
+        return list(map(kept_of, found.line.split(" "))), re.sub("[0-9]+", "", found.says), [bool(it.failure) for it in self.late]
+
+
+def kept_of(word):
+    """What stays of a word of the line that breaks the rule: of a number whether it is 0, or below, and nothing of an identifier."""
+    if re.fullmatch("-?[0-9]+", word):
+        return min(max(int(word), -1), 1)
+    return "" if re.fullmatch("[0-9a-f-]{36}", word) else word
 
 
 def late_of(rule):
