@@ -14,7 +14,7 @@ from . import sandbox, tool
 
 STRANGER = "#!/bin/sh\ncat >/dev/null\necho a stranger was here\n"
 # What a run reads of the package before the program has its document, and no more: it begins at once.
-READ = "command commands commands.run grammar launcher runs shipped virraupez".split()
+READ = "command commands commands.run grammar installation launcher runs virraupez".split()
 START = "import sys; from virraupez import launcher; sys.exit(launcher.entry())"
 LISTING = """import sys
 from virraupez import launcher, runs

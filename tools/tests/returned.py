@@ -3,7 +3,7 @@ import json
 import pathlib
 import tempfile
 
-from virraupez import assemble, cuts, listing
+from virraupez import assembler, cuts, listing
 
 from . import tool
 
@@ -17,7 +17,7 @@ SCRIPTS = (
 def answers(_program):
     for instructions, text in SCRIPTS:
         yield f"the script {instructions}", "".join(f"{line}\n" for line in listing.lines_of(instructions)), text
-        yield f"{text!r} assembled", assemble.script(text), instructions
+        yield f"{text!r} assembled", assembler.script(text), instructions
     yield "a script of numbers", tool.run("write", "--back", "--script", "-", given=b"[1]"), (1, "-:1:1: no list of instructions that a script with labels can say\n")
     yield from of_documents()
 

@@ -9,7 +9,7 @@ import sys
 import time
 
 import virraupez
-from virraupez import cuts, shrink
+from virraupez import cuts, shrinking
 
 from . import sandbox, searched, tool
 
@@ -80,7 +80,7 @@ def failing(top, document, *words):
 def of_navigation(top):
     """The late stop: what is left breaks the rule, is late and not without an answer, and nothing can be left out."""
     status, told, small = shrunk(top, "later.json", "--rules", RULES)
-    counts = shrink.sizes(small)
+    counts = shrinking.sizes(small)
     yield f"shrink of the navigation: {told}", (status, counts["entries"], counts["instructions"] <= 10, counts["rounds"] <= 8), (0, 1, True, True)
     yield f"what it tells: {told}", bool(re.search("\nshrink: 4508 bytes became [0-9]{3}, in [0-9]+ runs: 4 nodes became 2", told)), True
     (top / "late.rules").write_text((top / RULES).read_text().split("\n")[4] + "\n")

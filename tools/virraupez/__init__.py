@@ -17,7 +17,7 @@ import importlib
 # Where each name is. A module is read if one of its names is asked for, so that a command begins at once.
 PLACES = {
     **dict.fromkeys(("Document", "DocumentError", "goal_of"), "build"),
-    **dict.fromkeys(("ScriptError", "script"), "assemble"),
+    **dict.fromkeys(("ScriptError", "script"), "assembler"),
     **dict.fromkeys(("Break", "Executor", "Refused", "Rule", "Search", "Transcript", "Verdict", "holds", "run", "search"), "api"),
     "Trouble": "command",
 }

@@ -3,8 +3,9 @@
 Whatever a program says wrongly is kept until the document is asked for, and then told all at once, at its lines."""
 import sys
 
-from . import assemble, grammar, told
-from .made import Made, layout
+from . import assembler, grammar, program_faults
+from .description import Description
+from .document_text import layout
 from .origin import Call
 
 # All documents that a program made, for who ran it.
@@ -24,7 +25,7 @@ class Group:
 
 
 class Node:
-    """A node, to which groups and entities are added. A script is a text, as `assemble` takes it, or a list of instructions."""
+    """A node, to which groups and entities are added. A script is a text, as `assembler` takes it, or a list of instructions."""
 
     def __init__(self, name, call):
         self.fields, self.call = {"name": name}, call
@@ -71,8 +72,8 @@ class Node:
             entity["group"] = group.name if isinstance(group, Group) else group
         for field, value in fields.items():
             if field in grammar.SCRIPTS[kind] and isinstance(value, str):
-                made = scripts[field] = assemble.Assembled(value)
-                self.wrong += [told.of_script(call, field, name, value, wrong) for wrong in made.faults]
+                made = scripts[field] = assembler.Assembled(value)
+                self.wrong += [program_faults.of_script(call, field, name, value, wrong) for wrong in made.faults]
                 value = made.instructions if made.instructions or field == "on_result" else None
             if value is not None:
                 entity[field] = value
@@ -94,7 +95,7 @@ class Document:
         self.written, self.written_elsewhere = [], False
         self.topics, self.nodes = list(topics), []
         if isinstance(topics, str):
-            self.wrong.append(told.of_call(self.call, f"topics is a list of names, as in [{topics!r}]", "topics"))
+            self.wrong.append(program_faults.of_call(self.call, f"topics is a list of names, as in [{topics!r}]", "topics"))
             self.topics = [topics]
         # Each with its call: topics, moments as numbers or as a function that gives ranges, and what is fed and when.
         self.named, self.timed, self.fed = [self.call for _ in self.topics], [], []
@@ -119,7 +120,7 @@ class Document:
         """Rounds every so many ticks, from begin to until."""
         call = Call(Document.every)
         if not grammar.is_count(ticks) or ticks < 1:
-            self.wrong.append(told.of_call(call, f"every takes at least 1 tick and not {ticks!r}", "ticks"))
+            self.wrong.append(program_faults.of_call(call, f"every takes at least 1 tick and not {ticks!r}", "ticks"))
         elif self.are_moments(call, until=until, begin=begin):
             self.timed.append((call, lambda: [range(begin, until + 1, ticks)]))
 
@@ -131,7 +132,7 @@ class Document:
 
     def are_moments(self, call, **given):
         """Whether arguments are moments; one that isn't is told."""
-        wrong = [told.of_call(call, f"{name} is a moment, a whole number from 0 on, and not {it!r}", name) for name, it in given.items() if not grammar.is_count(it)]
+        wrong = [program_faults.of_call(call, f"{name} is a moment, a whole number from 0 on, and not {it!r}", name) for name, it in given.items() if not grammar.is_count(it)]
         self.wrong += wrong
         return not wrong
 
@@ -158,22 +159,22 @@ class Document:
         if set(when) in ({"at"}, {"round"}):
             self.fed.append((call, when, fields))
         else:
-            self.wrong.append(told.of_call(call, "what is fed needs either its round or its moment, at"))
+            self.wrong.append(program_faults.of_call(call, "what is fed needs either its round or its moment, at"))
 
     # ---- the document
 
     def value(self):
         """The document as JSON's values."""
-        made = Made(self)
+        made = Description(self)
         if made.wrong:
-            raise DocumentError(told.lines(made.wrong))
+            raise DocumentError(program_faults.lines(made.wrong))
         return made.value
 
     def text(self):
         """The document's text, which is lawful: what is wrong is raised, and what explain would warn of is kept as warnings."""
-        made = Made(self)
+        made = Description(self)
         text = layout(made.value) + "\n"
-        checked = told.Checked(made, text)
+        checked = program_faults.Checked(made, text)
         if made.wrong or checked.faults:
             raise DocumentError(checked.lines())
         self.warnings = checked.lines()

@@ -5,7 +5,7 @@ Each command is a tool of `commands`. Its module is read if it is asked for, and
 import argparse
 import sys
 
-from . import command, commands, shipped
+from . import command, commands, installation
 
 NAME = "virraupez"
 ABOUT = __doc__.partition(": ")[2].split("\n\n")[0]
@@ -47,7 +47,7 @@ class Telling:
 
     @staticmethod
     def run(_asked, out):
-        out.line(f"{NAME} {shipped.version()}")
+        out.line(f"{NAME} {installation.version()}")
         return command.FINE
 
 

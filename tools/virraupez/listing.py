@@ -1,7 +1,7 @@
-"""Scripts as lines with labels, and documents as Python programs: the way back from what `assemble` and `build` make."""
+"""Scripts as lines with labels, and documents as Python programs: the way back from what `assembler` and `build` make."""
 import json
 
-from . import assemble, grammar
+from . import assembler, grammar
 
 INDENT = "    "
 INFIX = {"add": "+", "sub": "-", "mul": "*", "lt": "<", "eq": "=="}
@@ -17,14 +17,14 @@ def lines_of(instructions):
     for at, instruction in enumerate(instructions):
         made += [f"{labels[at]}:"] if at in labels else []
         made.append(INDENT + line_of(instruction, at, labels))
-    assembled = assemble.Assembled("\n".join(made))
+    assembled = assembler.Assembled("\n".join(made))
     return made if not assembled.faults and assembled.instructions == instructions else None
 
 
 def labels_of(instructions):
     """The labels of the places to which skips lead."""
     places = sorted({at + 1 + it[2] for at, it in enumerate(instructions) if it[0] == "skip"})
-    return {place: assemble.END if place == len(instructions) else f"L{number}" for number, place in enumerate(places, 1)}
+    return {place: assembler.END if place == len(instructions) else f"L{number}" for number, place in enumerate(places, 1)}
 
 
 def line_of(instruction, at, labels):

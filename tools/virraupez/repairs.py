@@ -6,7 +6,7 @@ import bisect
 import json
 import re
 
-from . import assemble, ticks
+from . import assembler, ticks
 from . import grammar as g
 
 # What users write in place of a field that is required.
@@ -168,8 +168,8 @@ def of_instruction(value):
 def assembled(text):
     """The instructions of a text that is a script with labels, or None."""
     try:
-        return assemble.script(text[: 10 * LONGEST]) or None
-    except assemble.ScriptError:
+        return assembler.script(text[: 10 * LONGEST]) or None
+    except assembler.ScriptError:
         return None
 
 

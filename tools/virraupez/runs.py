@@ -5,7 +5,7 @@ import os
 import platform
 import subprocess
 
-from . import command, shipped
+from . import command, installation
 
 REFUSED = 1
 # What launches a program has its C library ask for large pages, and keep its memory (release/program.sh).
@@ -24,7 +24,7 @@ class Program:
     def __init__(self):
         demand_machine(self.REFERENCE)
         # A dict is handed to a program in a fraction of the time that os.environ takes.
-        self.path, self.around = shipped.program(self.NAME), dict(os.environ)
+        self.path, self.around = installation.program(self.NAME), dict(os.environ)
 
     def start(self, *words, **around):
         """Starts the program, under a plain name: its own words would be wrong if its path weren't UTF-8."""
@@ -34,7 +34,7 @@ class Program:
 
     def described(self):
         """By what runs are made: the version of the command, and the sum of the program."""
-        return {"version": shipped.version(), "program": f"{self.NAME} {shipped.sum_of(self.path)}"}
+        return {"version": installation.version(), "program": f"{self.NAME} {installation.sum_of(self.path)}"}
 
     def text(self, given):
         """What the program writes of a document's bytes."""
@@ -66,7 +66,7 @@ class Reference:
     """The executor in Python, which is written apart from the program; nothing of it is proved."""
 
     def described(self):
-        return {"version": shipped.version(), "program": "the executor in Python"}
+        return {"version": installation.version(), "program": "the executor in Python"}
 
     def transcript(self, given):
         from . import executor, refusals

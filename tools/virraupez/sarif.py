@@ -2,7 +2,7 @@
 import json
 import urllib.parse
 
-from . import command, faults, grammar, shipped
+from . import command, faults, grammar, installation
 
 SCHEMA = "https://json.schemastore.org/sarif-2.1.0.json"
 WARNING = "Warning"
@@ -13,7 +13,7 @@ def text(told):
     results = [result(name, entry) for name, report in told for entry in report.entries]
     rules = [{"id": name, "shortDescription": {"text": f"refused {code}"}} for code, name in grammar.CODES.items()]
     rules.append({"id": WARNING, "shortDescription": {"text": "not refused, and probably a mistake"}})
-    driver = {"name": "virraupez explain", "version": shipped.version(), "rules": rules}
+    driver = {"name": "virraupez explain", "version": installation.version(), "rules": rules}
     run = {"tool": {"driver": driver}, "columnKind": "unicodeCodePoints", "results": results}
     return json.dumps({"$schema": SCHEMA, "version": "2.1.0", "runs": [run]}, indent=1)
 

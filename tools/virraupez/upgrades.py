@@ -2,7 +2,7 @@
 are ignored. It knows nothing of the program; nothing of it is proved."""
 import json
 
-from . import grammar, json_text, made
+from . import document_text, grammar, json_text
 
 
 def text_of(given):
@@ -40,7 +40,7 @@ def edited(text, value):
     document = json_text.read(text)
     value = {**value, **{name: it for name, it in document.items() if name == grammar.SCHEMA}}
     found = "".join(parts(text, sorted(edits(text, document, value))))
-    return found if json_text.read(found) == value else made.layout(value)
+    return found if json_text.read(found) == value else document_text.layout(value)
 
 
 def parts(text, edits):

@@ -9,7 +9,7 @@ import decimal
 import json
 import re
 
-from .. import bag, cdr, command, difference, fed, fit, flow, grammar, hints, interfaces, made, pattern, ticks
+from .. import bag, cdr, command, difference, document_text, feed_entries, fit, flow, grammar, hints, interfaces, pattern, ticks
 
 STATUS = "The status is 0, and 2 if the bag, the document or a message can't be read."
 
@@ -19,7 +19,7 @@ class Begun(argparse.Action):
 
     def __call__(self, parser, asked, value, option=None):
         name, _, own = value.partition(":")
-        made, noun = (fed.Action, "an action") if option == "--action" else (fed.Topic, "a topic")
+        made, noun = (feed_entries.Action, "an action") if option == "--action" else (feed_entries.Topic, "a topic")
         if not grammar.NAME.fullmatch(own or name):
             parser.error(f"argument {option}: {(own or name)[:60]!r} can't be the name of {noun} in a document; {option} NAME:{option[2:].upper()} gives it another")
         asked.sources = [*(asked.sources or []), made(name, own or name)]
@@ -66,10 +66,10 @@ def run(asked, out):
     document = flow.read_document(asked.document) if asked.document else None
     if document:
         demand_declared(asked, fit.Own(asked.document, document))
-    entries, remarks = fed.entries(found, asked.sources, asked.tick, asked.begin)
+    entries, remarks = feed_entries.entries(found, asked.sources, asked.tick, asked.begin)
     if document:
-        document, more = fed.into(document, entries)
-        out.write(made.layout(document) + "\n")
+        document, more = feed_entries.into(document, entries)
+        out.write(document_text.layout(document) + "\n")
     else:
         more = []
         out.write("[" + ",\n ".join(json.dumps(it, separators=(",", ":")) for it in entries) + "]\n")

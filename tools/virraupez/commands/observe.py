@@ -9,7 +9,7 @@ TRACE is a folder of ros2_tracing, which needs Python's module bt2, or a table w
 and --transcript the rounds and their callbacks are written. docs/observe.md has more."""
 import argparse
 
-from .. import command, flow, grammar, made, observed, ticks
+from .. import command, document_text, flow, grammar, observation, ticks
 
 STATUS = "The status is 0, and 2 if the trace or another file can't be read, or an entity isn't named."
 
@@ -38,13 +38,13 @@ def parser(prog=None):
 
 
 def run(asked, out):
-    found = observed.rounds(observed.read(asked.trace, asked.thread), asked.names, asked.tick, asked.begin)
+    found = observation.rounds(observation.read(asked.trace, asked.thread), asked.names, asked.tick, asked.begin)
     if not found:
         raise command.Trouble(f"{command.shown(asked.trace)}: no callback was run")
     if asked.document:
         document = {**flow.read_document(asked.document), "moments": [it.moment for it in found]}
-        out.write(made.layout(document) + "\n")
+        out.write(document_text.layout(document) + "\n")
         return command.FINE
-    for line in observed.Like(asked.transcript).lines(found) if asked.transcript else observed.lines(found):
+    for line in observation.Like(asked.transcript).lines(found) if asked.transcript else observation.lines(found):
         out.line(line)
     return command.FINE

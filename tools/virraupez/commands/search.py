@@ -10,7 +10,7 @@ import argparse
 import contextlib
 import time
 
-from .. import command, crew, flow, grammar, judge, junit, saved, searching, shards, space, table, view
+from .. import command, crew, flow, grammar, judge, junit, search_folder, searching, shards, space, table, view
 
 STATUS = """The status is 0 if no run breaks a rule, 1 if one does or if the runs say nothing of a rule, and 2 if the document or the rules
 are wrong or a run fails. It is 130 after Ctrl-C, and what was found so far is reported."""
@@ -107,7 +107,7 @@ def plan(asked):
 def searched(made, asked, out):
     """Searches, and reports what was found, also if Ctrl-C or a run that fails ends it."""
     judging = judge.Judge(judge.executor(asked.reference), made.rules)
-    tally, folder = searching.Tally(made), saved.Folder(asked.save, made, judging)
+    tally, folder = searching.Tally(made), search_folder.Folder(asked.save, made, judging)
     lines = shards.Lines(made, asked.shard, judging.program.described(), out) if asked.shard else None
     progress = Progress(tally, asked.shard or (1, 1))
     stopped = None
@@ -147,7 +147,7 @@ def merged(asked, out):
     tell(tally, out, missing, asked)
     out.keep()
     if asked.save:
-        saved.Folder(asked.save, made, judging).end(tally)
+        search_folder.Folder(asked.save, made, judging).end(tally)
     return status(tally, command.Trouble(*missing) if missing else None, any(tally.silent(asked.accepted)))
 
 

@@ -7,7 +7,7 @@ the smallest document too. With --unless, another timing of the smallest documen
 import json
 import re
 
-from .. import ancestry, command, fit, flow, judge, made, pattern, rules, runs, shrink
+from .. import ancestry, command, document_text, fit, flow, judge, pattern, rules, runs, shrinking
 from . import search
 
 STATUS = """The status is 0, and 2 if the document breaks no rule or something is wrong. It is 130 after Ctrl-C, and what is smallest so far is
@@ -32,9 +32,9 @@ def run(asked, out):
     document, program = flow.read_document(asked.document), judge.executor(asked.reference)
     declared = fit.Own(asked.document, document).kinds
     rule = broken(asked, document, judge.Judge(program, judge.read(asked.rules, command.text_of(asked.rules), [], declared, asked.rule)))
-    way = shrink.Way(rule, [kept(it, declared) for it in asked.keep])
+    way = shrinking.Way(rule, [kept(it, declared) for it in asked.keep])
     good = other_timing(asked, document, judge.Judge(program, [rule])) if asked.unless else None
-    shrinker = shrink.Shrinker(program, document, way, good)
+    shrinker = shrinking.Shrinker(program, document, way, good)
     if shrinker.wanted is None:
         raise command.Trouble("the run has no line of --keep")
     command.PROGRESS.says = lambda: f"{shrinker.runs} runs, {', '.join(changed(document, shrinker.document)) or 'nothing is smaller yet'}"
@@ -43,7 +43,7 @@ def run(asked, out):
         shrinker.shrink()
     except KeyboardInterrupt:
         status = search.INTERRUPTED
-    out.write(made.layout(shrinker.document) + "\n")
+    out.write(document_text.layout(shrinker.document) + "\n")
     out.flush()
     tell(rule, shrinker, document, list(gone(program, document, shrinker.document)))
     return status
@@ -65,7 +65,7 @@ def broken(asked, document, judging):
 def other_timing(asked, document, judging):
     """The document of --unless, which keeps the rule."""
     good = flow.read_document(asked.unless)
-    if not shrink.differ_in_timing(document, good):
+    if not shrinking.differ_in_timing(document, good):
         raise command.Trouble(f"{command.shown(asked.unless)}: its nodes or its order are others: --unless is the same robot with another timing")
     judging.run(good)
     if judging.rules[0].failure:
@@ -92,7 +92,7 @@ def gone(program, before, after):
 
 def tell(rule, shrinker, document, lost):
     """Tells on standard error what became smaller, how the document breaks its rule now, and what its run no longer has."""
-    sizes = [len(made.layout(it)) + 1 for it in (document, shrinker.document)]
+    sizes = [len(document_text.layout(it)) + 1 for it in (document, shrinker.document)]
     parts = changed(document, shrinker.document)
     command.note(
         f"{rule.place}breaks: {rule.text}",
@@ -106,5 +106,5 @@ def tell(rule, shrinker, document, lost):
 
 def changed(before, after):
     """What became less, of each kind of part."""
-    one, other = shrink.sizes(before), shrink.sizes(after)
+    one, other = shrinking.sizes(before), shrinking.sizes(after)
     return [f"{count} {name if count != 1 else re.sub('s$', '', name.replace('ies', 'y'))} became {other[name]}" for name, count in one.items() if other[name] != count]

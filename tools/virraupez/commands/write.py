@@ -8,7 +8,7 @@ with both it is a list of instructions, and a script with labels is. docs/write.
 import gc
 import json
 
-from .. import assemble, command, cuts, flow, grammar, listing, program, upgrades
+from .. import assembler, command, cuts, flow, grammar, listing, program, upgrades
 
 STATUS = "The status is 0, 1 if the program or the script is wrong, and 2 if a file can't be read. A program that ends itself with another status has that."
 
@@ -79,7 +79,7 @@ def tell_changes(name, document):
 def instructions(file):
     """The instructions of a script, as a document has them."""
     text = command.text_of(file)
-    made = assemble.Assembled(text)
+    made = assembler.Assembled(text)
     if made.faults:
         lines = text.split("\n")
         places = [command.place(file, it.line, max(lines[it.line - 1].find(it.part), 0) + 1) for it in made.faults]

@@ -4,7 +4,7 @@ import os
 import re
 import typing
 
-from .. import command, shipped
+from .. import command, installation
 
 PAGE = "docs/HEADLINE.md"
 FILE = re.compile(r"### \[(\S+)\]\(")
@@ -78,8 +78,8 @@ class Page:
 
 
 def read():
-    """The page that is shipped."""
-    path = shipped.place(PAGE)
+    """The page that is installation."""
+    path = installation.place(PAGE)
     if not os.path.exists(path):
         raise command.Trouble(f"{command.printable(path)}: there is no such page, so there are no definitions to run")
     with open(path, encoding="utf-8") as file:

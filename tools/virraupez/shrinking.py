@@ -3,7 +3,7 @@ accepted and its run breaks the rule in the same way."""
 import difflib
 import re
 
-from . import ancestry, cuts, grammar, judge, made, rules, runs
+from . import ancestry, cuts, document_text, grammar, judge, rules, runs
 from .event import ROUNDS, Event
 
 
@@ -53,7 +53,7 @@ class Shrinker:
 
     def accepts(self, document, good, most=None):
         """Takes a smaller document if its run breaks the rule in the same way, and has no more lines than are asked for."""
-        text = made.flat_text([document, good])
+        text = document_text.flat_text([document, good])
         if text in self.tried:
             return False
         self.tried.add(text)

@@ -1,19 +1,13 @@
-"""The value of a document that a program described, with the call that said each part of it; and its text."""
+"""The value of a document that a program described, with the call that said each part of it."""
 import bisect
-import functools
-import json
 
-from . import grammar, told
+from . import grammar, program_faults
 
-WIDTH = 120
-ENCODE = json.JSONEncoder(separators=(",", ":"), default=lambda _: None).encode
-# Texts of a document are names, few and often.
-QUOTED = functools.lru_cache(maxsize=4096)(ENCODE)
 # The round of what is fed at a moment behind which there is none.
 NONE = object()
 
 
-class Made:
+class Description:
     """A document's value, what is wrong with the calls that described it, and which call said what."""
 
     def __init__(self, document):
@@ -43,7 +37,7 @@ class Made:
         """The moments of ranges, once each, or none if they are more than a document may have."""
         count = max(map(len, ranges), default=0)
         if count > grammar.MOMENTS:
-            self.wrong.append(told.of_call(call, f"these are {count} moments: a document has at most {grammar.MOMENTS}", "until"))
+            self.wrong.append(program_faults.of_call(call, f"these are {count} moments: a document has at most {grammar.MOMENTS}", "until"))
             return set()
         return set().union(*ranges)
 
@@ -54,7 +48,7 @@ class Made:
         found = bisect.bisect_left(self.moments, at) if grammar.is_count(at) and self.ordered else len(self.moments)
         if found < len(self.moments):
             return found + 1
-        self.wrong.append(told.of_call(call, f"there is no moment at or after {at}", "at"))
+        self.wrong.append(program_faults.of_call(call, f"there is no moment at or after {at}", "at"))
         return NONE
 
     def said(self, path):
@@ -70,45 +64,3 @@ class Made:
             return document.call, {}, path
         node = document.nodes[path[1]]
         return (*node.said[path[2:4]], path[4:]) if path[2:4] in node.said else (node.call, {}, path[2:])
-
-
-# ---- as a text
-
-
-def layout(value, indent=0):
-    """JSON that a person reads: what fits stands in one line."""
-    if not isinstance(value, (list, dict)) or len(value) < WIDTH:
-        flat = flat_text(value)
-        if len(flat) + indent <= WIDTH or not isinstance(value, (list, dict)):
-            return flat
-    if isinstance(value, dict):
-        parts = [(f"{QUOTED(name)}:{layout(part, indent + 1)}", isinstance(part, (list, dict))) for name, part in value.items()]
-        return "{" + joined(parts, indent) + "}"
-    if all(type(part) is int for part in value):
-        return "[" + joined([(str(part), False) for part in value], indent) + "]"
-    return "[" + joined([(layout(part, indent + 1), True) for part in value], indent) + "]"
-
-
-def flat_text(value):
-    """A value in one line. An object of numbers and texts, as all that is fed, takes less than the encoder's time for it."""
-    if type(value) is int:
-        return str(value)
-    if type(value) is str:
-        return QUOTED(value)
-    if type(value) is dict:
-        return "{" + ",".join([f"{QUOTED(name)}:{flat_text(part)}" for name, part in value.items()]) + "}"
-    return ENCODE(value)
-
-
-def joined(parts, indent):
-    """Parts with commas: each that is a list or an object begins a line, and others where a line is full."""
-    texts, width = [], 0
-    for part, begins in parts:
-        if texts:
-            texts.append(",")
-            if begins or width + len(part) + 1 > WIDTH - indent:
-                texts.append("\n" + " " * (indent + 1))
-                width = 0
-        texts.append(part)
-        width += len(part) + 1
-    return "".join(texts)

@@ -2,7 +2,7 @@
 import os
 import re
 
-from . import command, made
+from . import command, document_text
 from .difference import numbered
 
 # How many runs are saved, apart from the least of each rule.
@@ -50,7 +50,7 @@ class Folder:
         """Writes the document and the transcript of a run."""
         document = self.search.space.value(broken.taken) if broken.taken else self.search.document
         text = self.search.run(self.judging, broken.number, broken.taken)
-        for ending, held in (("json", made.layout(document) + "\n"), ("txt", text)):
+        for ending, held in (("json", document_text.layout(document) + "\n"), ("txt", text)):
             self.written.add(f"{name}.{ending}")
             with command.Output(os.path.join(self.name, f"{name}.{ending}")) as out:
                 out.write(held)
