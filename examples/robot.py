@@ -1,5 +1,5 @@
 #!/usr/bin/env python3
-"""Writes robot.json: sensors, fusion, a planner, and a driver with an e-stop. `tools/write examples/robot.py` runs it."""
+"""Writes robot.json: sensors, fusion, a planner, and a driver with an e-stop. `./virraupez write examples/robot.py` runs it."""
 import virraupez
 
 robot = virraupez.Document(topics=["range", "odometry", "obstacle", "base_cmd", "e_stop"])

@@ -1,5 +1,5 @@
 #!/usr/bin/env python3
-"""Writes two_clients.json: a service that two clients call at once. `tools/write examples/two_clients.py` runs it."""
+"""Writes two_clients.json: a service that two clients call at once. `./virraupez write examples/two_clients.py` runs it."""
 import virraupez
 
 shop = virraupez.Document()

@@ -278,7 +278,7 @@ help() {
   describe
   cat <<END
 
-The status is 0 after $wrote, 1 if the document is refused (tools/explain tells why), 2 at wrong words,
+The status is 0 after $wrote, 1 if the document is refused (./virraupez explain tells why), 2 at wrong words,
 3 if standard output failed, 4 if standard input did, and 70 if there is no program to run. docs/program.md says more.
 END
 }

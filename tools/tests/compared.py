@@ -30,18 +30,18 @@ def of_examples():
     for document in sorted((tool.TOP / "examples").glob("*.json")):
         text = document.with_suffix(".txt")
         lines = len(text.read_text().splitlines())
-        status, told = tool.run("differ", text, text, "--document", document)
+        status, told = tool.run("diff", text, text, "--document", document)
         yield f"differ {text.name} and itself", (status, told.split(",")[0]), (0, f"the same: {lines} line" + "s" * (lines > 1))
     for told in sorted((tool.TESTS / "differing").glob("*.told")):
         one, other = (str(path.relative_to(tool.TOP)) for path in (tool.TOP / "examples/robot.txt", told.with_suffix(".txt")))
-        yield f"differ {told.name}", tool.run("differ", one, other, "--document", "examples/robot.json"), (1, told.read_text())
+        yield f"differ {told.name}", tool.run("diff", one, other, "--document", "examples/robot.json"), (1, told.read_text())
 
 
 def of_orders():
     """Two runs in other orders differ, and it is told that the orders do."""
     names = [f"cases/{name}" for name in ("kind_of_two_messages", "arrival_of_two_messages")]
     words = [*(f"{name}.txt" for name in names), *(word for name in names for word in ("--document", f"{name}.json"))]
-    status, told = tool.run("differ", *words)
+    status, told = tool.run("diff", *words)
     should = f"ready callbacks run by kind in {names[0]}.json, by arrival in {names[1]}.json"
     yield f"differ of two orders: {told}", (status, told.split("\n")[-2]), (1, should)
 
@@ -110,13 +110,13 @@ def of_lines():
 
 def of_words():
     timer = tool.TOP / "examples/timer.txt"
-    for name in ("differ", "holds"):
+    for name in ("diff", "holds"):
         status, text = tool.run(name, "--help")
         yield f"{name} --help", (status, "TRANSCRIPT" in text or "A B" in text), (0, True)
         yield f"{name} without words", tool.run(name)[0], 2
         yield f"{name} of no file", tool.run(name, "nowhere", timer)[0], 2
-    yield "differ of what is no transcript", tool.run("differ", timer, tool.TOP / "README.md")[0], 2
-    yield "differ with a document that is refused", tool.run("differ", timer, timer, "--document", tool.TESTS / "mistakes/another_version.json")[0], 2
+    yield "differ of what is no transcript", tool.run("diff", timer, tool.TOP / "README.md")[0], 2
+    yield "differ with a document that is refused", tool.run("diff", timer, timer, "--document", tool.TESTS / "mistakes/another_version.json")[0], 2
     yield from of_unread(timer)
     yield from of_cut()
 
@@ -129,9 +129,9 @@ def of_cut():
     missing = f"{CUT}:101:1: the line `end` is missing: the transcript is cut off in round 10 at moment 13\n"
     yield "holds of a transcript that is cut off", tool.run("holds", "examples/robot.rules", CUT), (2, missing)
     yield "picture of a transcript that is cut off", tool.run("picture", "examples/robot.json", CUT), (2, missing)
-    for name, words in (("holds", ("examples/robot.rules", "-")), ("differ", ("examples/robot.txt", "-")), ("picture", ("examples/robot.json", "-"))):
+    for name, words in (("holds", ("examples/robot.rules", "-")), ("diff", ("examples/robot.txt", "-")), ("picture", ("examples/robot.json", "-"))):
         status, told = tool.run(name, *words, given=b"")
-        yield f"{name} of nothing", (status, told.startswith(f"{name}: standard input: empty, and no transcript")), (2, True)
+        yield f"{name} of nothing", (status, told.startswith(f"virraupez {name}: standard input: empty, and no transcript")), (2, True)
         status, told = tool.run(name, *words, given=b"refused 4\n")
         yield f"{name} of a refusal", (status, told.startswith("-:1:1: no transcript: the program refused the document")), (2, True)
         for at, given in enumerate((b"round 1 5\nend 1\nend 1\n", b"round 2 5\nend 1\n", b"round 1 5\nround 2 4\nend 2\n", b"round 1 5\nend 2\n")):
@@ -142,15 +142,15 @@ def of_unread(timer):
     """What can't be read is told in a line, and by a status of its own."""
     for given in (b"round \xb2 5\n", b"round 1 \xb2\n", b"\xff\n", b"round 1 5", b"round 1 " + b"5" * 21 + b"\n", b"x" * 5000):
         yield f"holds of {given[:40]}", tool.unread("holds", "examples/robot.rules", "-", given=given), (2, True, 1)
-        yield f"differ of {given[:40]}", tool.unread("differ", timer, "/dev/stdin", given=given), (2, True, 1)
-    for words in (("holds", "nowhere", timer), ("holds", tool.TOP, timer), ("differ", timer, "nowhere"), ("differ", timer, tool.TOP)):
+        yield f"differ of {given[:40]}", tool.unread("diff", timer, "/dev/stdin", given=given), (2, True, 1)
+    for words in (("holds", "nowhere", timer), ("holds", tool.TOP, timer), ("diff", timer, "nowhere"), ("diff", timer, tool.TOP)):
         yield f"what {' '.join(map(str, words))} tells", tool.unread(*words), (2, True, 1)
     with tempfile.TemporaryDirectory() as folder:
         # The name of a file may be no text, and is told with what differs.
         name = os.fsdecode(os.fsencode(folder) + b"/\xff")
         with open(name, "w") as other:
             other.write("round 1 0\nend 1\n")
-        status, told = tool.run("differ", "examples/empty.txt", name)
+        status, told = tool.run("diff", "examples/empty.txt", name)
         yield "differ of a name that is no text", (status, "udcff" in told), (1, True)
 
 
@@ -188,7 +188,7 @@ def told_of(document, text, other):
         found.take([transcript.checked(io.StringIO(it), "it") for it in (text, other)])
         if found.trouble:
             raise found.trouble
-        return "differ" if found.differ and list(found.lines()) else "the same"
+        return "diff" if found.differ and list(found.lines()) else "the same"
     except command.Trouble:
         return "no transcript"
 

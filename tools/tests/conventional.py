@@ -20,7 +20,7 @@ WRITING = {
     "explain": ("examples/robot.json",),
     "write": ("examples/robot.py",),
     "picture": ROBOT,
-    "differ": ("examples/robot.txt", "examples/timer.txt"),
+    "diff": ("examples/robot.txt", "examples/timer.txt"),
     "holds": ("examples/robot.rules", "examples/robot.txt"),
     "schema": (),
 }
@@ -29,7 +29,7 @@ MISTAKE = "tools/tests/mistakes/a_topic_with_a_typo.json"
 
 def into(name, words, stream):
     """The status of a tool whose standard output is a stream, and what it says on standard error."""
-    ran = subprocess.run([sys.executable, "-B", tool.TOOLS / name, *words], stdout=stream, stderr=subprocess.PIPE, cwd=tool.TOP, timeout=tool.SECONDS)
+    ran = subprocess.run([sys.executable, "-B", *tool.started(name), *words], stdout=stream, stderr=subprocess.PIPE, cwd=tool.TOP, timeout=tool.SECONDS)
     return ran.returncode, ran.stderr.decode()
 
 
@@ -90,7 +90,7 @@ def of_several():
     yield "explain of three", (status, told), (1, "".join(tool.run("explain", it)[1] for it in (good, MISTAKE, good)))
     status, told = tool.run("explain", good, nowhere, MISTAKE)
     yield "explain of one that is nowhere", (status, told.count("refused"), told.endswith(f"explain: {nowhere}: No such file or directory\n")), (2, 2, True)
-    yield "standard input twice", tool.unread("differ", "-", "-", given=b"end 0\n"), (2, True, 1)
+    yield "standard input twice", tool.unread("diff", "-", "-", given=b"end 0\n"), (2, True, 1)
 
 
 def on_terminal(words, given=None, **more):
@@ -113,7 +113,7 @@ def on_terminal(words, given=None, **more):
 
 
 def of_colours():
-    words = [str(tool.TOOLS / "explain"), MISTAKE]
+    words = [*tool.started("explain"), MISTAKE]
     plain = tool.run("explain", MISTAKE)[1]
     status, told = on_terminal(words)
     yield "colours on a terminal", (status, "\x1b[" in told, re.sub("\x1b\\[[0-9;]*m|\r", "", told)), (1, True, plain)
@@ -133,7 +133,7 @@ def of_progress():
 
     threading.Thread(target=feed, daemon=True).start()
     rules = "tools/tests/held/any.rules"
-    status, told = on_terminal([str(tool.TOOLS / "holds"), rules, "-"], read, NO_COLOR="1")
+    status, told = on_terminal([*tool.started("holds"), rules, "-"], read, NO_COLOR="1")
     os.close(read)
-    yield f"progress on a terminal: {told!r}", (status, "\r\x1b[Kholds: 0 MB of standard input, " in told, bool(re.search(" s\r\x1b\\[K[^\r]", told))), (0, True, True)
+    yield f"progress on a terminal: {told!r}", (status, "\r\x1b[Kvirraupez holds: 0 MB of standard input, " in told, bool(re.search(" s\r\x1b\\[K[^\r]", told))), (0, True, True)
     yield "no progress in a file", "\x1b" in tool.run("holds", rules, "examples/timer.txt")[1], False

@@ -11,6 +11,9 @@ from . import cooked, tool
 
 # The pages whose blocks are tried; links are followed in all.
 PAGES = sorted((tool.TOP / "docs").glob("*.md"))
+# Those whose commands read files of the repository and write none, and those that are run one after the other in a folder of their own.
+READING = ("differ.md", "explain.md", "holds.md", "write.md")
+WALKED = ("tour.md", "modelling.md", "check.md", "command.md", "search.md")
 LINKED = [*PAGES, *(page for folder in (".", "examples", "release") for page in sorted((tool.TOP / folder).glob("*.md")))]
 
 
@@ -35,8 +38,8 @@ def answers(_program):
     for page in PAGES:
         for command, output in commands(page):
             words = shlex.split(command)
-            if words[0].startswith("tools/"):
-                yield f"{page.name}: {command}", tool.run(words[0][len("tools/") :], *words[1:])[1], output
+            if page.name in READING and words[0] == "./virraupez":
+                yield f"{page.name}: {command}", tool.run(*words[1:])[1], output
         for role, text in scripts(page):
             told = report.Report(cooked.around(**{role: text}).text().encode())
             yield f"{page.name}: the script of a {role} {text!r}", told.code, 0

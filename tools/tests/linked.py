@@ -152,7 +152,7 @@ def of_two(page, folder):
     """Two runs are on one axis; what differs is marked, and plots are over one another."""
     opened(page, folder, *ROBOT, LATE, "--plot", "base_cmd,navigate")
     told = page.value("runs.map((run) => [...Array(run.count).keys()].filter((at) => isOtherBox(run, at)).map((at) => run.head(at)))")
-    differing = tool.run("differ", ROBOT[1], LATE, "--all")[1]
+    differing = tool.run("diff", ROBOT[1], LATE, "--all")[1]
     yield "the callbacks that are marked are of rounds that differ", (all(told), len(told[0]) > 0), (True, True)
     first = page.value("runs.map((run) => [...Array(run.count).keys()].filter((at) => run.boxes[at * 5] === 7 && isOtherBox(run, at)).map((at) => run.head(at)))")
     yield f"those of round 8: {differing[:200]}", first, [["run button message 1 0"], []]

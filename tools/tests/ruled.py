@@ -248,7 +248,7 @@ def of_recipe(program):
     for name, change, passes in (("a run", None, True), ("a refused document", ('"version":1', '"version":3'), False), ("another run", ('"period":5', '"period":1000'), False)):
         with tempfile.TemporaryDirectory() as folder:
             there = pathlib.Path(folder)
-            (there / "tools").symlink_to(tool.TOOLS)
+            (there / "virraupez").symlink_to(tool.TOP / "virraupez")
             (there / "exec_run").symlink_to(program)
             (there / "robot.rules").symlink_to(tool.TOP / "examples/robot.rules")
             text = (tool.TOP / "examples/robot.json").read_text()

@@ -22,9 +22,14 @@ UPGRADES = []
 UNDONE = []
 
 
+def started(tool):
+    """The words that start a command of virraupez, or a tool of the repository's own."""
+    return [str(TOP / "virraupez"), tool] if tool in commands.NAMES else [str(TOOLS / tool)]
+
+
 def run(tool, *words, given=None):
     """The status and the output of a tool, and of standard error behind it; no status where it hadn't ended in time."""
-    command = [sys.executable, "-B", str(TOOLS / tool), *map(str, words)]
+    command = [sys.executable, "-B", *started(tool), *map(str, words)]
     try:
         ran = subprocess.run(command, input=given, stdout=subprocess.PIPE, stderr=subprocess.PIPE, timeout=SECONDS, cwd=TOP)
     except subprocess.TimeoutExpired:
@@ -48,7 +53,7 @@ def within(name, *words):
 def unread(tool, *words, given=None):
     """What a tool must say that can't read what it is given: its status, whether it tells itself or a place, and how many lines it says."""
     status, told = run(tool, *words, given=given)
-    return status, bool(PLACED.match(told)) or told.startswith(f"{tool}: "), told.count("\n")
+    return status, bool(PLACED.match(told)) or told.startswith(f"virraupez {tool}: "), told.count("\n")
 
 
 def heeding():

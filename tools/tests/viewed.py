@@ -228,7 +228,7 @@ def of_two(page, folder):
     page.key("D")
     page.key("D")
     yield "the last difference", page.text("#where").endswith("which differs"), True
-    told = tool.run("differ", *(ROBOT[1], LATE), "--all")[1]
+    told = tool.run("diff", *(ROBOT[1], LATE), "--all")[1]
     yield "how many differ", page.value("data.differ.length"), int(re.search("([0-9]+) differences", told)[1])
     opened(page, folder, *ROBOT, ROBOT[1])
     yield "two that are the same", page.text("#differ"), "No difference"

@@ -5,7 +5,6 @@ import subprocess
 
 from . import documented, sandbox, tool
 
-PAGES = ("tour.md", "modelling.md", "check.md", "command.md", "search.md")
 # The files of which a page shows parts.
 SHOWN = {"modelling.md": {"py": "examples/navigation.py", "text": "examples/navigation.rules"}}
 
@@ -22,7 +21,7 @@ def commands(page):
 
 
 def answers(program):
-    for name in PAGES:
+    for name in documented.WALKED:
         page = tool.TOP / "docs" / name
         with sandbox.with_program(program) as top:
             for command, output in commands(page):

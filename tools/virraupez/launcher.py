@@ -10,7 +10,7 @@ from . import command, commands, installation
 NAME = "virraupez"
 ABOUT = __doc__.partition(": ")[2].split("\n\n")[0]
 MORE = """A file's name may be - for standard input or output. A fault begins with FILE:LINE:COLUMN, as editors find it. Colours are for
-terminals alone, and NO_COLOR turns them off. Some commands are scripts of their own too, as tools/holds; tools/differ is diff."""
+terminals alone, and NO_COLOR turns them off."""
 STATUS = "The status is 0 if all is well, 1 if something is wrong or differs, and 2 if the work can't be done."
 
 

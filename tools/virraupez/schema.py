@@ -6,7 +6,7 @@ ABOUT = (
     "references are declared, that scripts name what is there and skip no further than their end, that those of a reentrant group "
     "name no group variable, that moments ascend, that rounds are those of the moments, and the sums over nodes (256 groups, 512 "
     "entities). A schema takes 1.0 and -0 for integers; the reader doesn't. Where `$` matches before a last line feed, as in Python, "
-    "a schema takes a name that ends in one. tools/explain tells all of that."
+    "a schema takes a name that ends in one. ./virraupez explain tells all of that."
 )
 LOOSE = " Fields that aren't named here are ignored."
 STRICT = " This one takes no field that isn't named, so that an editor shows typos."
