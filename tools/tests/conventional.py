@@ -42,9 +42,40 @@ def answers(_program):
     yield from of_names()
     yield from of_colours()
     yield from of_progress()
+    yield from of_documents()
     for name in commands.NAMES:
         parser = commands.tool(name).parser(f"virraupez {name}")
         yield f"the words of {name}", ("usage: virraupez " + name in parser.format_help(), bool(parser.epilog)), (True, True)
+
+
+# Words of commands with a document and other files: by their places, and with the document by --document.
+DOCUMENTED = (
+    ("picture", ROBOT, ("--rounds", "1-3")),
+    ("picture", ROBOT[:1], ("--graph",)),
+    ("trace", ROBOT, ()),
+    ("view", ROBOT, ("--rules", "examples/robot.rules")),
+    ("view", (*ROBOT, ROBOT[1]), ()),
+    ("lines", ROBOT, ("--json",)),
+    ("diff", (*ROBOT, "tools/tests/differing/e_stop_too_late.txt"), ()),
+    ("check", ROBOT[:1], ("--rules", "examples/robot.rules", "--reference")),
+    ("search", ROBOT[:1], ("--rules", "examples/robot.rules", "--drop", "e_stop", "--reference")),
+    ("shrink", ROBOT[:1], ("--rules", "broken.rules", "--reference")),
+)
+
+
+def of_documents():
+    """A document is named by its place before the other files, or by --document, and rules by --rules, by each command that takes them."""
+    with tool.file("never pub base_cmd 0\n") as rules:
+        for name, (document, *files), more in DOCUMENTED:
+            more = [rules if it == "broken.rules" else it for it in more]
+            placed, named = (tool.within(name, *words, *more) for words in ((document, *files), ("--document", document, *files)))
+            yield f"{name} --document", (placed[0] < 2, named), (True, placed)
+            yield f"{name} of no file", tool.within(name, *more)[0], 2
+    for words in (("picture", *ROBOT, "--document", ROBOT[0]), ("trace", *ROBOT, "--document", ROBOT[0])):
+        status, told = tool.within(*words)
+        yield f"{words}: {told}", (status, "too many files are named: examples/robot.json, " in told), (2, True)
+    for words in (("--rules", "examples/robot.rules", ROBOT[1]), ("examples/robot.rules", ROBOT[1])):
+        yield f"holds {words}", tool.within("holds", *words, "--document", ROBOT[0]), (0, "7 hold, 0 fail, 0 undecided\n")
 
 
 def of_names():

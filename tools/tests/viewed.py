@@ -16,7 +16,7 @@ WRONG = (
     (("examples/timer.json", "examples/robot.txt"), "isn't the document of this transcript"),
     (("examples/timer.json", "nowhere"), "virraupez view: nowhere: No such file or directory"),
     ((*ROBOT, "--rounds", "90-99"), "there are no rounds 90 to 99: the transcript has 21"),
-    ((*ROBOT, "--document", "examples/timer.json"), "--document is the document of a second transcript, and there is none"),
+    (("examples/robot.txt", "--document", ROBOT[0], "--document", "examples/timer.json"), "--document is the document of a second transcript, and there is none"),
     ((*ROBOT, "examples/timer.txt"), "isn't the document of this transcript"),
     (("examples/empty.json", "examples/empty.txt"), "there are no rounds"),
 )

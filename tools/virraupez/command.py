@@ -47,6 +47,28 @@ def number(text, most=MOST):
     return int(text)
 
 
+def name_document(made, says="the document, in place of the first file"):
+    """Lets --document name the document that is the first of a command's files otherwise."""
+    made.add_argument("--document", metavar="DOCUMENT", dest="named", action="append", default=[], help=says)
+
+
+def place_files(asked, *places, least=1):
+    """Gives the places of a command's files what --document names, and then the files that the words have. So many are wanted at least."""
+    found = [*asked.named, *(it for it in map(vars(asked).get, places) if it is not None)]
+    if len(found) < least:
+        raise Trouble(f"no {places[len(found)]} is named")
+    if len(found) > len(places):
+        raise Trouble(f"too many files are named: {', '.join(map(shown, found))}")
+    vars(asked).update(zip(places, found + [None] * (len(places) - len(found))))
+
+
+def join_documents(asked):
+    """Puts what --document names before the documents that the words have, of which there may be many."""
+    asked.documents = [*asked.named, *asked.documents]
+    if not asked.documents:
+        raise Trouble("no document is named")
+
+
 class Parser(argparse.ArgumentParser):
     def print_help(self, file=None):
         """Prints the help. The base class says nothing of a stream that fails."""
@@ -66,9 +88,8 @@ def parser(says, status, prog=None):
     return made
 
 
-def main(tool, words=None, prog=None):
+def main(tool, words, prog):
     """Runs a tool, and gives its status."""
-    prog = prog or os.path.basename(sys.argv[0])
     try:
         Source.taken, Source.files = False, []
         asked = tool.parser(prog).parse_args(words)

@@ -17,7 +17,8 @@ one fails, and 2 if a file is wrong or can't be read, or a document can't be run
 
 def parser(prog=None):
     made = command.parser(__doc__, STATUS, prog)
-    made.add_argument("documents", metavar="DOCUMENT", nargs="+", help="a document; - is standard input")
+    made.add_argument("documents", metavar="DOCUMENT", nargs="*", default=[], help="a document; - is standard input")
+    command.name_document(made, "a document, before the others")
     made.add_argument("--rules", metavar="RULES", help="a file of rules, as holds has them")
     made.add_argument("--golden", metavar="TRANSCRIPT", help="the transcript that the run must have, or a folder that has NAME.txt for each NAME.json")
     made.add_argument("--update", action="store_true", help="renew golden transcripts that differ, and show what changed")
@@ -30,6 +31,7 @@ def parser(prog=None):
 
 
 def run(asked, out):
+    command.join_documents(asked)
     demand_words(asked)
     text = command.text_of(asked.rules) if asked.rules else ""
     program, wrong, verdicts = judge.executor(asked.reference), [], []

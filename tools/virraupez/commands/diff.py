@@ -1,5 +1,5 @@
 """diff: tells where two transcripts differ, the callback that wrote what differs, and how the lines of each entity differ. With
---document it tells also what the callback took: the publication, call or goal of an earlier round.
+its document it tells also what the callback took: the publication, call or goal of an earlier round.
 
 Rounds are matched by their moments: a round that one of the two has alone is one difference."""
 import sys
@@ -12,20 +12,22 @@ document. Of one document for both, at least one must be a run."""
 
 def parser(prog=None):
     made = command.parser(__doc__, STATUS, prog)
+    made.add_argument("document", metavar="DOCUMENT", nargs="?", help="the document of both; - is standard input")
     made.add_argument("one", metavar="A", help="a transcript; - is standard input")
     made.add_argument("other", metavar="B", help="another")
-    made.add_argument("--document", metavar="DOCUMENT", action="append", default=[], help="the document of both; given twice, that of A and that of B")
+    command.name_document(made, "the document of both; given twice, that of A and that of B")
     made.add_argument("--all", action="store_true", help=f"tell all differences, and not only the first {difference.TOLD}")
     return made
 
 
 def run(asked, out):
-    if len(asked.document) > 2:
+    named = [*filter(None, [asked.document]), *asked.named]
+    if len(named) > 2:
         raise command.Trouble("at most two documents")
-    documents = [flow.read_document(name) for name in asked.document]
+    documents = [flow.read_document(name) for name in named]
     # Of one document two different transcripts can't both be the run, and one may be another executor's.
     is_shared = len(documents) == 1
-    own = [fit.Own(name, document, not is_shared) for name, document in zip(asked.document * 2, documents * 2)][:2]
+    own = [fit.Own(name, document, not is_shared) for name, document in zip(named * 2, documents * 2)][:2]
     flows = list(map(flow.Flow, documents))
     found = difference.Difference((asked.one, asked.other), flows, sys.maxsize if asked.all else difference.TOLD)
     found.read(own or [None, None])
@@ -38,7 +40,7 @@ def run(asked, out):
             out.line(f"{side.name} isn't a run of {command.shown(it.name)}: its line {it.strayed[0]} doesn't follow")
     orders = list(map(grammar.order_of, documents))
     if found.differ and len(set(orders)) == 2:
-        out.line("ready callbacks run " + ", ".join(f"by {order} in {command.shown(name)}" for order, name in zip(orders, asked.document)))
+        out.line("ready callbacks run " + ", ".join(f"by {order} in {command.shown(name)}" for order, name in zip(orders, named)))
     if found.trouble:
         out.keep()
         raise found.trouble

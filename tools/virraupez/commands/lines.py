@@ -3,7 +3,7 @@ for jq and pandas, as
 
   ./virraupez lines run.txt --json | jq 'select(.word == "pub" and .value > 20)'
 
-With --document an object has the node and the callback group too, and each callback the line that sent what it took. docs/lines.md
+With its document an object has the node and the callback group too, and each callback the line that sent what it took. docs/lines.md
 has the fields."""
 import json
 
@@ -14,13 +14,15 @@ STATUS = "The status is 0, and 2 if the transcript can't be read, is cut off, or
 
 def parser(prog=None):
     made = command.parser(__doc__, STATUS, prog)
+    made.add_argument("document", metavar="DOCUMENT", nargs="?", help="the document of the transcript; - is standard input")
     made.add_argument("transcript", metavar="TRANSCRIPT", help="a transcript; - is standard input")
+    command.name_document(made)
     made.add_argument("--json", action="store_true", help="write an object for each line")
-    made.add_argument("--document", metavar="DOCUMENT", help="the document of the transcript")
     return made
 
 
 def run(asked, out):
+    command.place_files(asked, "document", least=0)
     document = flow.read_document(asked.document) if asked.document else None
     own = fit.Own(asked.document, document) if asked.document else None
     if asked.json:

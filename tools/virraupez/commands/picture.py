@@ -33,8 +33,9 @@ class Rounds(tuple):
 
 def parser(prog=None):
     made = command.parser(__doc__, STATUS, prog)
-    made.add_argument("document", metavar="DOCUMENT", help="a document; - is standard input")
+    made.add_argument("document", metavar="DOCUMENT", nargs="?", help="a document; - is standard input")
     made.add_argument("transcript", metavar="TRANSCRIPT", nargs="?", help="its transcript; - is standard input. --graph needs none")
+    command.name_document(made)
     shown = f"the rounds to draw, as A-B, A- or A; the first {scene.ROUNDS} if none are given"
     made.add_argument("--rounds", metavar="A-B", type=rounds_of, default=Rounds(1, scene.ROUNDS, True), help=shown)
     made.add_argument("--plot", metavar="NAME,..", default="", help="plot values of topics, and queues, calls and goals of entities, below the rows")
@@ -43,6 +44,7 @@ def parser(prog=None):
 
 
 def run(asked, out):
+    command.place_files(asked, "document", "transcript")
     document = flow.read_document(asked.document)
     if asked.graph:
         lines = transcript.lines(asked.transcript, fit.Own(asked.document, document)) if asked.transcript else None

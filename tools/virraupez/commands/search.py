@@ -39,7 +39,8 @@ class Varies(argparse.Action):
 
 def parser(prog=None):
     made = command.parser(__doc__, STATUS, prog)
-    made.add_argument("documents", metavar="DOCUMENT", nargs="+", help="a document, or with --merge what shards wrote; - is standard input")
+    made.add_argument("documents", metavar="DOCUMENT", nargs="*", default=[], help="a document, or with --merge what shards wrote; - is standard input")
+    command.name_document(made)
     made.add_argument("--rules", metavar="RULES", help="a file of rules, as holds has them")
     made.add_argument("--rule", metavar="LINE", type=command.number, help="the line of the rule, if only one is searched for; the others may be of another document")
     made.add_argument("--robust", metavar="PATTERN", action="append", default=[], help="lines that must stay those of the document's own run, as 'result navigate'")
@@ -77,6 +78,7 @@ def shard(text):
 
 
 def run(asked, out):
+    command.join_documents(asked)
     if asked.merge:
         return merged(asked, out)
     if len(asked.documents) > 1:

@@ -19,7 +19,8 @@ GONE = 6
 
 def parser(prog=None):
     made = command.parser(__doc__, STATUS, prog)
-    made.add_argument("document", metavar="DOCUMENT", help="a document that breaks a rule; - is standard input")
+    made.add_argument("document", metavar="DOCUMENT", nargs="?", help="a document that breaks a rule; - is standard input")
+    command.name_document(made)
     made.add_argument("--rules", metavar="RULES", required=True, help="a file of rules, as holds has them")
     made.add_argument("--rule", metavar="LINE", type=command.number, help="the line of the rule, if the document breaks several")
     made.add_argument("--unless", metavar="DOCUMENT", help="a document with another timing that keeps the rule: it is cut in the same way, and must keep it")
@@ -29,6 +30,7 @@ def parser(prog=None):
 
 
 def run(asked, out):
+    command.place_files(asked, "document")
     document, program = flow.read_document(asked.document), judge.executor(asked.reference)
     declared = fit.Own(asked.document, document).kinds
     rule = broken(asked, document, judge.Judge(program, judge.read(asked.rules, command.text_of(asked.rules), [], declared, asked.rule)))

@@ -11,14 +11,16 @@ STATUS = "The status is 0, and 2 if the transcript can't be read, is cut off, or
 
 def parser(prog=None):
     made = command.parser(__doc__, STATUS, prog)
-    made.add_argument("document", metavar="DOCUMENT", help="a document; - is standard input")
-    made.add_argument("transcript", metavar="TRANSCRIPT", help="its transcript; - is standard input")
+    made.add_argument("document", metavar="DOCUMENT", nargs="?", help="a document; - is standard input")
+    made.add_argument("transcript", metavar="TRANSCRIPT", nargs="?", help="its transcript; - is standard input")
+    command.name_document(made)
     made.add_argument("--tick", metavar="TIME", type=ticks.nanoseconds, default=1000000, help="how long a tick is, as 20ms; 1ms if it isn't given")
     made.add_argument("--foxglove", action="store_true", help="write MCAP with messages in JSON, which Foxglove reads")
     return made
 
 
 def run(asked, out):
+    command.place_files(asked, "document", "transcript", least=2)
     document = flow.read_document(asked.document)
     if asked.foxglove:
         for part in foxglove.Recording(document, asked.tick).parts(transcript.lines(asked.transcript, fit.Own(asked.document, document))):

@@ -12,10 +12,10 @@ MANY = 2000000
 
 def parser(prog=None):
     made = command.parser(__doc__, STATUS, prog)
-    made.add_argument("document", metavar="DOCUMENT", help="a document; - is standard input")
-    made.add_argument("transcript", metavar="TRANSCRIPT", help="its transcript; - is standard input")
+    made.add_argument("document", metavar="DOCUMENT", nargs="?", help="a document; - is standard input")
+    made.add_argument("transcript", metavar="TRANSCRIPT", nargs="?", help="its transcript; - is standard input")
     made.add_argument("other", metavar="OTHER", nargs="?", help="a second transcript, which is compared with the first")
-    made.add_argument("--document", metavar="DOCUMENT", dest="second", help="the document of OTHER, if it is another one")
+    command.name_document(made, "the document, in place of the first file; given twice or after three files, the last is that of OTHER")
     made.add_argument("--tick", metavar="TIME", type=ticks.nanoseconds, help="how long a tick is, as 20ms: moments are shown as times")
     made.add_argument("--plot", metavar="NAME,..", help="topics and entities whose plots are open; some topics if none are given")
     made.add_argument("--rules", metavar="RULES", help="a file of rules, as holds has them: the page opens at the first line that breaks one")
@@ -29,19 +29,21 @@ def text_of(name, own):
 
 
 def run(asked, out):
+    second = asked.named.pop() if asked.named and (asked.other or asked.named[1:]) else None
+    command.place_files(asked, "document", "transcript", "other", least=2)
     document = flow.read_document(asked.document)
     own = fit.Own(asked.document, document)
     check = rules.Check(rulebook.read(command.text_of(asked.rules), asked.rules, own.kinds)) if asked.rules else None
     plotted = None if asked.plot is None else series.asked(asked.plot, document)
     runs = [view.Run(asked.transcript, text_of(asked.transcript, own), document, *asked.rounds, check)]
     if asked.other:
-        other = flow.read_document(asked.second) if asked.second else document
+        other = flow.read_document(second) if second else document
         # Another executor's run of the same document may be compared with the document's own.
-        own = fit.Own(asked.second or asked.document, other, is_strict=bool(asked.second))
+        own = fit.Own(second or asked.document, other, is_strict=bool(second))
         runs.append(view.Run(asked.other, text_of(asked.other, own), other, *asked.rounds, check))
         if own.strayed:
             command.note(f"view: {asked.other} isn't a run of {command.shown(own.name)}: its line {own.strayed[0]} doesn't follow")
-    elif asked.second:
+    elif second:
         raise command.Trouble("--document is the document of a second transcript, and there is none")
     asked.rounds.demand(max(it.scene.rounds for it in runs))
     lines = sum(it.rest.count("\n") for run in runs for it in run.rounds)
