@@ -1,11 +1,13 @@
 """That the work on hostile documents and long rules grows as they do, and not as their square: what is counted are the lines of the tools
 that are run, and the characters that are compared, and no seconds."""
+import gc
 import io
 import json
 import sys
 import tracemalloc
+import weakref
 
-from virraupez import alignment, hints, report, rulebook, rules, transcript
+from virraupez import alignment, checker, declarations, hints, report, rulebook, rules, transcript
 
 from . import tool
 
@@ -68,6 +70,7 @@ def answers(_program):
     yield from of_rules()
     yield from of_lines()
     yield from of_alike()
+    yield from of_documents()
 
 
 def of_alike():
@@ -105,7 +108,7 @@ def of_rules():
     text = "".join(f"round {at} {at}\nrun t{at % 50} timer {at} 0\nlog t{at % 50} {at}\n" for at in range(1, 201)) + "end 200\n"
     counts = []
     for count in (50, 400):
-        check = rules.Check(rulebook.read("\n".join(f"never log t{at} -{at + 1}" for at in range(count))))
+        check = checker.Check(rulebook.read("\n".join(f"never log t{at} -{at + 1}" for at in range(count))))
 
         def work(check=check):
             for block in transcript.checked(io.StringIO(text), "it"):
@@ -113,6 +116,20 @@ def of_rules():
 
         counts.append(steps(work))
     yield f"the work of 50 and of 400 rules: {counts}", counts[1] <= 1.2 * counts[0], True
+
+
+def of_documents():
+    """Nothing of a document stays when it was reported, as a language server reports many."""
+    kept = []
+    of = declarations.Declared
+    declarations.Declared = lambda document: kept.append(weakref.ref(found := of(document))) or found
+    try:
+        for make in DOCUMENTS.values():
+            report.Report(json.dumps(make(9)).encode())
+    finally:
+        declarations.Declared = of
+    gc.collect()
+    yield "what stays of documents", [it() for it in kept], [None] * len(DOCUMENTS)
 
 
 def of_lines():
@@ -131,7 +148,7 @@ def of_lines():
 def hold(rounds):
     """Holds a transcript of so many rounds to four rules, of which each is about each round."""
     text = "every pub x V then run y message V within 3 ticks\nnever log y <0\ncount run _ message at least 9\nnever no pub x for 5 rounds\n"
-    check = rules.Check(rulebook.read(text))
+    check = checker.Check(rulebook.read(text))
     for begin in range(1, rounds + 1, 500):
         check.block("".join(f"round {at} {at}\nrun t timer {at} 0\npub x {at}\nrun y message {at - 1} 0\nlog y {at}\n" for at in range(begin, begin + 500)))
     check.block(f"end {rounds}\n")

@@ -1,7 +1,7 @@
 """That rules look at few lines, and find the same whatever the blocks in which a transcript comes."""
 import random
 
-from virraupez import rulebook, rules
+from virraupez import checker, rulebook
 
 from . import tool
 
@@ -32,7 +32,7 @@ def answers(_program):
 
 def found(blocks):
     """What rules find of a transcript, and again of the same after another one."""
-    check = rules.Check(rulebook.read(RULES))
+    check = checker.Check(rulebook.read(RULES))
     said = []
     for _ in range(2):
         check.begin()
@@ -47,7 +47,7 @@ def found(blocks):
 def of_lines():
     """Lines that no pattern may match cost nothing, and each other one is read once."""
     text = (tool.TOP / "examples/robot.txt").read_text()
-    check = rules.Check(rulebook.read((tool.TOP / "examples/robot.rules").read_text()))
+    check = checker.Check(rulebook.read((tool.TOP / "examples/robot.rules").read_text()))
     taken, read = [], []
     line = check.line
     check.line = lambda number, text: taken.append(text) or line(number, text)
@@ -59,6 +59,6 @@ def of_lines():
         check.end()
     yield f"how many of {text.count(chr(10))} lines rules take", len(taken) // 3 < text.count("\n") // 8, True
     yield "how often a rule reads a line", len(read), len(set(read))
-    check.known = {(str(number), ()): [] for number in range(rules.KNOWN)}
+    check.known = {(str(number), ()): [] for number in range(checker.KNOWN)}
     check.block(text)
     yield "how many lines are known", len(check.known) < 100, True

@@ -5,7 +5,7 @@ import re
 import subprocess
 import tempfile
 
-from virraupez import command, fit, rulebook, rules, transcript
+from virraupez import checker, command, fit, rulebook, transcript
 
 from . import tool
 
@@ -186,7 +186,7 @@ UNDECLARED = (
 
 def verdict(text):
     """What becomes of a rule in TEXT, and the line that decides it if one does."""
-    check = rules.Check(rulebook.read(text))
+    check = checker.Check(rulebook.read(text))
     for block in transcript.checked(io.StringIO(TEXT), "it"):
         check.block(block)
     check.end()

@@ -2,7 +2,7 @@
 it open. A run is written as lines between which `;` stands; `@9` begins a round at moment 9."""
 import io
 
-from virraupez import fit, rulebook, rules, transcript
+from virraupez import checker, fit, rulebook, rules, transcript
 
 from . import tool
 
@@ -105,7 +105,7 @@ def text_of(run):
 
 def outcome(rule, text, own=None):
     """What becomes of a rule in a transcript, and the line that decides it."""
-    check = rules.Check(rulebook.read(rule, "it", own.kinds if own else None))
+    check = checker.Check(rulebook.read(rule, "it", own.kinds if own else None))
     for block in transcript.checked(io.StringIO(text), "it"):
         check.block(block)
     check.end()

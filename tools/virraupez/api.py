@@ -9,7 +9,7 @@ import json
 import pathlib
 from typing import Any, List, Mapping, Optional, Sequence, Tuple, Union
 
-from . import build, command, fit, grammar, judge, report, rulebook, rules, runs, searching, transcript
+from . import build, checker, command, fit, grammar, judge, report, rulebook, rules, runs, searching, transcript
 
 DocumentLike = Union[build.Document, Mapping[str, Any], str, bytes, pathlib.Path]
 Text = Union[str, pathlib.Path]
@@ -132,7 +132,7 @@ def executor(reference: bool) -> Executor:
 def holds(text: Text, of: Union[Transcript, Text]) -> Verdict:
     """Holds a transcript to rules. The names of one that `run` gave are those of its document."""
     own = fit.Own(DOCUMENT, of.document) if isinstance(of, Transcript) and of.document else None
-    check = rules.Check(rulebook.read(text_of(text), name_of(text, RULES), own.kinds if own else None))
+    check = checker.Check(rulebook.read(text_of(text), name_of(text, RULES), own.kinds if own else None))
     given = of.text if isinstance(of, Transcript) else text_of(of)
     for block in transcript.checked(Stream(given), name_of(of, TRANSCRIPT)):
         check.block(block)

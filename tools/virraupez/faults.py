@@ -2,7 +2,6 @@
 
 They go over a value that json_text has read, and over what it declares. A part of a wrong form counts as a fault of Shape, and
 as missing for all greater codes."""
-import functools
 import itertools
 import json
 import re
@@ -146,105 +145,12 @@ def entry_shape(fields, path):
 def with_moment(fault, declared):
     """The fault of an entry without its round, with the round of the moment that the entry has."""
     if fault.missing == "round":
-        fields = declared.entries().get(fault.path, {})
+        fields = declared.entries.get(fault.path, {})
         moment = next((fields[it] for it in repairs.ALIASES["round"] if g.is_count(fields.get(it))), None)
-        number, says = repairs.of_moment(moment, *declared.all_moments()) if moment is not None else (None, "")
+        number, says = repairs.of_moment(moment, *declared.all_moments) if moment is not None else (None, "")
         if number:
             fault.hint = f'add "round": {number}, since {says}'
     return fault
-
-
-# ---- what is declared
-
-
-def listed(fields, name, form):
-    """The items of a list that are of a form, with their places."""
-    items, test = fields.get(name), g.SINGLE[form][0] if form in g.SINGLE else lambda item: isinstance(item, dict)
-    return [it for it in enumerate(items) if test(it[1])] if isinstance(items, list) else []
-
-
-class Entity:
-    """An entity with its kind, the node that it is of, and its path."""
-
-    def __init__(self, kind, node, path, fields):
-        self.kind, self.node, self.path, self.fields = kind, node, path, fields
-        self.name, self.read = self.field("name", "text"), None
-
-    def field(self, name, form, default=None):
-        """A field where it has its form."""
-        value = self.fields.get(name)
-        return value if name in self.fields and has(value, form) else default
-
-    def refers_to(self):
-        """The name of what it refers to, where it has one."""
-        field, _ = g.REFERS.get(self.kind, (None, None))
-        return self.field(field, "text") if field else None
-
-    def scripts(self):
-        """Each script that is there, with its name and its role, its instructions that are lists of words, and its length."""
-        if self.read is None:
-            found = [(name, role, self.field(name, ["word"])) for name, role in g.SCRIPTS[self.kind].items()]
-            found = [it for it in found if it[2] is not None]
-            self.read = [(name, role, [it for it in enumerate(script) if g.is_instruction(it[1])], len(script)) for name, role, script in found]
-        return self.read
-
-
-class Node:
-    def __init__(self, path, fields):
-        self.path, self.fields = path, fields
-        self.name = fields.get("name") if g.is_text(fields.get("name")) else None
-        self.groups = [(path + ("groups", at), group) for at, group in listed(fields, "groups", "group")]
-        self.kinds = {it["name"]: it.get("kind") for _, it in self.groups if g.is_text(it.get("name"))}
-
-    @functools.lru_cache(None)
-    def is_plain(self):
-        """Whether it has no field that isn't known."""
-        return all(name in g.OBJECTS["node"] for name in self.fields)
-
-
-class Declared:
-    """What a document declares, as far as it has its forms."""
-
-    def __init__(self, document):
-        document = document if isinstance(document, dict) else {}
-        # Whether all has its form. What hasn't counts as missing, and nobody is told then that it isn't there.
-        self.is_whole = True
-        self.version, self.order = document.get("version"), document.get("order")
-        self.topics = listed(document, "topics", "text")
-        self.nodes = [Node(("nodes", at), node) for at, node in listed(document, "nodes", "node")]
-        self.entities = [
-            Entity(kind, node, node.path + (kind, at), fields)
-            for node in self.nodes
-            for kind in g.ENTITIES
-            for at, fields in listed(node.fields, kind, g.ENTITIES[kind])
-        ]
-        self.moments = listed(document, "moments", "count")
-        self.rounds = len(document["moments"]) if isinstance(document.get("moments"), list) else 0
-        self.has_moments = document.get("moments", []) != []
-        self.feed = [(("feed", at), entry) for at, entry in listed(document, "feed", "entry")]
-        self.named = {"topics": {name: None for _, name in self.topics}, **{kind: {} for kind in g.ENTITIES}}
-        for entity in self.entities:
-            if entity.name is not None:
-                self.named[entity.kind].setdefault(entity.name, entity)
-
-    @functools.lru_cache(None)
-    def entries(self):
-        """The entries of the feed by their paths."""
-        return dict(self.feed)
-
-    @functools.lru_cache(None)
-    def all_moments(self):
-        """The moments, and the highest of those up to each."""
-        moments = [moment for _, moment in self.moments]
-        return moments, list(itertools.accumulate(moments, max))
-
-    def what(self, name):
-        """What a name is declared as, in words."""
-        for kind, names in self.named.items():
-            if name in names:
-                of = names[name]
-                return "a topic" if of is None else f"{article(g.ENTITIES[kind])} of the node {of.node.name}"
-        return None
 
 
 # ---- 4: names
@@ -290,7 +196,7 @@ def name_hint(name):
 def references(declared, entity):
     if "group" in entity.fields and g.is_text(entity.fields["group"]) and entity.fields["group"] not in entity.node.kinds:
         none = f"the node {entity.node.name} has no `groups`; leave the field out for its default group"
-        is_plain = declared.is_whole and not entity.node.kinds and entity.node.is_plain()
+        is_plain = declared.is_whole and not entity.node.kinds and entity.node.is_plain
         hint = none if is_plain else ""
         yield Fault(4, entity.path + ("group",), f"a named group of the node {entity.node.name}", hint, entity.node.kinds)
     field, kind = g.REFERS.get(entity.kind, (None, None))
@@ -373,7 +279,7 @@ def round_hint(number, declared):
     """A hint for a number that no round has: it may be a moment."""
     if number == 0:
         return "rounds are counted from 1" if declared.rounds else ""
-    found, says = repairs.of_moment(number, *declared.all_moments())
+    found, says = repairs.of_moment(number, *declared.all_moments)
     return f"write {found}, since {says}" if found else ""
 
 

@@ -1,7 +1,7 @@
 """Runs of documents that are held to rules, many of them: which rules each one breaks, and by which line."""
 import json
 
-from . import command, event, pattern, rulebook, rules, runs
+from . import checker, command, event, pattern, rulebook, rules, runs
 
 
 class Same(rules.Rule):
@@ -67,7 +67,7 @@ class Judge:
     """Runs documents, and holds each run to rules."""
 
     def __init__(self, program, found):
-        self.program, self.rules, self.check = program, found, rules.Check(found)
+        self.program, self.rules, self.check = program, found, checker.Check(found)
 
     def run(self, document):
         """Runs a document; the rules know then what they say of it. Gives its transcript."""

@@ -1,5 +1,5 @@
 """All faults of a document, and the code that the program refuses it with: the least."""
-from . import faults, json_text, scripts
+from . import declarations, faults, json_text, scripts
 
 PARTS = (faults.version, faults.names, faults.limits, scripts.faults, faults.clock, faults.identifiers)
 
@@ -19,4 +19,4 @@ def code(given):
         document = json_text.read(given.decode())
     except (UnicodeDecodeError, json_text.NotJson):
         return 1
-    return min((fault.code for fault in of(document, faults.Declared(document))), default=0)
+    return min((fault.code for fault in of(document, declarations.Declared(document))), default=0)

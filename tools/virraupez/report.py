@@ -1,7 +1,7 @@
 """What is told of a document: its code, the places of its faults and of its warnings, as texts and as JSON."""
 import json
 
-from . import advice, faults, grammar, hints, json_text, refusals
+from . import advice, declarations, faults, grammar, hints, json_text, refusals
 
 # How many places of a code are told, unless all are asked for.
 TOLD = 20
@@ -82,7 +82,7 @@ class Report:
 
 def every(document):
     """All faults and warnings of a document."""
-    declared = faults.Declared(document)
+    declared = declarations.Declared(document)
     yield from refusals.of(document, declared)
     if isinstance(document, dict):
         yield from advice.warnings(document, declared)

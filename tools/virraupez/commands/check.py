@@ -8,7 +8,7 @@ import os
 import pathlib
 import shlex
 
-from .. import command, fit, flow, judge, junit, report, rulebook, rules, runs, verdict
+from .. import checker, command, fit, flow, judge, junit, report, rulebook, rules, runs, verdict
 from . import explain, holds, search
 
 STATUS = """There is one verdict a document, in a line: 'DOCUMENT: passes: ..' or 'DOCUMENT: fails: ..'. The status is 0 if all pass, 1 if
@@ -85,7 +85,7 @@ def judged(asked, name, program, text, made):
         return
     document = flow.parsed(given)
     own = fit.Own(name, document)
-    check = rules.Check(rulebook.read(text, asked.rules, own.kinds) if asked.rules else [])
+    check = checker.Check(rulebook.read(text, asked.rules, own.kinds) if asked.rules else [])
     ran = transcript_of(name, program, given)
     check.block(ran)
     check.end()

@@ -5,7 +5,7 @@
   at end no pending
 
 Of each rule that doesn't hold the first line that breaks it is told, with its round. docs/holds.md has all rules."""
-from .. import command, fit, judge, junit, report, rulebook, rules, transcript, view
+from .. import checker, command, fit, judge, junit, report, rulebook, rules, transcript, view
 
 STATUS = """The last line is 'N hold, M fail, K undecided'. The status is 0 if all hold, 1 if one fails or is undecided, and 2 if the rules or
 a transcript are wrong."""
@@ -32,7 +32,7 @@ def run(asked, out):
     text, own = command.text_of(file), fit.read(asked.document) if asked.document else None
     status, wrong, suites = command.FINE, [], []
     for name in names:
-        check = rules.Check(rulebook.read(text, file, own.kinds if own else None, asked.rule))
+        check = checker.Check(rulebook.read(text, file, own.kinds if own else None, asked.rule))
         try:
             for block in transcript.blocks(name, own):
                 check.block(block)

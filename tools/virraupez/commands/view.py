@@ -2,7 +2,7 @@
 goals as bars, messages as lines, and the lines of a round next to them. One can search, zoom, and go from round to round by keys.
 
 A second transcript is shown below the first, and their first difference is marked. docs/view.md says what the keys do."""
-from .. import command, fit, flow, grammar, rulebook, rules, series, ticks, transcript, view
+from .. import checker, command, fit, flow, grammar, rulebook, series, ticks, transcript, view
 from . import picture
 
 STATUS = "The status is 0, and 2 if a file is wrong, cut off or another run's, or hasn't these rounds."
@@ -33,7 +33,7 @@ def run(asked, out):
     command.place_files(asked, "document", "transcript", "other", least=2)
     document = flow.read_document(asked.document)
     own = fit.Own(asked.document, document)
-    check = rules.Check(rulebook.read(command.text_of(asked.rules), asked.rules, own.kinds)) if asked.rules else None
+    check = checker.Check(rulebook.read(command.text_of(asked.rules), asked.rules, own.kinds)) if asked.rules else None
     plotted = None if asked.plot is None else series.asked(asked.plot, document)
     runs = [view.Run(asked.transcript, text_of(asked.transcript, own), document, *asked.rounds, check)]
     if asked.other:
