@@ -101,15 +101,19 @@ fn separate(text: &mut String, is_first: bool) -> Result<(), AllocError> {
     if is_first { Ok(()) } else { text.push_str(",") }
 }
 
-// Says that nobody watches, and holds position 1 until all positions of the other lanes have come, for a limited number of turns.
+// Says that nobody watches. It holds position 1 until all positions of the other lanes have come, and the first of these until
+// position 1 has, for a limited number of turns. So two workers must run at once.
 #[derive(Drop)]
 struct Holding {
     // The positions of the other lanes, in the order in which they came, as a hexadecimal digit each.
     others: AtomicU64,
-    // How many positions came, how many of them are of the other lanes, and of how many the queue told.
+    // How many positions came, how many of them are of the other lanes, how often position 1 did, and of how many the queue told.
     count: AtomicU64,
     came: AtomicU64,
+    first: AtomicU64,
     taken: AtomicU64,
+    // How many have waited in vain.
+    missed: AtomicU64,
 }
 
 impl Holding {
@@ -118,16 +122,27 @@ impl Holding {
             others: AtomicU64::new(0),
             count: AtomicU64::new(0),
             came: AtomicU64::new(0),
+            first: AtomicU64::new(0),
             taken: AtomicU64::new(0),
+            missed: AtomicU64::new(0),
         }
     }
 
-    fn hold(&self) {
+    // Waits until so many have come.
+    fn hold(&self, came: &AtomicU64, count: u64) {
         for _ in 0..TURNS {
-            if self.came.load(SeqCst) == 8 {
+            if came.load(SeqCst) >= count {
                 return;
             }
         }
+        self.missed.fetch_add(1, SeqCst);
+    }
+
+    // Whether all have come, none in vain, and those of the other lanes in this order.
+    fn came_in(&self, order: u64) -> bool {
+        self.count.load(SeqCst) == 12
+            && self.missed.load(SeqCst) == 0
+            && self.others.load(SeqCst) == order
     }
 }
 
@@ -135,10 +150,12 @@ impl Gate for Holding {
     fn pass(&self, position: usize) {
         self.count.fetch_add(1, SeqCst);
         if position == 1 {
-            self.hold();
+            self.first.fetch_add(1, SeqCst);
+            self.hold(&self.came, 8);
         }
         // The rest of the first lane comes only behind position 1.
         if position > 4 {
+            self.hold(&self.first, 1);
             let before = self.others.load(SeqCst);
             let after = before.wrapping_mul(16).wrapping_add(position as u64);
             self.others.store(after, SeqCst);
@@ -175,8 +192,7 @@ fn workers_of_a_run_claim_by_the_quantum(rt: HostRuntime) -> Result<(), Fail> {
     for (quantum, order) in ORDERS {
         let gate = Holding::new();
         run(&rt, rt.alloc(), document.as_bytes(), 2, quantum, &gate)?;
-        assert!(rt; gate.others.load(SeqCst) == order && gate.count.load(SeqCst) == 12);
-        assert!(rt; gate.taken.load(SeqCst) == 0);
+        assert!(rt; gate.came_in(order) && gate.taken.load(SeqCst) == 0);
     }
     Ok(())
 }
@@ -190,8 +206,7 @@ fn workers_of_a_run_that_is_written_claim_by_the_quantum(rt: HostRuntime) -> Res
     for (quantum, order) in ORDERS {
         let gate = Holding::new();
         text_of(&rt, rt.alloc(), document.as_bytes(), 2, quantum, &gate)?;
-        assert!(rt; gate.others.load(SeqCst) == order && gate.count.load(SeqCst) == 12);
-        assert!(rt; gate.taken.load(SeqCst) == 12);
+        assert!(rt; gate.came_in(order) && gate.taken.load(SeqCst) == 12);
     }
     Ok(())
 }
