@@ -4,7 +4,7 @@ import re
 from .words import names_in, sides, tokens_of
 
 START = re.compile(r"(?:(?:abbrev|unfoldable|pub|record|data)\s+)+(\S+)|infix[lr]?\s+\d+\s+(\S+)")
-USE = re.compile(r"(?:ghost )?use ([\w.]+?)(?:\.\{([^}]*)\}| as (\w+))?;?$")
+USE = re.compile(r"(?:unfoldable )?(?:pub |ghost )?use ([\w.]+?)(?:\.\{([^}]*)\}| as (\w+))?;?$")
 # What the language itself gives; and what is a constructor of the kit, though it begins with a small letter.
 BUILT_IN = {"record", "Type", "where", ":", "→", "×", "=", "_", "tt", "Unit", "⊥", "absurd", "|", "pub"}
 SMALL = {"zero", "suc", "true", "false", "pos", "negsuc", "[]"}
@@ -32,19 +32,26 @@ class Kit:
         self.module, self.name = module, name
 
 
+def used(lines):
+    """What `use` lines mean: for each word the module and its name there, and for each word of a module that module."""
+    uses, modules = {}, {}
+    for line in lines:
+        use = USE.match(line.strip())
+        if use and use[2] is not None:
+            for name in use[2].split(","):
+                there, _, here = name.strip().partition(" as ")
+                uses[here or there] = (use[1], there)
+        elif use:
+            modules[use[3] or use[1].rsplit(".", 1)[-1]] = use[1]
+    return uses, modules
+
+
 class Uses:
     """What words mean by `use` lines."""
 
     def __init__(self, tree, path, lines):
-        self.tree, self.path, self.items, self.made, self.uses, self.modules = tree, path, {}, {}, {}, {}
-        for line in lines:
-            use = USE.match(line.strip())
-            if use and use[2] is not None:
-                for name in use[2].split(","):
-                    there, _, here = name.strip().partition(" as ")
-                    self.uses[here or there] = (use[1], there)
-            elif use:
-                self.modules[use[3] or use[1].rsplit(".", 1)[-1]] = use[1]
+        self.tree, self.path, self.items, self.made = tree, path, {}, {}
+        self.uses, self.modules = used(lines)
         self.find_pieces()
 
     def find_pieces(self):

@@ -6,12 +6,12 @@ import re
 import shutil
 from unittest import mock
 
+from sources.definitions import used
 from virraupez import json_text
 from virraupez.definitions import library, names, page, program, tree, values
 
 # Where the first part of a module's name is, in the folder of the libraries. What isn't here is the language's own.
 FOLDERS = {"mathlib": "antt/port/mathlib/src", "lib": "logic/Lib", "mir": "logic/Mir"}
-USE = re.compile(r"(?:unfoldable )?(?:pub )?use ([\w.]+?)(?:\.\{([^}]*)\}| as (\w+))?$")
 START = re.compile(r"( *)(?:abbrev |unfoldable )?(?:pub )?([^\s:(){}=]+)(?: \{[^}]*\})* : (.*)")
 DATA = re.compile(r"( *)pub data (\w+)")
 WITHIN = re.compile(r"( *)module _ .*where$")
@@ -33,15 +33,8 @@ class File:
     """A module: what its words mean, and the lines of what it defines, with the arguments that its block names for all."""
 
     def __init__(self, lines):
-        self.uses, self.modules, self.items, self.made, self.lines = {}, {}, {}, {}, lines
-        for line in lines:
-            use = USE.match(line.strip())
-            if use and use[2] is not None:
-                for name in use[2].split(","):
-                    there, _, here = name.strip().partition(" as ")
-                    self.uses[here or there] = (use[1], there)
-            elif use:
-                self.modules[use[3] or use[1].rsplit(".", 1)[-1]] = use[1]
+        self.items, self.made, self.lines = {}, {}, lines
+        self.uses, self.modules = used(lines)
         for at, line in enumerate(lines):
             data, start = DATA.match(line), START.match(line)
             if data:
