@@ -362,7 +362,7 @@ fn after(timer: Timer, now: Moment) -> Timer {
     timer
 }
 
-// A timer moves on from its old time, by whole periods, and the greatest period doesn't overflow.
+// A timer moves on from its old time, by whole periods.
 #[test]
 fn calls_timers(rt: HostRuntime) {
     let timer = after(after(Timer::new(10), moment(10)), moment(35));
@@ -371,9 +371,19 @@ fn calls_timers(rt: HostRuntime) {
         (timer.due(moment(39)), timer.due(moment(40))),
         (false, true),
     );
+}
+
+// The next call of the greatest period is 2^63, if the timer is called at the last moment. No moment comes as late.
+#[test]
+fn reads_the_latest_next_call(rt: HostRuntime) -> Result<(), Fail> {
     let timer = after(Timer::new(TICKS), moment(TICKS));
     same(&rt, timer.due(moment(TICKS)), false);
+    let fields = format!(in rt.alloc(); "{timer:?}")?;
+    same(&rt, fields.as_str(), LATEST);
+    Ok(())
 }
+
+const LATEST: &str = "Timer { next: 9223372036854775808, period: 4611686018427387904 }";
 
 #[test]
 fn bounds_moments(rt: HostRuntime) {

@@ -15,7 +15,7 @@ ghost use Rattle.std.specs.Prelude.{◌<◌, ◌≤◌};
 
 use calls::run_calls;
 use exec_doc::{Refused, read_document};
-use exec_io::{InputStream, OutFailed, Settings, Through, read_words, write_text};
+use exec_io::{InputStream, OutFailed, Settings, Through, WordsFault, read_words, write_text};
 use exec_plan::Plan;
 use std::alloc::Global;
 use std::io;
@@ -28,6 +28,7 @@ use ways::{Fault, Ran, WAYS, Way, compare};
 fn main(rt: HostRuntime) -> ExitCode {
     let status = match read_words(&rt) {
         Ok(words) => status_of(&rt, rt.alloc(), &words, rt.stdin(), rt.stdout()),
+        Err(WordsFault::Memory) => 1,
         Err(_) => 2,
     };
     ExitCode::from(status)

@@ -30,13 +30,14 @@ impl<'a> Model for NodeGroups<'a> {
 }
 
 impl<'a> NodeGroups<'a> {
-    ghost use Rattle.std.specs.Prelude.{◌≡◌, ◌+◌, suc, length, Some, IfOk};
+    ghost use Rattle.std.specs.Prelude.{◌≡◌, ◌+◌, ◌^◌, ◌≤◌, suc, length, Some, IfOk, OnErr};
     ghost use Rattle.exec_graph.specs.inner.Directory.{number_among};
 
     // The groups of these names. They come after the default group of this number. There is no memory for groups whose numbers
     // have more than 64 bits.
     pub(crate) fn of(first: usize, names: TextSet<'a>) -> Result<NodeGroups<'a>, Memory>
-        ensures { IfOk result (λ groups. groups ≡ record { first = first; names = names.entry }) }
+        ensures groups { IfOk result (λ groups. groups ≡ record { first = first; names = names.entry }) }
+        ensures memory { OnErr result (2 ^ 64 ≤ suc first + length names.entry) }
     {
         let behind_default = first.checked_add(1).ok_or(Memory)?;
         behind_default.checked_add(names.len()).ok_or(Memory)?;
