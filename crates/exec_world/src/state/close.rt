@@ -1,4 +1,6 @@
 //! What closes a callback in the world, after its effects.
+ghost use Rattle.std.specs.Prelude.{◌≡◌, ◌≤◌, ◌+◌, ◌^◌, OnErr, IfOk};
+
 use super::WorldBody;
 use crate::closing::{decision_of_close, decisions_of_close, reply_of_close};
 use exec_entity::GoalRequest;
@@ -315,8 +317,16 @@ impl<L: Lines> WorldBody<L> {
         let mut index: usize = 0;
         while let Some(client) = self.servers.asker(server, id, index) {
             self.tell(server, id, status, value, client)?;
-            index = index.checked_add(1).ok_or(Memory)?;
+            index = place_after(index)?;
         }
         Ok(())
     }
+}
+
+// The place after this one, if it has no more than 64 bits.
+fn place_after(place: usize) -> Result<usize, Memory>
+    ensures next { IfOk result (λ next. next ≡ place + 1) }
+    ensures memory { OnErr result (2 ^ 64 ≤ place + 1) }
+{
+    place.checked_add(1).ok_or(Memory)
 }

@@ -14,10 +14,9 @@ loop-client-preserved g c =
     let same = ap (λ (world : WorldState). world.servers) c.self.view_is ∙ c.loop-client.invariant.servers in
     let there : Some c.in-Some.client ≡ slice_get (askers_in c.args.id (goals_at c.args.server c.args.self.now)) c.loop-client.index =
     c.in-Some.ensures ∙ ap (λ (servers : List ServerEntry). slice_get (askers_in c.args.id (goals_in c.args.server servers)) c.loop-client.index) same in
-    let counted : c.in_ok-index.index ≡ c.loop-client.index + 1 = (rw c.in_ok-index.ensures.ok_part at c.checked_add.ensures).1 in
     record {
       servers = ap (λ (world : WorldState). world.servers) c.in_ok-tell.ensures ∙ c.loop-client.invariant.servers;
-      left = ap (λ (index : ℕ). fold step c.tell.new.self (drop index (askers_in c.args.id (goals_at c.args.server c.args.self.now)))) counted
+      left = ap (λ (index : ℕ). fold step c.tell.new.self (drop index (askers_in c.args.id (goals_at c.args.server c.args.self.now)))) c.in_ok-index.ensures.next
           ∙ left_next step (askers_in c.args.id (goals_at c.args.server c.args.self.now)) c.loop-client.index c.in-Some.client there c.loop-client.self c.tell.new.self _ c.in_ok-tell.ensures c.loop-client.invariant.left;
     }
 
