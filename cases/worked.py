@@ -22,5 +22,5 @@ def wanted(document):
 def named():
     """The documents with their names."""
     for folder in ("cases", "examples"):
-        for document in sorted((TOP / folder).glob("*.json")):
-            yield f"{folder}/{document.name}", document
+        for document in sorted((TOP / folder).rglob("*.json")):
+            yield document.relative_to(TOP).as_posix(), document

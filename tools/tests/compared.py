@@ -39,7 +39,7 @@ def of_examples():
 
 def of_orders():
     """Two runs in other orders differ, and it is told that the orders do."""
-    names = [f"cases/{name}" for name in ("kind_of_two_messages", "arrival_of_two_messages")]
+    names = [f"cases/{name}" for name in ("order/by_kind_of_two_messages", "arrival/of_two_messages")]
     words = [*(f"{name}.txt" for name in names), *(word for name in names for word in ("--document", f"{name}.json"))]
     status, told = tool.run("diff", *words)
     should = f"ready callbacks run by kind in {names[0]}.json, by arrival in {names[1]}.json"

@@ -11,7 +11,7 @@ from . import tool
 sys.path.insert(0, str(tool.TOP / "cases"))
 import generate  # noqa: E402
 
-DOCUMENTS = sorted([*(tool.TOP / "cases").glob("*.json"), *(tool.TOP / "examples").glob("*.json")])
+DOCUMENTS = sorted([*(tool.TOP / "cases").rglob("*.json"), *(tool.TOP / "examples").glob("*.json")])
 TEXT = (tool.TOP / page.PAGE).read_text()
 # How many documents are generated at each rule, each by both orders.
 SEEDS = 2
@@ -29,36 +29,36 @@ UNKNOWN = (
 CHANGES = (
     ("(timer.next + timer.period) timer.period now", "(now + timer.period) timer.period now", "timer"),
     ("is_due timer now = nat_le timer.next now", "is_due timer now = nat_le (timer.next + 1) now", "timer"),
-    ("in drop (excess depth all) all", "in take depth all", "run_three_messages_into_a_depth_of_2"),
+    ("in drop (excess depth all) all", "in take depth all", "run/three_messages_into_a_depth_of_2"),
     ("operation.Add a b = int_wrapping_add w64 a b", "operation.Add a b = int_wrapping_sub w64 a b", "wrapping"),
     ("Lt a b = if int_lt a b", "Lt a b = if int_lt b a", "comparisons"),
     ("skipped_by (step.Skip count) left = count", "skipped_by (step.Skip count) left = 0", "skips"),
-    ("selects zero (suc before) goal = nat_le goal.stamp (suc before)", "selects zero (suc before) goal = nat_le goal.stamp before", "run_cancel_up_to_a_stamp"),
-    ("= has_id (suc id) goal || nat_le goal.stamp (suc before)", "= has_id (suc id) goal", "run_cancel_by_identifier_or_stamp"),
+    ("selects zero (suc before) goal = nat_le goal.stamp (suc before)", "selects zero (suc before) goal = nat_le goal.stamp before", "run/cancel_up_to_a_stamp"),
+    ("= has_id (suc id) goal || nat_le goal.stamp (suc before)", "= has_id (suc id) goal", "run/cancel_by_identifier_or_stamp"),
     ("nat_le (goal.ended + timeout) moment", "nat_le (goal.ended + timeout + 1) moment", "result_expires"),
-    (" || (turn.canceling && not task.knows_canceling))", ")", "run_wait_that_a_cancel_ends"),
-    ("ending_event false event.Canceled = event.Abort", "ending_event false event.Canceled = event.Canceled", "run_canceled_that_nobody_asked_for"),
-    ("if is_terminal goal.state then code.GoalTerminated else code.Rejected", "code.Rejected", "run_cancel_of_a_goal_that_ended"),
-    ("unknown world = tell server id status.Unknown (pos 0) client world", "unknown world = world", "run_result_that_expires_before_it_is_asked_for"),
-    ("= not (holds_id id goals || is_full goals)", "= not (is_full goals)", "run_identifier_that_is_held"),
-    ("= not (holds_id id goals || is_full goals)", "= not (holds_id id goals)", "run_more_goals_than_a_server_holds"),
+    (" || (turn.canceling && not task.knows_canceling))", ")", "run/wait_that_a_cancel_ends"),
+    ("ending_event false event.Canceled = event.Abort", "ending_event false event.Canceled = event.Canceled", "run/canceled_that_nobody_asked_for"),
+    ("if is_terminal goal.state then code.GoalTerminated else code.Rejected", "code.Rejected", "run/cancel_of_a_goal_that_ended"),
+    ("unknown world = tell server id status.Unknown (pos 0) client world", "unknown world = world", "run/result_that_expires_before_it_is_asked_for"),
+    ("= not (holds_id id goals || is_full goals)", "= not (is_full goals)", "run/identifier_that_is_held"),
+    ("= not (holds_id id goals || is_full goals)", "= not (holds_id id goals)", "run/more_goals_than_a_server_holds"),
     (
         "= feed (fed_in number plan.feed) (expire moment (add_line (line.Round number moment) world))",
         "= expire moment (feed (fed_in number plan.feed) (add_line (line.Round number moment) world))",
-        "run_expiry_before_what_is_fed",
+        "run/expiry_before_what_is_fed",
     ),
-    ("(item.Response request.id (is_accepting made))", "(item.Response request.id true)", "run_goal_that_its_handler_rejects"),
-    ("or_default count DEFAULT_DEPTH", "or_default count DEPTH", "run_eleven_messages_without_a_depth"),
-    ("yield_of [] = Ok instr.Yield", "yield_of [] = Ok (instr.Wait (operand.Value (pos 1)))", "run_yield_at_moments_alike"),
-    ("(status_of candidate.state)); moment = moment", "status.Accepted); moment = moment", "run_cancel_handler_that_reads_the_state"),
-    ("rank_under order.Kind world one = ready_number (kind_of one.cause)", "rank_under order.Kind world one = 0", "run_feedback_and_a_result"),
+    ("(item.Response request.id (is_accepting made))", "(item.Response request.id true)", "run/goal_that_its_handler_rejects"),
+    ("or_default count DEFAULT_DEPTH", "or_default count DEPTH", "run/eleven_messages_without_a_depth"),
+    ("yield_of [] = Ok instr.Yield", "yield_of [] = Ok (instr.Wait (operand.Value (pos 1)))", "run/yield_at_moments_alike"),
+    ("(status_of candidate.state)); moment = moment", "status.Accepted); moment = moment", "run/cancel_handler_that_reads_the_state"),
+    ("rank_under order.Kind world one = ready_number (kind_of one.cause)", "rank_under order.Kind world one = 0", "run/feedback_and_a_result"),
     ("then x ∷ y ∷ ys else y ∷ inserted_by rank x ys", "then y ∷ inserted_by rank x ys else x ∷ y ∷ ys", "two_timers"),
-    ("pend order.Arrival server id world = goal_arrived server id world", "pend order.Arrival server id world = world", "arrival_of_a_poll_after_a_message"),
-    ("if is_refused decisions then code.Rejected else code_by", "code_by", "run_cancel_up_to_a_stamp_that_is_rejected"),
+    ("pend order.Arrival server id world = goal_arrived server id world", "pend order.Arrival server id world = world", "arrival/of_a_poll_after_a_message"),
+    ("if is_refused decisions then code.Rejected else code_by", "code_by", "run/cancel_up_to_a_stamp_that_is_rejected"),
     ("line.Pending number (suc more)", "line.Pending number more", "service"),
-    ("nat_le (reach_of instruction) (length rest)", "nat_le (reach_of instruction + 1) (length rest)", "scripts_a_skip_to_the_end"),
-    ("nat_le (length text) NAME_LENGTH", "nat_le (length text + 1) NAME_LENGTH", "names_of_64_characters"),
-    ("option_map_or (nat_le 1) (read id) false", "option_map_or (nat_le 0) (read id) false", "ids_a_goal_of_zeros"),
+    ("nat_le (reach_of instruction) (length rest)", "nat_le (reach_of instruction + 1) (length rest)", "scripts/a_skip_to_the_end"),
+    ("nat_le (length text) NAME_LENGTH", "nat_le (length text + 1) NAME_LENGTH", "names/of_64_characters"),
+    ("option_map_or (nat_le 1) (read id) false", "option_map_or (nat_le 0) (read id) false", "ids/a_goal_of_zeros"),
 )
 # Expressions, and what they give.
 ASKED = (
@@ -117,7 +117,7 @@ def of_page():
     for given in ((5, 3, 2, 17), (1, 3, 2, 17), (0, 3, 2, 17), (9, 20, 2, 17), (4, 3, 7, 3), (40, 0, 3, 100)):
         yield f"first_reached by a division {given}", library.first_reached(*given), made.ask("first_reached", *given)
     for old, new, name in CHANGES:
-        path = next(it for it in DOCUMENTS if it.stem == name)
+        path = next(it for it in DOCUMENTS if it.with_suffix("").as_posix().endswith(f"/{name}"))
         changed = program.Program(page.Page(TEXT.replace(old, new)))
         yield f"{name} where {old} is {new}", (TEXT.count(old), answer(changed, path.read_bytes()) == wanted(path)), (1, False)
     for old, new, line, says in UNKNOWN:
@@ -170,14 +170,14 @@ def of_command():
     timer = (tool.TOP / "examples/timer.txt").read_text()
     status, text = tool.within("run", "--definitions", "examples/timer.json")
     yield "run --definitions", (status, text.startswith(timer), text.count("\n")), (0, True, timer.count("\n") + 1)
-    status, text = tool.within("run", "--definitions", "cases/limits_513_timers.json")
+    status, text = tool.within("run", "--definitions", "cases/limits/513_timers.json")
     yield "run --definitions of a document that is refused", (status, text.startswith("refused 5\n")), (1, True)
     for expression, gives in ASKED:
         yield f"run --ask {expression!r}", tool.within("run", "examples/timer.json", "--ask", expression), (0, f"{gives}\n")
     yield "run --ask of no document", tool.within("run", "--ask", "1 + 2 * 3"), (0, "7\n")
     for expression, says in WRONG:
         yield f"run --ask {expression!r}", tool.within("run", "--ask", expression), (2, f"virraupez run: {says}\n")
-    yield "run --ask of the plan of what is refused", tool.within("run", "cases/limits_513_timers.json", "--ask", "plan.moments")[0], 1
+    yield "run --ask of the plan of what is refused", tool.within("run", "cases/limits/513_timers.json", "--ask", "plan.moments")[0], 1
     yield "run of no document", tool.within("run"), (2, "virraupez run: this word is required: DOCUMENT, or --ask EXPRESSION\n")
     status, text = tool.within("run", "examples/keep_last.json", "--trace", 1)
     steps = [re.fullmatch(r"docs/HEADLINE\.md:(\d+): ((?: *(\w+)).*)", line).groups() for line in text.splitlines()]

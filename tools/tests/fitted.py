@@ -92,7 +92,7 @@ def place_of(document, text):
 def of_all():
     """The transcripts of all documents are their runs; what is read by small blocks too."""
     before = transcript.BLOCK
-    for path in [*sorted((tool.TOP / "examples").glob("*.txt")), *sorted((tool.TOP / "cases").glob("*.txt"))]:
+    for path in [*sorted((tool.TOP / "examples").glob("*.txt")), *sorted((tool.TOP / "cases").rglob("*.txt"))]:
         document = json.loads(path.with_suffix(".json").read_text())
         for transcript.BLOCK in (before, 7) if path.parent.name == "examples" else (before,):
             yield f"the run of {path.name} by blocks of {transcript.BLOCK}", place_of(document, path.read_text()), None

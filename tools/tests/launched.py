@@ -101,7 +101,7 @@ def of_warnings():
     """What explain would warn of is said once, behind the transcript."""
     for name, says in (
         ("examples/empty.json", "examples/empty.json:1:1: 1 warning, the first of moments: there are no `moments`: no round is run\n"),
-        ("cases/order_of_version_1.json", "cases/order_of_version_1.json:1:14: "),
+        ("cases/order/of_version_1.json", "cases/order/of_version_1.json:1:14: "),
         ("examples/timer.json", None),
     ):
         told = tool.within("run", "--reference", name)[1]
@@ -118,7 +118,7 @@ def of_reference():
     for document in sorted((tool.TOP / "examples").glob("*.json")):
         should = document.with_suffix(".txt").read_text() + says
         yield f"run --reference {document.name}", unwarned(tool.run(COMMAND, "run", "--reference", document)), (0, should)
-    for document in sorted((tool.TOP / "cases").glob("arrival_*.json")):
+    for document in sorted((tool.TOP / "cases/arrival").glob("*.json")):
         should = document.with_suffix(".txt").read_text() + says
         yield f"run --reference {document.name}", unwarned(tool.within("run", "--reference", document)), (0, should)
     given = (tool.TOP / "examples/timer.json").read_bytes()

@@ -94,7 +94,7 @@ def code_of(program, given):
 
 def documents():
     """The documents with their names: those of cases/, and those that are changed by chance."""
-    for document in sorted((tool.TOP / "cases").glob("*.json")):
+    for document in sorted((tool.TOP / "cases").rglob("*.json")):
         yield document.name, document.read_bytes()
     for seed in range(COUNT):
         yield f"document {seed} of those changed by chance", mutated(seed)

@@ -23,7 +23,7 @@ def answers(_program):
 
 
 def of_documents():
-    documents = [*sorted((tool.TOP / "examples").glob("*.json")), *(path.with_suffix(".json") for path in sorted((tool.TOP / "cases").glob("run_*.txt")))]
+    documents = [*sorted((tool.TOP / "examples").glob("*.json")), *(path.with_suffix(".json") for path in sorted((tool.TOP / "cases/run").glob("*.txt")))]
     with tempfile.TemporaryDirectory() as folder:
         program = pathlib.Path(folder) / "it.py"
         for path in documents:

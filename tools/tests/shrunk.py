@@ -159,7 +159,7 @@ def of_kept(top):
 
 def of_orders(top):
     """An order that the breaking of a rule needs stays, and another goes. With another order a document differs in more than its timing."""
-    document = json.loads((tool.TOP / "cases/arrival_of_two_messages.json").read_text())
+    document = json.loads((tool.TOP / "cases/arrival/of_two_messages.json").read_text())
     (top / "race.json").write_text(json.dumps(document))
     (top / "other.json").write_text(json.dumps({**document, "order": "kind"}))
     before, both = searched.ruled(top, "never run s2 before run s1"), ("--keep", "run s1")

@@ -7,7 +7,6 @@ pub mod examples;
 mod fed;
 mod forms;
 pub mod laws;
-pub mod refusals;
 mod refused;
 mod schedule;
 mod upgrading;

@@ -15,7 +15,7 @@ use Rattle.exec_plan.specs.Lawful.{IsLawfulPlan, IsLawfulNode, IsLawfulDeclared,
 use Rattle.exec_script.specs.Instruction as instr
 use Rattle.exec_script.specs.declared.instr.Operand.TheVariants as operand
 use Rattle.exec_script.specs.declared.place.Role.TheVariants as role
-use Rattle.exec_laws.specs.Examples.Timers.{late}
+use Rattle.exec_laws.specs.Examples.{late}
 
 -- its one callback group
 abbrev group : CallbackGroup

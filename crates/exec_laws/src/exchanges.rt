@@ -4,7 +4,7 @@ ghost use Rattle.std.specs.List.{filter, flat_map, list_any, Contains};
 ghost use Rattle.exec_plan.specs.Lawful.{IsLawful, IsLawfulPlan};
 ghost use Rattle.exec_plan.specs.Plan.{PlanData};
 ghost use Rattle.exec_laws.specs.Exchanges.{AreAnswered, IsToldOnce, IsDelivered, ask_in, first_rounds, is_ask_taken, is_asked, is_result_lost, is_result_taken, is_result_told, items_of, result_in, waiting_in};
-ghost use Rattle.exec_laws.specs.Examples.Queues.{full_result_queue};
+ghost use Rattle.exec_laws.specs.Examples.{full_result_queue};
 ghost use Rattle.exec_msg.specs.declared.kind.Kind.TheVariants as kind;
 ghost use Rattle.exec_rules.specs.Item.{goal_id};
 ghost use Rattle.exec_rules.specs.Lines.{is_loss};
@@ -57,7 +57,7 @@ pub fn answers_are_never_displaced()
     ensures { (plan : PlanData) → IsLawfulPlan plan → list_any is_loss (lines_of plan) ≡ false }
 {}
 
-/// Each way that an ask may go, in the plan of a full queue of results (`transcripts::full_result_queue`). Client 2 asks for
+/// Each way that an ask may go, in the plan of a full queue of results (`full_result_queue` of `specs/Examples.antt`). Client 2 asks for
 /// three results, and its queue loses two of them. Client 3 asks for one.
 pub fn asks_go_these_ways()
     ensures asked { map (λ number. length (filter (is_asked 2 (goal_id 0 number)) (lines_of full_result_queue))) (1 ∷ 2 ∷ 3 ∷ []) ≡ 1 ∷ 1 ∷ 1 ∷ [] }

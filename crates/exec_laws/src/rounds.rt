@@ -12,6 +12,7 @@ ghost use Rattle.exec_rules.specs.Item.{taker_of};
 ghost use Rattle.exec_rules.specs.Shape.{shape_of};
 ghost use Rattle.exec_rules.specs.Transcript.{at_snapshot, entity_at, first_world, round, rounds};
 ghost use Rattle.exec_rules.specs.World.{WorldState, held_at};
+ghost use Rattle.exec_laws.specs.Examples.{late};
 ghost use Rattle.exec_laws.specs.Arrivals.{AreLeftOf, HadItsNumber, HasEarlierFirst, HasRisingNumbers, IsArrival, all_numbers, arrived_in, numbers_at};
 
 /// A round keeps all lines, and then adds its own line first. Rounds keep all lines.
@@ -83,4 +84,9 @@ pub fn earlier_arrivals_are_taken_first()
     ensures ready { (plan : PlanData) (number next round moment : ℕ) (moments later : List ℕ) → plan.order ≡ order.Arrival →
         HasEarlierFirst (rounds plan number moments (first_world plan)).arrivals moment
         (at_snapshot plan round moment (rounds plan next later (rounds plan number moments (first_world plan)))) }
+{}
+
+/// There is a lawful plan: that of a timer whose calls at 20 and 30 no round sees (`late` of `specs/Examples.antt`).
+pub fn a_lawful_plan()
+    ensures { IsLawfulPlan late }
 {}

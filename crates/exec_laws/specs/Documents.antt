@@ -1,8 +1,0 @@
-pub mod Arrivals
-pub mod Clients
-pub mod Forms
-pub mod Goals
-pub mod Large
-pub mod Queues
-pub mod Services
-pub mod Timers

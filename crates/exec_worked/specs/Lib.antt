@@ -1,0 +1,14 @@
+pub mod Answer
+pub mod Arrival
+pub mod Clock
+pub mod Examples
+pub mod Ids
+pub mod Json
+pub mod Limits
+pub mod Names
+pub mod Order
+pub mod Run
+pub mod Scripts
+pub mod Shape
+pub mod Variables
+pub mod Version
