@@ -12,7 +12,14 @@
     print(virraupez.run(robot))
 
 docs/write.md and docs/python.md have more."""
+from __future__ import annotations
+
 import importlib
+
+# As that of typing, which no command reads at its start: to read it takes as long as a short run.
+TYPE_CHECKING = False
+if TYPE_CHECKING:
+    from typing import Any, List
 
 # Where each name is. A module is read if one of its names is asked for, so that a command begins at once.
 PLACES = {
@@ -24,11 +31,11 @@ PLACES = {
 __all__ = sorted(PLACES)
 
 
-def __getattr__(name):
+def __getattr__(name: str) -> Any:
     if name not in PLACES:
         raise AttributeError(f"module {__name__!r} has no attribute {name!r}")
     return getattr(importlib.import_module(f".{PLACES[name]}", __name__), name)
 
 
-def __dir__():
+def __dir__() -> List[str]:
     return sorted({*globals(), *PLACES})

@@ -1,11 +1,16 @@
 """Runs of documents: by a proved program, or by the executor in Python. Which program is run is asked once, because to ask takes longer
 than a short run does."""
+from __future__ import annotations
+
 import json
 import os
 import platform
 import subprocess
 
-from . import command, installation
+from . import TYPE_CHECKING, command, installation
+
+if TYPE_CHECKING:
+    from typing import Any, Dict, IO, Tuple
 
 REFUSED = 1
 # What launches a program has its C library ask for large pages, and keep its memory (release/program.sh).
@@ -19,26 +24,33 @@ class Refused(Exception):
 class Program:
     """A proved program: its name and words, what it writes, and what --reference does in its place."""
 
+    NAME: str
+    WORDS: Tuple[str, ...]
+    WRITES: str
+    REFERENCE: str
+
     NAME, WORDS, WRITES, REFERENCE = "", (), "", ""
 
-    def __init__(self):
+    def __init__(self) -> None:
         demand_machine(self.REFERENCE)
         # A dict is handed to a program in a fraction of the time that os.environ takes.
         self.path, self.around = installation.program(self.NAME), dict(os.environ)
 
-    def start(self, *words, **around):
+    def start(self, *words: str, **around: Any) -> subprocess.Popen[bytes]:
         """Starts the program, under a plain name: its own words would be wrong if its path weren't UTF-8."""
-        given = {"env": self.around, "stdin": subprocess.PIPE, "stdout": subprocess.PIPE, **around}
+        given: Dict[str, Any] = {"env": self.around, "stdin": subprocess.PIPE, "stdout": subprocess.PIPE, **around}
         # Without close_fds Python starts a program in a fraction of the time.
-        return subprocess.Popen([self.NAME, *words], executable=self.path, close_fds=False, **given)
+        made: subprocess.Popen[bytes] = subprocess.Popen([self.NAME, *words], executable=self.path, close_fds=False, **given)
+        return made
 
-    def described(self):
+    def described(self) -> Dict[str, str]:
         """By what runs are made: the version of the command, and the sum of the program."""
         return {"version": installation.version(), "program": f"{self.NAME} {installation.sum_of(self.path)}"}
 
-    def text(self, given):
+    def text(self, given: bytes) -> str:
         """What the program writes of a document's bytes."""
         with self.start(*self.WORDS, stderr=subprocess.PIPE) as program:
+            assert program.stdin and program.stdout and program.stderr, "each of them is a pipe"
             feed(program.stdin, given)
             text, told = program.stdout.read(), program.stderr.read()
         if program.returncode == REFUSED:
@@ -65,10 +77,10 @@ class Upgrader(Program):
 class Reference:
     """The executor in Python, which is written apart from the program; nothing of it is proved."""
 
-    def described(self):
+    def described(self) -> Dict[str, str]:
         return {"version": installation.version(), "program": "the executor in Python"}
 
-    def transcript(self, given):
+    def transcript(self, given: bytes) -> str:
         from . import executor, refusals
 
         code = refusals.code(given)
@@ -77,7 +89,7 @@ class Reference:
         return "".join(f"{line}\n" for line in executor.lines_of(json.loads(given)))
 
 
-def demand_machine(reference=Executor.REFERENCE):
+def demand_machine(reference: str = Executor.REFERENCE) -> None:
     """Demands a machine of the proved programs; on another one --reference does something."""
     system, machine = platform.system(), platform.machine()
     if system != "Linux" or machine not in ("x86_64", "amd64"):
@@ -87,12 +99,12 @@ def demand_machine(reference=Executor.REFERENCE):
         )
 
 
-def launching():
+def launching() -> Dict[str, str]:
     """The environment in which ./exec_run launches its program."""
     return {"GLIBC_TUNABLES": TUNABLES, **os.environ}
 
 
-def feed(stream, given):
+def feed(stream: IO[bytes], given: bytes) -> None:
     """Gives a program its document. One that ended before it had read all says by its status what was wrong."""
     try:
         stream.write(given)
