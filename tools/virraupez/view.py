@@ -147,7 +147,9 @@ def goal_data(goal: Goal, stand: List[int]) -> List[Any]:
         return -1 if at < 0 else stand[at]
 
     states = [[column(at), int(status)] for at, status in goal.changes]
-    return [goal.server, goal.lane, goal.name(), goal.identifier, states, [[column(at), int(it)] for at, it in goal.feedback], None if goal.expired is None else column(goal.expired)]
+    # It may expire after the rounds that are shown.
+    expired = column(goal.expired) if goal.expired is not None and goal.expired < len(stand) else None
+    return [goal.server, goal.lane, goal.name(), goal.identifier, states, [[column(at), int(it)] for at, it in goal.feedback], expired]
 
 
 # ---- plots
