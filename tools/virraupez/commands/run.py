@@ -10,13 +10,14 @@ computed. --trace shows what they say of one round, step by step, with the line 
 in which `plan` is the document's plan."""
 from __future__ import annotations
 
+import io
 import os
 
 from .. import TYPE_CHECKING, command, grammar, runs
 
 if TYPE_CHECKING:
     import argparse
-    from typing import Any, Iterator, Optional
+    from typing import Iterator, Optional
 
 STATUS = "The status is 0, 1 if the document is refused, and 2 if it can't be run."
 CHUNK = 1 << 20
@@ -87,11 +88,10 @@ def by_program(asked: argparse.Namespace, given: bytes, out: command.Output) -> 
     """Runs a document by the proved program; True if it was refused."""
     program = runs.Executor().start(str(asked.workers), str(asked.quantum), env=runs.launching())
     try:
-        assert program.stdin, "it is a pipe"
+        assert program.stdin and isinstance(program.stdout, io.BufferedReader), "both are pipes"
+        stdout = program.stdout
         runs.feed(program.stdin, given)
-        stdout: Any = program.stdout
-        chunks: Iterator[bytes] = iter(lambda: stdout.read1(CHUNK), b"")
-        for chunk in chunks:
+        for chunk in iter(lambda: stdout.read1(CHUNK), b""):
             out.write(chunk.decode("ascii"))
         status = program.wait()
     finally:
