@@ -21,6 +21,24 @@ TYPE_CHECKING = False
 if TYPE_CHECKING:
     from typing import Any, List
 
+    # The same names, each with its type.
+    from .api import Break as Break
+    from .api import Executor as Executor
+    from .api import Refused as Refused
+    from .api import Rule as Rule
+    from .api import Search as Search
+    from .api import Transcript as Transcript
+    from .api import Verdict as Verdict
+    from .api import holds as holds
+    from .api import run as run
+    from .api import search as search
+    from .assembler import ScriptError as ScriptError
+    from .assembler import script as script
+    from .build import Document as Document
+    from .build import DocumentError as DocumentError
+    from .build import goal_of as goal_of
+    from .command import Trouble as Trouble
+
 # Where each name is. A module is read if one of its names is asked for, so that a command begins at once.
 PLACES = {
     **dict.fromkeys(("Document", "DocumentError", "goal_of"), "build"),
