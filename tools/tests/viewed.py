@@ -52,14 +52,14 @@ def of_pages(page, folder, program):
 
 
 def of_page():
-    """The commands of docs/view.md write pages."""
+    """The commands of "view" in docs/tools.md write pages."""
     with tempfile.TemporaryDirectory() as folder:
         for name in ("virraupez", "examples", "tools"):
             (pathlib.Path(folder) / name).symlink_to(tool.TOP / name)
-        for command, output in documented.commands(tool.TOP / "docs/view.md"):
+        for command, output in documented.commands(documented.Section(documented.TOOLS, "view")):
             ran = subprocess.run(["bash", "-c", command], stdout=subprocess.PIPE, stderr=subprocess.STDOUT, cwd=folder)
             path = pathlib.Path(folder) / command.split(" ")[-1].strip()
-            yield f"view.md: {command}", (ran.stdout.decode(), "<html" in path.read_text()), (output, True)
+            yield f"tools.md: {command}", (ran.stdout.decode(), "<html" in path.read_text()), (output, True)
 
 
 def data_of(text):

@@ -3,7 +3,7 @@
   ./virraupez feed drive --topic /battery:battery --field percentage --scale 100 --tick 20ms --document nav.json -o recorded.json
 
 The bag is one of rosbag2 with the storage sqlite3 or MCAP. --field and --scale are of the topic before them. Without --topic the topics of
-the bag are listed. docs/feed.md has more."""
+the bag are listed. docs/tools.md has more."""
 import argparse
 import decimal
 import json

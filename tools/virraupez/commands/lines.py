@@ -3,7 +3,7 @@ for jq and pandas, as
 
   ./virraupez lines run.txt --json | jq 'select(.word == "pub" and .value > 20)'
 
-With its document an object has the node and the callback group too, and each callback the line that sent what it took. docs/lines.md
+With its document an object has the node and the callback group too, and each callback the line that sent what it took. docs/tools.md
 has the fields."""
 import json
 

@@ -1,5 +1,5 @@
 """picture: draws a run as SVG: a column a round, a row a callback group with its callbacks, lines from who sent an item to who
-took it, and a bar a goal. With --graph it draws who talks to whom, of a document alone or with what a run did. docs/picture.md says
+took it, and a bar a goal. With --graph it draws who talks to whom, of a document alone or with what a run did. docs/tools.md says
 how to read them."""
 import argparse
 

@@ -1,7 +1,7 @@
 """trace: writes a run as trace events, which Perfetto and Chrome read. A node is a process, a callback group a thread, a callback a
 slice. Arrows lead from who sent an item to who took it, the states of goals are spans, and topics are counters.
 
-Callbacks take no time in a run; those of a round share the tick that begins at its moment, in their order. docs/lines.md has more."""
+Callbacks take no time in a run; those of a round share the tick that begins at its moment, in their order. docs/tools.md has more."""
 import json
 
 from .. import command, fit, flow, foxglove, ticks, trace, transcript

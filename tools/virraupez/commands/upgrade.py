@@ -4,7 +4,7 @@ with such fields is upgraded only with --drop-unknown. The proved program writes
 is refused, the places of its faults are told, as explain tells them, and the others are upgraded.
 
 It is written in the text of its document, whose lines, spaces and order of fields stay, so that both can be compared line by line.
-With -i each document is replaced by its upgrade, by a new file of the same name and mode. docs/upgrade.md has more."""
+With -i each document is replaced by its upgrade, by a new file of the same name and mode. docs/tools.md has more."""
 import json
 import sys
 

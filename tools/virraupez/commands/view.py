@@ -1,7 +1,7 @@
 """view: writes a page that shows a run in a browser, one HTML file that needs no network: callback groups in rows, rounds in columns,
 goals as bars, messages as lines, and the lines of a round next to them. One can search, zoom, and go from round to round by keys.
 
-A second transcript is shown below the first, and their first difference is marked. docs/view.md says what the keys do."""
+A second transcript is shown below the first, and their first difference is marked. docs/tools.md says what the keys do."""
 from .. import checker, command, fit, flow, grammar, rulebook, series, ticks, transcript, view
 from . import picture
 
